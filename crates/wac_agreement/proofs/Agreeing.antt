@@ -2,8 +2,8 @@
 use Rattle.std.proofs.Common.{◌≡◌, ℕ, ◌<◌, true, List, ◌⊎◌, inl, inr, length, Some, slice_get, sym, ap, ◌∙◌, subst, arith}
 use Rattle.std.proofs.lemmas.Bool.{cases_order}
 use Rattle.std.proofs.lemmas.Option.{slice_get_within}
-use Rattle.wac_shapes.specs.Name.{Name}
-use Rattle.wac_collection.specs.Tree.{TypeTree, absent, instance, instance_item}
+use Rattle.wac_primitives.specs.Name.{Name}
+use Rattle.wac_primitives.specs.Tree.{TypeTree, absent, instance, instance_item}
 use Rattle.wac_collection.specs.Collection.{Collection}
 use Rattle.wac_subtyping.specs.Called.{Called}
 use Rattle.wac_entries.specs.Agreement.{Agree, compared}

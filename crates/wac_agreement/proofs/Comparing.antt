@@ -7,8 +7,8 @@ use Rattle.std.specs.Ordering.{nat_cmp, ordering_reverse}
 use Rattle.std.specs.declared.cmp.Ordering.{Ordering}
 use Rattle.std.specs.declared.cmp.Ordering.TheVariants.{Less, Equal, Greater}
 use Rattle.std.specs.Cmp.Lexicographic.{slice_cmp, nat_list_cmp_total}
-use Rattle.wac_shapes.specs.Name.{Name, same_name, find_name, option_case}
-use Rattle.wac_collection.specs.Tree.{TypeTree, absent, instance, type_equal, function_item, instance_item, component_item, module_item, value_item}
+use Rattle.wac_primitives.specs.Name.{Name, same_name, find_name, option_case}
+use Rattle.wac_primitives.specs.Tree.{TypeTree, absent, instance, type_equal, function_item, instance_item, component_item, module_item, value_item}
 use Rattle.wac_subtyping.specs.Called.{Called}
 use Rattle.wac_shapes.proofs.Names.{same_name-true, same_name-refl}
 use Rattle.wac_entries.specs.Agreement.{Agree}

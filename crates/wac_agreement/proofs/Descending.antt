@@ -7,14 +7,14 @@ use Rattle.std.specs.declared.string.String.{String}
 use Rattle.std.proofs.lemmas.List.{map-append}
 use Rattle.std.proofs.lemmas.Option.{slice_get-get_or, slice_get_within}
 use Rattle.wac_shapes.specs.Kinds.{kind_type}
-use Rattle.wac_shapes.specs.Name.{Name, find_name, option_case}
+use Rattle.wac_primitives.specs.Name.{Name, find_name, option_case}
 use Rattle.wac_shapes.specs.declared.component.Interface.{Interface}
 use Rattle.wac_shapes.specs.declared.component.InterfaceId.{InterfaceId}
 use Rattle.wac_shapes.specs.declared.component.ItemKind.{ItemKind}
 use Rattle.wac_shapes.specs.declared.component.ItemKind.TheVariants as kind
 use Rattle.wac_shapes.proofs.Loops.{drop_at}
 use Rattle.wac_shapes.proofs.Names.{take_at}
-use Rattle.wac_collection.specs.Tree.{instance, instance_item}
+use Rattle.wac_primitives.specs.Tree.{instance, instance_item}
 use Rattle.wac_collection.specs.Collection.{Collection, HasInterface, IsBefore, IsWellFormed, interface_exports, item_at, kind_types}
 use Rattle.wac_subtyping.specs.Ranks.{type_rank}
 use Rattle.wac_subtyping.proofs.Unfolding.{before_rank}

@@ -4,8 +4,8 @@ use Rattle.std.specs.Prelude.{IsSome}
 use Rattle.std.specs.List.{AllByRecursion}
 use Rattle.std.proofs.lemmas.Bool.{cases_Bool}
 use Rattle.std.proofs.lemmas.Option.{slice_get_within}
-use Rattle.wac_shapes.specs.Name.{Name, same_name, find_name, option_case}
-use Rattle.wac_collection.specs.Tree.{TypeTree, absent, instance, instance_item}
+use Rattle.wac_primitives.specs.Name.{Name, same_name, find_name, option_case}
+use Rattle.wac_primitives.specs.Tree.{TypeTree, absent, instance, instance_item}
 use Rattle.wac_subtyping.specs.Called.{Called, by_binding}
 use Rattle.wac_collection.specs.Collection.{Collection, size, kind_types, used_types, holds_type, item_of, interface_exports, HasInterface, IsWellFormed, IsBefore, AddedBefore}
 use Rattle.wac_shapes.specs.Kinds.{kind_type}

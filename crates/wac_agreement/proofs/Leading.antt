@@ -3,8 +3,8 @@ use Rattle.std.proofs.Common.{◌≡◌, ℕ, zero, suc, ◌+◌, if◌then◌el
 use Rattle.std.specs.Prelude.{slice_get, IsSome, IfOk, Result, Ok, Err}
 use Rattle.std.specs.List.{AllByRecursion}
 use Rattle.std.specs.Option.{MatchOption}
-use Rattle.wac_shapes.specs.Name.{Name, same_name, find_name, option_case}
-use Rattle.wac_collection.specs.Tree.{TypeTree, absent, instance, instance_item}
+use Rattle.wac_primitives.specs.Name.{Name, same_name, find_name, option_case}
+use Rattle.wac_primitives.specs.Tree.{TypeTree, absent, instance, instance_item}
 use Rattle.wac_subtyping.specs.Called.{Called}
 use Rattle.wac_collection.specs.Collection.{Collection, interface_exports}
 use Rattle.wac_shapes.specs.declared.component.ItemKind.{ItemKind}

@@ -4,7 +4,7 @@ use Rattle.std.specs.Prelude.{slice_get}
 use Rattle.std.specs.List.{AllByRecursion}
 use Rattle.std.specs.Option.{option_map}
 use Rattle.std.specs.Borrow.{Bor}
-use Rattle.wac_shapes.specs.Name.{Name}
+use Rattle.wac_primitives.specs.Name.{Name}
 use Rattle.wac_shapes.proofs.Names.{take_at}
 use Rattle.wac_entries.specs.Nodes.{Node, Item, type_of}
 use Rattle.wac_agreement.specs.declared.agreement.Walk.{Walk}

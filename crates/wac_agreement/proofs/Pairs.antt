@@ -2,7 +2,7 @@
 use Rattle.std.proofs.Common.{◌≡◌, ℕ, suc, ◌<◌, true, List, [], ◌∷◌, length, map, slice_get, slice_index_or, Some, refl, ap, sym, ◌∙◌, subst}
 use Rattle.std.specs.List.{AllByRecursion}
 use Rattle.std.proofs.lemmas.Option.{slice_get_within, slice_get-get_or}
-use Rattle.wac_shapes.specs.Name.{Name}
+use Rattle.wac_primitives.specs.Name.{Name}
 use Rattle.wac_collection.specs.Collection.{Collection, IsWellFormed}
 use Rattle.wac_shapes.specs.declared.component.ItemKind.{ItemKind}
 use Rattle.wac_entries.specs.Agreement.{compared, IsDisagreement, IsFirstDisagreement, LeadsApart, joined}

@@ -7,8 +7,8 @@ use Rattle.std.specs.Cmp.Lexicographic.{slice_cmp}
 use Rattle.std.specs.declared.cmp.Ordering.TheVariants.{Less, Equal}
 use Rattle.std.proofs.lemmas.Cmp.{tied_itself, nat_list_cmp_total}
 use Rattle.wac_shapes.proofs.Names.{same_name-true, same_name-refl}
-use Rattle.wac_shapes.specs.Name.{Name, same_name, option_case}
-use Rattle.wac_collection.specs.Tree.{TypeTree, absent, resource, own, borrow, record_of, variant_of, list_of, fixed_list_of, tuple_of, option_of, result_of, stream_of, future_of, function, instance, type_equal, function_item, instance_item, component_item, module_item, value_item}
+use Rattle.wac_primitives.specs.Name.{Name, same_name, option_case}
+use Rattle.wac_primitives.specs.Tree.{TypeTree, absent, resource, own, borrow, record_of, variant_of, list_of, fixed_list_of, tuple_of, option_of, result_of, stream_of, future_of, function, instance, type_equal, function_item, instance_item, component_item, module_item, value_item}
 use Rattle.wac_subtyping.specs.Called.{Called, of_class, bound_at, itself}
 use Rattle.wac_collection.specs.Held.{part_at}
 use Rattle.wac_entries.specs.Nodes.{Node, of_resource, of_primitive, of_own, of_borrow, of_record, of_variant, of_list, of_fixed_list, of_tuple, of_flags, of_enum, of_option, of_result, of_stream, of_future, of_function, of_instance, of_component, of_module, Item, a_type, a_func, an_instance, a_component, a_module, a_value, type_of, types_of, item_tree, listed_tree, Sorted, IsSorted, and_optional, optionals, seconds, mentions, optional_tree, node_tree, tree_to, tree_at, IsTable}

@@ -6,8 +6,8 @@ use Rattle.std.specs.declared.cmp.Ordering.{Ordering}
 use Rattle.std.specs.declared.cmp.Ordering.TheVariants.{Less, Equal, Greater}
 use Rattle.std.proofs.lemmas.Bool.{cases_Bool}
 use Rattle.std.proofs.lemmas.Cmp.{ranked}
-use Rattle.wac_shapes.specs.Name.{Name, option_case, first_some}
-use Rattle.wac_collection.specs.Tree.{imported, Place, TypeTree, absent, resource, own, borrow, instance, type_equal, instance_item}
+use Rattle.wac_primitives.specs.Name.{Name, option_case, first_some}
+use Rattle.wac_primitives.specs.Tree.{imported, Place, TypeTree, absent, resource, own, borrow, instance, type_equal, instance_item}
 use Rattle.wac_collection.specs.Collection.{Collection, item_at, size}
 use Rattle.wac_collection.specs.Held.{Names, Naming, resolved, of_held, defined_tree, func_tree, module_tree, interface_tree, world_tree, item_tree, items_under, unfolded_to, unfolded}
 use Rattle.wac_subtyping.specs.Called.{Called, called_at, by_binding}

@@ -3,8 +3,8 @@ use Rattle.std.proofs.Common.{◌≡◌, ◌≢◌, ℕ, zero, suc, Bool, true, 
 use Rattle.std.proofs.lemmas.Bool.{eqb-true}
 use Rattle.std.specs.Prelude.{◌↔◌, slice_get}
 use Rattle.std.specs.List.{AllByRecursion}
-use Rattle.wac_shapes.specs.Name.{Name, same_name, option_case, first_some}
-use Rattle.wac_collection.specs.Tree.{Side, imported, exported, Place, position, named, Leaf, further_out, TypeTree, absent, resource, primitive, own, borrow, record_of, variant_of, list_of, fixed_list_of, tuple_of, flags_of, enum_of, option_of, result_of, stream_of, future_of, function, instance, component, fresh, type_equal, function_item, instance_item, component_item, module_item, value_item}
+use Rattle.wac_primitives.specs.Name.{Name, same_name, option_case, first_some}
+use Rattle.wac_primitives.specs.Tree.{Side, imported, exported, Place, position, named, Leaf, further_out, TypeTree, absent, resource, primitive, own, borrow, record_of, variant_of, list_of, fixed_list_of, tuple_of, flags_of, enum_of, option_of, result_of, stream_of, future_of, function, instance, component, fresh, type_equal, function_item, instance_item, component_item, module_item, value_item}
 use Rattle.wac_collection.specs.Collection.{Collection, size, item_at}
 use Rattle.wac_collection.specs.Held.{Names, Unfolding, resolved, part_at, items_under, option_tree, defined_tree, func_tree, item_tree, module_tree, of_held, interface_tree, world_tree, value_tree, unfolded_to, unfolded}
 use Rattle.wac_collection.specs.Bound.{by_place, held_tree, held_item, binds_here, is_here, same_side, same_path, own_name, inside_interface, bound_by, bound_in_order, first_bound, bound_by_imports, bound_in_world, lists_own, lists_type, is_alias}

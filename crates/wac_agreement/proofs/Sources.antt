@@ -4,8 +4,8 @@ use Rattle.std.specs.Prelude.{slice_get, Vec}
 use Rattle.std.proofs.Math.Path.{fun_ext}
 use Rattle.std.proofs.lemmas.List.{map-append}
 use Rattle.std.proofs.lemmas.Option.{slice_get_within}
-use Rattle.wac_shapes.specs.Name.{Name, option_case}
-use Rattle.wac_collection.specs.Tree.{TypeTree, absent, type_equal, function_item, instance, instance_item, component_item, module_item, value_item}
+use Rattle.wac_primitives.specs.Name.{Name, option_case}
+use Rattle.wac_primitives.specs.Tree.{TypeTree, absent, type_equal, function_item, instance, instance_item, component_item, module_item, value_item}
 use Rattle.wac_subtyping.specs.Called.{Called, by_binding}
 use Rattle.wac_collection.specs.Collection.{Collection, item_at, item_of, holds_type, interface_exports}
 use Rattle.wac_shapes.specs.Kinds.{kind_type}

@@ -1,6 +1,6 @@
 -- When entries agree over a table of nodes, and what is known while they are compared. Private functions alone cite this.
 use Rattle.std.specs.Prelude.{ℕ, zero, suc, ◌+◌, ◌≡◌, ◌<◌, ◌≤◌, ◌⊎◌, List, [], ◌∷◌, ◌++◌, length, Option, Some, None, slice_get}
-use Rattle.wac_shapes.specs.Name.{Name, find_name, option_case}
+use Rattle.wac_primitives.specs.Name.{Name, find_name, option_case}
 use Rattle.wac_entries.specs.Agreement.{Agree}
 use Rattle.wac_entries.specs.Nodes.{Item, an_instance, Node, type_of, item_tree, tree_at}
 use Rattle.wac_agreement.specs.Slots.{exports_of, IsOpen, Fits, Spot, of_class, export, Slot, IsFree}

@@ -1,6 +1,6 @@
 -- Entries as items of a table. Private functions alone cite this.
 use Rattle.std.specs.Prelude.{ℕ, ◌≡◌, ◌<◌, length, List, Some, slice_get}
-use Rattle.wac_shapes.specs.Name.{Name}
+use Rattle.wac_primitives.specs.Name.{Name}
 use Rattle.wac_collection.specs.Collection.{Collection}
 use Rattle.wac_shapes.specs.declared.component.ItemKind.{ItemKind}
 use Rattle.wac_entries.specs.Classes.{Entry, by_names}

@@ -1,6 +1,6 @@
 -- Why entries have no merge.
 use Rattle.std.specs.Prelude.{ℕ, ◌≡◌, List, Option, Some, None, slice_get, string_bytes}
-use Rattle.wac_shapes.specs.Name.{Name}
+use Rattle.wac_primitives.specs.Name.{Name}
 use Rattle.wac_collection.specs.Collection.{Collection}
 use Rattle.wac_entries.specs.Classes.{Entry, NameRules, by_names, class_names, canonical}
 use Rattle.wac_entries.specs.Agreement.{compared, IsFirstDisagreement, LeadsApart, joined}

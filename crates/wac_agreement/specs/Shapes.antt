@@ -5,8 +5,8 @@ use Rattle.std.specs.Ordering.{nat_cmp}
 use Rattle.std.specs.declared.cmp.Ordering.{Ordering}
 use Rattle.std.specs.declared.cmp.Ordering.TheVariants.{Less}
 use Rattle.std.specs.Cmp.Lexicographic.{slice_cmp}
-use Rattle.wac_shapes.specs.Name.{Name, find_name}
-use Rattle.wac_collection.specs.Tree.{TypeTree, absent, instance, instance_item}
+use Rattle.wac_primitives.specs.Name.{Name, find_name}
+use Rattle.wac_primitives.specs.Tree.{TypeTree, absent, instance, instance_item}
 use Rattle.wac_subtyping.specs.Called.{Called}
 use Rattle.wac_collection.specs.Collection.{Collection, HasInterface, interface_exports}
 use Rattle.wac_shapes.specs.declared.component.ItemKind.{ItemKind}

@@ -1,6 +1,6 @@
 -- What entries have at each spot of a class. Private functions alone cite this.
 use Rattle.std.specs.Prelude.{ℕ, ◌≡◌, ◌⊎◌, List, Option, Some, None, slice_get, string_bytes}
-use Rattle.wac_shapes.specs.Name.{Name, option_case}
+use Rattle.wac_primitives.specs.Name.{Name, option_case}
 use Rattle.wac_entries.specs.Nodes.{Item, an_instance, Node, of_instance}
 use Rattle.wac_entries.specs.NodeViews.{item_view}
 use Rattle.wac_agreement.specs.declared.slots.Spot.{Spot as ASpot}

@@ -5,7 +5,7 @@
 ghost use Rattle.std.specs.Prelude.{◌≡◌, ◌<◌, ◌↔◌, length, map, None, IfOk, IsTrue, string_bytes};
 ghost use Rattle.std.specs.List.{AllByRecursion};
 ghost use Rattle.std.specs.Option.{MatchOption, option_map};
-ghost use Rattle.wac_shapes.specs.Name.{find_name, option_case};
+ghost use Rattle.wac_primitives.specs.Name.{find_name, option_case};
 ghost use Rattle.wac_entries.specs.Agreement.{AreInstances, LeadsApart};
 ghost use Rattle.wac_entries.specs.Nodes.{Sorted, type_of, item_tree, tree_at};
 ghost use Rattle.wac_entries.specs.NodeViews.{item_view, listed};

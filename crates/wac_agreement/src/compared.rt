@@ -3,7 +3,7 @@ ghost use Rattle.std.specs.Prelude.{◌≡◌, ◌<◌, true, length, map, Some,
 ghost use Rattle.std.specs.Option.{IfNone, MatchOption};
 ghost use Rattle.wac_collection.specs.Collection.{holds_type};
 ghost use Rattle.wac_shapes.specs.Kinds.{kind_type};
-ghost use Rattle.wac_shapes.specs.Name.{Name};
+ghost use Rattle.wac_primitives.specs.Name.{Name};
 ghost use Rattle.wac_entries.specs.Agreement.{AllMembersAgree, joined};
 ghost use Rattle.wac_entries.specs.Bindings.{AreBindings, AreHeld};
 ghost use Rattle.wac_entries.specs.Classes.{AreClasses, by_names, class_names};

@@ -1,7 +1,7 @@
 -- What the index that one more item or declaration adds stands for, and what one more item or declaration lists.
 use Rattle.std.specs.Prelude.{List, [], ◌∷◌, ◌++◌}
-use Rattle.wac_shapes.specs.Name.{Name}
-use Rattle.wac_collection.specs.Tree.{Tree}
+use Rattle.wac_primitives.specs.Name.{Name}
+use Rattle.wac_primitives.specs.Tree.{Tree}
 use Rattle.wac_binary.specs.declared.sorts.Sort.TheVariants as s
 use Rattle.wac_binary.specs.Items.{Item, import_item, export_item, Decl, decls, import_decl, export_decl}
 use Rattle.wac_binary.specs.Indexes.{space, indexes, declared}

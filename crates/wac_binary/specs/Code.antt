@@ -3,10 +3,10 @@ use Rattle.std.specs.Prelude.{◌≡◌, ℕ, List, Option}
 use Rattle.std.proofs.Common.{ap, refl}
 use Rattle.std.specs.Coded.{Coded, coded_ℕ, coded_bool, coded_list, coded_option, coded×, code_by}
 use base.Stored.{Gv, gnil, gnum, gcons}
-use Rattle.wac_shapes.specs.contracts.component.PrimitiveType as primitive_type
-use Rattle.wac_shapes.specs.contracts.core_types.CoreType as core_value_type
-use Rattle.wac_shapes.specs.declared.core_types.CoreType.{CoreType}
-use Rattle.wac_shapes.specs.Name.{Name}
+use Rattle.wac_primitives.specs.contracts.component.PrimitiveType as primitive_type
+use Rattle.wac_primitives.specs.contracts.core_types.CoreType as core_value_type
+use Rattle.wac_primitives.specs.declared.core_types.CoreType.{CoreType}
+use Rattle.wac_primitives.specs.Name.{Name}
 use Rattle.wac_binary.specs.contracts.core_types.EntityType as entity_type
 use Rattle.wac_binary.specs.declared.sorts.Sort.{Sort}
 use Rattle.wac_binary.specs.declared.types.ComponentValType.{ComponentValType}

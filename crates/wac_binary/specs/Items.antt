@@ -1,8 +1,8 @@
 -- The items of a component, and the declarations inside its types.
 use Rattle.std.specs.Prelude.{ℕ, Bool, List, [], ◌∷◌, Option}
-use Rattle.wac_shapes.specs.declared.component.PrimitiveType.{PrimitiveType}
-use Rattle.wac_shapes.specs.declared.core_types.CoreType.{CoreType}
-use Rattle.wac_shapes.specs.Name.{Name}
+use Rattle.wac_primitives.specs.declared.component.PrimitiveType.{PrimitiveType}
+use Rattle.wac_primitives.specs.declared.core_types.CoreType.{CoreType}
+use Rattle.wac_primitives.specs.Name.{Name}
 use Rattle.wac_binary.specs.declared.types.ComponentValType.{ComponentValType}
 use Rattle.wac_binary.specs.declared.core_types.EntityType.{EntityType}
 use Rattle.wac_binary.specs.declared.sorts.Sort.{Sort}

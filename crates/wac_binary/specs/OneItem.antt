@@ -1,8 +1,8 @@
 -- No bytes are those of two type items or declarations, whatever follows them.
 use Rattle.std.proofs.Common.{◌≡◌, ℕ, ◌<◌, ◌≤◌, List, ◌∷◌, ◌++◌, refl, ap, sym, ◌∙◌, arith, append_assoc, Bool, true, false}
 use Rattle.std.specs.Prelude.{Option, Some, None, if◌then◌else◌}
-use Rattle.wac_shapes.specs.declared.component.PrimitiveType.{PrimitiveType}
-use Rattle.wac_shapes.specs.declared.component.PrimitiveType.TheVariants as p
+use Rattle.wac_primitives.specs.declared.component.PrimitiveType.{PrimitiveType}
+use Rattle.wac_primitives.specs.declared.component.PrimitiveType.TheVariants as p
 use Rattle.wac_binary.specs.declared.types.ComponentValType.{ComponentValType}
 use Rattle.wac_binary.specs.Items.{ValueDef, primitive_def}
 use Rattle.wac_binary.specs.declared.sorts.Sort.{Sort}
@@ -11,7 +11,7 @@ use Rattle.wac_binary.specs.declared.sorts.Description.{Description}
 use Rattle.wac_binary.specs.declared.sorts.Description.TheVariants as e
 use Rattle.wac_binary.specs.Leb.{unsigned}
 use Rattle.wac_binary.specs.Items.{Alias, export_alias, outer_alias, TypeDef, value_def, func_def, component_def, instance_def, Decls, end, next, Decl, core_type_decl, type_decl, alias_decl, import_decl, export_decl}
-use Rattle.wac_shapes.specs.Name.{Name}
+use Rattle.wac_primitives.specs.Name.{Name}
 use Rattle.wac_binary.specs.Bytes.{primitive, outcome, value_def_bytes, func_bytes, sort, described, alias_bytes, count, type_bytes, decl_bytes, decls_bytes}
 use Rattle.wac_binary.specs.OneReading.{OneReading, one_unsigned, one_pair, one_vector, one_text, one_value, heads}
 use Rattle.wac_binary.specs.OneType.{one_field, one_defined}

@@ -1,10 +1,10 @@
 -- No bytes are those of two core module types, whatever follows them.
 use Rattle.std.proofs.Common.{◌≡◌, ℕ, ◌≤◌, List, ◌++◌, refl, ap, sym, ◌∙◌, arith, append_assoc, Bool, true, false}
 use Rattle.std.specs.Prelude.{Option, Some, None}
-use Rattle.wac_shapes.specs.declared.core_types.CoreRefType.{CoreRefType}
-use Rattle.wac_shapes.specs.declared.core_types.CoreRefType.TheVariants as r
-use Rattle.wac_shapes.specs.declared.core_types.CoreType.{CoreType}
-use Rattle.wac_shapes.specs.declared.core_types.CoreType.TheVariants as c
+use Rattle.wac_primitives.specs.declared.core_types.CoreRefType.{CoreRefType}
+use Rattle.wac_primitives.specs.declared.core_types.CoreRefType.TheVariants as r
+use Rattle.wac_primitives.specs.declared.core_types.CoreType.{CoreType}
+use Rattle.wac_primitives.specs.declared.core_types.CoreType.TheVariants as c
 use Rattle.wac_binary.specs.declared.core_types.EntityType.{EntityType}
 use Rattle.wac_binary.specs.declared.core_types.EntityType.TheVariants as t
 use Rattle.wac_binary.specs.declared.core_types.TableType.{TableType}

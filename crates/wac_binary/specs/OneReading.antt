@@ -1,8 +1,8 @@
 -- No bytes are those of two things, whatever follows them.
 use Rattle.std.proofs.Common.{◌≡◌, ℕ, ◌≤◌, List, [], ◌∷◌, ◌++◌, length, refl, ap, sym, ◌∙◌, arith, append_assoc}
 use Rattle.std.specs.List.{flat_map}
-use Rattle.wac_shapes.specs.declared.component.PrimitiveType.{PrimitiveType}
-use Rattle.wac_shapes.specs.declared.component.PrimitiveType.TheVariants as p
+use Rattle.wac_primitives.specs.declared.component.PrimitiveType.{PrimitiveType}
+use Rattle.wac_primitives.specs.declared.component.PrimitiveType.TheVariants as p
 use Rattle.wac_binary.specs.declared.types.ComponentValType.{ComponentValType}
 use Rattle.wac_binary.specs.declared.types.ComponentValType.TheVariants.{Primitive, Index}
 use Rattle.wac_binary.specs.Leb.{unsigned, signed}

@@ -1,6 +1,6 @@
 //! What a core module imports or exports.
 
-use wac_shapes::{CoreRefType, CoreType};
+use wac_primitives::{CoreRefType, CoreType};
 
 /// A table.
 #[derive(Clone, Copy, Debug)]

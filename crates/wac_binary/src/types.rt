@@ -1,6 +1,6 @@
 //! Types as a writer is given them, with their lists and names where they are.
 
-use wac_shapes::PrimitiveType;
+use wac_primitives::PrimitiveType;
 
 /// A value type in use.
 #[derive(Clone, Copy, Debug, PartialEq, Eq)]

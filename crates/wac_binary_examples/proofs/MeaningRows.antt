@@ -1,9 +1,9 @@
 -- Worked examples of what has a meaning and what has none, each decided by computing.
 use Rattle.std.specs.Prelude.{◌≡◌, List, [], ◌∷◌, None, Some, true, false, refl}
 use Rattle.std.proofs.Common.{arith, rules}
-use Rattle.wac_shapes.specs.Core.{core_function, no_item}
-use Rattle.wac_shapes.specs.declared.component.PrimitiveType.TheVariants as p
-use Rattle.wac_collection.specs.Tree.{Tree, imported, position, named, absent, resource, primitive, own, function, instance, type_equal, result_of, stream_of, items_in}
+use Rattle.wac_primitives.specs.Core.{core_function, no_item}
+use Rattle.wac_primitives.specs.declared.component.PrimitiveType.TheVariants as p
+use Rattle.wac_primitives.specs.Tree.{Tree, imported, position, named, absent, resource, primitive, own, function, instance, type_equal, result_of, stream_of, items_in}
 use Rattle.wac_binary.specs.declared.types.ComponentValType.TheVariants.{Primitive, Index}
 use Rattle.wac_binary.specs.declared.sorts.Sort.TheVariants as s
 use Rattle.wac_binary.specs.declared.sorts.Description.TheVariants as e

@@ -1,9 +1,9 @@
 -- Worked examples of bytes and meanings, each decided by computing.
 use Rattle.std.specs.Prelude.{◌≡◌, List, [], ◌∷◌, ◌++◌, None, Some, true, false, refl}
 use Rattle.std.proofs.Common.{arith, rules}
-use Rattle.wac_shapes.specs.Name.{Name}
-use Rattle.wac_collection.specs.Tree.{Tree, imported, exported, position, named, own, absent, function, function_item, type_in, items_in, type_equal, enum_of}
-use Rattle.wac_shapes.specs.Core.{core_function, core_memory}
+use Rattle.wac_primitives.specs.Name.{Name}
+use Rattle.wac_primitives.specs.Tree.{Tree, imported, exported, position, named, own, absent, function, function_item, type_in, items_in, type_equal, enum_of}
+use Rattle.wac_primitives.specs.Core.{core_function, core_memory}
 use Rattle.wac_binary.specs.Leb.{groups, leb}
 use Rattle.wac_binary.specs.declared.types.ComponentValType.TheVariants.{Index}
 use Rattle.wac_binary.specs.declared.sorts.Sort.TheVariants as s

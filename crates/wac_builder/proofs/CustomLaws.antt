@@ -3,7 +3,7 @@ use Rattle.std.proofs.Common.{◌≡◌, ℕ, List, [], ◌∷◌, ◌++◌, ref
 use Rattle.std.specs.Prelude.{if◌then◌else◌}
 use Rattle.std.specs.Borrow.{Bor}
 use Rattle.std.specs.List.{flat_map}
-use Rattle.wac_shapes.specs.Name.{Name}
+use Rattle.wac_primitives.specs.Name.{Name}
 use Rattle.wac_binary.specs.Views.{names_of}
 use Rattle.wac_binary.specs.Customs.{same_sort, of_sort, naming}
 use Rattle.wac_binary.specs.declared.sorts.Sort.{Sort}

@@ -1,7 +1,7 @@
 -- Lists of parts, seen through what the parts mean.
 use Rattle.std.proofs.Common.{◌≡◌, ℕ, List, [], ◌∷◌, ◌++◌, length, map, refl, ap, suc}
 use Rattle.std.specs.List.{flat_map}
-use Rattle.wac_shapes.specs.declared.core_types.CoreType.{CoreType}
+use Rattle.wac_primitives.specs.declared.core_types.CoreType.{CoreType}
 use Rattle.wac_binary.specs.Bytes.{vector, core_val}
 use Rattle.wac_binary.specs.Leb.{unsigned}
 

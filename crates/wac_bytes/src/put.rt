@@ -9,7 +9,7 @@ ghost use Rattle.wac_binary.specs.Views.{arguments_of};
 use std::alloc::AllocError;
 use wac_binary::sorts::{Description, Sort};
 use wac_binary::types::ComponentValType;
-use wac_shapes::PrimitiveType;
+use wac_primitives::PrimitiveType;
 
 #[tactic(auto, using(wac_binary::specs::LebLaws::leb_more, wac_binary::specs::LebLaws::leb_last, std::proofs::lemmas::Grind::common_steps))]
 fn put_leb(out: &mut Vec<u8>, limit: u64, n: u64) -> Result<(), AllocError>

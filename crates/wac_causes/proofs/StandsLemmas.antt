@@ -1,7 +1,7 @@
 -- A cause stands exactly where it is the one that is named and none of a lower kind is there, said for each kind.
 use Rattle.std.proofs.Common.{◌≡◌, ◌↔◌, ℕ, zero, suc, ◌<◌, nat_lt, IsTrue, true, false, refl, ap, sym, ◌∙◌, arith}
 use Rattle.std.proofs.lemmas.Bool.Decides.{nat_tests}
-use Rattle.wac_shapes.specs.Name.{Name}
+use Rattle.wac_primitives.specs.Name.{Name}
 use Rattle.wac_collection.specs.Package.{Key}
 use Rattle.wac_entries.specs.Classes.{by_names}
 use Rattle.wac_agreement.specs.Faults.{HasNoCircle}

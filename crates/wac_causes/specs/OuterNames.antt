@@ -1,8 +1,8 @@
 -- The outer names of what a graph composes, and the first fault of these.
 use Rattle.std.specs.Prelude.{◌≡◌, List, [], ◌∷◌, ◌++◌, map}
 use Rattle.std.specs.List.{flat_map}
-use Rattle.wac_shapes.specs.Name.{Name, option_case}
-use Rattle.wac_collection.specs.Tree.{Tree}
+use Rattle.wac_primitives.specs.Name.{Name, option_case}
+use Rattle.wac_primitives.specs.Tree.{Tree}
 use Rattle.wac_binary.specs.Items.{Item}
 use Rattle.wac_binary.specs.Meaning.{meaning}
 use Rattle.wac_edges.specs.declared.node.NodeId.{NodeId}

@@ -4,8 +4,8 @@ use Rattle.std.specs.Prelude.{slice_get, string_bytes}
 use Rattle.std.specs.List.{AllByRecursion}
 use Rattle.std.specs.declared.string.String.{String}
 use Rattle.std.specs.declared.alloc.AllocError.{AllocError}
-use Rattle.wac_shapes.specs.Name.{Name, option_case}
-use Rattle.wac_collection.specs.Tree.{TypeTree, absent}
+use Rattle.wac_primitives.specs.Name.{Name, option_case}
+use Rattle.wac_primitives.specs.Tree.{TypeTree, absent}
 use Rattle.wac_subtyping.specs.Called.{Called}
 use Rattle.wac_shapes.specs.declared.component.«Type».{«Type» as AnyType}
 use Rattle.wac_shapes.specs.declared.component.ValueType.{ValueType}

@@ -17,10 +17,10 @@ use Rattle.std.specs.declared.alloc.AllocError.{AllocError}
 use Rattle.std.proofs.lemmas.Bool.{eqb-true}
 use Rattle.std.proofs.lemmas.List.{map-append}
 use Rattle.wac_shapes.proofs.Loops.{entry_at, drop_at}
-use Rattle.wac_shapes.specs.Name.{Name, same_name, find_name, option_case}
+use Rattle.wac_primitives.specs.Name.{Name, same_name, find_name, option_case}
 use Rattle.wac_shapes.specs.Imports.{Pair, same_pair, find_import}
-use Rattle.wac_shapes.specs.Core.{CoreItem, no_item}
-use Rattle.wac_collection.specs.Tree.{module_of}
+use Rattle.wac_primitives.specs.Core.{CoreItem, no_item}
+use Rattle.wac_primitives.specs.Tree.{module_of}
 use Rattle.wac_collection.specs.Held.{core_item, core_imports, module_tree}
 use Rattle.wac_collection.specs.Held as held
 use Rattle.wac_shapes.specs.declared.core_types.CoreExtern.{CoreExtern}

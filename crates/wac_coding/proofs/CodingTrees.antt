@@ -1,14 +1,14 @@
 -- The trees of held types, one id unfolded.
 use Rattle.std.proofs.Common.{◌≡◌, ℕ, suc, ◌<◌, length, Option, Some, None, true, nat_lt, refl, ap, sym, ◌∙◌, arith}
 use Rattle.std.specs.Prelude.{slice_get}
-use Rattle.wac_shapes.specs.Name.{option_case}
-use Rattle.wac_collection.specs.Tree.{TypeTree, absent, resource, primitive, own, borrow}
+use Rattle.wac_primitives.specs.Name.{option_case}
+use Rattle.wac_primitives.specs.Tree.{TypeTree, absent, resource, primitive, own, borrow}
 use Rattle.wac_subtyping.specs.Called.{Called, by_binding}
 use Rattle.wac_collection.specs.Collection.{Collection, size, item_at, item_of, HasDefined, HasFunc}
 use Rattle.wac_collection.specs.Held.{Names, resolved, defined_tree, func_tree, module_tree, of_held, unfolded}
 use Rattle.wac_subtyping.specs.TreeLaws.{IsDeepEnough}
 use Rattle.wac_collection.specs.declared.collection.Held.{Held}
-use Rattle.wac_shapes.specs.declared.component.PrimitiveType.{PrimitiveType}
+use Rattle.wac_primitives.specs.declared.component.PrimitiveType.{PrimitiveType}
 use Rattle.wac_shapes.specs.declared.component.ResourceId.{ResourceId}
 use Rattle.wac_shapes.specs.declared.component.DefinedType.{DefinedType}
 use Rattle.wac_shapes.specs.declared.component.DefinedTypeId.{DefinedTypeId}

@@ -5,8 +5,8 @@ use Rattle.std.proofs.Math.ListN.{set}
 use Rattle.std.proofs.lemmas.List.Elements.{Contains-append_left, Contains-append_right}
 use Rattle.std.specs.List.{AllByRecursion}
 use Rattle.std.specs.Option.{option_map}
-use Rattle.wac_shapes.specs.Name.{Name}
-use Rattle.wac_collection.specs.Tree.{TypeTree, type_equal, function_item, instance_item, component_item, module_item, value_item}
+use Rattle.wac_primitives.specs.Name.{Name}
+use Rattle.wac_primitives.specs.Tree.{TypeTree, type_equal, function_item, instance_item, component_item, module_item, value_item}
 use Rattle.wac_subtyping.specs.Called.{Called}
 use Rattle.wac_collection.specs.Collection.{Collection, kind_types, holds_type, holds_all}
 use Rattle.wac_shapes.specs.Kinds.{kind_type}

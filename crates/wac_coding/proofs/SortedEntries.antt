@@ -18,11 +18,11 @@ use Rattle.std.specs.Map.{keys_of}
 use Rattle.std.proofs.lemmas.Bool.{cases_Bool, false≢true}
 use Rattle.std.proofs.lemmas.List.Sorted.{IsPermutation-map, IsPermutation-sym, Contains-permutation, ranks_by}
 use Rattle.std.proofs.lemmas.Map.Keys.{IsDistinct-IsPermutation}
-use Rattle.wac_shapes.specs.Name.{Name, same_name, find_name}
+use Rattle.wac_primitives.specs.Name.{Name, same_name, find_name}
 use Rattle.wac_shapes.specs.Named.{NoNameTwice}
 use Rattle.wac_coding.specs.ModuleCoding.{look}
 use Rattle.wac_coding.proofs.CodingModules.{Text, name_itself, same_is}
-use Rattle.wac_collection.specs.Tree.{TypeTree, absent}
+use Rattle.wac_primitives.specs.Tree.{TypeTree, absent}
 use Rattle.wac_subtyping.specs.Called as called
 use Rattle.wac_shapes.specs.declared.component.«Type».{«Type» as AnyType}
 use Rattle.wac_shapes.specs.declared.component.ItemKind.{ItemKind}

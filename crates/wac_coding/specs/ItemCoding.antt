@@ -1,8 +1,8 @@
 -- What a scope lists, as nodes of a table. Private functions alone cite this.
 use Rattle.std.specs.Prelude.{◌≡◌, ◌<◌, false, List, map, length}
 use Rattle.std.specs.List.{AllByRecursion, AllZip}
-use Rattle.wac_shapes.specs.Name.{Name}
-use Rattle.wac_collection.specs.Tree.{TypeTree, component}
+use Rattle.wac_primitives.specs.Name.{Name}
+use Rattle.wac_primitives.specs.Tree.{TypeTree, component}
 use Rattle.wac_subtyping.specs.Called.{Called}
 use Rattle.wac_collection.specs.Held as held
 use Rattle.wac_shapes.specs.declared.component.«Type».{«Type» as AnyType}

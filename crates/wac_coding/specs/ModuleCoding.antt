@@ -4,9 +4,9 @@ use Rattle.std.specs.List.{AllByRecursion}
 use Rattle.std.specs.declared.string.String.{String}
 use Rattle.std.specs.declared.alloc.Global.{Global}
 use Rattle.std.specs.BTreeMap.{BTreeMap}
-use Rattle.wac_shapes.specs.Name.{Name, same_name}
+use Rattle.wac_primitives.specs.Name.{Name, same_name}
 use Rattle.wac_shapes.specs.Imports.{Pair, same_pair}
-use Rattle.wac_shapes.specs.Core.{CoreItem, no_item}
+use Rattle.wac_primitives.specs.Core.{CoreItem, no_item}
 use Rattle.wac_collection.specs.Held as held
 use Rattle.wac_shapes.specs.declared.core_types.CoreExtern.{CoreExtern}
 use Rattle.wac_entries.specs.declared.nodes.Core.{Core}

@@ -1,6 +1,6 @@
 -- Numbers at positions. Private functions alone cite this.
 use Rattle.std.specs.Prelude.{ℕ, ◌≡◌, ◌<◌, ◌≤◌, cond, nat_eq, List, Option, Some, None, slice_get}
-use Rattle.wac_shapes.specs.Name.{option_case}
+use Rattle.wac_primitives.specs.Name.{option_case}
 use Rattle.wac_coding.specs.declared.numbers.Put.{Put}
 
 -- the number at a position

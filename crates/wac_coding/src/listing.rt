@@ -2,7 +2,7 @@
 ghost use Rattle.std.specs.Prelude.{◌≡◌, true, IfOk};
 ghost use Rattle.wac_collection.specs.Collection.{holds_type, world_imports, world_exports, HasWorld};
 ghost use Rattle.wac_entries.specs.Scopes.{listed_in, opener_type, scope_tree};
-ghost use Rattle.wac_collection.specs.Tree.{instance};
+ghost use Rattle.wac_primitives.specs.Tree.{instance};
 ghost use Rattle.wac_entries.specs.NodeViews.{listed};
 ghost use Rattle.wac_coding.specs.CallsView.{names_in};
 ghost use Rattle.wac_coding.specs.Coding.{source_tree, IsGrown, HasTree};

@@ -1,7 +1,7 @@
 //! What the scopes of an entry list, as items of a table: the inner ones first.
 ghost use Rattle.std.specs.Prelude.{◌≡◌, ◌≢◌, ◌+◌, ◌<◌, true, List, [], length, Some, IfOk, OnOk, slice_get};
 ghost use Rattle.wac_subtyping.specs.Called.{Called};
-ghost use Rattle.wac_collection.specs.Tree.{TypeTree};
+ghost use Rattle.wac_primitives.specs.Tree.{TypeTree};
 ghost use Rattle.wac_shapes.specs.declared.component.«Type».{«Type» as AnyType};
 ghost use Rattle.wac_entries.specs.Nodes.{Node};
 ghost use Rattle.wac_collection.specs.Collection.{holds_all, holds_type, kind_types};

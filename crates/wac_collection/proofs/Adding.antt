@@ -1,6 +1,6 @@
 -- A collection keeps its laws as items are added against which nothing stands.
 use Rattle.std.proofs.Common.{ℕ, Bool, true, false, List, [], ◌∷◌, ◌++◌, ◌≡◌, refl, ap, sym, ◌∙◌, subst, Option, Some, None, slice_get, inl, inr}
-use Rattle.wac_shapes.specs.Name.{first_some}
+use Rattle.wac_primitives.specs.Name.{first_some}
 use Rattle.wac_collection.specs.declared.collection.Held.{Held}
 use Rattle.wac_collection.specs.declared.collection.AddTypeError.{AddTypeError}
 use Rattle.wac_shapes.specs.declared.component.Resource.{Resource}

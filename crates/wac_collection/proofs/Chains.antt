@@ -1,6 +1,6 @@
 -- Chains of aliases.
 use Rattle.std.proofs.Common.{ℕ, zero, suc, true, ◌≡◌, ◌<◌, refl, ap, sym, subst, Option, Some, None, arith, slice_get}
-use Rattle.wac_shapes.specs.Name.{option_case}
+use Rattle.wac_primitives.specs.Name.{option_case}
 use Rattle.wac_collection.specs.declared.collection.Held.{Held}
 use Rattle.wac_shapes.specs.declared.component.ResourceId.{ResourceId}
 use Rattle.wac_shapes.specs.declared.component.DefinedType.{DefinedType}

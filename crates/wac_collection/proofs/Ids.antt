@@ -1,8 +1,8 @@
 -- Items of the same sort and id are equal.
 use Rattle.std.proofs.Common.{ℕ, zero, suc, true, false, ◌≡◌, refl, ap, sym, ◌∙◌, subst}
 use Rattle.std.proofs.lemmas.Bool.{eqb-true, eq-eqb}
-use Rattle.wac_shapes.specs.declared.component.PrimitiveType.{PrimitiveType}
-use Rattle.wac_shapes.specs.declared.component.PrimitiveType.TheVariants as prim
+use Rattle.wac_primitives.specs.declared.component.PrimitiveType.{PrimitiveType}
+use Rattle.wac_primitives.specs.declared.component.PrimitiveType.TheVariants as prim
 use Rattle.wac_shapes.specs.declared.component.ValueType.{ValueType}
 use Rattle.wac_shapes.specs.declared.component.ValueType.TheVariants as val
 use Rattle.wac_shapes.specs.declared.component.«Type».{«Type» as AnyType}

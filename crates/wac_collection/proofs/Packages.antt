@@ -1,6 +1,6 @@
 -- What stands against the interface of a package's instances.
 use Rattle.std.proofs.Common.{Bool, true, List, [], ◌++◌, ◌≡◌, refl, ap, sym, ◌∙◌, subst, Option, Some, None, Err, slice_get}
-use Rattle.wac_shapes.specs.Name.{Name, option_case, first_some}
+use Rattle.wac_primitives.specs.Name.{Name, option_case, first_some}
 use Rattle.wac_collection.specs.declared.collection.Held.{Held}
 use Rattle.wac_collection.specs.declared.collection.AddTypeError.{AddTypeError}
 use Rattle.wac_collection.specs.declared.collection.AddTypeError.TheVariants as fault

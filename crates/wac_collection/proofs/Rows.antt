@@ -1,6 +1,6 @@
 -- Worked examples of what is refused and of aliases, each decided by computing.
 use Rattle.std.specs.Prelude.{ℕ, ◌≡◌, List, [], ◌∷◌, Option, Some, None, refl}
-use Rattle.wac_shapes.specs.Name.{Name}
+use Rattle.wac_primitives.specs.Name.{Name}
 use Rattle.wac_collection.specs.Collection.{Collection}
 use Rattle.wac_collection.specs.Held.{resolved}
 use Rattle.wac_collection.specs.Aliases.{value_resolved}
@@ -8,7 +8,7 @@ use Rattle.wac_collection.specs.Uses.{interface_fault}
 use Rattle.wac_collection.specs.Package.{package_fault}
 use Rattle.wac_collection.specs.declared.collection.Held.{Held}
 use Rattle.wac_collection.specs.declared.collection.AddTypeError.TheVariants.{NotHeld, UsedInterfaceUnnamed, UsedTypeMissing, UsedTypeDiffers, ResourceMisnamed}
-use Rattle.wac_shapes.specs.declared.component.PrimitiveType.TheVariants as prim
+use Rattle.wac_primitives.specs.declared.component.PrimitiveType.TheVariants as prim
 use Rattle.wac_shapes.specs.declared.component.ValueType.{ValueType}
 use Rattle.wac_shapes.specs.declared.component.ValueType.TheVariants as val
 use Rattle.wac_shapes.specs.declared.component.DefinedType.{DefinedType}

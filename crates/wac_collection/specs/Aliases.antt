@@ -1,6 +1,6 @@
 -- The types at the ends of aliases.
 use Rattle.std.specs.Prelude.{ℕ, zero, suc, Option, Some, None}
-use Rattle.wac_shapes.specs.Name.{option_case}
+use Rattle.wac_primitives.specs.Name.{option_case}
 use Rattle.wac_collection.specs.Collection.{Collection, size, item_at}
 use Rattle.wac_collection.specs.Held.{resolved}
 use Rattle.wac_shapes.specs.declared.component.DefinedType.{DefinedType}

@@ -1,7 +1,7 @@
 -- Where a resource is bound, and the trees of held types under these names.
 use Rattle.std.specs.Prelude.{◌==◌, ◌&&◌, Bool, true, false, not, if◌then◌else◌, List, [], ◌∷◌, filter, Option, Some, None, slice_get, is_some, is_none}
-use Rattle.wac_shapes.specs.Name.{Name, same_name, find_name, option_case, first_some}
-use Rattle.wac_collection.specs.Tree.{Side, imported, exported, Place, position, named, Leaf, Tree, further_out}
+use Rattle.wac_primitives.specs.Name.{Name, same_name, find_name, option_case, first_some}
+use Rattle.wac_primitives.specs.Tree.{Side, imported, exported, Place, position, named, Leaf, Tree, further_out}
 use Rattle.wac_collection.specs.Collection.{Collection, item_at}
 use Rattle.wac_collection.specs.Held.{Naming, Names, resolved, source_of, unfolded, item_tree}
 use Rattle.wac_shapes.specs.declared.component.ResourceId.{ResourceId}

@@ -1,7 +1,7 @@
 -- A collection of types: lists of items, each of which mentions only items added before it. An id is a position in its list.
 use Rattle.std.specs.Prelude.{ℕ, ◌+◌, ◌<◌, ◌≡◌, List, [], ◌∷◌, ◌++◌, length, Option, Some, None, slice_get, Bool, true, nat_lt}
 use Rattle.std.specs.List.{AllByRecursion, list_all}
-use Rattle.wac_shapes.specs.Name.{Name, option_case}
+use Rattle.wac_primitives.specs.Name.{Name, option_case}
 use Rattle.wac_collection.specs.declared.collection.Held.{Held}
 use Rattle.wac_shapes.specs.declared.component.Resource.{Resource}
 use Rattle.wac_shapes.specs.declared.component.ResourceId.{ResourceId}

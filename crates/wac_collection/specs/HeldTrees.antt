@@ -1,6 +1,6 @@
 -- Laws of held trees, which calls give to their callers.
 use Rattle.std.specs.Prelude.{◌≡◌, ◌++◌, true, false, List, [], ◌∷◌, map, Option, Some, None}
-use Rattle.wac_shapes.specs.Name.{Name, same_name, find_name, option_case}
+use Rattle.wac_primitives.specs.Name.{Name, same_name, find_name, option_case}
 use Rattle.wac_shapes.specs.declared.component.ResourceId.{ResourceId}
 use Rattle.wac_shapes.specs.declared.component.Resource.{Resource}
 use Rattle.wac_shapes.specs.declared.component.FuncType.{FuncType}
@@ -18,7 +18,7 @@ use Rattle.wac_shapes.specs.declared.component.«Type».{«Type» as AnyType}
 use Rattle.wac_shapes.specs.declared.component.«Type».TheVariants as ty
 use Rattle.wac_shapes.specs.declared.component.ItemKind.{ItemKind}
 use Rattle.wac_shapes.specs.declared.component.ItemKind.TheVariants as kind
-use Rattle.wac_collection.specs.Tree.{Side, exported, Place, named, Leaf, Tree, absent, moved, taken_from}
+use Rattle.wac_primitives.specs.Tree.{Side, exported, Place, named, Leaf, Tree, absent, moved, taken_from}
 use Rattle.wac_collection.specs.Collection.{Collection, item_at, holds_type}
 use Rattle.wac_collection.specs.Held.{resolved, items_under}
 use Rattle.wac_collection.specs.Bound.{Bindings, own_name, inside_interface, binds_here, held_tree}

@@ -1,4 +1,3 @@
-pub mod Tree
 pub mod Collection
 pub mod Held
 pub mod Bound

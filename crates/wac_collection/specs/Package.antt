@@ -7,7 +7,7 @@ use Rattle.std.specs.Option.{option_eq, option_cmp}
 use Rattle.std.specs.Hash as fed
 use Rattle.semver.specs.Identifiers.{parts_text}
 use Rattle.semver.specs.Order.{pre_cmp, build_cmp}
-use Rattle.wac_shapes.specs.Name.{Name, option_case}
+use Rattle.wac_primitives.specs.Name.{Name, option_case}
 use Rattle.wac_collection.specs.Collection.{Collection, holds_type, with_interface, world_exports, interface_exports}
 use Rattle.wac_collection.specs.Uses.{named_right, unless}
 use Rattle.wac_collection.specs.declared.collection.AddTypeError.{AddTypeError}

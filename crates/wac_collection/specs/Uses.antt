@@ -1,14 +1,14 @@
 -- What an interface or a world uses of other interfaces, and what stands against adding it.
 use Rattle.std.specs.Prelude.{ℕ, ◌≡◌, ◌==◌, ◌&&◌, ◌||◌, Bool, true, false, if◌then◌else◌, List, Option, Some, None, is_some, Result, Ok, Err}
 use Rattle.std.specs.List.{list_all}
-use Rattle.wac_shapes.specs.Name.{Name, same_name, find_name, option_case, first_some}
+use Rattle.wac_primitives.specs.Name.{Name, same_name, find_name, option_case, first_some}
 use Rattle.wac_collection.specs.Collection.{Collection, Each, holds_all, item_at, interface_exports, interface_mentions, world_mentions}
 use Rattle.wac_collection.specs.Bound.{is_alias}
 use Rattle.wac_collection.specs.Aliases.{type_resolved}
 use Rattle.wac_collection.specs.declared.collection.AddTypeError.{AddTypeError}
 use Rattle.wac_collection.specs.declared.collection.AddTypeError.TheVariants as fault
-use Rattle.wac_shapes.specs.declared.component.PrimitiveType.{PrimitiveType}
-use Rattle.wac_shapes.specs.declared.component.PrimitiveType.TheVariants as prim
+use Rattle.wac_primitives.specs.declared.component.PrimitiveType.{PrimitiveType}
+use Rattle.wac_primitives.specs.declared.component.PrimitiveType.TheVariants as prim
 use Rattle.wac_shapes.specs.declared.component.ValueType.{ValueType}
 use Rattle.wac_shapes.specs.declared.component.ValueType.TheVariants as val
 use Rattle.wac_shapes.specs.declared.component.«Type».{«Type» as AnyType}

@@ -1,6 +1,6 @@
 //! What an interface or a world uses of other interfaces, and what stands against adding it.
 ghost use Rattle.std.specs.Prelude.{◌≡◌};
-ghost use Rattle.wac_shapes.specs.Name.{same_name};
+ghost use Rattle.wac_primitives.specs.Name.{same_name};
 ghost use Rattle.wac_collection.specs.Uses.{used_item, is_used_by_id, is_there, same_type, same_type_item, is_listed_as_used, is_named_right, used_by_id, are_there, listed_as_used, named_right, uses_fault, interface_fault, world_fault};
 
 use crate::collection::{AddTypeError, Types};

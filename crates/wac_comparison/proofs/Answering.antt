@@ -1,10 +1,10 @@
 -- What the answers for two value types rest on.
 use Rattle.std.proofs.Common.{ℕ, zero, suc, Bool, true, List, [], ◌∷◌, ◌≡◌, ◌+◌, length, refl, ap, sym, ◌∙◌, subst, Option, Some, None, ◌⊎◌, inl, inr, arith, nat_lt}
-use Rattle.wac_shapes.specs.Name.{Name, option_case}
+use Rattle.wac_primitives.specs.Name.{Name, option_case}
 use Rattle.wac_comparison.specs.declared.questions.Asked.{Asked}
 use Rattle.wac_collection.specs.declared.collection.Held.{Held}
 use Rattle.wac_shapes.specs.declared.component.ResourceId.{ResourceId}
-use Rattle.wac_shapes.specs.declared.component.PrimitiveType.{PrimitiveType}
+use Rattle.wac_primitives.specs.declared.component.PrimitiveType.{PrimitiveType}
 use Rattle.wac_shapes.specs.declared.component.DefinedTypeId.{DefinedTypeId}
 use Rattle.wac_shapes.specs.declared.component.DefinedType.{DefinedType}
 use Rattle.wac_shapes.specs.declared.component.DefinedType.TheVariants as def
@@ -12,7 +12,7 @@ use Rattle.wac_shapes.specs.declared.component.ValueType.{ValueType}
 use Rattle.wac_shapes.specs.declared.component.ValueType.TheVariants as val
 use Rattle.wac_shapes.specs.declared.component.«Type».TheVariants as ty
 use Rattle.wac_collection.specs.Collection.{Collection, size, IsWellFormed, IsValueBefore, defined_mentions, holds_value, holds_type, item_at}
-use Rattle.wac_collection.specs.Tree.{TypeTree, absent, primitive, own, borrow, resource}
+use Rattle.wac_primitives.specs.Tree.{TypeTree, absent, primitive, own, borrow, resource}
 use Rattle.wac_collection.specs.Held.{resolved, defined_tree}
 use Rattle.wac_collection.specs.Aliases.{aliased, target_of, value_resolved_in, value_resolved}
 use Rattle.wac_subtyping.specs.Subtype.{resource_names, type_tree}

@@ -7,8 +7,8 @@ use Rattle.indexmap.proofs.CallerLemmas.{Contains-insert_key}
 use Rattle.wac_comparison.specs.declared.questions.Question.{Question}
 use Rattle.wac_comparison.specs.declared.questions.Asked.{Asked}
 use Rattle.wac_shapes.specs.declared.component.«Type».{«Type» as AnyType}
-use Rattle.wac_shapes.specs.Name.{Name}
-use Rattle.wac_collection.specs.Tree.{TypeTree}
+use Rattle.wac_primitives.specs.Name.{Name}
+use Rattle.wac_primitives.specs.Tree.{TypeTree}
 use Rattle.wac_collection.specs.Collection.{Collection, holds_type}
 use Rattle.wac_subtyping.specs.Subtype.{Sub, type_tree}
 use Rattle.wac_comparison.specs.Weights.{type_weight}

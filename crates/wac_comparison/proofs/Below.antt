@@ -1,6 +1,6 @@
 -- What holds of lists so far, as a loop over them goes on.
 use Rattle.std.proofs.Common.{ℕ, ◌<◌, ◌≡◌, List, Some, slice_get}
-use Rattle.wac_shapes.specs.Name.{Name}
+use Rattle.wac_primitives.specs.Name.{Name}
 use Rattle.wac_shapes.specs.Imports.{Pair}
 use Rattle.wac_collection.specs.Collection.{Collection}
 use Rattle.wac_collection.specs.Held.{core_item, core_under, core_imports}

@@ -1,13 +1,13 @@
 -- What is offered of core items, name by name.
 use Rattle.std.proofs.Common.{ℕ, Bool, true, false, IsTrue, List, ◌≡◌, ◌≢◌, ◌↔◌, ◌+◌, ◌<◌, ◌≤◌, length, refl, ap, sym, ◌∙◌, subst, Option, Some, None, arith, slice_get, below_more}
-use Rattle.wac_shapes.specs.Name.{Name, find_name, option_case}
+use Rattle.wac_primitives.specs.Name.{Name, find_name, option_case}
 use Rattle.wac_shapes.specs.Named.{NoNameTwice}
 use Rattle.wac_shapes.specs.Imports.{Pair, find_import, NoImportTwice}
-use Rattle.wac_shapes.specs.Core.{CoreItem, no_item}
+use Rattle.wac_primitives.specs.Core.{CoreItem, no_item}
 use Rattle.wac_shapes.specs.declared.core_types.CoreExtern.{CoreExtern}
 use Rattle.wac_shapes.specs.declared.core_types.CoreExtern.TheVariants as core
 use Rattle.wac_shapes.specs.declared.core_types.ModuleType.{ModuleType}
-use Rattle.wac_collection.specs.Tree.{TypeTree, module_of}
+use Rattle.wac_primitives.specs.Tree.{TypeTree, module_of}
 use Rattle.wac_collection.specs.Held.{core_item, module_tree}
 use Rattle.wac_subtyping.specs.Subtype.{Sub, IsCoreSubtype}
 use Rattle.wac_comparison.specs.Compare.{OffersCore, OffersModules}

@@ -4,10 +4,10 @@ use Rattle.std.specs.Bool.{Decides}
 use Rattle.std.specs.Cmp.Lexicographic.{pointwise}
 use Rattle.std.proofs.lemmas.Slice.Eq.{slice_eq-Decides, bytes_eq-Decides}
 use Rattle.std.specs.Str.{bytes_eq}
-use Rattle.wac_shapes.specs.contracts.core_types.CoreTypePartialEq.TheImpl as CoreEq
-use Rattle.wac_shapes.specs.declared.core_types.CoreType.{CoreType}
-use Rattle.wac_shapes.specs.declared.core_types.CoreType.TheVariants.{I32, I64, F32, F64, V128, Ref}
-use Rattle.wac_shapes.specs.declared.core_types.CoreRefType.TheVariants.{FuncRef, ExternRef}
+use Rattle.wac_primitives.specs.contracts.core_types.CoreTypePartialEq.TheImpl as CoreEq
+use Rattle.wac_primitives.specs.declared.core_types.CoreType.{CoreType}
+use Rattle.wac_primitives.specs.declared.core_types.CoreType.TheVariants.{I32, I64, F32, F64, V128, Ref}
+use Rattle.wac_primitives.specs.declared.core_types.CoreRefType.TheVariants.{FuncRef, ExternRef}
 
 pub core_type_same : (a b : CoreType) → (CoreEq.ghosts).eq a b ≡ true → a ≡ b
 core_type_same I32 I32 e = refl

@@ -1,6 +1,6 @@
 -- What is asked of definitions and of function types, part by part.
 use Rattle.std.proofs.Common.{ℕ, suc, Bool, false, List, [], ◌∷◌, map, ◌≡◌, length, refl, ap, sym, ◌∙◌, subst, Option}
-use Rattle.wac_shapes.specs.Name.{Name}
+use Rattle.wac_primitives.specs.Name.{Name}
 use Rattle.wac_comparison.specs.declared.questions.Asked.{Asked}
 use Rattle.wac_shapes.specs.declared.component.ValueType.{ValueType}
 use Rattle.wac_shapes.specs.declared.component.Variant.{Variant}
@@ -12,7 +12,7 @@ use Rattle.wac_shapes.specs.declared.component.DefinedType.TheVariants as def
 use Rattle.wac_shapes.specs.declared.component.FuncType.{FuncType}
 use Rattle.wac_shapes.specs.declared.component.«Type».TheVariants as ty
 use Rattle.wac_collection.specs.Collection.{Collection, seconds, and_maybe, case_values, value_types, func_mentions, defined_mentions}
-use Rattle.wac_collection.specs.Tree.{TypeTree, absent, record_of, variant_of, list_of, fixed_list_of, tuple_of, flags_of, enum_of, option_of, result_of, stream_of, future_of, function}
+use Rattle.wac_primitives.specs.Tree.{TypeTree, absent, record_of, variant_of, list_of, fixed_list_of, tuple_of, flags_of, enum_of, option_of, result_of, stream_of, future_of, function}
 use Rattle.wac_collection.specs.Held.{part_at}
 use Rattle.wac_comparison.specs.Compare.{value_in, optional_in, func_in, defined_in, entry_in, case_in}
 use Rattle.wac_comparison.specs.Questions.{Refutes}

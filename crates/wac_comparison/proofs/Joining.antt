@@ -5,7 +5,7 @@ use Rattle.std.proofs.lemmas.Bool.{cases_Bool}
 use Rattle.std.specs.Map.{lookup_key}
 use Rattle.std.specs.List.{AllByRecursion, Contains}
 use Rattle.indexmap.specs.IndexMap.{set_value_at}
-use Rattle.wac_shapes.specs.Name.{Name, option_case}
+use Rattle.wac_primitives.specs.Name.{Name, option_case}
 use Rattle.wac_shapes.specs.declared.component.«Type».{«Type» as AnyType}
 use Rattle.wac_shapes.specs.declared.component.«Type».TheVariants as ty
 use Rattle.wac_comparison.specs.declared.classes.Node.{Node}
@@ -13,7 +13,7 @@ use Rattle.wac_comparison.specs.declared.classes.Link.{Link}
 use Rattle.wac_comparison.specs.declared.questions.Question.{Question}
 use Rattle.wac_comparison.specs.declared.questions.Asked.{Asked}
 use Rattle.wac_collection.specs.Collection.{Collection, holds_type}
-use Rattle.wac_collection.specs.Tree.{TypeTree, absent, resource}
+use Rattle.wac_primitives.specs.Tree.{TypeTree, absent, resource}
 use Rattle.wac_collection.specs.Held.{resolved}
 use Rattle.wac_subtyping.specs.Subtype.{Sub, IsPlain, resource_names, type_tree}
 use Rattle.wac_comparison.specs.Weights.{weight, type_weight}

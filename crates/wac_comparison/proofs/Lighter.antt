@@ -1,7 +1,7 @@
 -- Types are heavier than what they mention.
 use Rattle.std.proofs.Common.{ℕ, zero, suc, Bool, true, List, [], ◌∷◌, map, ◌≡◌, ◌<◌, ◌≤◌, ◌+◌, length, refl, ap, sym, ◌∙◌, subst, Option, Some, None, arith, nat_lt}
 use Rattle.std.specs.List.{AllByRecursion}
-use Rattle.wac_shapes.specs.Name.{Name, option_case}
+use Rattle.wac_primitives.specs.Name.{Name, option_case}
 use Rattle.wac_shapes.specs.declared.component.FuncType.{FuncType}
 use Rattle.wac_shapes.specs.declared.component.FuncTypeId.{FuncTypeId}
 use Rattle.wac_shapes.specs.declared.component.DefinedType.{DefinedType}
@@ -18,7 +18,7 @@ use Rattle.wac_shapes.specs.declared.component.«Type».{«Type» as AnyType}
 use Rattle.wac_shapes.specs.declared.component.«Type».TheVariants as ty
 use Rattle.wac_collection.specs.Aliases.{aliased}
 use Rattle.wac_collection.specs.Collection.{Collection, seconds, and_maybe, case_values, defined_values, func_values, value_types, func_mentions, defined_mentions, kind_types, world_mentions, IsWellFormed, IsBefore, AreBefore, holds_type, item_at}
-use Rattle.wac_collection.specs.Tree.{TypeTree, absent, own, borrow, resource, primitive}
+use Rattle.wac_primitives.specs.Tree.{TypeTree, absent, own, borrow, resource, primitive}
 use Rattle.wac_collection.specs.Held.{part_at, option_tree, func_tree, defined_tree, resolved}
 use Rattle.wac_subtyping.specs.Subtype.{resource_names, type_tree}
 use Rattle.wac_comparison.specs.Compare.{value_in, func_in, defined_in}

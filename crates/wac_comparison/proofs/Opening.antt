@@ -1,6 +1,6 @@
 -- Types that are looked into where they are mentioned: what is asked of their parts is asked of them.
 use Rattle.std.proofs.Common.{ℕ, Bool, List, [], ◌∷◌, map, ◌≡◌, ◌≤◌, ◌⊎◌, inl, inr, refl, ap, sym, ◌∙◌, subst, Some, None, arith}
-use Rattle.wac_shapes.specs.Name.{Name}
+use Rattle.wac_primitives.specs.Name.{Name}
 use Rattle.wac_comparison.specs.declared.questions.Asked.{Asked}
 use Rattle.wac_shapes.specs.declared.component.FuncTypeId.{FuncTypeId}
 use Rattle.wac_shapes.specs.declared.component.FuncType.{FuncType}
@@ -14,7 +14,7 @@ use Rattle.wac_shapes.specs.declared.component.ItemKind.TheVariants as kind
 use Rattle.wac_shapes.specs.declared.component.«Type».{«Type» as AnyType}
 use Rattle.wac_shapes.specs.declared.component.«Type».TheVariants as ty
 use Rattle.wac_collection.specs.Collection.{Collection, IsWellFormed, defined_mentions, func_mentions, item_at}
-use Rattle.wac_collection.specs.Tree.{TypeTree, list_of, option_of, function_item}
+use Rattle.wac_primitives.specs.Tree.{TypeTree, list_of, option_of, function_item}
 use Rattle.wac_subtyping.specs.Subtype.{Sub, type_tree, kind_tree}
 use Rattle.wac_comparison.specs.Compare.{value_in, entry_in, defined_in, definition_in, func_in}
 use Rattle.wac_collection.specs.Aliases.{aliased}

@@ -1,9 +1,9 @@
 -- What the types that a comparison opens are made of.
 use Rattle.std.proofs.Common.{ℕ, zero, suc, Bool, true, false, List, [], ◌∷◌, ◌++◌, map, ◌≡◌, ◌<◌, ◌≤◌, length, refl, ap, ◌∙◌, subst, Option, Some, None, arith, nat_lt, slice_get}
 use Rattle.std.specs.List.{AllByRecursion}
-use Rattle.wac_shapes.specs.Name.{Name}
+use Rattle.wac_primitives.specs.Name.{Name}
 use Rattle.wac_collection.specs.declared.collection.Held.{Held}
-use Rattle.wac_shapes.specs.declared.component.PrimitiveType.{PrimitiveType}
+use Rattle.wac_primitives.specs.declared.component.PrimitiveType.{PrimitiveType}
 use Rattle.wac_shapes.specs.declared.component.FuncType.{FuncType}
 use Rattle.wac_shapes.specs.declared.component.FuncTypeId.{FuncTypeId}
 use Rattle.wac_shapes.specs.declared.component.DefinedType.{DefinedType}
@@ -23,7 +23,7 @@ use Rattle.wac_shapes.specs.declared.component.ItemKind.{ItemKind}
 use Rattle.wac_shapes.specs.declared.component.ItemKind.TheVariants as kind
 use Rattle.wac_collection.specs.Collection.{Collection, size, seconds, and_maybe, case_values, func_values, defined_values, value_types, func_mentions, defined_mentions, interface_mentions, world_mentions, used_types, kind_types, IsWellFormed, IsBefore, IsValueBefore, AreBefore, AddedBefore, holds_type, item_of, item_at}
 use Rattle.wac_shapes.specs.Kinds.{kind_type}
-use Rattle.wac_collection.specs.Tree.{imported, exported, TypeTree, primitive, record_of, variant_of, list_of, fixed_list_of, tuple_of, option_of, result_of, stream_of, future_of, function, instance, component, type_equal, function_item, instance_item, component_item, module_item, value_item}
+use Rattle.wac_primitives.specs.Tree.{imported, exported, TypeTree, primitive, record_of, variant_of, list_of, fixed_list_of, tuple_of, option_of, result_of, stream_of, future_of, function, instance, component, type_equal, function_item, instance_item, component_item, module_item, value_item}
 use Rattle.wac_collection.specs.Held.{Naming, Names, Unfolding, part_at, items_under, option_tree, func_tree, defined_tree, item_tree, module_tree, of_held, step, unfolded_to, unfolded}
 use Rattle.wac_subtyping.specs.Subtype.{by_name, resource_names, type_tree}
 use Rattle.wac_subtyping.specs.Subtype.{listed_in}

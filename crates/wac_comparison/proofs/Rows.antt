@@ -1,13 +1,13 @@
 -- Worked examples of subtyping, each decided by computing.
 use Rattle.std.specs.Prelude.{ℕ, ◌≡◌, ◌≢◌, Bool, true, false, if◌then◌else◌, List, [], ◌∷◌, Option, Some, None, refl}
 use Rattle.std.proofs.Common.{arith}
-use Rattle.wac_shapes.specs.Name.{Name, same_name, option_case}
-use Rattle.wac_shapes.specs.Core.{CoreItem, no_item, core_memory}
-use Rattle.wac_collection.specs.Tree.{TypeTree, absent, primitive, own, function, function_item}
+use Rattle.wac_primitives.specs.Name.{Name, same_name, option_case}
+use Rattle.wac_primitives.specs.Core.{CoreItem, no_item, core_memory}
+use Rattle.wac_primitives.specs.Tree.{TypeTree, absent, primitive, own, function, function_item}
 use Rattle.wac_collection.specs.Held.{part_at, core_item}
 use Rattle.wac_collection.specs.Collection.{Collection}
 use Rattle.wac_collection.specs.declared.collection.Held.{Held}
-use Rattle.wac_shapes.specs.declared.component.PrimitiveType.TheVariants as prim
+use Rattle.wac_primitives.specs.declared.component.PrimitiveType.TheVariants as prim
 use Rattle.wac_shapes.specs.declared.component.Resource.{Resource}
 use Rattle.wac_shapes.specs.declared.component.ResourceAlias.{ResourceAlias}
 use Rattle.wac_shapes.specs.declared.component.FuncType.{FuncType}

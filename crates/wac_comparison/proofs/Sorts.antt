@@ -1,6 +1,6 @@
 -- The tree of a held type is of the type's sort, so it is there.
 use Rattle.std.proofs.Common.{ℕ, zero, suc, true, List, [], ◌∷◌, ◌≡◌, ◌≢◌, ◌<◌, length, refl, ap, sym, ◌∙◌, subst, Option, Some, None, arith, nat_lt, slice_get}
-use Rattle.wac_shapes.specs.Name.{Name, option_case}
+use Rattle.wac_primitives.specs.Name.{Name, option_case}
 use Rattle.wac_collection.specs.declared.collection.Held.{Held}
 use Rattle.wac_shapes.specs.declared.component.Resource.{Resource}
 use Rattle.wac_shapes.specs.declared.component.ResourceAlias.{ResourceAlias}
@@ -14,7 +14,7 @@ use Rattle.wac_shapes.specs.declared.component.«Type».TheVariants as ty
 use Rattle.wac_shapes.specs.declared.component.ItemKind.{ItemKind}
 use Rattle.wac_shapes.specs.declared.component.ItemKind.TheVariants as kind
 use Rattle.wac_collection.specs.Collection.{Collection, size, item_of, item_at, alias_types, defined_mentions, IsWellFormed, IsBefore, IsValueBefore, AreBefore, AddedBefore, holds_type}
-use Rattle.wac_collection.specs.Tree.{TypeTree, absent, own, borrow, resource, function, instance, component, module_of, fresh, type_equal, function_item, instance_item, component_item, module_item, value_item}
+use Rattle.wac_primitives.specs.Tree.{TypeTree, absent, own, borrow, resource, function, instance, component, module_of, fresh, type_equal, function_item, instance_item, component_item, module_item, value_item}
 use Rattle.wac_collection.specs.Held.{of_held, defined_tree, resolved, resolved_in, source_of, unfolded_to}
 use Rattle.wac_subtyping.specs.Subtype.{Sub, by_name, held_name, resource_names, type_tree, kind_tree}
 use Rattle.wac_comparison.specs.Questions.{AreThere}

@@ -1,6 +1,6 @@
 -- What the answer to a question rests on, by the sort of its types.
 use Rattle.std.proofs.Common.{Bool, true, false, IsTrue, List, ◌≡◌, ◌+◌, ◌↔◌, refl, ap, sym, ◌∙◌, subst, Option, Some, None}
-use Rattle.wac_shapes.specs.Name.{Name, option_case}
+use Rattle.wac_primitives.specs.Name.{Name, option_case}
 use Rattle.wac_comparison.specs.declared.questions.Asked.{Asked}
 use Rattle.wac_shapes.specs.declared.component.ResourceId.{ResourceId}
 use Rattle.wac_shapes.specs.declared.component.FuncTypeId.{FuncTypeId}
@@ -15,7 +15,7 @@ use Rattle.wac_shapes.specs.declared.component.ValueType.{ValueType}
 use Rattle.wac_shapes.specs.declared.component.«Type».{«Type» as AnyType}
 use Rattle.wac_shapes.specs.declared.component.«Type».TheVariants as ty
 use Rattle.wac_collection.specs.Collection.{Collection, IsWellFormed, func_mentions, kind_types, world_mentions, holds_type, item_at}
-use Rattle.wac_collection.specs.Tree.{TypeTree, absent, resource}
+use Rattle.wac_primitives.specs.Tree.{TypeTree, absent, resource}
 use Rattle.wac_collection.specs.Held.{resolved, module_tree}
 use Rattle.wac_subtyping.specs.Subtype.{Sub, IsPlain, resource_names, type_tree}
 use Rattle.wac_subtyping.specs.Subtype.{listed_in}

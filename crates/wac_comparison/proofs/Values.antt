@@ -1,10 +1,10 @@
 -- Trees of value types, and what is asked of them.
 use Rattle.std.proofs.Common.{ℕ, zero, suc, Bool, true, ◌<◌, ◌⊎◌, inl, inr, List, [], ◌∷◌, ◌≡◌, refl, ap, sym, ◌∙◌, subst, Option, Some, None, slice_get}
 use Rattle.std.specs.List.{AllByRecursion}
-use Rattle.wac_shapes.specs.Name.{Name, option_case}
+use Rattle.wac_primitives.specs.Name.{Name, option_case}
 use Rattle.wac_comparison.specs.declared.questions.Asked.{Asked}
 use Rattle.wac_collection.specs.declared.collection.Held.{Held}
-use Rattle.wac_shapes.specs.declared.component.PrimitiveType.{PrimitiveType}
+use Rattle.wac_primitives.specs.declared.component.PrimitiveType.{PrimitiveType}
 use Rattle.wac_shapes.specs.declared.component.ValueType.{ValueType}
 use Rattle.wac_shapes.specs.declared.component.ValueType.TheVariants as val
 use Rattle.wac_shapes.specs.declared.component.DefinedType.{DefinedType}
@@ -12,7 +12,7 @@ use Rattle.wac_shapes.specs.declared.component.DefinedType.TheVariants as def
 use Rattle.wac_shapes.specs.declared.component.«Type».{«Type» as AnyType}
 use Rattle.wac_shapes.specs.declared.component.«Type».TheVariants as ty
 use Rattle.wac_collection.specs.Collection.{Collection, size, and_maybe, value_types, holds_type}
-use Rattle.wac_collection.specs.Tree.{TypeTree, absent, primitive, own, borrow}
+use Rattle.wac_primitives.specs.Tree.{TypeTree, absent, primitive, own, borrow}
 use Rattle.wac_collection.specs.Held.{defined_tree, of_held, resolved, unfolded_to}
 use Rattle.wac_subtyping.specs.Subtype.{Sub, IsPlain, by_name, resource_names, type_tree}
 use Rattle.wac_comparison.specs.Compare.{value_in, optional_in}

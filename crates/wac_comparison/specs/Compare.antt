@@ -1,9 +1,9 @@
 -- What the steps of a comparison answer: types part by part, listed items name by name.
 use Rattle.std.specs.Prelude.{◌≢◌, List, Option, None}
-use Rattle.wac_shapes.specs.Name.{Name}
+use Rattle.wac_primitives.specs.Name.{Name}
 use Rattle.wac_shapes.specs.Imports.{Pair}
-use Rattle.wac_shapes.specs.Core.{CoreItem, no_item, core_table, core_memory}
-use Rattle.wac_collection.specs.Tree.{TypeTree, absent, component}
+use Rattle.wac_primitives.specs.Core.{CoreItem, no_item, core_table, core_memory}
+use Rattle.wac_primitives.specs.Tree.{TypeTree, absent, component}
 use Rattle.wac_collection.specs.Collection.{Collection, item_at}
 use Rattle.wac_collection.specs.Held.{option_tree, func_tree, defined_tree, core_under, core_imports}
 use Rattle.wac_subtyping.specs.Subtype.{Sub, IsCoreSubtype, type_tree, listed_in}

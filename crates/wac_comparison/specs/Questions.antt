@@ -5,7 +5,7 @@ use Rattle.wac_comparison.specs.declared.questions.Question.{Question}
 use Rattle.wac_shapes.specs.declared.component.«Type».{«Type» as AnyType}
 use Rattle.wac_shapes.specs.declared.component.«Type».TheVariants as ty
 use Rattle.wac_collection.specs.Collection.{Collection, holds_type}
-use Rattle.wac_collection.specs.Tree.{absent}
+use Rattle.wac_primitives.specs.Tree.{absent}
 use Rattle.wac_collection.specs.Aliases.{target_of}
 use Rattle.wac_subtyping.specs.Subtype.{Sub, type_tree}
 use Rattle.wac_comparison.specs.Weights.{type_weight}

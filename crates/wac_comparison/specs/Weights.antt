@@ -1,6 +1,6 @@
 -- How heavy types are: heavier than what they mention. What is the same weighs the same, in whatever collection it is.
 use Rattle.std.specs.Prelude.{ℕ, zero, suc, ◌+◌, length}
-use Rattle.wac_collection.specs.Tree.{TypeTree, record_of, variant_of, list_of, fixed_list_of, tuple_of, option_of, result_of, stream_of, future_of, function}
+use Rattle.wac_primitives.specs.Tree.{TypeTree, record_of, variant_of, list_of, fixed_list_of, tuple_of, option_of, result_of, stream_of, future_of, function}
 use Rattle.wac_collection.specs.Collection.{Collection}
 use Rattle.wac_subtyping.specs.Subtype.{type_tree}
 use Rattle.wac_subtyping.specs.Ranks.{type_rank}

@@ -1,6 +1,6 @@
 -- Components, and types of worlds, that the root imports: each behind the component type of its world.
 use Rattle.std.specs.Prelude.{ℕ, ◌≡◌, ◌⊎◌, List, Option, Some, None, Result, Err}
-use Rattle.wac_shapes.specs.Name.{Name}
+use Rattle.wac_primitives.specs.Name.{Name}
 use Rattle.wac_shapes.specs.declared.component.WorldId.{WorldId}
 use Rattle.wac_collection.specs.Collection.{Collection}
 use Rattle.wac_binary.specs.declared.sorts.Description.{Description}

@@ -7,7 +7,7 @@ ghost use Rattle.wac_declarations.specs.ModuleView.{module_decl_of};
 use std::alloc::AllocError;
 use wac_binary::core_types::{EntityType, GlobalType, MemoryType, TableType};
 use wac_bytes::put::{put_indexed, put_text, put_unsigned};
-use wac_shapes::{CoreRefType, CoreType};
+use wac_primitives::{CoreRefType, CoreType};
 
 /// A declaration of a core module type that is about to be written, with its parts where they are.
 #[derive(Clone, Copy)]

@@ -7,7 +7,7 @@ ghost use Rattle.wac_declarations.specs.ModuleView.{module_decl_of};
 use crate::core_decl::ModuleDeclRef;
 use crate::size::{index_size, text_size, unsigned_size};
 use wac_binary::core_types::{EntityType, MemoryType, TableType};
-use wac_shapes::CoreType;
+use wac_primitives::CoreType;
 
 fn number_size(n: u64) -> u128
     ensures is { result ≡ length (number (Some n)) }

@@ -16,7 +16,7 @@ use std::marker::Model;
 use wac_binary::core_types::EntityType;
 use wac_binary::fault::BinaryFault;
 use wac_bytes::put::put_unsigned;
-use wac_shapes::CoreType;
+use wac_primitives::CoreType;
 
 /// A core module type that is being written. Contracts see it as the list of its declarations.
 ///

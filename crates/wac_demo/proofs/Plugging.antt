@@ -5,7 +5,7 @@ use Rattle.std.specs.FinMap as map
 use Rattle.std.specs.FinSet as set
 use Rattle.std.proofs.lemmas.Bool.{false≢true}
 use Rattle.std.proofs.lemmas.List.{append-nil}
-use Rattle.wac_shapes.specs.Name.{Name, find_name, same_name, option_case}
+use Rattle.wac_primitives.specs.Name.{Name, find_name, same_name, option_case}
 use Rattle.wac_shapes.specs.Named.{names_of}
 use Rattle.wac_shapes.proofs.Names.{same_name-refl}
 use Rattle.wac_shapes.specs.declared.component.ItemKind.{ItemKind}

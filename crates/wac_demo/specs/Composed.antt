@@ -1,6 +1,6 @@
 -- What the compositions are.
 use Rattle.std.specs.Prelude.{◌≡◌, ℕ, List, [], Some, None, IsSomeAnd, true, false, codes, ◌⊎◌}
-use Rattle.wac_shapes.specs.Name.{Name}
+use Rattle.wac_primitives.specs.Name.{Name}
 use Rattle.wac_collection.specs.Collection.{Collection, item_at, world_imports, world_exports}
 use Rattle.wac_collection.specs.Package.{PackageParts}
 use Rattle.wac_shapes.specs.declared.component.ItemKind.{ItemKind}

@@ -5,7 +5,7 @@ use Rattle.std.specs.Borrow.{Bor}
 use Rattle.std.specs.Option.{option_map}
 use Rattle.std.proofs.Common.{refl, ap, ◌∙◌, sym, subst, arith, inl, inr}
 use Rattle.std.proofs.Math.Path.{fun_ext}
-use Rattle.wac_shapes.specs.Name.{Name, option_case}
+use Rattle.wac_primitives.specs.Name.{Name, option_case}
 use Rattle.wac_shapes.specs.declared.component.FuncType.{FuncType}
 use Rattle.wac_shapes.specs.declared.component.FuncTypeId.{FuncTypeId}
 use Rattle.wac_shapes.specs.declared.component.ValueType.{ValueType}

@@ -1,11 +1,11 @@
 -- What each item of an interface adds to a scope, under what is held. Private functions alone cite this.
 use Rattle.std.specs.Prelude.{◌≡◌, true, List, ◌∷◌}
-use Rattle.wac_shapes.specs.Name.{Name}
+use Rattle.wac_primitives.specs.Name.{Name}
 use Rattle.wac_shapes.specs.Kinds.{kind_type}
 use Rattle.wac_shapes.specs.declared.component.Interface.{Interface}
 use Rattle.wac_shapes.specs.declared.component.InterfaceId.{InterfaceId}
 use Rattle.wac_shapes.specs.declared.component.ItemKind.{ItemKind}
-use Rattle.wac_collection.specs.Tree.{exported, Tree}
+use Rattle.wac_primitives.specs.Tree.{exported, Tree}
 use Rattle.wac_collection.specs.Collection.{Collection, holds_type}
 use Rattle.wac_collection.specs.Bound.{Bindings, inside_interface}
 use Rattle.wac_binary.specs.HasMeaning.{ImportNothing}

@@ -1,7 +1,7 @@
 -- What the writers of value types and function types do to an open scope.
 use Rattle.std.specs.Prelude.{ℕ, zero, suc, ◌+◌, ◌≤◌, ◌≡◌, ◌⊎◌, List, [], ◌∷◌, ◌++◌, length, map, Option, Some, None, IsSome, slice_get, Result, Ok, Err}
 use Rattle.std.specs.List.{AllZip, AllByRecursion}
-use Rattle.wac_shapes.specs.Name.{option_case}
+use Rattle.wac_primitives.specs.Name.{option_case}
 use Rattle.wac_shapes.specs.declared.component.DefinedType.{DefinedType}
 use Rattle.wac_shapes.specs.declared.component.DefinedType.TheVariants as def
 use Rattle.wac_shapes.specs.declared.component.DefinedTypeId.{DefinedTypeId}
@@ -11,7 +11,7 @@ use Rattle.wac_shapes.specs.declared.component.ValueType.{ValueType}
 use Rattle.wac_shapes.specs.declared.component.ValueType.TheVariants as val
 use Rattle.wac_shapes.specs.declared.component.«Type».{«Type» as AnyType}
 use Rattle.wac_shapes.specs.declared.component.«Type».TheVariants as ty
-use Rattle.wac_collection.specs.Tree.{Tree}
+use Rattle.wac_primitives.specs.Tree.{Tree}
 use Rattle.wac_collection.specs.Collection.{Collection, item_at, func_values}
 use Rattle.wac_collection.specs.Aliases.{value_resolved}
 use Rattle.wac_collection.specs.Bound.{Bindings}

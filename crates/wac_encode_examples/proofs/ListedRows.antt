@@ -1,7 +1,7 @@
 -- Where definitions are listed once an instance that lists some is imported, and how they are aliased from there.
 use Rattle.std.proofs.Common.{◌≡◌, ℕ, cond, List, [], ◌∷◌, Option, Some, None, refl, ap, sym, ◌∙◌, codes}
 use Rattle.std.specs.Prelude.{nat_eq}
-use Rattle.wac_shapes.specs.Name.{Name}
+use Rattle.wac_primitives.specs.Name.{Name}
 use Rattle.wac_shapes.specs.declared.component.DefinedTypeId.{DefinedTypeId}
 use Rattle.wac_shapes.specs.declared.component.«Type».{«Type» as AnyType}
 use Rattle.wac_binary.specs.declared.sorts.Sort.TheVariants as sort

@@ -1,6 +1,6 @@
 -- An interface that lists the enum `t` and the function `f(x: t)`, and how it is written.
 use Rattle.std.specs.Prelude.{◌≡◌, false, List, [], ◌∷◌, None, Some, codes}
-use Rattle.wac_shapes.specs.Name.{Name}
+use Rattle.wac_primitives.specs.Name.{Name}
 use Rattle.wac_shapes.specs.declared.component.DefinedType.{DefinedType}
 use Rattle.wac_shapes.specs.declared.component.DefinedType.TheVariants as def
 use Rattle.wac_shapes.specs.declared.component.DefinedTypeId.{DefinedTypeId}

@@ -1,6 +1,6 @@
 -- What is read of a node, and the argument that it is.
 use Rattle.std.proofs.Common.{◌≡◌, ℕ, true, false, List, refl, ap, ◌∙◌, sym, Option, Some, None, IfSome, IsSome, IsSomeAnd, String, Global}
-use Rattle.wac_shapes.specs.Name.{Name}
+use Rattle.wac_primitives.specs.Name.{Name}
 use Rattle.wac_shapes.specs.declared.component.ItemKind.{ItemKind}
 use Rattle.wac_binary.specs.declared.sorts.Sort.{Sort}
 use Rattle.wac_edges.specs.declared.node.NodeId.{NodeId}

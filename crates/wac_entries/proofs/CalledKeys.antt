@@ -3,8 +3,8 @@ use Rattle.std.proofs.Common.{◌≡◌, true, nat_eq, [], refl, ap, eq-eqb}
 use Rattle.std.proofs.lemmas.Bool.{eqb-true}
 use Rattle.std.specs.Cmp.Lexicographic.{pointwise}
 use Rattle.std.specs.Prelude.{string_bytes}
-use Rattle.wac_shapes.specs.Name.{Name}
-use Rattle.wac_collection.specs.Tree.{imported, Place, position, named, Leaf}
+use Rattle.wac_primitives.specs.Name.{Name}
+use Rattle.wac_primitives.specs.Tree.{imported, Place, position, named, Leaf}
 use Rattle.wac_subtyping.specs.Called as spec
 use Rattle.wac_shapes.specs.declared.component.ResourceId.{ResourceId}
 use Rattle.wac_entries.specs.contracts.called.CalledPartialEq.TheImpl as CalledEq

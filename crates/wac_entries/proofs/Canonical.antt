@@ -16,7 +16,7 @@ use Rattle.wac_names.specs.Reading.{read_track, read_version, track_at}
 use Rattle.wac_names.specs.Track.{IsVersioned, whole, major, minor, patch, series, version_cmp}
 use Rattle.wac_names.proofs.TrackFacts.{version-read}
 use Rattle.wac_names.proofs.VersionOrder as versions
-use Rattle.wac_shapes.specs.Name.{Name, same_name, find_name}
+use Rattle.wac_primitives.specs.Name.{Name, same_name, find_name}
 use Rattle.wac_shapes.proofs.Names.{same_name-true, same_name-from, same_name-refl}
 use Rattle.wac_entries.specs.Classes.{Entry, AreClasses, by_names, canonical, class_names, imported_as, is_asked, is_greater, members, names_of_classes, newest, same_class}
 use Rattle.wac_entries.proofs.Lists.{any-at, none-filtered, some-at}

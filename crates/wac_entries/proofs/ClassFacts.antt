@@ -4,7 +4,7 @@ use Rattle.std.specs.List.{list_any}
 use Rattle.std.proofs.lemmas.Bool.{and_from, and_parts, or_cases, or_left, or_right, or_from, cases_Bool, eqb-true, eq-eqb, false≢true, false_from_ne_true}
 use Rattle.std.proofs.lemmas.List.Elements.{filter-append}
 use Rattle.wac_names.specs.Track.{Track, whole, major, minor, patch}
-use Rattle.wac_shapes.specs.Name.{Name, same_name}
+use Rattle.wac_primitives.specs.Name.{Name, same_name}
 use Rattle.wac_shapes.proofs.Names.{same_name-true, same_name-refl, same_name-from}
 use Rattle.wac_entries.proofs.Lists.{none-at, none-filtered}
 use Rattle.wac_entries.specs.Classes.{Entry, NameRules, same_track, names_instance, same_class, names_of_classes}

@@ -14,8 +14,8 @@ use Rattle.wac_names.specs.contracts.tracks.TrackPartialEq as equal
 use Rattle.wac_names.specs.declared.tracks.Track.{Track}
 use Rattle.wac_names.proofs.SameTrack.{same-track}
 use Rattle.wac_names.proofs.TrackFacts.{had-track}
-use Rattle.wac_shapes.specs.Name.{Name, option_case, first_some}
-use Rattle.wac_collection.specs.Tree.{imported, Place, named, Leaf}
+use Rattle.wac_primitives.specs.Name.{Name, option_case, first_some}
+use Rattle.wac_primitives.specs.Tree.{imported, Place, named, Leaf}
 use Rattle.wac_collection.specs.Collection.{Collection, item_at}
 use Rattle.wac_collection.specs.Bound.{own_name}
 use Rattle.wac_shapes.specs.declared.component.Interface.{Interface}

@@ -4,7 +4,7 @@ use Rattle.std.proofs.Math.ListN.{set}
 use Rattle.std.proofs.lemmas.Bool.{cases_Bool, false≢true, or_left, or_right}
 use Rattle.std.proofs.lemmas.List.{append-nil, take_all}
 use Rattle.std.proofs.lemmas.List.Elements.{filter-append}
-use Rattle.wac_shapes.specs.Name.{Name, find_name, same_name}
+use Rattle.wac_primitives.specs.Name.{Name, find_name, same_name}
 use Rattle.wac_shapes.proofs.Names.{same_name-refl, take_at}
 use Rattle.wac_entries.specs.Classes.{Entry, IsFirstNamed, NameRules, by_names, is_asked, same_class, class_names, names_of_classes, newest, AreClasses}
 use Rattle.wac_entries.specs.Numbering.{AreFound, AreKeyed, AreNewest, HaveNumbers, IsNumbered, class_names_to, members_in}

@@ -6,16 +6,16 @@ use Rattle.std.specs.Bool.{beq}
 use Rattle.std.specs.Option.{option_eq}
 use Rattle.std.specs.Prelude.{string_bytes}
 use denote.Enum.Bare.{same_true, true_same}
-use Rattle.wac_shapes.specs.Name.{Name}
-use Rattle.wac_shapes.specs.contracts.component.PrimitiveType.{the_type}
+use Rattle.wac_primitives.specs.Name.{Name}
+use Rattle.wac_primitives.specs.contracts.component.PrimitiveType.{the_type}
 use Rattle.wac_entries.specs.contracts.nodes.CorePartialEq.TheImpl as CoreEq
-use Rattle.wac_shapes.specs.contracts.core_types.CoreTypePartialEq.TheImpl as CoreTypeEq
-use Rattle.wac_shapes.specs.contracts.core_types.CoreRefTypePartialEq.TheImpl as CoreRefEq
-use Rattle.wac_shapes.specs.declared.core_types.CoreType.{CoreType}
-use Rattle.wac_shapes.specs.declared.core_types.CoreType.TheVariants as core_type
-use Rattle.wac_shapes.specs.declared.core_types.CoreRefType.{CoreRefType}
-use Rattle.wac_shapes.specs.declared.core_types.CoreRefType.TheVariants.{FuncRef, ExternRef}
-use Rattle.wac_shapes.specs.Core.{CoreItem, core_function, core_table, core_memory, core_global, core_tag}
+use Rattle.wac_primitives.specs.contracts.core_types.CoreTypePartialEq.TheImpl as CoreTypeEq
+use Rattle.wac_primitives.specs.contracts.core_types.CoreRefTypePartialEq.TheImpl as CoreRefEq
+use Rattle.wac_primitives.specs.declared.core_types.CoreType.{CoreType}
+use Rattle.wac_primitives.specs.declared.core_types.CoreType.TheVariants as core_type
+use Rattle.wac_primitives.specs.declared.core_types.CoreRefType.{CoreRefType}
+use Rattle.wac_primitives.specs.declared.core_types.CoreRefType.TheVariants.{FuncRef, ExternRef}
+use Rattle.wac_primitives.specs.Core.{CoreItem, core_function, core_table, core_memory, core_global, core_tag}
 use Rattle.wac_entries.specs.declared.nodes.Core.{Core}
 use Rattle.wac_entries.specs.declared.nodes.Core.TheVariants as core
 use Rattle.wac_entries.specs.contracts.nodes.ItemPartialEq.TheImpl as ItemEq

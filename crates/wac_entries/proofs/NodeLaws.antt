@@ -3,9 +3,9 @@ use Rattle.wac_entries.proofs.SortedMaps.{one_map, items_are, found_are, first_u
 use Rattle.std.proofs.Common.{◌≡◌, ℕ, zero, suc, ◌<◌, ◌≤◌, List, [], ◌∷◌, ◌++◌, length, map, Option, Some, None, refl, ap, sym, ◌∙◌, arith}
 use Rattle.std.specs.Prelude.{slice_get, ◌≢◌}
 use Rattle.std.specs.List.{AllByRecursion}
-use Rattle.wac_shapes.specs.Name.{Name, option_case}
-use Rattle.wac_shapes.specs.Core.{CoreItem, no_item}
-use Rattle.wac_collection.specs.Tree.{TypeTree, absent}
+use Rattle.wac_primitives.specs.Name.{Name, option_case}
+use Rattle.wac_primitives.specs.Core.{CoreItem, no_item}
+use Rattle.wac_primitives.specs.Tree.{TypeTree, absent}
 use Rattle.wac_subtyping.specs.Called.{Called}
 use Rattle.wac_collection.specs.Held.{part_at}
 use Rattle.wac_entries.specs.Nodes.{Node, of_resource, of_primitive, of_own, of_borrow, of_record, of_variant, of_list, of_fixed_list, of_tuple, of_flags, of_enum, of_option, of_result, of_stream, of_future, of_function, of_instance, of_component, of_module, core_under, core_under_both, AreCoreItems, Item, a_type, a_func, an_instance, a_component, a_module, a_value, type_of, types_of, item_tree, listed_tree, Sorted, IsSorted, and_optional, optionals, seconds, mentions, optional_tree, node_tree, tree_to, tree_at, IsTable}

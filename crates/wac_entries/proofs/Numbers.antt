@@ -10,7 +10,7 @@ use Rattle.wac_names.specs.Reading.{read_track}
 use Rattle.wac_names.specs.Track.{Track, whole, major, minor, patch, key_text}
 use Rattle.wac_names.proofs.KeyFacts as key_facts
 use Rattle.wac_names.proofs.TrackFacts.{one_track-read, track-had}
-use Rattle.wac_shapes.specs.Name.{Name, same_name, find_name}
+use Rattle.wac_primitives.specs.Name.{Name, same_name, find_name}
 use Rattle.wac_shapes.specs.Named.{named_at}
 use Rattle.wac_shapes.proofs.Names.{same_name-true, same_name-from, same_name-sym, take_at}
 use Rattle.wac_entries.specs.Classes.{Entry, IsFirstNamed, by_names, is_asked, is_instance, names_instance, same_class}

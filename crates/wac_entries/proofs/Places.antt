@@ -9,8 +9,8 @@ use Rattle.std.specs.declared.string.String.{String}
 use Rattle.std.proofs.lemmas.List.{map-append}
 use Rattle.std.proofs.lemmas.Bool.{cases_Bool, eqb-true, false≢true}
 use Rattle.std.proofs.lemmas.List.Elements.{filter-append}
-use Rattle.wac_shapes.specs.Name.{Name, same_name, find_name, option_case, first_some}
-use Rattle.wac_collection.specs.Tree.{Side, named, Leaf}
+use Rattle.wac_primitives.specs.Name.{Name, same_name, find_name, option_case, first_some}
+use Rattle.wac_primitives.specs.Tree.{Side, named, Leaf}
 use Rattle.wac_collection.specs.Collection.{Collection, IsBefore, IsWellFormed, holds_all, holds_type, item_at, kind_types, used_types}
 use Rattle.wac_shapes.specs.Kinds.{kind_type}
 use Rattle.wac_collection.specs.Held.{Names}

@@ -1,7 +1,7 @@
 -- Worked examples: classes of entries.
 use Rattle.std.proofs.Common.{◌≡◌, ℕ, nat_lt, Bool, false, [], ◌∷◌, refl}
 use Rattle.wac_names.specs.Track.{Track, whole, major}
-use Rattle.wac_shapes.specs.Name.{Name}
+use Rattle.wac_primitives.specs.Name.{Name}
 use Rattle.wac_shapes.specs.declared.component.ItemKind.TheVariants as kind
 use Rattle.wac_entries.specs.Classes.{Entry, NameRules, class_names, canonical}
 

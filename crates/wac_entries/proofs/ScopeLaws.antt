@@ -1,7 +1,7 @@
 -- What resources are called in a scope, from what they are called in the one around it.
 use Rattle.std.proofs.Common.{◌≡◌, ℕ, zero, suc, ◌<◌, List, Option, Some, None, slice_get, refl, ap, ◌∙◌, subst, arith}
-use Rattle.wac_shapes.specs.Name.{option_case, first_some}
-use Rattle.wac_collection.specs.Tree.{Leaf}
+use Rattle.wac_primitives.specs.Name.{option_case, first_some}
+use Rattle.wac_primitives.specs.Tree.{Leaf}
 use Rattle.wac_collection.specs.Collection.{Collection}
 use Rattle.wac_collection.specs.Held.{Names}
 use Rattle.wac_subtyping.specs.Called.{Called, called_at, one_out, or_around}

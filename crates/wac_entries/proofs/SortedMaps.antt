@@ -7,9 +7,9 @@ use Rattle.std.specs.declared.cmp.Ordering.{Ordering}
 use Rattle.std.specs.declared.cmp.Ordering.TheVariants.{Less, Equal, Greater}
 use Rattle.std.specs.Cmp.Lexicographic.{slice_cmp, nat_list_cmp_total}
 use Rattle.std.specs.FinMap.{nat_cmp-IsAntisymmetric, slice_cmp-IsAntisymmetric}
-use Rattle.wac_shapes.specs.Name.{Name, same_name}
-use Rattle.wac_shapes.specs.Name.{find_name, option_case}
-use Rattle.wac_collection.specs.Tree.{TypeTree, absent}
+use Rattle.wac_primitives.specs.Name.{Name, same_name}
+use Rattle.wac_primitives.specs.Name.{find_name, option_case}
+use Rattle.wac_primitives.specs.Tree.{TypeTree, absent}
 use Rattle.wac_collection.specs.Held.{items_under}
 use Rattle.wac_entries.specs.Nodes.{Sorted}
 

@@ -3,8 +3,8 @@ use Rattle.std.proofs.Common.{◌≡◌, ℕ, zero, suc, ◌+◌, ◌<◌, Bool,
 use Rattle.std.proofs.lemmas.Option.{slice_get_read, slice_get_within}
 use Rattle.std.proofs.lemmas.List.{length-append}
 use Rattle.std.specs.Option.{option_map}
-use Rattle.wac_shapes.specs.Name.{Name, option_case, first_some}
-use Rattle.wac_collection.specs.Tree.{Side, Place, Leaf, imported, exported}
+use Rattle.wac_primitives.specs.Name.{Name, option_case, first_some}
+use Rattle.wac_primitives.specs.Tree.{Side, Place, Leaf, imported, exported}
 use Rattle.wac_collection.specs.Collection.{Collection, IsWellFormed, IsSourceBelow, holds_type, item_at, item_of}
 use Rattle.wac_collection.specs.Held.{Names, resolved, resolved_in, source_of}
 use Rattle.wac_subtyping.specs.Called.{Called, bound_at, of_class, itself, one_out, resource_name, called_at, own_leaf, or_around}

@@ -1,8 +1,8 @@
 -- The way out of a scope: how far it leads, and what resources are called where it leads.
 use Rattle.std.proofs.Common.{◌≡◌, ℕ, zero, suc, ◌+◌, ◌≤◌, ◌<◌, List, [], ◌∷◌, ◌++◌, inl, inr, ◌⊎◌, length, Option, Some, None, slice_get, get_or, refl, sym, ap, ◌∙◌, subst, arith}
 use Rattle.std.specs.Option.{option_map}
-use Rattle.wac_shapes.specs.Name.{option_case}
-use Rattle.wac_collection.specs.Tree.{Leaf}
+use Rattle.wac_primitives.specs.Name.{option_case}
+use Rattle.wac_primitives.specs.Tree.{Leaf}
 use Rattle.wac_collection.specs.Collection.{Collection}
 use Rattle.wac_collection.specs.Held.{Names}
 use Rattle.wac_subtyping.specs.Called.{Called, bound_at, of_class, itself, one_out, or_around}

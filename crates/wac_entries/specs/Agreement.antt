@@ -1,8 +1,8 @@
 -- When two entries of a class agree, and where they do not.
 use Rattle.std.specs.Prelude.{ℕ, ◌≡◌, ◌<◌, ◌≤◌, true, false, List, [], ◌∷◌, ◌++◌, map, Some, None, slice_get, ◌⊎◌}
 use Rattle.std.specs.List.{AllByRecursion}
-use Rattle.wac_shapes.specs.Name.{Name, option_case, first_some}
-use Rattle.wac_collection.specs.Tree.{imported, exported, TypeTree, absent, instance, instance_item}
+use Rattle.wac_primitives.specs.Name.{Name, option_case, first_some}
+use Rattle.wac_primitives.specs.Tree.{imported, exported, TypeTree, absent, instance, instance_item}
 use Rattle.wac_collection.specs.Collection.{Collection, item_at, interface_exports}
 use Rattle.wac_collection.specs.Held.{Names, unfolded, item_tree, items_under}
 use Rattle.wac_subtyping.specs.Called.{Called, of_class, itself, resource_name, called_at, own_leaf, by_binding}

@@ -1,7 +1,7 @@
 -- What the classes of asked entries bind, and what a resource means at the root.
 use Rattle.std.specs.Prelude.{ℕ, suc, not, ◌&&◌, ◌==◌, if◌then◌else◌, List, [], ◌∷◌, Option, Some, None}
-use Rattle.wac_shapes.specs.Name.{Name, option_case, first_some}
-use Rattle.wac_collection.specs.Tree.{imported, Place, position, named}
+use Rattle.wac_primitives.specs.Name.{Name, option_case, first_some}
+use Rattle.wac_primitives.specs.Tree.{imported, Place, position, named}
 use Rattle.wac_collection.specs.Collection.{Collection, item_at}
 use Rattle.wac_collection.specs.Bound.{Bindings, own_name, is_alias}
 use Rattle.wac_shapes.specs.declared.component.ResourceId.{ResourceId}

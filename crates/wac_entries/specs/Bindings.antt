@@ -4,8 +4,8 @@ use Rattle.std.specs.Option.{option_map}
 use Rattle.wac_names.specs.Reading.{read_track}
 use Rattle.wac_names.specs.Views.{track_view}
 use Rattle.wac_names.specs.declared.tracks.Track.{Track}
-use Rattle.wac_shapes.specs.Name.{Name, option_case}
-use Rattle.wac_collection.specs.Tree.{imported, Place, Leaf}
+use Rattle.wac_primitives.specs.Name.{Name, option_case}
+use Rattle.wac_primitives.specs.Tree.{imported, Place, Leaf}
 use Rattle.wac_collection.specs.Collection.{Collection, holds_type}
 use Rattle.wac_shapes.specs.Kinds.{kind_type}
 use Rattle.wac_collection.specs.Held.{Names}

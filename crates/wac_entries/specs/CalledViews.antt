@@ -1,7 +1,7 @@
 -- What the names of resources stand for.
 use Rattle.std.specs.Prelude.{List, map, string_bytes}
 use Rattle.std.specs.declared.string.String.{String}
-use Rattle.wac_collection.specs.Tree.{Side, imported, exported, Place, named}
+use Rattle.wac_primitives.specs.Tree.{Side, imported, exported, Place, named}
 use Rattle.wac_subtyping.specs.Called as spec
 use Rattle.wac_entries.specs.declared.called.Side.{Side as ASide}
 use Rattle.wac_entries.specs.declared.called.Side.TheVariants.{Imported, Exported}

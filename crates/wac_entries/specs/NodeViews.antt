@@ -2,8 +2,8 @@
 use Rattle.std.specs.Global.{Global}
 use Rattle.std.specs.Prelude.{Vec, List, map, string_bytes}
 use Rattle.std.specs.declared.string.String.{String}
-use Rattle.wac_shapes.specs.Name.{Name}
-use Rattle.wac_shapes.specs.Core.{CoreItem, core_function, core_table, core_memory, core_global, core_tag}
+use Rattle.wac_primitives.specs.Name.{Name}
+use Rattle.wac_primitives.specs.Core.{CoreItem, core_function, core_table, core_memory, core_global, core_tag}
 use Rattle.wac_entries.specs.CalledViews.{called_view}
 use Rattle.wac_entries.specs.declared.nodes.Core.{Core}
 use Rattle.wac_entries.specs.declared.nodes.Core.TheVariants as core

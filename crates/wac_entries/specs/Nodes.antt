@@ -4,10 +4,10 @@ use Rattle.std.specs.List.{AllByRecursion}
 use Rattle.std.specs.Ordering.{nat_cmp}
 use Rattle.std.specs.declared.cmp.Ordering.TheVariants.{Less}
 use Rattle.std.specs.Cmp.Lexicographic.{slice_cmp}
-use Rattle.wac_shapes.specs.Name.{Name, find_name, option_case}
-use Rattle.wac_shapes.specs.declared.component.PrimitiveType.{PrimitiveType}
-use Rattle.wac_shapes.specs.Core.{CoreItem, no_item}
-use Rattle.wac_collection.specs.Tree.{TypeTree, absent, resource, primitive, own, borrow, record_of, variant_of, list_of, fixed_list_of, tuple_of, flags_of, enum_of, option_of, result_of, stream_of, future_of, function, instance, component, module_of, type_equal, function_item, instance_item, component_item, module_item, value_item}
+use Rattle.wac_primitives.specs.Name.{Name, find_name, option_case}
+use Rattle.wac_primitives.specs.declared.component.PrimitiveType.{PrimitiveType}
+use Rattle.wac_primitives.specs.Core.{CoreItem, no_item}
+use Rattle.wac_primitives.specs.Tree.{TypeTree, absent, resource, primitive, own, borrow, record_of, variant_of, list_of, fixed_list_of, tuple_of, flags_of, enum_of, option_of, result_of, stream_of, future_of, function, instance, component, module_of, type_equal, function_item, instance_item, component_item, module_item, value_item}
 use Rattle.wac_collection.specs.Held.{part_at, items_under}
 use Rattle.wac_subtyping.specs.Called.{Called}
 

@@ -3,7 +3,7 @@ use Rattle.std.specs.Prelude.{◌≡◌, ℕ, Bool, true, false, ◌||◌, List,
 use Rattle.std.specs.Option.{MatchOption}
 use Rattle.wac_names.specs.Track.{key_text}
 use Rattle.wac_names.specs.Reading.{read_track}
-use Rattle.wac_shapes.specs.Name.{Name, find_name, same_name}
+use Rattle.wac_primitives.specs.Name.{Name, find_name, same_name}
 use Rattle.wac_shapes.specs.Named.{named_at}
 use Rattle.wac_entries.specs.Classes.{Entry, IsFirstNamed, by_names, same_class, names_of_classes, class_names, names_instance, is_asked, newest}
 

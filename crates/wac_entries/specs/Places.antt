@@ -1,8 +1,8 @@
 -- What the places of resources stand for, and what one more item binds. Private functions alone cite this.
 use Rattle.std.specs.Prelude.{ℕ, ◌≡◌, ◌==◌, if◌then◌else◌, is_some, List, [], ◌∷◌, map, Option, Some, None}
 use Rattle.std.specs.Borrow.{Bor}
-use Rattle.wac_shapes.specs.Name.{Name, find_name, option_case, first_some}
-use Rattle.wac_collection.specs.Tree.{Side, Place, named, Leaf}
+use Rattle.wac_primitives.specs.Name.{Name, find_name, option_case, first_some}
+use Rattle.wac_primitives.specs.Tree.{Side, Place, named, Leaf}
 use Rattle.wac_collection.specs.Collection.{Collection}
 use Rattle.wac_collection.specs.Held.{Names}
 use Rattle.wac_collection.specs.Bound.{is_alias, own_name, bound_by}

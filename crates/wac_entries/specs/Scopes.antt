@@ -1,7 +1,7 @@
 -- The scopes of an item, and what resources are called in each. Private functions alone cite this.
 use Rattle.std.specs.Prelude.{ℕ, zero, suc, ◌≡◌, ◌<◌, true, false, List, [], ◌∷◌, ◌++◌, map, Option, Some, None, Contains, slice_get}
-use Rattle.wac_shapes.specs.Name.{Name, option_case}
-use Rattle.wac_collection.specs.Tree.{Leaf, TypeTree, instance}
+use Rattle.wac_primitives.specs.Name.{Name, option_case}
+use Rattle.wac_primitives.specs.Tree.{Leaf, TypeTree, instance}
 use Rattle.wac_collection.specs.Collection.{Collection, item_at, holds_type, interface_exports, world_imports, world_exports}
 use Rattle.wac_collection.specs.Held.{Names, unfolded, item_tree, items_under}
 use Rattle.wac_collection.specs.Bound.{bound_by_imports, bound_in_world}

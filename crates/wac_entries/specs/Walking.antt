@@ -1,7 +1,7 @@
 -- What resources are called, as scopes are walked outwards. Private functions alone cite this.
 use Rattle.std.specs.Prelude.{ℕ, suc, ◌+◌, ◌≡◌, ◌≤◌, Bool, true, false, List, length, Option, Some, None, slice_get}
 use Rattle.std.specs.Option.{option_map}
-use Rattle.wac_collection.specs.Tree.{imported, exported, Place, Leaf}
+use Rattle.wac_primitives.specs.Tree.{imported, exported, Place, Leaf}
 use Rattle.wac_collection.specs.Collection.{Collection}
 use Rattle.wac_collection.specs.Held.{Names}
 use Rattle.wac_subtyping.specs.Called.{Called, bound_at, of_class, itself, resource_name}

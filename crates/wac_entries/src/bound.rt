@@ -17,12 +17,18 @@ use std::marker::Model;
 use wac_collection::{InterfaceId, ItemKind, Named, ResourceId, Type, Types, UsedType};
 
 /// Where a resource is bound: on a side, under a path of names.
-#[derive(Drop)]
 pub struct Place {
     /// The side.
     pub side: Side,
     /// The names, from the outermost on.
     pub path: Vec<String>,
+}
+
+/// A place is let go of here, and not anew at each place where one goes out of scope.
+impl Drop for Place {
+    fn drop(self) {
+        let Place { side: _, path: _ } = self;
+    }
 }
 
 /// The path of these names, in memory of its own.
@@ -68,14 +74,20 @@ pub fn own_resource(
 }
 
 /// What a scope itself binds: for each resource, where.
-#[derive(Drop)]
 pub struct Bound {
     places: IndexMap<ResourceId, Place>,
 }
 
+/// What a scope binds is let go of here, and not anew at each place where one goes out of scope.
+impl Drop for Bound {
+    fn drop(self) {
+        let Bound { places: _ } = self;
+    }
+}
+
 impl Model for Bound {
     ghost use Rattle.std.specs.Prelude.{List};
-    ghost use Rattle.wac_collection.specs.Tree.{Leaf};
+    ghost use Rattle.wac_primitives.specs.Tree.{Leaf};
     ghost use Rattle.wac_shapes.specs.declared.component.ResourceId.{ResourceId};
     ghost use Rattle.wac_entries.specs.Places.{leaves};
 

@@ -3,7 +3,7 @@ ghost use Rattle.std.specs.Prelude.{ℕ, List, ◌≡◌, ◌+◌, ◌<◌, ◌^
 ghost use Rattle.wac_subtyping.specs.Called.{resource_name};
 ghost use Rattle.wac_collection.specs.Collection.{HasResource};
 ghost use Rattle.wac_collection.specs.Held.{resolved};
-ghost use Rattle.wac_shapes.specs.Name.{Name};
+ghost use Rattle.wac_primitives.specs.Name.{Name};
 ghost use Rattle.wac_entries.specs.Agreement.{called_in_class};
 ghost use Rattle.wac_entries.specs.Bindings.{AreBindings, first_in, path_in};
 ghost use Rattle.wac_entries.specs.CalledViews.{called_view, path_view};

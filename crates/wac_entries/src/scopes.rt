@@ -88,9 +88,15 @@ fn open(scopes: &mut IndexSet<Scope>, types: &Types, position: usize) -> Result<
 }
 
 /// The scopes of an item, one for what is listed in one scope however often.
-#[derive(Drop)]
 pub struct Scopes {
     scopes: IndexSet<Scope>,
+}
+
+/// A list of scopes is let go of here, and not anew at each place where one goes out of scope.
+impl Drop for Scopes {
+    fn drop(self) {
+        let Scopes { scopes: _ } = self;
+    }
 }
 
 impl Model for Scopes {

@@ -1,12 +1,12 @@
 -- Worked examples: items that begin a component with its imports, and what an imported instance has.
 use Rattle.std.proofs.Common.{◌≡◌, ℕ, zero, suc, ◌<◌, false, List, [], ◌∷◌, ◌++◌, length, Some, None, codes, if◌then◌else◌, refl, ap, ◌∙◌, sym, subst, arith, rules}
 use Rattle.std.specs.Prelude.{slice_get}
-use Rattle.wac_shapes.specs.Name.{Name, same_name}
+use Rattle.wac_primitives.specs.Name.{Name, same_name}
 use Rattle.wac_shapes.specs.declared.component.InterfaceId.{InterfaceId}
 use Rattle.wac_shapes.specs.declared.component.ItemKind.{ItemKind}
 use Rattle.wac_shapes.specs.declared.component.ItemKind.TheVariants as item
 use Rattle.wac_collection.specs.Collection.{Collection, interface_exports}
-use Rattle.wac_collection.specs.Tree.{Tree, absent, function, instance, fresh, function_item, instance_item}
+use Rattle.wac_primitives.specs.Tree.{Tree, absent, function, instance, fresh, function_item, instance_item}
 use Rattle.wac_binary.specs.declared.sorts.Sort.{Sort}
 use Rattle.wac_binary.specs.declared.sorts.Sort.TheVariants as s
 use Rattle.wac_binary.specs.declared.sorts.Description.TheVariants as e

@@ -12,8 +12,8 @@ use Rattle.semver.specs.Parse.{digits_from, scan}
 use Rattle.wac_names.specs.Text.{after, before, has}
 use Rattle.wac_names.specs.Track.{parts_piece, series}
 use Rattle.wac_names.specs.Reading.{is_interface_name, is_label, is_lower_label, is_package, read_track, read_version, version_piece}
-use Rattle.wac_shapes.specs.Name.{Name, same_name}
-use Rattle.wac_collection.specs.Tree.{TypeTree, absent, function, function_item, primitive}
+use Rattle.wac_primitives.specs.Name.{Name, same_name}
+use Rattle.wac_primitives.specs.Tree.{TypeTree, absent, function, function_item, primitive}
 use Rattle.wac_collection.specs.Collection.{Collection}
 use Rattle.wac_collection.specs.declared.collection.Held.{Held}
 use Rattle.wac_shapes.specs.declared.component.FuncType.{FuncType}
@@ -21,7 +21,7 @@ use Rattle.wac_shapes.specs.declared.component.Interface.{Interface}
 use Rattle.wac_shapes.specs.declared.component.ItemKind.{ItemKind}
 use Rattle.wac_shapes.specs.declared.component.ItemKind.TheVariants as kind
 use Rattle.wac_shapes.specs.declared.component.DefinedType.TheVariants as def
-use Rattle.wac_shapes.specs.declared.component.PrimitiveType.TheVariants as prim
+use Rattle.wac_primitives.specs.declared.component.PrimitiveType.TheVariants as prim
 use Rattle.wac_shapes.specs.declared.component.UsedType.{UsedType}
 use Rattle.wac_shapes.specs.declared.component.ValueType.{ValueType}
 use Rattle.wac_shapes.specs.declared.component.ValueType.TheVariants as val

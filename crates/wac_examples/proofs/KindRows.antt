@@ -1,14 +1,14 @@
 -- Worked rows: which items are imported so far, and which types are defined, one of each sort taken and one refused.
 use Rattle.std.proofs.Common.{◌≡◌, Bool, true, false, if◌then◌else◌, ℕ, zero, suc, List, [], ◌∷◌, Option, Some, None, IsSome, slice_get, codes, refl, sym, ◌∙◌, ap, subst}
 use Rattle.std.proofs.lemmas.Option.{none-some}
-use Rattle.wac_shapes.specs.Name.{Name, same_name, option_case}
+use Rattle.wac_primitives.specs.Name.{Name, same_name, option_case}
 use Rattle.wac_shapes.proofs.Under.{not_some}
 use Rattle.wac_shapes.specs.declared.component.DefinedType.TheVariants as def
 use Rattle.wac_shapes.specs.declared.component.FuncType.{FuncType}
 use Rattle.wac_shapes.specs.declared.component.Interface.{Interface}
 use Rattle.wac_shapes.specs.declared.component.ItemKind.{ItemKind}
 use Rattle.wac_shapes.specs.declared.component.ItemKind.TheVariants as kind
-use Rattle.wac_shapes.specs.declared.component.PrimitiveType.TheVariants as prim
+use Rattle.wac_primitives.specs.declared.component.PrimitiveType.TheVariants as prim
 use Rattle.wac_shapes.specs.declared.component.UsedType.{UsedType}
 use Rattle.wac_shapes.specs.declared.component.ValueType.{ValueType}
 use Rattle.wac_shapes.specs.declared.component.World.{World}
@@ -17,7 +17,7 @@ use Rattle.wac_shapes.specs.declared.component.«Type».TheVariants as ty
 use Rattle.wac_collection.specs.Collection.{Collection}
 use Rattle.wac_collection.specs.declared.collection.Held.{Held}
 use Rattle.wac_collection.specs.Held.{part_at}
-use Rattle.wac_collection.specs.Tree.{absent, function, function_item, instance, instance_item, primitive}
+use Rattle.wac_primitives.specs.Tree.{absent, function, function_item, instance, instance_item, primitive}
 use Rattle.wac_subtyping.specs.Subtype.{kind_tree, type_tree}
 use Rattle.wac_meaning.specs.Importable.{HasNoHandle, IsPlainTo, IsPlainWhereThere, IsImportableKind, IsDefinableItem, IsDefinableKind}
 

@@ -6,14 +6,14 @@ use Rattle.wac_names.specs.Text.{after, before, has}
 use Rattle.wac_names.specs.Track.{OneTrack, parts_piece, series}
 use Rattle.wac_names.specs.Reading.{is_interface_name, is_label, is_lower_label, is_package, read_track, read_version, version_piece}
 use Rattle.wac_names.proofs.TrackFacts.{read-one_track, one_track-read}
-use Rattle.wac_shapes.specs.Name.{Name, same_name}
+use Rattle.wac_primitives.specs.Name.{Name, same_name}
 use Rattle.wac_shapes.specs.declared.component.FuncType.{FuncType}
 use Rattle.wac_shapes.specs.declared.component.ItemKind.{ItemKind}
 use Rattle.wac_shapes.specs.declared.component.ItemKind.TheVariants as kind
-use Rattle.wac_shapes.specs.declared.component.PrimitiveType.TheVariants as prim
+use Rattle.wac_primitives.specs.declared.component.PrimitiveType.TheVariants as prim
 use Rattle.wac_shapes.specs.declared.component.ValueType.{ValueType}
 use Rattle.wac_shapes.specs.declared.component.ValueType.TheVariants as val
-use Rattle.wac_collection.specs.Tree.{TypeTree, absent, function, function_item, primitive}
+use Rattle.wac_primitives.specs.Tree.{TypeTree, absent, function, function_item, primitive}
 use Rattle.wac_collection.specs.Collection.{Collection}
 use Rattle.wac_collection.specs.declared.collection.Held.{Held}
 use Rattle.wac_subtyping.specs.Subtype.{IsSubtype, kind_tree, type_tree}

@@ -2,7 +2,7 @@
 use Rattle.std.proofs.Common.{◌≡◌, ℕ, Bool, true, false, eqb, List, [], ◌∷◌, length, map, codes, refl, ap, sym, ◌∙◌, arith}
 use Rattle.std.specs.List.{flat_map}
 use Rattle.std.proofs.lemmas.Bool.Decides.{nat_tests}
-use Rattle.wac_shapes.specs.Name.{Name}
+use Rattle.wac_primitives.specs.Name.{Name}
 use Rattle.wac_binary.specs.Items.{Item, nested, instantiate}
 use Rattle.wac_binary.specs.Meaning.{Instantiation, Thing, instance_at, projection}
 use Rattle.wac_meaning.specs.Means.{Means}

@@ -9,7 +9,7 @@ use Rattle.std.specs.BTreeSet as positions
 use Rattle.std.specs.BTreeSet.{BTreeSet}
 use Rattle.std.proofs.lemmas.Bool.Decides.{nat_tests}
 use Rattle.slab.specs.Slab.{Slab, get}
-use Rattle.wac_shapes.specs.Name.{Name, option_case}
+use Rattle.wac_primitives.specs.Name.{Name, option_case}
 use Rattle.wac_shapes.specs.Named.{named_at}
 use Rattle.wac_collection.specs.Collection.{item_at, holds_type, IsWellFormed}
 use Rattle.wac_shapes.specs.Kinds.{kind_type}

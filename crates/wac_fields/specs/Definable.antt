@@ -1,6 +1,6 @@
 -- What may be defined; cited by private functions alone, nothing public rests on it.
 use Rattle.std.specs.Prelude.{◌≡◌, None}
-use Rattle.wac_shapes.specs.Name.{Name}
+use Rattle.wac_primitives.specs.Name.{Name}
 use Rattle.wac_shapes.specs.declared.component.«Type».{«Type» as AnyType}
 use Rattle.wac_nodes.specs.Graph.{Graph, export_at}
 use Rattle.wac_nodes.specs.ExternName.{IsImportName}

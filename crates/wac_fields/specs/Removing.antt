@@ -1,7 +1,7 @@
 -- Names of imports while a node is taken out; cited by private functions alone, nothing public rests on it.
 use Rattle.std.specs.Prelude.{◌≡◌, Bool, false, List, None, String, string_bytes, if◌then◌else◌}
 use Rattle.std.specs.Global.{Global}
-use Rattle.wac_shapes.specs.Name.{Name, same_name, find_name}
+use Rattle.wac_primitives.specs.Name.{Name, same_name, find_name}
 use Rattle.wac_edges.specs.declared.node.NodeId.{NodeId}
 use Rattle.wac_nodes.specs.declared.node.NodeKind.{NodeKind}
 use Rattle.wac_nodes.specs.declared.node.NodeKind.TheVariants as code

@@ -1,8 +1,8 @@
 -- What resources become is held, is no alias, and has their names.
 use Rattle.std.proofs.Common.{◌≡◌, ℕ, zero, suc, ◌<◌, List, [], length, slice_get, Option, Some, None, refl, sym, ap, ◌∙◌, subst, inl, inr, arith}
 use Rattle.std.proofs.lemmas.Option.{slice_get_within}
-use Rattle.wac_shapes.specs.Name.{Name, option_case}
-use Rattle.wac_collection.specs.Tree.{Place}
+use Rattle.wac_primitives.specs.Name.{Name, option_case}
+use Rattle.wac_primitives.specs.Tree.{Place}
 use Rattle.wac_collection.specs.Collection.{Collection, HasResource, IsWellFormed, item_at}
 use Rattle.wac_collection.specs.Held.{resolved, resolved_in, source_of}
 use Rattle.wac_collection.specs.Bound.{own_name}

@@ -1,7 +1,7 @@
 -- New resources and ends stay what they are as a collection grows.
 use Rattle.std.proofs.Common.{◌≡◌, length, slice_get, sym, ap, ◌∙◌, List}
 use Rattle.std.proofs.lemmas.Option.{slice_get_within}
-use Rattle.wac_shapes.specs.Name.{Name}
+use Rattle.wac_primitives.specs.Name.{Name}
 use Rattle.wac_collection.specs.Collection.{Collection, HasResource, IsWellFormed}
 use Rattle.wac_collection.specs.Held.{resolved, source_of}
 use Rattle.wac_shapes.specs.declared.component.ResourceId.{ResourceId}

@@ -1,8 +1,8 @@
 -- What fits outside a part fits inside it, and at the root.
 use Rattle.std.proofs.Common.{◌≡◌, ℕ, suc, ◌<◌, List, [], ◌∷◌, length, slice_get, Option, Some, None, refl, sym, ap, ◌∙◌, arith}
 use Rattle.std.proofs.lemmas.Option.{slice_get_within}
-use Rattle.wac_shapes.specs.Name.{Name, option_case, first_some}
-use Rattle.wac_collection.specs.Tree.{Place, Leaf, exported, named, further_out}
+use Rattle.wac_primitives.specs.Name.{Name, option_case, first_some}
+use Rattle.wac_primitives.specs.Tree.{Place, Leaf, exported, named, further_out}
 use Rattle.wac_collection.specs.Collection.{Collection, HasResource, IsWellFormed, item_at}
 use Rattle.wac_collection.specs.Held.{resolved}
 use Rattle.wac_collection.specs.Bound.{Bindings, inside_interface, own_name}

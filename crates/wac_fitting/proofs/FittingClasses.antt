@@ -3,8 +3,8 @@ use Rattle.std.proofs.Common.{◌≡◌, ℕ, suc, Bool, true, false, cond, ◌&
 use Rattle.std.specs.List.{Contains}
 use Rattle.std.proofs.lemmas.Bool.{eqb-true, false≢true}
 use Rattle.std.proofs.lemmas.Option.{get_or_from_slice_get, slice_get_within}
-use Rattle.wac_shapes.specs.Name.{Name, option_case, first_some}
-use Rattle.wac_collection.specs.Tree.{Place, named}
+use Rattle.wac_primitives.specs.Name.{Name, option_case, first_some}
+use Rattle.wac_primitives.specs.Tree.{Place, named}
 use Rattle.wac_collection.specs.Collection.{Collection, item_at}
 use Rattle.wac_collection.specs.Bound.{is_alias, own_name}
 use Rattle.wac_shapes.specs.declared.component.Interface.{Interface}

@@ -3,7 +3,7 @@ use Rattle.std.proofs.Common.{◌≡◌, ℕ, zero, suc, Bool, true, false, List
 use Rattle.std.specs.List.{AllZip, Contains, list_any}
 use Rattle.std.specs.Option.{MatchOption}
 use Rattle.std.proofs.lemmas.Bool.{or_left, or_right, false≢true}
-use Rattle.wac_shapes.specs.Name.{Name, find_name, option_case}
+use Rattle.wac_primitives.specs.Name.{Name, find_name, option_case}
 use Rattle.wac_collection.specs.Collection.{Collection, IsWellFormed, interface_exports, item_at, item_of}
 use Rattle.wac_collection.specs.Held.{resolved, source_of}
 use Rattle.wac_collection.specs.Bound.{is_alias, own_name}

@@ -4,8 +4,8 @@ use Rattle.std.specs.List.{list_any}
 use Rattle.std.proofs.lemmas.Bool.{and_from, and_parts, eq-eqb, false≢true}
 use Rattle.std.proofs.lemmas.Option.{slice_get_within}
 use Rattle.wac_names.specs.Reading.{read_track}
-use Rattle.wac_shapes.specs.Name.{Name, same_name, option_case}
-use Rattle.wac_collection.specs.Tree.{Place, Leaf, imported, position, named}
+use Rattle.wac_primitives.specs.Name.{Name, same_name, option_case}
+use Rattle.wac_primitives.specs.Tree.{Place, Leaf, imported, position, named}
 use Rattle.wac_collection.specs.Collection.{Collection, HasResource, item_at}
 use Rattle.wac_collection.specs.Held.{resolved}
 use Rattle.wac_collection.specs.Bound.{is_alias}

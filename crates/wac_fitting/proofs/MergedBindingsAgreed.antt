@@ -1,8 +1,8 @@
 -- Entries that agree: their kinds, and the names of the resources that they are.
 use Rattle.std.proofs.Common.{◌≡◌, ℕ, Bool, true, false, cond, List, [], ◌∷◌, length, map, slice_get, Option, Some, None, refl, sym, ap, ◌∙◌, subst, inl, inr, arith}
 use Rattle.std.proofs.lemmas.Bool.{cases_Bool, cases_lt, false≢true}
-use Rattle.wac_shapes.specs.Name.{Name, same_name, option_case, first_some}
-use Rattle.wac_collection.specs.Tree.{TypeTree, Leaf, Place, absent, imported, named, resource, type_equal, instance, instance_item}
+use Rattle.wac_primitives.specs.Name.{Name, same_name, option_case, first_some}
+use Rattle.wac_primitives.specs.Tree.{TypeTree, Leaf, Place, absent, imported, named, resource, type_equal, instance, instance_item}
 use Rattle.wac_collection.specs.Collection.{Collection, holds_type, item_of}
 use Rattle.wac_shapes.specs.Kinds.{kind_type}
 use Rattle.wac_collection.specs.Held.{items_under, item_tree, resolved, source_of, unfolded}

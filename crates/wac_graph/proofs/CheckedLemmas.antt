@@ -5,7 +5,7 @@ use Rattle.std.specs.Str.{bytes_eq}
 use Rattle.std.specs.Option.{option_map}
 use Rattle.std.specs.Result.{IsErrAnd}
 use Rattle.slab.specs.Slab.{get}
-use Rattle.wac_shapes.specs.Name.{Name}
+use Rattle.wac_primitives.specs.Name.{Name}
 use Rattle.wac_shapes.specs.Named.{named_at}
 use Rattle.wac_collection.specs.Collection.{item_at}
 use Rattle.wac_collection.specs.declared.collection.Held.{Held}

@@ -1,6 +1,6 @@
 -- What fits the import of a name fits it where it is.
 use Rattle.std.proofs.Common.{◌≡◌, ℕ, subst, Option, Some, None, IfSome, IsSomeAnd}
-use Rattle.wac_shapes.specs.Name.{Name}
+use Rattle.wac_primitives.specs.Name.{Name}
 use Rattle.wac_shapes.specs.declared.component.ItemKind.{ItemKind}
 use Rattle.wac_subtyping.specs.Subtype.{IsSubtype}
 use Rattle.wac_edges.specs.declared.node.NodeId.{NodeId}

@@ -4,7 +4,7 @@ use Rattle.std.specs.Prelude.{slice_get, IsSomeAnd, IfOk}
 use Rattle.std.specs.Option.{option_map}
 use Rattle.std.specs.FinSet as set
 use Rattle.slab.specs.Slab.{get}
-use Rattle.wac_shapes.specs.Name.{Name, same_name}
+use Rattle.wac_primitives.specs.Name.{Name, same_name}
 use Rattle.wac_shapes.specs.Named.{named_at}
 use Rattle.wac_shapes.proofs.Names.{same_name-true}
 use Rattle.wac_collection.specs.Collection.{item_at}

@@ -21,7 +21,7 @@ pub struct Arguments<'a> {
 
 impl<'a> Model for Arguments<'a> {
     ghost use Rattle.std.specs.Prelude.{List};
-    ghost use Rattle.wac_shapes.specs.Name.{Name};
+    ghost use Rattle.wac_primitives.specs.Name.{Name};
     ghost use Rattle.wac_edges.specs.declared.node.NodeId.{NodeId};
     ghost use Rattle.wac_graph.specs.Left.{arguments_left};
 

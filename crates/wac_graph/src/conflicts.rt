@@ -2,7 +2,7 @@
 ghost use Rattle.std.specs.Prelude.{◌≡◌, ◌<◌, ℕ, OnOk, IfOk, IfErr, IfSome, IfNone, Some, length};
 ghost use Rattle.std.specs.BTreeSet as positions;
 ghost use Rattle.std.specs.Ordering.{nat_cmp};
-ghost use Rattle.wac_shapes.specs.Name.{Name as AName};
+ghost use Rattle.wac_primitives.specs.Name.{Name as AName};
 ghost use Rattle.wac_collection.specs.Package.{Key};
 ghost use Rattle.wac_causes.specs.Cause.{IsConflict, IsFirstConflict, HasNoConflict, cause_of, conflict as conflict_cause};
 ghost use Rattle.wac_causes.specs.Search.{Clashes, IsFirstOf, IsLowest, IsRefused};

@@ -5,7 +5,7 @@ ghost use Rattle.slab.specs.Slab.{ContainsKey, get, with_value};
 ghost use Rattle.semver.specs.Identifiers.{parts_of};
 ghost use Rattle.wac_collection.specs.Collection.{IsWellFormed, holds_type, resource_mentions, func_mentions, defined_mentions, with_resource, with_func, with_defined, with_interface, with_world, with_module};
 ghost use Rattle.wac_shapes.specs.Kinds.{kind_type};
-ghost use Rattle.wac_shapes.specs.Name.{Name as AName};
+ghost use Rattle.wac_primitives.specs.Name.{Name as AName};
 ghost use Rattle.wac_collection.specs.Package.{HoldsPackage, with_instance_of, package_fault};
 ghost use Rattle.wac_collection.specs.Uses.{AnswersBy, mention_fault, interface_fault, world_fault};
 ghost use Rattle.wac_subtyping.specs.TreeLaws.{GrowthKeepsTrees};

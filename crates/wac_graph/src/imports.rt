@@ -29,7 +29,7 @@ pub struct Imports<'a> {
 
 impl<'a> Model for Imports<'a> {
     ghost use Rattle.std.specs.Prelude.{List, Option};
-    ghost use Rattle.wac_shapes.specs.Name.{Name};
+    ghost use Rattle.wac_primitives.specs.Name.{Name};
     ghost use Rattle.wac_shapes.specs.declared.component.ItemKind.{ItemKind};
     ghost use Rattle.wac_edges.specs.declared.node.NodeId.{NodeId};
     ghost use Rattle.wac_asking.specs.ImportsLeft.{left};

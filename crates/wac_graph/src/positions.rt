@@ -1,6 +1,6 @@
 //! Aliases of exports and arguments for imports that are known by their positions: no name is looked up.
 ghost use Rattle.std.specs.Prelude.{◌≡◌, IsSome, IfOk, IfErr, OnErr, Ok, Err};
-ghost use Rattle.wac_shapes.specs.Name.{Name as AName};
+ghost use Rattle.wac_primitives.specs.Name.{Name as AName};
 ghost use Rattle.wac_shapes.specs.declared.component.ItemKind.{ItemKind as AnItem};
 ghost use Rattle.wac_fields.specs.Arguments.{HasImport};
 ghost use Rattle.wac_plugging.specs.Positions.{FitsImport, HasExport, HasNamed};

@@ -3,7 +3,7 @@ use Rattle.std.proofs.Common.{◌≡◌, ◌≢◌, ℕ, zero, suc, ◌<◌, Boo
 use Rattle.std.specs.Prelude.{slice_get}
 use Rattle.std.specs.List.{AllByRecursion, filter, list_any}
 use Rattle.std.proofs.lemmas.Option.{slice_get_within, get_or_from_slice_get}
-use Rattle.wac_shapes.specs.Name.{Name, same_name, find_name, option_case}
+use Rattle.wac_primitives.specs.Name.{Name, same_name, find_name, option_case}
 use Rattle.wac_shapes.specs.Kinds.{kind_type}
 use Rattle.wac_shapes.proofs.Names.{same_name-true, same_name-refl}
 use Rattle.wac_shapes.specs.declared.component.Interface.{Interface}
@@ -11,7 +11,7 @@ use Rattle.wac_shapes.specs.declared.component.InterfaceId.{InterfaceId}
 use Rattle.wac_shapes.specs.declared.component.ItemKind.{ItemKind}
 use Rattle.wac_shapes.specs.declared.component.ItemKind.TheVariants as kind
 use Rattle.wac_shapes.specs.declared.component.«Type».TheVariants as ty
-use Rattle.wac_collection.specs.Tree.{TypeTree, absent, instance, component, module_of, type_equal, instance_item, component_item, module_item}
+use Rattle.wac_primitives.specs.Tree.{TypeTree, absent, instance, component, module_of, type_equal, instance_item, component_item, module_item}
 use Rattle.wac_collection.specs.Collection.{Collection, IsWellFormed, AddedBefore, IsBefore, size, holds_type, interface_exports, item_at, item_of}
 use Rattle.wac_collection.specs.declared.collection.Held.{Held}
 use Rattle.wac_subtyping.proofs.Unfolding.{type_before}

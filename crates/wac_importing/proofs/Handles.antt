@@ -2,7 +2,7 @@
 use Rattle.std.proofs.Common.{◌≡◌, ℕ, zero, suc, true, List, [], ◌∷◌, map, refl, ap, ◌∙◌, sym, subst, arith, Option, Some, None, inl, inr}
 use Rattle.std.specs.Prelude.{slice_get}
 use Rattle.std.specs.List.{AllByRecursion}
-use Rattle.wac_shapes.specs.Name.{Name, option_case}
+use Rattle.wac_primitives.specs.Name.{Name, option_case}
 use Rattle.wac_shapes.specs.declared.component.DefinedType.{DefinedType}
 use Rattle.wac_shapes.specs.declared.component.DefinedType.TheVariants as def
 use Rattle.wac_shapes.specs.declared.component.FuncType.{FuncType}
@@ -14,7 +14,7 @@ use Rattle.wac_shapes.specs.declared.component.ValueType.TheVariants as val
 use Rattle.wac_shapes.specs.declared.component.«Type».{«Type» as AnyType}
 use Rattle.wac_shapes.specs.declared.component.«Type».TheVariants as ty
 use Rattle.wac_collection.specs.declared.collection.Held.{Held}
-use Rattle.wac_collection.specs.Tree.{TypeTree, absent, own, borrow, type_equal}
+use Rattle.wac_primitives.specs.Tree.{TypeTree, absent, own, borrow, type_equal}
 use Rattle.wac_collection.specs.Collection.{Collection, IsWellFormed, IsValueBefore, AreBefore, AddedBefore, size, seconds, and_maybe, case_values, func_values, defined_values, value_types, func_mentions, defined_mentions, holds_type, holds_value, item_at, item_of}
 use Rattle.wac_collection.specs.Aliases.{target_of, value_resolved, value_resolved_in}
 use Rattle.wac_collection.specs.Held.{resolved, part_at, option_tree, defined_tree, func_tree, of_held, step, unfolded}

@@ -3,7 +3,7 @@ use Rattle.std.proofs.Common.{◌≡◌, ◌<◌, ℕ, zero, suc, ◌++◌, leng
 use Rattle.std.specs.Prelude.{slice_get}
 use Rattle.std.proofs.lemmas.Option.{slice_get_within}
 use Rattle.std.proofs.lemmas.List.Sorted.{IsPermutation-sym}
-use Rattle.wac_shapes.specs.Name.{Name, option_case}
+use Rattle.wac_primitives.specs.Name.{Name, option_case}
 use Rattle.wac_shapes.specs.Kinds.{kind_type}
 use Rattle.wac_shapes.specs.declared.component.Interface.{Interface}
 use Rattle.wac_shapes.specs.declared.component.InterfaceId.{InterfaceId}
@@ -15,7 +15,7 @@ use Rattle.wac_shapes.specs.declared.component.World.{World}
 use Rattle.wac_shapes.specs.declared.component.WorldId.{WorldId}
 use Rattle.wac_shapes.specs.declared.component.«Type».{«Type» as AnyType}
 use Rattle.wac_shapes.specs.declared.component.«Type».TheVariants as ty
-use Rattle.wac_collection.specs.Tree.{Side, imported, exported}
+use Rattle.wac_primitives.specs.Tree.{Side, imported, exported}
 use Rattle.wac_collection.specs.Collection.{Collection, IsWellFormed, IsBefore, holds_type, item_at, interface_exports, kind_types, used_types}
 use Rattle.wac_subtyping.specs.Subtype.{type_tree, kind_tree}
 use Rattle.wac_subtyping.proofs.Unfolding.{all_right, before_held, held_item}

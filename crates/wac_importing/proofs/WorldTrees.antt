@@ -2,7 +2,7 @@
 use Rattle.std.proofs.Common.{◌≡◌, suc, not, List, [], ◌∷◌, ◌++◌, filter, length, refl, ap, ◌∙◌, sym, Option, Some}
 use Rattle.std.specs.Prelude.{slice_get}
 use Rattle.std.proofs.lemmas.List.{append-nil}
-use Rattle.wac_shapes.specs.Name.{Name, option_case, first_some}
+use Rattle.wac_primitives.specs.Name.{Name, option_case, first_some}
 use Rattle.wac_shapes.specs.declared.component.InterfaceId.{InterfaceId}
 use Rattle.wac_shapes.specs.declared.component.ItemKind.{ItemKind}
 use Rattle.wac_shapes.specs.declared.component.ItemKind.TheVariants as kind
@@ -10,7 +10,7 @@ use Rattle.wac_shapes.specs.declared.component.UsedType.{UsedType}
 use Rattle.wac_shapes.specs.declared.component.World.{World}
 use Rattle.wac_shapes.specs.declared.component.WorldId.{WorldId}
 use Rattle.wac_shapes.specs.declared.component.«Type».TheVariants as ty
-use Rattle.wac_collection.specs.Tree.{Tree, absent, imported, exported, component, component_item}
+use Rattle.wac_primitives.specs.Tree.{Tree, absent, imported, exported, component, component_item}
 use Rattle.wac_collection.specs.Collection.{Collection, IsWellFormed, item_at}
 use Rattle.wac_collection.specs.Held.{items_under, of_held, world_tree}
 use Rattle.wac_collection.specs.Bound.{first_bound, bound_by_imports, bound_in_world, by_place, held_tree}

@@ -1,6 +1,6 @@
 -- What is looked at before imports are written.
 use Rattle.std.specs.Prelude.{ℕ, ◌≡◌, List, Some, slice_get}
-use Rattle.wac_shapes.specs.Name.{Name}
+use Rattle.wac_primitives.specs.Name.{Name}
 use Rattle.wac_shapes.specs.declared.component.InterfaceId.{InterfaceId}
 use Rattle.wac_shapes.specs.declared.component.ItemKind.{ItemKind}
 use Rattle.wac_shapes.specs.declared.component.ItemKind.TheVariants as kind

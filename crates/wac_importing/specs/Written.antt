@@ -1,6 +1,6 @@
 -- The imports of a merge as they are written into the root of a component.
 use Rattle.std.specs.Prelude.{ℕ, ◌≡◌, List, take, Some, slice_get}
-use Rattle.wac_shapes.specs.Name.{Name}
+use Rattle.wac_primitives.specs.Name.{Name}
 use Rattle.wac_shapes.specs.declared.component.ItemKind.{ItemKind}
 use Rattle.wac_collection.specs.Collection.{Collection}
 use Rattle.wac_entries.specs.Classes.{Entry}

@@ -1,7 +1,7 @@
 -- What an interface reaches.
 use Rattle.std.specs.Prelude.{slice_get, ◌↔◌}
 use Rattle.std.proofs.Common.{ℕ, zero, suc, ◌≡◌, inl, inr, true, List, [], ◌∷◌, Option, Some, None, length, nat_lt, refl, ap, sym, subst, arith}
-use Rattle.wac_shapes.specs.Name.{Name, option_case}
+use Rattle.wac_primitives.specs.Name.{Name, option_case}
 use Rattle.wac_shapes.specs.Kinds.{kind_type}
 use Rattle.wac_shapes.specs.declared.component.DefinedType.{DefinedType}
 use Rattle.wac_shapes.specs.declared.component.DefinedType.TheVariants as def

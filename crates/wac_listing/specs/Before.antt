@@ -1,6 +1,6 @@
 -- Which definition or item comes before which. Private functions alone cite this.
 use Rattle.std.specs.Prelude.{ℕ, ◌+◌, ◌-◌, ◌<◌, ◌≡◌, ◌⊎◌, ltb, if◌then◌else◌, Bool, true, List, [], ◌∷◌, ◌++◌, map, replicate, length, Option, Some, None, slice_get}
-use Rattle.wac_shapes.specs.Name.{Name}
+use Rattle.wac_primitives.specs.Name.{Name}
 use Rattle.wac_shapes.specs.declared.component.DefinedType.{DefinedType}
 use Rattle.wac_shapes.specs.declared.component.DefinedTypeId.{DefinedTypeId}
 use Rattle.wac_shapes.specs.declared.component.ItemKind.{ItemKind}

@@ -4,8 +4,8 @@ use Rattle.std.specs.Prelude.{slice_get}
 use Rattle.std.specs.List.{AllByRecursion}
 use Rattle.std.proofs.lemmas.List.{append-nil, length-append}
 use Rattle.std.proofs.lemmas.Option.{slice_get_within}
-use Rattle.wac_shapes.specs.Name.{Name}
-use Rattle.wac_collection.specs.Tree.{imported, position, Tree, instance_item}
+use Rattle.wac_primitives.specs.Name.{Name}
+use Rattle.wac_primitives.specs.Tree.{imported, position, Tree, instance_item}
 use Rattle.wac_binary.specs.declared.sorts.Sort.{Sort}
 use Rattle.wac_binary.specs.declared.sorts.Sort.TheVariants as sort
 use Rattle.wac_binary.specs.declared.sorts.Description.{Description}

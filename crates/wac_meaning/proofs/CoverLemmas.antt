@@ -1,11 +1,11 @@
 -- What is known of the exports of an instance, and of those of its exports.
 use Rattle.std.proofs.Common.{◌≡◌, ℕ, T, List, [], ◌∷◌, refl, ap, ◌∙◌, sym, subst, Some, ◌⊎◌, inl, inr}
 use Rattle.std.specs.Prelude.{slice_get}
-use Rattle.wac_shapes.specs.Name.{Name}
+use Rattle.wac_primitives.specs.Name.{Name}
 use Rattle.wac_shapes.specs.declared.component.InterfaceId.{InterfaceId}
 use Rattle.wac_shapes.specs.declared.component.ItemKind.{ItemKind}
 use Rattle.wac_shapes.specs.declared.component.ItemKind.TheVariants.{Instance}
-use Rattle.wac_collection.specs.Tree.{Leaf, inside, Tree, absent, instance, instance_item, moved, taken_from, items_in}
+use Rattle.wac_primitives.specs.Tree.{Leaf, inside, Tree, absent, instance, instance_item, moved, taken_from, items_in}
 use Rattle.wac_collection.specs.Collection.{Collection, interface_exports}
 use Rattle.wac_binary.specs.declared.sorts.Sort.{Sort}
 use Rattle.wac_binary.specs.declared.sorts.Sort.TheVariants as sort

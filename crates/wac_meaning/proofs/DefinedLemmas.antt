@@ -1,7 +1,7 @@
 -- Where components are defined and no node has a name, what is written is what the options ask for.
 use Rattle.std.proofs.Common.{◌≡◌, ℕ, true, List, [], ◌∷◌, map, refl, ◌∙◌, sym, Some, None}
 use Rattle.std.specs.Prelude.{slice_get}
-use Rattle.wac_shapes.specs.Name.{Name}
+use Rattle.wac_primitives.specs.Name.{Name}
 use Rattle.wac_binary.specs.Meaning.{Thing, component_at, Instantiation}
 use Rattle.wac_edges.specs.declared.node.NodeId.{NodeId}
 use Rattle.wac_nodes.specs.declared.options.EncodeOptions.{EncodeOptions}

@@ -3,7 +3,7 @@ use Rattle.std.proofs.Common.{◌≡◌, ℕ, zero, suc, ◌<◌, Bool, true, fa
 use Rattle.std.specs.List.{filter}
 use Rattle.std.specs.Prelude.{slice_get}
 use Rattle.std.proofs.lemmas.Option.{slice_get_within}
-use Rattle.wac_shapes.specs.Name.{Name, same_name, option_case}
+use Rattle.wac_primitives.specs.Name.{Name, same_name, option_case}
 use Rattle.wac_shapes.proofs.Names.{same_name-refl, find_position}
 use Rattle.wac_terms.proofs.Found.{at-filter}
 use Rattle.wac_edges.specs.declared.node.NodeId.{NodeId}

@@ -4,9 +4,9 @@ use Rattle.std.specs.List.{AllByRecursion, filter, flat_map}
 use Rattle.std.specs.Prelude.{slice_get, take, Contains}
 use Rattle.std.proofs.lemmas.List.{length-take-le}
 use Rattle.std.proofs.lemmas.Option.{slice_get_within, get_or_from_slice_get, slice_get-get_or}
-use Rattle.wac_shapes.specs.Name.{Name, same_name}
+use Rattle.wac_primitives.specs.Name.{Name, same_name}
 use Rattle.wac_shapes.proofs.Names.{same_name-from, take_at}
-use Rattle.wac_collection.specs.Tree.{imported, position}
+use Rattle.wac_primitives.specs.Tree.{imported, position}
 use Rattle.wac_collection.specs.Collection.{Collection}
 use Rattle.wac_subtyping.specs.Subtype.{IsSubtype}
 use Rattle.wac_entries.specs.Binding.{root_bindings}

@@ -1,7 +1,7 @@
 -- An item that is a subtype of another has, of each sort, what that one has.
 use Rattle.std.proofs.Common.{◌≡◌, ◌≢◌, ℕ, zero, suc, Bool, true, false, cond, nat_lt, List, [], ◌∷◌, ◌++◌, length, map, arith, refl, ap, ◌∙◌, sym, subst, Option, Some, None, ◌⊎◌, inl, inr}
 use Rattle.std.specs.Prelude.{slice_get}
-use Rattle.wac_shapes.specs.Name.{Name, same_name, find_name, option_case}
+use Rattle.wac_primitives.specs.Name.{Name, same_name, find_name, option_case}
 use Rattle.wac_shapes.specs.Named.{NoNameTwice}
 use Rattle.wac_shapes.specs.Kinds.{kind_type}
 use Rattle.wac_shapes.proofs.Names.{same_name-true, same_name-refl, found_at}
@@ -11,7 +11,7 @@ use Rattle.wac_shapes.specs.declared.component.ItemKind.{ItemKind}
 use Rattle.wac_shapes.specs.declared.component.ItemKind.TheVariants as kind
 use Rattle.wac_shapes.specs.declared.component.«Type».{«Type» as AnyType}
 use Rattle.wac_shapes.specs.declared.component.«Type».TheVariants as ty
-use Rattle.wac_collection.specs.Tree.{Side, exported, Place, TypeTree, Tree, absent, instance, fresh, type_equal, function_item, instance_item, component_item, module_item, value_item, items_in}
+use Rattle.wac_primitives.specs.Tree.{Side, exported, Place, TypeTree, Tree, absent, instance, fresh, type_equal, function_item, instance_item, component_item, module_item, value_item, items_in}
 use Rattle.wac_collection.specs.Collection.{Collection, item_of, holds_type, kind_types, used_types, interface_exports, IsWellFormed, IsBefore, AreBefore}
 use Rattle.wac_collection.specs.declared.collection.Held.{Held}
 use Rattle.wac_collection.specs.Held.{unfolded, of_held, interface_tree, item_tree, items_under}

@@ -1,10 +1,10 @@
 -- Items that begin a component with its imports, and where the imports stand.
 use Rattle.std.specs.Prelude.{ℕ, ◌≡◌, ◌<◌, List, [], ◌∷◌, length, Some, slice_get}
-use Rattle.wac_shapes.specs.Name.{Name}
+use Rattle.wac_primitives.specs.Name.{Name}
 use Rattle.wac_shapes.specs.declared.component.InterfaceId.{InterfaceId}
 use Rattle.wac_shapes.specs.declared.component.ItemKind.{ItemKind}
 use Rattle.wac_shapes.specs.declared.component.ItemKind.TheVariants.{Instance}
-use Rattle.wac_collection.specs.Tree.{Tree, instance_item, items_in}
+use Rattle.wac_primitives.specs.Tree.{Tree, instance_item, items_in}
 use Rattle.wac_collection.specs.Collection.{Collection, interface_exports}
 use Rattle.wac_binary.specs.declared.sorts.Sort.{Sort}
 use Rattle.wac_binary.specs.declared.sorts.Sort.TheVariants as sort

@@ -1,8 +1,8 @@
 -- The trees of definitions: what an interface or a world uses and does not list is imported, cut to its type items.
 use Rattle.std.specs.Prelude.{ℕ, zero, suc, Bool, not, ◌==◌, if◌then◌else◌, List, [], ◌∷◌, ◌++◌, length, map, filter, None}
 use Rattle.std.specs.List.{list_any, flat_map}
-use Rattle.wac_shapes.specs.Name.{Name, same_name, option_case, first_some}
-use Rattle.wac_collection.specs.Tree.{Side, imported, exported, Tree, absent, fresh, type_equal, instance, instance_item, component, component_item, named}
+use Rattle.wac_primitives.specs.Name.{Name, same_name, option_case, first_some}
+use Rattle.wac_primitives.specs.Tree.{Side, imported, exported, Tree, absent, fresh, type_equal, instance, instance_item, component, component_item, named}
 use Rattle.wac_collection.specs.Collection.{Collection, item_at}
 use Rattle.wac_collection.specs.Held.{items_under}
 use Rattle.wac_collection.specs.Bound.{Bindings, first_bound, held_tree, held_item}

@@ -1,6 +1,6 @@
 -- Which items are imported so far, and which types are defined.
 use Rattle.std.specs.Prelude.{ℕ, zero, suc, ◌≡◌, [], Some, IsSome, slice_get}
-use Rattle.wac_shapes.specs.Name.{Name}
+use Rattle.wac_primitives.specs.Name.{Name}
 use Rattle.wac_shapes.specs.declared.component.Interface.{Interface}
 use Rattle.wac_shapes.specs.declared.component.InterfaceId.{InterfaceId}
 use Rattle.wac_shapes.specs.declared.component.ItemKind.{ItemKind}
@@ -8,7 +8,7 @@ use Rattle.wac_shapes.specs.declared.component.ItemKind.TheVariants as kind
 use Rattle.wac_shapes.specs.declared.component.World.{World}
 use Rattle.wac_shapes.specs.declared.component.WorldId.{WorldId}
 use Rattle.wac_shapes.specs.declared.component.«Type».TheVariants as ty
-use Rattle.wac_collection.specs.Tree.{TypeTree, absent, resource, primitive, record_of, variant_of, list_of, fixed_list_of, tuple_of, flags_of, enum_of, option_of, result_of, stream_of, future_of, function, instance, module_of, type_equal, function_item, instance_item, module_item}
+use Rattle.wac_primitives.specs.Tree.{TypeTree, absent, resource, primitive, record_of, variant_of, list_of, fixed_list_of, tuple_of, flags_of, enum_of, option_of, result_of, stream_of, future_of, function, instance, module_of, type_equal, function_item, instance_item, module_item}
 use Rattle.wac_collection.specs.Collection.{Collection, interface_exports, item_at}
 use Rattle.wac_subtyping.specs.Subtype.{kind_tree}
 use Rattle.wac_meaning.specs.Definition.{uses_of}

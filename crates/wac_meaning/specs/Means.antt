@@ -2,8 +2,8 @@
 use Rattle.std.specs.Prelude.{ℕ, suc, ◌+◌, ◌<◌, ◌≤◌, ◌≡◌, ◌↔◌, Bool, true, false, not, ◌&&◌, ◌==◌, if◌then◌else◌, List, [], ◌∷◌, ◌++◌, length, map, filter, Option, Some, None, IsSome, slice_get, codes}
 use Rattle.std.specs.List.{list_any, flat_map}
 use Rattle.semver.specs.Identifiers.{parts_text}
-use Rattle.wac_shapes.specs.Name.{Name, same_name, option_case}
-use Rattle.wac_collection.specs.Tree.{Tree, component_item}
+use Rattle.wac_primitives.specs.Name.{Name, same_name, option_case}
+use Rattle.wac_primitives.specs.Tree.{Tree, component_item}
 use Rattle.wac_collection.specs.Bound.{held_tree}
 use Rattle.wac_collection.specs.Package.{Key}
 use Rattle.wac_shapes.specs.declared.component.«Type».{«Type» as AnyType}

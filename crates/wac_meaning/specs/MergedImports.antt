@@ -1,10 +1,10 @@
 -- The imports of a merge of all that a graph asks for, and where a name's import is found among them.
 use Rattle.std.specs.Prelude.{ℕ, suc, ◌≡◌, List, [], ◌∷◌, Some, slice_get}
-use Rattle.wac_shapes.specs.Name.{Name}
+use Rattle.wac_primitives.specs.Name.{Name}
 use Rattle.wac_shapes.specs.Named.{NoNameTwice}
 use Rattle.wac_shapes.specs.declared.component.Interface.{Interface}
 use Rattle.wac_shapes.specs.declared.component.InterfaceId.{InterfaceId}
-use Rattle.wac_collection.specs.Tree.{imported, position, Tree}
+use Rattle.wac_primitives.specs.Tree.{imported, position, Tree}
 use Rattle.wac_collection.specs.Collection.{Collection, item_at, IsWellFormed}
 use Rattle.wac_collection.specs.Bound.{held_item}
 use Rattle.wac_entries.specs.Binding.{root_bindings}

@@ -1,11 +1,11 @@
 -- What a node adds to the items that are written so far, where these begin with imports.
 use Rattle.std.specs.Prelude.{ℕ, suc, ◌≡◌, IfSome, List, [], ◌∷◌, ◌++◌, Some, slice_get, slice_set}
 use Rattle.std.specs.List.{AllByRecursion}
-use Rattle.wac_shapes.specs.Name.{Name}
+use Rattle.wac_primitives.specs.Name.{Name}
 use Rattle.wac_shapes.specs.declared.component.ItemKind.{ItemKind}
 use Rattle.wac_shapes.specs.declared.component.ItemKind.TheVariants.{TypeItem}
 use Rattle.wac_shapes.specs.declared.component.«Type».{«Type» as AnyType}
-use Rattle.wac_collection.specs.Tree.{Tree}
+use Rattle.wac_primitives.specs.Tree.{Tree}
 use Rattle.wac_binary.specs.declared.sorts.Sort.{Sort}
 use Rattle.wac_binary.specs.declared.sorts.Sort.TheVariants as sort
 use Rattle.wac_binary.specs.Items.{Item, core_type, instantiate, alias_item, export_alias, type_item, export_item}

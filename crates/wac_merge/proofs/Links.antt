@@ -1,7 +1,7 @@
 -- Links generate the classes.
 use Rattle.std.proofs.Common.{◌≡◌, ℕ, true, ◌&&◌, List, slice_get, Some, sym, ap, ◌∙◌, subst, inl, inr}
 use Rattle.std.proofs.lemmas.Bool.{and_from, and_parts}
-use Rattle.wac_shapes.specs.Name.{Name, same_name}
+use Rattle.wac_primitives.specs.Name.{Name, same_name}
 use Rattle.wac_shapes.proofs.Names.{same_name-true, same_name-refl}
 use Rattle.wac_entries.specs.Classes.{Entry, NameRules, by_names, is_instance, names_instance, same_class, IsLink, one_name, one_track, IsLinked, link, chain, ClassLaws}
 use Rattle.wac_entries.proofs.Canonical.{canonical-alike}

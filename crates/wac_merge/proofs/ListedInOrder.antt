@@ -6,7 +6,7 @@ use Rattle.std.specs.Option.{MatchOption}
 use Rattle.std.proofs.lemmas.Bool.{and_parts, false≢true}
 use Rattle.std.proofs.lemmas.List.{append_assoc, append-nil}
 use Rattle.std.proofs.lemmas.Option.{MatchOption-at_some, slice_get_within}
-use Rattle.wac_shapes.specs.Name.{Name, find_name, option_case, same_name}
+use Rattle.wac_primitives.specs.Name.{Name, find_name, option_case, same_name}
 use Rattle.wac_shapes.proofs.Names.{same_name-true}
 use Rattle.wac_shapes.specs.declared.component.Interface.{Interface}
 use Rattle.wac_shapes.specs.declared.component.InterfaceId.{InterfaceId}

@@ -1,7 +1,7 @@
 -- The imports of a finished merge mention what stands before them.
 use Rattle.std.proofs.Common.{List, subst, arith}
 use Rattle.std.proofs.lemmas.Option.{slice_get_within}
-use Rattle.wac_collection.specs.Tree.{Leaf, Tree}
+use Rattle.wac_primitives.specs.Tree.{Leaf, Tree}
 use Rattle.wac_collection.specs.Collection.{Collection}
 use Rattle.wac_entries.specs.Classes.{Entry, by_names, class_names}
 use Rattle.wac_entries.proofs.Lists.{some-at}

@@ -3,8 +3,8 @@ use Rattle.std.specs.Prelude.{ℕ, zero, suc, ◌≡◌, ◌≢◌, Bool, true, 
 use Rattle.std.specs.List.{AllByRecursion}
 use Rattle.std.proofs.Common.{subst, arith}
 use Rattle.wac_names.specs.Track.{Track, whole, major}
-use Rattle.wac_shapes.specs.Name.{Name, same_name}
-use Rattle.wac_collection.specs.Tree.{Tree, TypeTree, imported, exported, position, named, own, absent, fresh, function, function_item, type_equal, resource, instance, instance_item, items_in, type_in}
+use Rattle.wac_primitives.specs.Name.{Name, same_name}
+use Rattle.wac_primitives.specs.Tree.{Tree, TypeTree, imported, exported, position, named, own, absent, fresh, function, function_item, type_equal, resource, instance, instance_item, items_in, type_in}
 use Rattle.wac_collection.specs.Held.{part_at}
 use Rattle.wac_collection.specs.Bound.{held_tree, held_item}
 use Rattle.wac_collection.specs.Collection.{Collection}

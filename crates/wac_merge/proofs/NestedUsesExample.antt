@@ -6,13 +6,13 @@ use Rattle.semver.specs.Parse.{digits_from, scan}
 use Rattle.wac_names.specs.Text.{after, before, has}
 use Rattle.wac_names.specs.Track.{parts_piece, series}
 use Rattle.wac_names.specs.Reading.{is_interface_name, is_label, is_lower_label, is_package, read_track, read_version, version_piece}
-use Rattle.wac_shapes.specs.Name.{Name, find_name, same_name}
+use Rattle.wac_primitives.specs.Name.{Name, find_name, same_name}
 use Rattle.wac_shapes.proofs.Names.{same_name-true}
 use Rattle.wac_shapes.specs.declared.component.Interface.{Interface}
 use Rattle.wac_shapes.specs.declared.component.InterfaceId.{InterfaceId}
 use Rattle.wac_shapes.specs.declared.component.ItemKind.{ItemKind}
 use Rattle.wac_shapes.specs.declared.component.ItemKind.TheVariants as kind
-use Rattle.wac_shapes.specs.declared.component.PrimitiveType.TheVariants as primitive
+use Rattle.wac_primitives.specs.declared.component.PrimitiveType.TheVariants as primitive
 use Rattle.wac_shapes.specs.declared.component.UsedType.{UsedType}
 use Rattle.wac_shapes.specs.declared.component.ValueType.TheVariants as val
 use Rattle.wac_shapes.specs.declared.component.«Type».TheVariants as ty

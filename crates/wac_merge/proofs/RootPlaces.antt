@@ -5,13 +5,13 @@ use Rattle.std.specs.Borrow.{Bor}
 use Rattle.std.specs.Global.{Global}
 use Rattle.std.specs.Option.{option_map}
 use Rattle.std.specs.declared.string.String.{String}
-use Rattle.wac_shapes.specs.Name.{Name, same_name}
+use Rattle.wac_primitives.specs.Name.{Name, same_name}
 use Rattle.wac_shapes.specs.Named.{named_at}
 use Rattle.wac_shapes.specs.declared.component.ItemKind.{ItemKind}
 use Rattle.wac_shapes.specs.declared.component.ResourceId.{ResourceId}
 use Rattle.wac_shapes.proofs.Names.{same_name-from, same_name-true}
 use Rattle.wac_collection.specs.Collection.{Collection}
-use Rattle.wac_collection.specs.Tree.{Place}
+use Rattle.wac_primitives.specs.Tree.{Place}
 use Rattle.wac_entries.specs.Binding.{binding_class}
 use Rattle.wac_entries.specs.Bindings.{ClassBindings, first_in}
 use Rattle.wac_entries.specs.CalledViews.{path_view}

@@ -4,7 +4,7 @@ use Rattle.std.specs.List.{AllByRecursion, list_any}
 use Rattle.std.proofs.lemmas.Bool.{and_parts, false≢true, or_left, or_right}
 use Rattle.std.proofs.lemmas.List.{take_all}
 use Rattle.std.proofs.lemmas.Option.{slice_get_within}
-use Rattle.wac_shapes.specs.Name.{Name, find_name, option_case, same_name}
+use Rattle.wac_primitives.specs.Name.{Name, find_name, option_case, same_name}
 use Rattle.wac_shapes.proofs.Names.{same_name-refl, same_name-true}
 use Rattle.wac_shapes.specs.declared.component.Interface.{Interface}
 use Rattle.wac_shapes.specs.declared.component.InterfaceId.{InterfaceId}
@@ -14,7 +14,7 @@ use Rattle.wac_shapes.specs.declared.component.ItemKind.TheVariants as kind
 use Rattle.wac_shapes.specs.declared.component.«Type».{«Type» as AnyType}
 use Rattle.wac_collection.specs.Collection.{Collection, item_at}
 use Rattle.wac_collection.specs.Uses.{is_there, is_type_item, is_used_by_id, name_there}
-use Rattle.wac_collection.specs.Tree.{TypeTree, instance_item}
+use Rattle.wac_primitives.specs.Tree.{TypeTree, instance_item}
 use Rattle.wac_subtyping.specs.Subtype.{IsSubtype, Sub, by_name, kind_tree}
 use Rattle.wac_subtyping.specs.TreeLaws.{IsDeepEnough}
 use Rattle.wac_entries.specs.Classes.{Entry, by_names, canonical, class_names, imported_as, is_asked, is_instance, members, names_instance, names_of_classes, same_class, same_track}

@@ -2,7 +2,7 @@
 use Rattle.std.proofs.Common.{◌≡◌, ℕ, zero, suc, Bool, true, false, cond, List, [], ◌∷◌, map, slice_get, Option, Some, None, refl, sym, ap, ◌∙◌, subst, arith}
 use Rattle.std.proofs.lemmas.Bool.{eq-eqb, false≢true}
 use Rattle.std.proofs.lemmas.Option.{MatchOption-at_some, slice_get_within}
-use Rattle.wac_shapes.specs.Name.{Name, find_name, first_some, option_case}
+use Rattle.wac_primitives.specs.Name.{Name, find_name, first_some, option_case}
 use Rattle.wac_shapes.specs.declared.component.Interface.{Interface}
 use Rattle.wac_shapes.specs.declared.component.InterfaceId.{InterfaceId}
 use Rattle.wac_shapes.specs.declared.component.ItemKind.{ItemKind}
@@ -13,7 +13,7 @@ use Rattle.wac_shapes.specs.declared.component.«Type».TheVariants as ty
 use Rattle.wac_collection.specs.Bound.{is_alias, own_name}
 use Rattle.wac_collection.specs.Collection.{Collection, IsWellFormed, interface_exports, item_at}
 use Rattle.wac_collection.specs.Held.{resolved}
-use Rattle.wac_collection.specs.Tree.{Place, named}
+use Rattle.wac_primitives.specs.Tree.{Place, named}
 use Rattle.wac_collection.specs.Uses.{is_listed_as_used, name_there, same_type_item, used_item}
 use Rattle.wac_entries.specs.Binding.{first_binds, kind_binds}
 use Rattle.wac_entries.specs.Bindings.{first_in, path_in}

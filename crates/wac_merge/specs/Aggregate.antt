@@ -1,6 +1,6 @@
 -- What an aggregator holds.
 use Rattle.std.specs.Prelude.{ℕ, ◌≡◌, Bool, false, List, [], ◌⊎◌, IsSome, Some, slice_get}
-use Rattle.wac_shapes.specs.Name.{Name}
+use Rattle.wac_primitives.specs.Name.{Name}
 use Rattle.wac_collection.specs.Collection.{Collection, empty}
 use Rattle.wac_entries.specs.Bindings.{AreBindings, AreHeld, ClassBindings}
 use Rattle.wac_entries.specs.Classes.{AreClasses, Entry, by_names, canonical, class_names}

@@ -1,9 +1,9 @@
 -- Which imports of a finished merge bind what others mention, and where a resource of the entries' collection is bound.
 use Rattle.std.specs.Prelude.{ℕ, ◌≡◌, ◌≤◌, List, [], ◌∷◌, Some, slice_get}
-use Rattle.wac_shapes.specs.Name.{Name}
+use Rattle.wac_primitives.specs.Name.{Name}
 use Rattle.wac_shapes.specs.declared.component.ResourceId.{ResourceId}
 use Rattle.wac_collection.specs.Bound.{held_item}
-use Rattle.wac_collection.specs.Tree.{Place, imported, position}
+use Rattle.wac_primitives.specs.Tree.{Place, imported, position}
 use Rattle.wac_entries.specs.Binding.{binding_class, root_bindings}
 use Rattle.wac_entries.specs.Classes.{Entry, NameRules, canonical, class_names}
 use Rattle.wac_terms.specs.ClassOrder.{Mentions, begins_at}

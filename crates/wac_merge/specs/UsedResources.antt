@@ -1,6 +1,6 @@
 -- When a used resource is what is listed under its name in a finished merge.
 use Rattle.std.specs.Prelude.{ℕ, ◌≡◌, true, false, List, [], ◌∷◌, map, Some, None, slice_get, Contains}
-use Rattle.wac_shapes.specs.Name.{Name, find_name}
+use Rattle.wac_primitives.specs.Name.{Name, find_name}
 use Rattle.wac_shapes.specs.declared.component.Interface.{Interface}
 use Rattle.wac_shapes.specs.declared.component.InterfaceId.{InterfaceId}
 use Rattle.wac_shapes.specs.declared.component.ItemKind.{ItemKind}
@@ -11,7 +11,7 @@ use Rattle.wac_shapes.specs.declared.component.«Type».TheVariants as ty
 use Rattle.wac_collection.specs.Bound.{is_alias, own_name}
 use Rattle.wac_collection.specs.Collection.{Collection, IsWellFormed, interface_exports, item_at}
 use Rattle.wac_collection.specs.Held.{resolved}
-use Rattle.wac_collection.specs.Tree.{named}
+use Rattle.wac_primitives.specs.Tree.{named}
 use Rattle.wac_collection.specs.Uses.{is_listed_as_used, name_there}
 use Rattle.wac_entries.specs.Binding.{binding_class}
 use Rattle.wac_entries.specs.Classes.{Entry, by_names, canonical, class_names, members}

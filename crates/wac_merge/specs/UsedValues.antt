@@ -1,6 +1,6 @@
 -- When a used value type is what is listed under its name in a finished merge.
 use Rattle.std.specs.Prelude.{ℕ, ◌≡◌, true, List, map, Some, slice_get, Contains}
-use Rattle.wac_shapes.specs.Name.{Name, find_name}
+use Rattle.wac_primitives.specs.Name.{Name, find_name}
 use Rattle.wac_shapes.specs.declared.component.DefinedType.{DefinedType}
 use Rattle.wac_shapes.specs.declared.component.DefinedTypeId.{DefinedTypeId}
 use Rattle.wac_shapes.specs.declared.component.InterfaceId.{InterfaceId}

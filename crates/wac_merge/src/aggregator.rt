@@ -4,7 +4,7 @@ ghost use Rattle.std.specs.Option.{MatchOption};
 ghost use Rattle.std.specs.Result.{IsErrAnd};
 ghost use Rattle.wac_collection.specs.Collection.{holds_type};
 ghost use Rattle.wac_shapes.specs.Kinds.{kind_type};
-ghost use Rattle.wac_shapes.specs.Name.{Name as AName};
+ghost use Rattle.wac_primitives.specs.Name.{Name as AName};
 ghost use Rattle.wac_merge.specs.Aggregate.{IsFault, unmerged};
 ghost use Rattle.wac_merge.specs.MergedPlaces.{IsRootPlace, MentionsBefore};
 ghost use Rattle.wac_entries.specs.Binding.{binding_class};
@@ -65,7 +65,7 @@ impl Drop for TypeAggregator {
 
 impl Model for TypeAggregator {
     ghost use Rattle.std.specs.Prelude.{is_some, IfSome};
-    ghost use Rattle.wac_shapes.specs.Name.{option_case};
+    ghost use Rattle.wac_primitives.specs.Name.{option_case};
     ghost use Rattle.wac_merge.specs.Aggregate.{Aggregate, AreKnown, nothing};
 
     ghost Value = { Aggregate };

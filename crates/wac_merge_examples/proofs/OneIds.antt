@@ -5,7 +5,7 @@ use Rattle.semver.specs.Parse.{digits_from, scan}
 use Rattle.wac_names.specs.Text.{after, before, has}
 use Rattle.wac_names.specs.Track.{parts_piece, series}
 use Rattle.wac_names.specs.Reading.{is_interface_name, is_label, is_lower_label, is_package, read_track, read_version, version_piece}
-use Rattle.wac_shapes.specs.Name.{Name}
+use Rattle.wac_primitives.specs.Name.{Name}
 use Rattle.wac_shapes.specs.declared.component.FuncType.{FuncType}
 use Rattle.wac_shapes.specs.declared.component.FuncTypeId.{FuncTypeId}
 use Rattle.wac_shapes.specs.declared.component.InterfaceId.{InterfaceId}

@@ -2,7 +2,7 @@
 use Rattle.std.proofs.Common.{◌≡◌, ◌+◌, ℕ, zero, suc, List, [], ◌∷◌, Option, Some, None, refl, ap, sym, ◌∙◌, subst, codes}
 use Rattle.std.specs.Prelude.{slice_get}
 use Rattle.wac_shapes.specs.declared.component.ResourceId.{ResourceId}
-use Rattle.wac_collection.specs.Tree.{Leaf, exported, named}
+use Rattle.wac_primitives.specs.Tree.{Leaf, exported, named}
 use Rattle.wac_entries.specs.declared.outward.Outward.{Outward}
 use Rattle.wac_entries.specs.declared.scopes.Opener.TheVariants as opener
 use Rattle.wac_entries.specs.declared.scopes.Scope.{Scope}

@@ -1,6 +1,6 @@
 -- Which texts may be imported or exported.
 use Rattle.std.proofs.Common.{◌≡◌, ◌≢◌, ◌↔◌, ◌⊎◌, inl, inr, Bool, true, false, IsTrue, ◌∙◌, sym, subst, refl}
-use Rattle.wac_shapes.specs.Name.{Name}
+use Rattle.wac_primitives.specs.Name.{Name}
 use Rattle.wac_names.specs.Kind as kinds
 use Rattle.wac_names.specs.Kind.{Kind, IsExportable}
 use Rattle.wac_names.specs.Name.{IsDecided}

@@ -13,7 +13,7 @@ use Rattle.std.specs.FinMap as finite
 use Rattle.std.specs.FinMap.{find, nat_cmp-IsAntisymmetric}
 use Rattle.slab.specs.Slab.{Slab, entries_from, get, Updates}
 use Rattle.wac_nodes.specs.declared.node.Node.{Node}
-use Rattle.wac_shapes.specs.Name.{Name, same_name, find_name}
+use Rattle.wac_primitives.specs.Name.{Name, same_name, find_name}
 use Rattle.wac_nodes.specs.Nodes.{nodes_of, node_of}
 use Rattle.wac_nodes.proofs.Added.{by_eq}
 

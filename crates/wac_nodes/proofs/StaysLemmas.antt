@@ -5,7 +5,7 @@ use Rattle.std.specs.FinMap as map
 use Rattle.std.specs.FinSet as set
 use Rattle.std.proofs.lemmas.Bool.{eq-eqb}
 use Rattle.std.proofs.lemmas.List.{append-nil}
-use Rattle.wac_shapes.specs.Name.{Name}
+use Rattle.wac_primitives.specs.Name.{Name}
 use Rattle.wac_collection.specs.Collection.{Collection, item_at, with_resource, with_func, with_defined, with_interface, with_world, with_module}
 use Rattle.wac_collection.specs.Package.{PackageParts, with_instance_of}
 use Rattle.wac_collection.specs.declared.collection.AddTypeError.{AddTypeError}

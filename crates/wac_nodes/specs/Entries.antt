@@ -1,7 +1,7 @@
 -- All that a graph asks for: with each import the interfaces that it uses, each instance once under a name.
 use Rattle.std.specs.Prelude.{ℕ, zero, suc, Bool, false, not, ◌&&◌, ◌==◌, List, [], ◌∷◌, ◌++◌, length, map, filter}
 use Rattle.std.specs.List.{flat_map}
-use Rattle.wac_shapes.specs.Name.{Name, same_name, option_case}
+use Rattle.wac_primitives.specs.Name.{Name, same_name, option_case}
 use Rattle.wac_collection.specs.Collection.{Collection, item_at}
 use Rattle.wac_shapes.specs.declared.component.InterfaceId.{InterfaceId}
 use Rattle.wac_shapes.specs.declared.component.ItemKind.{ItemKind}

@@ -1,6 +1,6 @@
 -- Names of imports and exports: which texts may be one, and why others may not.
 use Rattle.std.specs.Prelude.{◌≡◌, ◌≢◌, ◌⊎◌}
-use Rattle.wac_shapes.specs.Name.{Name}
+use Rattle.wac_primitives.specs.Name.{Name}
 use Rattle.wac_names.specs.Kind.{Kind, IsExportable}
 use Rattle.wac_names.specs.Grammar.{HasKind}
 use Rattle.wac_names.specs.Faults.{HasFault}

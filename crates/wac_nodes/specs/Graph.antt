@@ -4,7 +4,7 @@ use Rattle.std.specs.Option.{option_and_then}
 use Rattle.std.specs.Ordering.{nat_cmp}
 use Rattle.std.specs.FinMap as map
 use Rattle.std.specs.FinSet as set
-use Rattle.wac_shapes.specs.Name.{Name, find_name}
+use Rattle.wac_primitives.specs.Name.{Name, find_name}
 use Rattle.wac_collection.specs.Collection.{Collection, interface_exports, world_imports}
 use Rattle.wac_collection.specs.Package.{PackageParts, Key}
 use Rattle.wac_shapes.specs.declared.component.InterfaceId.{InterfaceId}

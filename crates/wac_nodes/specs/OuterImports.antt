@@ -1,7 +1,7 @@
 -- The imports of what a graph composes: the classes of what it asks for, in written order, each with its merged item.
 use Rattle.std.specs.Prelude.{ℕ, ◌≡◌, List, length, Some, slice_get}
-use Rattle.wac_shapes.specs.Name.{Name}
-use Rattle.wac_collection.specs.Tree.{Tree}
+use Rattle.wac_primitives.specs.Name.{Name}
+use Rattle.wac_primitives.specs.Tree.{Tree}
 use Rattle.wac_entries.specs.Binding.{root_bindings}
 use Rattle.wac_entries.specs.Classes.{Entry, by_names, class_names, canonical, IsClassOf}
 use Rattle.wac_terms.specs.ClassOrder.{IsWrittenOrder}

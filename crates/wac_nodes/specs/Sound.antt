@@ -1,7 +1,7 @@
 -- The law of graphs: what is true of every graph that a caller can have.
 use Rattle.std.specs.Prelude.{ℕ, ◌≡◌, true, Some, None, IsSome, IsSomeAnd, slice_get}
 use Rattle.std.specs.FinSet as set
-use Rattle.wac_shapes.specs.Name.{Name}
+use Rattle.wac_primitives.specs.Name.{Name}
 use Rattle.wac_collection.specs.Package.{PackageParts, Key, HoldsPackage}
 use Rattle.wac_collection.specs.Collection.{holds_type}
 use Rattle.wac_subtyping.specs.Subtype.{IsSubtype}

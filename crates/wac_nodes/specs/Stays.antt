@@ -1,7 +1,7 @@
 -- What calls leave in a graph: what was there stays, and the alias and the argument that a call adds are there.
 use Rattle.std.specs.Prelude.{◌≡◌, ◌⊎◌, ℕ, Some, true, Result, Ok, Err}
 use Rattle.std.specs.FinSet as set
-use Rattle.wac_shapes.specs.Name.{Name}
+use Rattle.wac_primitives.specs.Name.{Name}
 use Rattle.wac_collection.specs.Collection.{item_at}
 use Rattle.wac_collection.specs.Package.{PackageParts}
 use Rattle.wac_shapes.specs.declared.component.Interface.{Interface}

@@ -4,7 +4,7 @@ use Rattle.std.specs.FinMap as map
 use Rattle.std.specs.FinSet as set
 use Rattle.std.specs.declared.alloc.AllocError.{AllocError}
 use Rattle.wac_names.specs.Faults.{HasFault}
-use Rattle.wac_shapes.specs.Name.{Name}
+use Rattle.wac_primitives.specs.Name.{Name}
 use Rattle.wac_shapes.specs.Named.{named_at}
 use Rattle.wac_collection.specs.Collection.{Collection, empty}
 use Rattle.wac_collection.specs.Package.{PackageParts}

@@ -1,6 +1,6 @@
 -- Exports without those of some nodes.
 use Rattle.std.specs.Prelude.{ℕ, zero, suc, Bool, List, length, Option, Some, None, slice_get, if◌then◌else◌, swap_remove}
-use Rattle.wac_shapes.specs.Name.{Name}
+use Rattle.wac_primitives.specs.Name.{Name}
 use Rattle.wac_edges.specs.declared.node.NodeId.{NodeId}
 
 -- without the entry at a position, where it is of such a node: the last entry takes its place

@@ -2,7 +2,7 @@
 ghost use Rattle.std.specs.Prelude.{◌≡◌, ◌≢◌, OnErr, IfOk, MatchOption};
 ghost use Rattle.wac_names.specs.Faults.{HasFault};
 ghost use Rattle.wac_nodes.specs.ExternName.{IsImportName, IsExportName, HasExportFault, IsExportDecided};
-ghost use Rattle.wac_shapes.specs.Name.{Name};
+ghost use Rattle.wac_primitives.specs.Name.{Name};
 
 use std::alloc::{AllocError, Global};
 use wac_names::{ComponentName, NameFault};

@@ -39,7 +39,7 @@ impl Clone for NodeKind {
 }
 
 /// A node of a graph.
-#[derive(Debug, Drop)]
+#[derive(Debug)]
 pub struct Node {
     /// What it is.
     pub kind: NodeKind,
@@ -53,6 +53,20 @@ pub struct Node {
     pub export_name: Option<String>,
     /// The name by which a definition was exported first; none of another kind of node.
     pub first_name: Option<String>,
+}
+
+/// A node is let go of here, and not anew at each place where one goes out of scope.
+impl Drop for Node {
+    fn drop(self) {
+        let Node {
+            kind: _,
+            package: _,
+            item_kind: _,
+            name: _,
+            export_name: _,
+            first_name: _,
+        } = self;
+    }
 }
 
 /// The clone says of the node what this one does, in memory of its own. Answers `AllocError` where memory ran out.

@@ -24,12 +24,21 @@ pub struct PackageId {
 }
 
 /// A place for a package, with how many packages it held before.
-#[derive(Drop)]
 pub struct Slot {
     /// How many packages it held before.
     pub generation: usize,
     /// The package, if it holds one.
     pub package: Option<Package>,
+}
+
+/// A slot is let go of here, and not anew at each place where one goes out of scope.
+impl Drop for Slot {
+    fn drop(self) {
+        let Slot {
+            generation: _,
+            package: _,
+        } = self;
+    }
 }
 
 /// The clone is the same slot, with the package in memory of its own. Answers `AllocError` where memory ran out.

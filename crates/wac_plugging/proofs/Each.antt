@@ -3,7 +3,7 @@ use Rattle.std.proofs.Common.{◌≡◌, ℕ, suc, ◌+◌, ◌≤◌, ◌||◌,
 use Rattle.std.specs.Option.{option_map}
 use Rattle.std.proofs.lemmas.Bool.{false≢true}
 use Rattle.std.proofs.lemmas.List.{drop_all}
-use Rattle.wac_shapes.specs.Name.{Name, option_case}
+use Rattle.wac_primitives.specs.Name.{Name, option_case}
 use Rattle.wac_shapes.specs.Named.{names_of}
 use Rattle.wac_shapes.proofs.Loops.{drop_at}
 use Rattle.wac_shapes.specs.declared.component.ItemKind.{ItemKind}

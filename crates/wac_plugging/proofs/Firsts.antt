@@ -9,7 +9,7 @@ use Rattle.wac_names.specs.Track.{OneTrack}
 use Rattle.wac_names.specs.Reading.{read_track}
 use Rattle.wac_names.proofs.TrackFacts.{track-had}
 use Rattle.wac_names.proofs.KeyFacts.{keys}
-use Rattle.wac_shapes.specs.Name.{Name, find_name, first_some, same_name}
+use Rattle.wac_primitives.specs.Name.{Name, find_name, first_some, same_name}
 use Rattle.wac_shapes.proofs.Names.{same_name-true, same_name-false, take_at}
 use Rattle.wac_shapes.specs.declared.component.ItemKind.{ItemKind}
 use Rattle.wac_plugging.specs.Matching.{IsFirstOnTrack}

@@ -1,7 +1,7 @@
 -- Steps of `plug` from the calls that it makes.
 use Rattle.std.proofs.Common.{◌≡◌, refl, subst, Ok, Err, IsSome, inl, inr}
 use Rattle.std.specs.Prelude.{IsErrAnd}
-use Rattle.wac_shapes.specs.Name.{Name}
+use Rattle.wac_primitives.specs.Name.{Name}
 use Rattle.wac_nodes.specs.declared.errors.AliasError.TheVariants as alias_error
 use Rattle.wac_nodes.specs.declared.errors.ExportError.{ExportError}
 use Rattle.wac_nodes.specs.declared.errors.InstantiationArgumentError.{InstantiationArgumentError}

@@ -2,7 +2,7 @@
 use Rattle.std.proofs.Common.{◌≡◌, ℕ, suc, ◌+◌, cond, List, [], ◌∷◌, slice_get, refl, ap, ◌∙◌, sym, subst, Option, Some, None, Result, Ok, Err, IfOk, inl, inr, arith}
 use Rattle.std.specs.Prelude.{MatchOption, IsSomeAnd}
 use Rattle.std.proofs.lemmas.Bool.{cases_Bool}
-use Rattle.wac_shapes.specs.Name.{Name, find_name, same_name}
+use Rattle.wac_primitives.specs.Name.{Name, find_name, same_name}
 use Rattle.wac_shapes.specs.Named.{named_at}
 use Rattle.wac_shapes.proofs.Names.{same_name-true}
 use Rattle.wac_shapes.proofs.Under.{nothing_under}

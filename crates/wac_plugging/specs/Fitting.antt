@@ -1,6 +1,6 @@
 -- What is known of a match before it is wired: its export fits its import. Private functions alone cite this.
 use Rattle.std.specs.Prelude.{◌≡◌, ℕ, List, [], Some, IfSome, IsSomeAnd, slice_get}
-use Rattle.wac_shapes.specs.Name.{Name, option_case}
+use Rattle.wac_primitives.specs.Name.{Name, option_case}
 use Rattle.wac_shapes.specs.Named.{named_at}
 use Rattle.wac_shapes.specs.declared.component.ItemKind.{ItemKind}
 use Rattle.wac_collection.specs.Collection.{Collection}

@@ -1,7 +1,7 @@
 -- Which exports of a plug match which imports of a socket.
 use Rattle.std.specs.Prelude.{◌≡◌, ◌⊎◌, List, [], ◌∷◌, ◌++◌, MatchOption}
 use Rattle.wac_names.specs.Track.{OneTrack}
-use Rattle.wac_shapes.specs.Name.{Name, find_name, option_case}
+use Rattle.wac_primitives.specs.Name.{Name, find_name, option_case}
 use Rattle.wac_shapes.specs.declared.component.ItemKind.{ItemKind}
 use Rattle.wac_collection.specs.Collection.{Collection, world_imports, world_exports}
 use Rattle.wac_subtyping.specs.Subtype.{IsSubtype}

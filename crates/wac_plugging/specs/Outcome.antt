@@ -1,6 +1,6 @@
 -- When `plug` is refused, by the matches.
 use Rattle.std.specs.Prelude.{◌≡◌, ◌⊎◌, List, [], ◌∷◌, Some, None, Err, string_bytes}
-use Rattle.wac_shapes.specs.Name.{Name}
+use Rattle.wac_primitives.specs.Name.{Name}
 use Rattle.wac_nodes.specs.declared.errors.ExportError.{ExportError}
 use Rattle.wac_nodes.specs.declared.errors.ExportError.TheVariants as export_error
 use Rattle.wac_nodes.specs.declared.errors.InstantiationArgumentError.TheVariants.{ArgumentAlreadyPassed}

@@ -1,6 +1,6 @@
 -- Matches by the positions of their exports and imports. Private functions and `find_matches`, below the door, alone cite this.
 use Rattle.std.specs.Prelude.{◌≡◌, ◌<◌, ℕ, List, [], Some, length, map, slice_get}
-use Rattle.wac_shapes.specs.Name.{Name, option_case}
+use Rattle.wac_primitives.specs.Name.{Name, option_case}
 use Rattle.wac_shapes.specs.declared.component.ItemKind.{ItemKind}
 use Rattle.wac_plugging.specs.declared.matching.Pair.{Pair}
 use Rattle.wac_plugging.specs.Matching.{Match}

@@ -1,6 +1,6 @@
 -- Which export and which import a node has at a position, and which node is known to fit an import of an instantiation.
 use Rattle.std.specs.Prelude.{◌≡◌, ℕ, Some, IfSome, IsSome}
-use Rattle.wac_shapes.specs.Name.{Name}
+use Rattle.wac_primitives.specs.Name.{Name}
 use Rattle.wac_shapes.specs.declared.component.ItemKind.{ItemKind}
 use Rattle.wac_subtyping.specs.Subtype.{IsSubtype}
 use Rattle.wac_edges.specs.declared.node.NodeId.{NodeId}

@@ -2,7 +2,7 @@
 use Rattle.std.specs.Prelude.{◌≡◌, ℕ, suc, List, [], ◌∷◌, ◌++◌, Option, Some, None, if◌then◌else◌, MatchOption}
 use Rattle.wac_names.specs.Track.{key_text}
 use Rattle.wac_names.specs.Reading.{read_track}
-use Rattle.wac_shapes.specs.Name.{Name, find_name, same_name}
+use Rattle.wac_primitives.specs.Name.{Name, find_name, same_name}
 
 -- the key of a name's track
 abbrev pub track_key : Name → Name

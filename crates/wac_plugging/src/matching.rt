@@ -2,7 +2,7 @@
 ghost use Rattle.std.specs.Prelude.{◌≡◌, [], ◌<◌, ℕ, true, length, slice_get, string_bytes, IfOk, OnOk, IfSome, IsSomeAnd, MatchOption};
 ghost use Rattle.wac_collection.specs.Collection.{holds_type, holds_all, kind_types, world_imports, world_exports};
 ghost use Rattle.wac_shapes.specs.Kinds.{kind_type};
-ghost use Rattle.wac_shapes.specs.Name.{Name};
+ghost use Rattle.wac_primitives.specs.Name.{Name};
 ghost use Rattle.wac_shapes.specs.Named.{NoNameTwice};
 ghost use Rattle.wac_shapes.specs.declared.component.ItemKind.{ItemKind as AnItem};
 ghost use Rattle.wac_shapes.specs.declared.component.«Type».TheVariants.{World as world_type};

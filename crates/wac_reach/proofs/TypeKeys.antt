@@ -3,7 +3,7 @@ use Rattle.std.proofs.Common.{eq-eqb, Bool, true, false, ◌≡◌, refl, ap, sy
 use Rattle.std.proofs.lemmas.Bool.{eqb-true}
 use denote.Enum.Bare.{same_true, true_same}
 use Rattle.std.specs.Cmp.{IsEquivalence}
-use Rattle.wac_shapes.specs.contracts.component.PrimitiveType.{the_type}
+use Rattle.wac_primitives.specs.contracts.component.PrimitiveType.{the_type}
 use Rattle.wac_shapes.specs.contracts.component.ValueTypePartialEq.TheImpl as ValueEq
 use Rattle.wac_shapes.specs.contracts.component.TypePartialEq.TheImpl as TypeEq
 use Rattle.wac_shapes.specs.declared.component.ValueType.{ValueType}

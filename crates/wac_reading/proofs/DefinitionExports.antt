@@ -1,7 +1,7 @@
 -- Exports tell of definitions.
 use Rattle.std.proofs.Common.{◌≡◌, ◌<◌, ℕ, [], ◌∷◌, cond, not, false, None, Some, Option, refl, ap, ◌∙◌, length}
 use Rattle.std.specs.Prelude.{IsSomeAnd, slice_get}
-use Rattle.wac_shapes.specs.Name.{Name, option_case, same_name}
+use Rattle.wac_primitives.specs.Name.{Name, option_case, same_name}
 use Rattle.wac_shapes.proofs.Names.{find_position, same_name-refl}
 use Rattle.wac_edges.specs.declared.node.NodeId.{NodeId}
 use Rattle.wac_nodes.specs.Graph as graph

@@ -7,7 +7,7 @@ ghost use Rattle.wac_binary.specs.Views.{names_of};
 ghost use Rattle.wac_nodes.specs.Graph.{node_at};
 ghost use Rattle.wac_meaning.specs.Means.{AreNames};
 ghost use Rattle.wac_meaning.specs.Encoding.{HasRoom, index_in};
-ghost use Rattle.wac_shapes.specs.Name.{Name as AName};
+ghost use Rattle.wac_primitives.specs.Name.{Name as AName};
 ghost use Rattle.wac_writing.specs.Naming.{AreLowest, AreNamesOf, IsNamed, IsNamedAt};
 
 use crate::encoder::sort_of;

@@ -12,7 +12,7 @@ ghost use Rattle.wac_meaning.specs.Writing.{WritesNode};
 ghost use Rattle.wac_nodes.specs.Graph.{node_at, definition, alias, import};
 ghost use Rattle.wac_scopes.specs.Contents.{items_of};
 ghost use Rattle.wac_scopes.specs.Rooted.{IsRightRoot};
-ghost use Rattle.wac_shapes.specs.Name.{Name as AName};
+ghost use Rattle.wac_primitives.specs.Name.{Name as AName};
 ghost use Rattle.wac_writing.specs.Naming.{IsNamed};
 ghost use Rattle.wac_writing.specs.Places.{ArePlaced, AreFound};
 ghost use Rattle.std.specs.List.{flat_map};

@@ -1,7 +1,7 @@
 -- What nodes tell of their exports.
 use Rattle.std.proofs.Common.{◌≡◌, ℕ, zero, suc, Bool, true, false, ◌||◌, List, [], ◌∷◌, ◌++◌, refl, ap, ◌∙◌, ◌⊎◌, inl, inr, Option, Some, None, IsSome}
 use Rattle.std.specs.Prelude.{slice_get}
-use Rattle.wac_shapes.specs.Name.{Name}
+use Rattle.wac_primitives.specs.Name.{Name}
 use Rattle.wac_shapes.proofs.Names.{same_name-refl}
 use Rattle.wac_nodes.specs.Graph.{GraphNode}
 use Rattle.wac_removing.specs.Told.{is_name, tells}

@@ -5,7 +5,7 @@ use Rattle.std.specs.BTreeSet as numbers
 use Rattle.std.specs.Ordering.{nat_cmp}
 use Rattle.std.specs.Option.{option_map}
 use Rattle.slab.specs.Slab.{Slab, get}
-use Rattle.wac_shapes.specs.Name.{Name}
+use Rattle.wac_primitives.specs.Name.{Name}
 use Rattle.wac_edges.specs.declared.node.NodeId.{NodeId}
 use Rattle.wac_nodes.specs.declared.node.Node.{Node}
 use Rattle.wac_nodes.specs.Graph.{GraphNode}

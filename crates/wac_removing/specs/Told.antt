@@ -1,6 +1,6 @@
 -- Exports of which their nodes tell.
 use Rattle.std.specs.Prelude.{Bool, false, ◌||◌, Option, Some, None}
-use Rattle.wac_shapes.specs.Name.{Name, same_name}
+use Rattle.wac_primitives.specs.Name.{Name, same_name}
 use Rattle.wac_nodes.specs.Graph.{GraphNode}
 
 abbrev pub is_name : Option Name → Name → Bool

@@ -1,7 +1,7 @@
 //! Exports of nodes that were taken out: where they stand, and how they are taken out themselves.
 ghost use Rattle.std.specs.Prelude.{◌≡◌, ◌≢◌, ℕ, true, not, OnOk, IfOk, is_some, IsSome, Some, None, slice_get, Contains};
 ghost use Rattle.slab.specs.Slab.{get, Updates};
-ghost use Rattle.wac_shapes.specs.Name.{Name as AName};
+ghost use Rattle.wac_primitives.specs.Name.{Name as AName};
 ghost use Rattle.wac_edges.specs.declared.node.NodeId.{NodeId as AnId};
 ghost use Rattle.wac_nodes.specs.Nodes.{node_of, names_of};
 ghost use Rattle.wac_removing.specs.Told.{tells};
@@ -18,13 +18,23 @@ use wac_nodes::{Node, NodeId};
 ///
 /// A node keeps the name by which it was exported last, which leads to its place. Of nodes that may have further names all
 /// exports have to be gone through.
-#[derive(Drop)]
 pub struct Lost {
     positions: Vec<usize>,
     // Whether no position is missing.
     is_complete: bool,
     // The numbers of nodes that may have further names.
     again: BTreeSet<usize>,
+}
+
+/// A record of what was lost is let go of here, and not anew at each place where one goes out of scope.
+impl Drop for Lost {
+    fn drop(self) {
+        let Lost {
+            positions: _,
+            is_complete: _,
+            again: _,
+        } = self;
+    }
 }
 
 impl Lost {

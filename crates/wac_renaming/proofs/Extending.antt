@@ -1,7 +1,7 @@
 -- What a collection has stays in one that begins with it.
 use Rattle.std.proofs.Common.{◌≡◌, ℕ, zero, suc, ◌<◌, List, [], ◌∷◌, ◌++◌, length, Option, Some, None, true, nat_lt, refl, ap, sym, ◌∙◌, subst, arith}
 use Rattle.std.specs.Prelude.{slice_get}
-use Rattle.wac_shapes.specs.Name.{Name, option_case}
+use Rattle.wac_primitives.specs.Name.{Name, option_case}
 use Rattle.wac_collection.specs.Collection.{Collection, HasResource, HasFunc, HasDefined, HasInterface, HasWorld, HasModule, IsSourceBelow, IsWellFormed, holds_type, holds_value, interface_exports, item_at, item_of, size, with_resource, with_func, with_defined, with_interface}
 use Rattle.wac_collection.specs.Held.{resolved, resolved_in, source_of}
 use Rattle.wac_collection.specs.declared.collection.Held.{Held}

@@ -5,7 +5,7 @@ use Rattle.std.proofs.Math.ListN.{set}
 use Rattle.std.proofs.lemmas.Bool.{cases_Bool, eq-eqb, eqb-true, false≢true}
 use Rattle.std.proofs.lemmas.List.{length-append}
 use Rattle.std.proofs.lemmas.Option.{slice_get_within}
-use Rattle.wac_shapes.specs.Name.{Name, same_name, find_name, option_case, first_some}
+use Rattle.wac_primitives.specs.Name.{Name, same_name, find_name, option_case, first_some}
 use Rattle.wac_collection.specs.Collection.{Collection, IsWellFormed, size, with_resource}
 use Rattle.wac_collection.specs.Held.{resolved_in, source_of}
 use Rattle.wac_subtyping.specs.Called.{resource_name}

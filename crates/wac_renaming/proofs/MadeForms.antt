@@ -7,8 +7,8 @@ use Rattle.std.specs.HashMap.{get, get_by}
 use Rattle.std.specs.Option.{option_eq}
 use Rattle.std.specs.Prelude.{slice_get, string_bytes}
 use denote.Enum.Bare.{same_true, true_same}
-use Rattle.wac_shapes.specs.Name.{Name}
-use Rattle.wac_shapes.specs.contracts.component.PrimitiveType.{the_type}
+use Rattle.wac_primitives.specs.Name.{Name}
+use Rattle.wac_primitives.specs.contracts.component.PrimitiveType.{the_type}
 use Rattle.wac_shapes.specs.contracts.component.ValueTypePartialEq.TheImpl as ValueEq
 use Rattle.wac_shapes.specs.declared.component.DefinedType.{DefinedType}
 use Rattle.wac_shapes.specs.declared.component.DefinedType.TheVariants as def

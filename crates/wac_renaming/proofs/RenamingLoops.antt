@@ -4,7 +4,7 @@ use Rattle.std.proofs.lemmas.List.{map-append}
 use Rattle.std.specs.Prelude.{slice_get}
 use Rattle.std.specs.List.{AllZip}
 use Rattle.std.specs.Borrow.{Bor}
-use Rattle.wac_shapes.specs.Name.{Name, find_name, same_name}
+use Rattle.wac_primitives.specs.Name.{Name, find_name, same_name}
 use Rattle.wac_shapes.specs.Named.{NoNameTwice, given_names}
 use Rattle.wac_collection.specs.Collection.{Collection, holds_all, item_at, size, value_types, with_defined, with_func}
 use Rattle.wac_collection.specs.Uses.{AnswersBy, mention_fault, unless}

@@ -1,8 +1,8 @@
 -- Definitions of one shape: their trees, what they mention, and copies of fields and cases.
 use Rattle.std.proofs.Common.{◌≡◌, suc, List, [], ◌∷◌, length, map, Option, Some, None, refl, ap, sym, ◌∙◌, subst}
 use Rattle.std.specs.List.{AllByRecursion, AllZip}
-use Rattle.wac_shapes.specs.Name.{Name}
-use Rattle.wac_collection.specs.Tree.{TypeTree, record_of, variant_of, list_of, fixed_list_of, tuple_of, flags_of, enum_of, option_of, result_of, stream_of, future_of, function}
+use Rattle.wac_primitives.specs.Name.{Name}
+use Rattle.wac_primitives.specs.Tree.{TypeTree, record_of, variant_of, list_of, fixed_list_of, tuple_of, flags_of, enum_of, option_of, result_of, stream_of, future_of, function}
 use Rattle.wac_collection.specs.Collection.{and_maybe, case_values, defined_values, func_values, seconds}
 use Rattle.wac_collection.specs.Held.{defined_tree, func_tree, option_tree, part_at}
 use Rattle.wac_shapes.specs.declared.component.DefinedType.{DefinedType}

@@ -2,8 +2,8 @@
 use Rattle.std.proofs.Common.{◌≡◌, ℕ, zero, suc, ◌<◌, List, [], ◌∷◌, length, Option, Some, None, true, nat_lt, refl, ap, sym, ◌∙◌, subst, arith}
 use Rattle.std.specs.Prelude.{slice_get}
 use Rattle.std.specs.List.{AllByRecursion}
-use Rattle.wac_shapes.specs.Name.{option_case}
-use Rattle.wac_collection.specs.Tree.{TypeTree, absent, own, borrow}
+use Rattle.wac_primitives.specs.Name.{option_case}
+use Rattle.wac_primitives.specs.Tree.{TypeTree, absent, own, borrow}
 use Rattle.wac_collection.specs.Collection.{Collection, HasResource, defined_values, func_values, holds_type, item_at, item_of, size}
 use Rattle.wac_collection.specs.Held.{Naming, Names, defined_tree, func_tree, of_held, resolved, unfolded}
 use Rattle.wac_collection.specs.Bound.{by_place, held_tree}
@@ -15,7 +15,7 @@ use Rattle.wac_shapes.specs.declared.component.DefinedType.TheVariants as def
 use Rattle.wac_shapes.specs.declared.component.DefinedTypeId.{DefinedTypeId}
 use Rattle.wac_shapes.specs.declared.component.FuncType.{FuncType}
 use Rattle.wac_shapes.specs.declared.component.FuncTypeId.{FuncTypeId}
-use Rattle.wac_shapes.specs.declared.component.PrimitiveType.{PrimitiveType}
+use Rattle.wac_primitives.specs.declared.component.PrimitiveType.{PrimitiveType}
 use Rattle.wac_shapes.specs.declared.component.ResourceId.{ResourceId}
 use Rattle.wac_shapes.specs.declared.component.ValueType.{ValueType}
 use Rattle.wac_shapes.specs.declared.component.ValueType.TheVariants as val

@@ -1,7 +1,7 @@
 -- New resources, as they are added one by one. Private functions alone cite this.
 use Rattle.std.specs.Prelude.{ℕ, ◌≡◌, ◌<◌, ◌↔◌, true, List, [], length, Option, Some, None, IsSome, slice_get}
-use Rattle.wac_shapes.specs.Name.{Name, find_name, option_case}
-use Rattle.wac_collection.specs.Tree.{Place}
+use Rattle.wac_primitives.specs.Name.{Name, find_name, option_case}
+use Rattle.wac_primitives.specs.Tree.{Place}
 use Rattle.wac_collection.specs.Collection.{Collection}
 use Rattle.wac_subtyping.specs.Called.{resource_name}
 use Rattle.wac_shapes.specs.declared.component.ResourceId.{ResourceId}

@@ -1,7 +1,7 @@
 -- The steps in which types are renamed. Private functions alone cite this.
 use Rattle.std.specs.Prelude.{ℕ, ◌≡◌, ◌++◌, ◌⊎◌, cond, nat_eq, List, ◌∷◌, [], Option, Some, None, IsSome}
 use Rattle.std.specs.List.{AllByRecursion, AllZip}
-use Rattle.wac_shapes.specs.Name.{Name}
+use Rattle.wac_primitives.specs.Name.{Name}
 use Rattle.wac_collection.specs.Collection.{Collection, item_at}
 use Rattle.wac_shapes.specs.declared.component.DefinedType.{DefinedType}
 use Rattle.wac_shapes.specs.declared.component.DefinedType.TheVariants as def

@@ -1,6 +1,6 @@
 -- The way out of a part, past those around it that bind nothing. Private functions alone cite this.
 use Rattle.std.specs.Prelude.{ℕ, ◌≡◌, List, [], length, Option, Some, None, slice_get}
-use Rattle.wac_collection.specs.Tree.{Leaf}
+use Rattle.wac_primitives.specs.Tree.{Leaf}
 use Rattle.wac_shapes.specs.declared.component.ResourceId.{ResourceId}
 use Rattle.wac_terms.specs.declared.parts.Part.{Part}
 

@@ -7,7 +7,7 @@ ghost use Rattle.std.specs.List.{AllByRecursion, AllZip};
 ghost use Rattle.wac_renaming.specs.Made.{AreMade, IsFuncMadeOf, IsMadeOf, StayMade, other_name};
 ghost use Rattle.wac_collection.specs.Collection.{Collection, HasDefined, HasFunc, and_maybe, case_values, defined_values, holds_value, seconds};
 ghost use Rattle.wac_collection.specs.Held.{resolved};
-ghost use Rattle.wac_shapes.specs.Name.{find_name};
+ghost use Rattle.wac_primitives.specs.Name.{find_name};
 ghost use Rattle.wac_shapes.specs.declared.component.DefinedType.TheVariants as def;
 ghost use Rattle.wac_shapes.specs.declared.component.ValueType.TheVariants as val;
 ghost use Rattle.wac_shapes.specs.declared.component.«Type».TheVariants as ty;

@@ -2,12 +2,12 @@
 use Rattle.std.specs.Prelude.{ℕ, ◌≡◌, true, false, List, [], ◌∷◌, ◌++◌, Option, Some, None, is_some, Err}
 use Rattle.std.proofs.Common.{refl, ap, ◌∙◌, sym, subst, inl, inr, arith}
 use Rattle.std.proofs.Math.Path.{fun_ext}
-use Rattle.wac_shapes.specs.Name.{Name, option_case}
+use Rattle.wac_primitives.specs.Name.{Name, option_case}
 use Rattle.wac_shapes.specs.declared.component.Interface.{Interface}
 use Rattle.wac_shapes.specs.declared.component.InterfaceId.{InterfaceId}
 use Rattle.wac_shapes.specs.declared.component.«Type».{«Type» as AnyType}
 use Rattle.wac_shapes.specs.declared.component.«Type».TheVariants as ty
-use Rattle.wac_collection.specs.Tree.{Tree, absent, component, instance_item}
+use Rattle.wac_primitives.specs.Tree.{Tree, absent, component, instance_item}
 use Rattle.wac_collection.specs.Collection.{Collection, item_at}
 use Rattle.wac_collection.specs.Held.{items_under}
 use Rattle.wac_collection.specs.Bound.{Bindings, held_tree}

@@ -7,16 +7,16 @@ use Rattle.std.specs.Prelude.{ℕ, ◌≡◌, ◌==◌, cond, nat_eq, Bool, true
 use Rattle.std.specs.HashMap.{get}
 use Rattle.std.proofs.Common.{refl, ap, ◌∙◌, sym, subst, arith}
 use Rattle.std.proofs.Math.Path.{fun_ext}
-use Rattle.wac_shapes.specs.Name.{Name}
+use Rattle.wac_primitives.specs.Name.{Name}
 use Rattle.wac_shapes.specs.declared.component.DefinedTypeId.{DefinedTypeId}
-use Rattle.wac_shapes.specs.declared.component.PrimitiveType.{PrimitiveType}
+use Rattle.wac_primitives.specs.declared.component.PrimitiveType.{PrimitiveType}
 use Rattle.wac_shapes.specs.declared.component.FuncTypeId.{FuncTypeId}
 use Rattle.wac_shapes.specs.declared.component.InterfaceId.{InterfaceId}
 use Rattle.wac_shapes.specs.declared.component.ValueType.{ValueType}
 use Rattle.wac_shapes.specs.declared.component.ValueType.TheVariants as val
 use Rattle.wac_shapes.specs.declared.component.«Type».{«Type» as AnyType}
 use Rattle.wac_shapes.specs.declared.component.«Type».TheVariants as ty
-use Rattle.wac_collection.specs.Tree.{exported, Tree, primitive, type_equal}
+use Rattle.wac_primitives.specs.Tree.{exported, Tree, primitive, type_equal}
 use Rattle.wac_collection.specs.Collection.{Collection}
 use Rattle.wac_collection.specs.Bound.{Bindings}
 use Rattle.wac_collection.specs.Uses.{same_type}

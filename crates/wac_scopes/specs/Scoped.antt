@@ -1,7 +1,7 @@
 -- What a scope that is written in the code says of a stack of open scopes, whatever else is recorded there and around it.
 use Rattle.std.specs.Prelude.{ℕ, ◌≡◌, false, cond, nat_eq, List, [], ◌∷◌, ◌++◌, length, Option, Some, None, slice_get, Result, Ok, Err}
-use Rattle.wac_shapes.specs.Name.{Name}
-use Rattle.wac_shapes.specs.declared.component.PrimitiveType.{PrimitiveType}
+use Rattle.wac_primitives.specs.Name.{Name}
+use Rattle.wac_primitives.specs.declared.component.PrimitiveType.{PrimitiveType}
 use Rattle.std.specs.HashMap.{get}
 use Rattle.wac_shapes.specs.declared.component.DefinedTypeId.{DefinedTypeId}
 use Rattle.wac_shapes.specs.declared.component.FuncTypeId.{FuncTypeId}
@@ -13,7 +13,7 @@ use Rattle.wac_shapes.specs.declared.component.InterfaceId.{InterfaceId}
 use Rattle.wac_shapes.specs.declared.component.«Type».{«Type» as AnyType}
 use Rattle.wac_shapes.specs.declared.component.«Type».TheVariants as ty
 use Rattle.wac_collection.specs.Uses.{same_type}
-use Rattle.wac_collection.specs.Tree.{imported, exported, named, Tree, primitive, type_equal, function_item, instance_item, component_item, module_item}
+use Rattle.wac_primitives.specs.Tree.{imported, exported, named, Tree, primitive, type_equal, function_item, instance_item, component_item, module_item}
 use Rattle.wac_collection.specs.Collection.{Collection, IsWellFormed, item_at}
 use Rattle.wac_collection.specs.Bound.{Bindings}
 use Rattle.wac_binary.specs.declared.types.ComponentValType.{ComponentValType}

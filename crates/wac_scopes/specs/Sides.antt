@@ -1,10 +1,10 @@
 -- What is declared in a component type that is open: what it imports, and what it exports.
 use Rattle.std.specs.Prelude.{ℕ, ◌≡◌, List, [], ◌∷◌, ◌++◌, Some, slice_get}
-use Rattle.wac_shapes.specs.Name.{Name}
+use Rattle.wac_primitives.specs.Name.{Name}
 use Rattle.wac_shapes.specs.declared.component.DefinedTypeId.{DefinedTypeId}
 use Rattle.wac_shapes.specs.declared.component.ValueType.TheVariants as val
 use Rattle.wac_shapes.specs.declared.component.«Type».TheVariants as ty
-use Rattle.wac_collection.specs.Tree.{Side, imported, exported, named, Tree, type_equal, function_item, instance_item}
+use Rattle.wac_primitives.specs.Tree.{Side, imported, exported, named, Tree, type_equal, function_item, instance_item}
 use Rattle.wac_collection.specs.Collection.{Collection}
 use Rattle.wac_collection.specs.Bound.{Bindings}
 use Rattle.wac_binary.specs.declared.sorts.Description.{Description}

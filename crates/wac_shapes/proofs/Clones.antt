@@ -2,7 +2,7 @@
 use Rattle.std.proofs.Common.{◌≡◌, refl, ap, ◌∙◌, Bool, true, false, cond, List, [], ◌∷◌, Option, Some, None, string_bytes}
 use Rattle.std.specs.List.{AllZip}
 use Rattle.std.specs.declared.string.String.{String}
-use Rattle.wac_shapes.specs.Name.{Name, same_name, find_name}
+use Rattle.wac_primitives.specs.Name.{Name, same_name, find_name}
 use Rattle.wac_shapes.specs.Named.{by_bytes, NoNameTwice, AreNamedClones}
 
 module _ {V : Type 0} (C : V → V → Type 0) where

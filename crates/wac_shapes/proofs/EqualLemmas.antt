@@ -2,7 +2,7 @@
 use Rattle.std.proofs.Common.{ℕ, suc, Bool, true, false, not, ◌&&◌, ◌≤◌, ◌∙◌, sym, ap, arith, List, [], ◌∷◌, map, length, slice_get, drop, Some, ◌≡◌, refl}
 use Rattle.std.specs.Cmp.Lexicographic.{pointwise}
 use Rattle.std.proofs.Math.ListN.{drop_of_length-le}
-use Rattle.wac_shapes.specs.Name.{Name}
+use Rattle.wac_primitives.specs.Name.{Name}
 use Rattle.wac_shapes.specs.Named.{names_of}
 use Rattle.wac_shapes.specs.Equal.{same_text, same_labels, same_named}
 use Rattle.wac_shapes.proofs.Loops.{drop_at}

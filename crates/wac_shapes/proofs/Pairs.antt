@@ -2,7 +2,7 @@
 use Rattle.std.proofs.Common.{ℕ, zero, suc, Bool, true, false, cond, IsSome, ◌≡◌, ◌<◌, ◌+◌, refl, sym, ap, ◌∙◌, subst, arith, List, [], ◌∷◌, ◌++◌, length, slice_get, Option, Some, None, inl, inr}
 use Rattle.std.proofs.lemmas.Bool.{cases_Bool}
 use Rattle.std.specs.List.{AllZip}
-use Rattle.wac_shapes.specs.Name.{Name, same_name, find_name, option_case}
+use Rattle.wac_primitives.specs.Name.{Name, same_name, find_name, option_case}
 use Rattle.wac_shapes.specs.Named.{AreNamedClones, find_under, inserted_under}
 use Rattle.wac_shapes.specs.Imports.{Pair, same_pair, find_import, NoImportTwice, position_under, ArePositions, IsImportClone}
 use Rattle.wac_shapes.proofs.Names.{same_name-true, same_name-refl, same_name-from}

@@ -4,7 +4,7 @@ use Rattle.std.proofs.lemmas.Bool.{cases_Bool}
 use Rattle.std.specs.List.{AllZip}
 use Rattle.std.specs.Option.{option_map}
 use Rattle.std.specs.declared.string.String.{String}
-use Rattle.wac_shapes.specs.Name.{Name, same_name, find_name}
+use Rattle.wac_primitives.specs.Name.{Name, same_name, find_name}
 use Rattle.wac_shapes.specs.Named.{by_bytes, named_at, NoNameTwice}
 use Rattle.wac_shapes.proofs.Names.{element_at, none_behind, NoNameTwice-push, same_name-bytes_eq}
 use Rattle.wac_shapes.proofs.Loops.{drop_at}

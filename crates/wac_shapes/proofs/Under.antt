@@ -5,7 +5,7 @@ use Rattle.std.specs.declared.string.String.{String}
 use Rattle.indexmap.specs.IndexMap.{set_value_at}
 use Rattle.std.specs.Map.{values_of}
 use Rattle.std.specs.Option.{option_map, option_copied_mut}
-use Rattle.wac_shapes.specs.Name.{Name, same_name, find_name, option_case}
+use Rattle.wac_primitives.specs.Name.{Name, same_name, find_name, option_case}
 use Rattle.wac_shapes.specs.Named.{by_bytes, named_at, NoNameTwice, names_of, find_under, inserted_under}
 
 pub on_ok : {T E P Q : Type 0} (r : Result T E) → (P → Q) → OnOk r P → OnOk r Q

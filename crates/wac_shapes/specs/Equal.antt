@@ -2,7 +2,7 @@
 use Rattle.std.specs.Prelude.{Bool, List, ◌&&◌, nat_eq}
 use Rattle.std.specs.Cmp.{IsEquivalence, IsPartialEquivalence, on_per, on_equiv, and_per, and_equiv, partial_equiv_from_equiv}
 use Rattle.std.specs.Cmp.Lexicographic.{pointwise, nat_list_eq_equiv, lists_per, lists_equiv}
-use Rattle.wac_shapes.specs.Name.{Name}
+use Rattle.wac_primitives.specs.Name.{Name}
 
 -- texts, by their bytes
 abbrev pub same_text : Name → Name → Bool

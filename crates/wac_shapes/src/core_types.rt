@@ -1,38 +1,13 @@
 //! The shapes of core types. A clone is equal to its source, in memory of its own; where memory ran out, `clone` answers `AllocError`.
 
 ghost use Rattle.std.specs.Prelude.{◌≡◌, ◌++◌, ◌∷◌, ◌↔◌, [], Err, IfOk, OnOk, OnErr, IsSome};
-ghost use Rattle.wac_shapes.specs.Name.{find_name};
+ghost use Rattle.wac_primitives.specs.Name.{find_name};
 ghost use Rattle.wac_shapes.specs.Imports.{find_import};
 
 use crate::imports::CoreImports;
 use crate::named::{Named, Sequence, ShapeError};
 use std::alloc::{AllocError, Global};
-
-/// A reference type of a core module.
-#[derive(Clone, Copy, Debug, PartialEq, Eq, Hash)]
-pub enum CoreRefType {
-    /// A reference to a function.
-    FuncRef,
-    /// A reference to something of the host.
-    ExternRef,
-}
-
-/// A value type of a core module.
-#[derive(Clone, Copy, Debug, PartialEq, Eq, Hash)]
-pub enum CoreType {
-    /// An integer of 32 bits.
-    I32,
-    /// An integer of 64 bits.
-    I64,
-    /// A float of 32 bits.
-    F32,
-    /// A float of 64 bits.
-    F64,
-    /// A vector of 128 bits.
-    V128,
-    /// A reference.
-    Ref(CoreRefType),
-}
+use wac_primitives::{CoreRefType, CoreType};
 
 /// The type of a core function.
 #[derive(Clone, Debug, PartialEq, Eq)]

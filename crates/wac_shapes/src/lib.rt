@@ -9,9 +9,10 @@ mod named;
 
 pub use component::{
     DefinedType, DefinedTypeId, Enum, Flags, FuncType, FuncTypeId, Interface, InterfaceId,
-    ItemKind, ModuleTypeId, PrimitiveType, Record, Resource, ResourceAlias, ResourceId, Type,
-    UsedType, ValueType, Variant, World, WorldId,
+    ItemKind, ModuleTypeId, Record, Resource, ResourceAlias, ResourceId, Type, UsedType, ValueType,
+    Variant, World, WorldId,
 };
-pub use core_types::{CoreExtern, CoreFuncType, CoreRefType, CoreType, ModuleType};
+pub use core_types::{CoreExtern, CoreFuncType, ModuleType};
 pub use imports::{CoreImportEntries, CoreImports};
 pub use named::{Entries, LabelNames, Labels, Named, Sequence, ShapeError, Text};
+pub use wac_primitives::{CoreRefType, CoreType, PrimitiveType};

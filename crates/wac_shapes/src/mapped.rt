@@ -1,7 +1,7 @@
 //! Values under names in a map, and in a map where there is one.
 ghost use Rattle.std.specs.Prelude.{◌≡◌, ◌<◌, ◌^◌, ◌++◌, ◌∷◌, ◌↔◌, IsTrue, IfSome, [], length, slice_get, Some, None, Err, IfOk, OnOk, OnErr, IsSome, string_bytes};
 ghost use Rattle.std.specs.Option.{option_map, option_copied};
-ghost use Rattle.wac_shapes.specs.Name.{find_name};
+ghost use Rattle.wac_primitives.specs.Name.{find_name};
 ghost use Rattle.wac_shapes.specs.Named.{named_at, find_under, inserted_under, NoNameTwice};
 
 use crate::named::ShapeError;
@@ -50,7 +50,7 @@ pub(crate) struct MappedEntries<'a, V> {
 
 impl<'a, V> Model for MappedEntries<'a, V> {
     ghost use Rattle.std.specs.Prelude.{List};
-    ghost use Rattle.wac_shapes.specs.Name.{Name};
+    ghost use Rattle.wac_primitives.specs.Name.{Name};
     ghost use Rattle.wac_shapes.specs.Named.{by_bytes};
 
     ghost Value = { List (Name × V) };

@@ -2,7 +2,7 @@
 ghost use Rattle.std.specs.Prelude.{◌≡◌, ◌<◌, ◌++◌, ◌∷◌, ◌↔◌, ℕ, List, [], length, slice_get, Some, None, Err, IfOk, OnOk, OnErr, IsOk, IsSome, string_bytes};
 ghost use Rattle.std.specs.Option.{option_map, option_copied};
 ghost use Rattle.std.specs.Str.{bytes_eq};
-ghost use Rattle.wac_shapes.specs.Name.{find_name};
+ghost use Rattle.wac_primitives.specs.Name.{find_name};
 ghost use Rattle.wac_shapes.specs.Named.{named_at, named_pairs, labelled, given_names, NoNameTwice};
 
 use crate::mapped::{MappedEntries, Rest};
@@ -187,7 +187,7 @@ impl Drop for Labels {
 
 impl Model for Labels {
     ghost use Rattle.std.specs.Prelude.{List};
-    ghost use Rattle.wac_shapes.specs.Name.{Name};
+    ghost use Rattle.wac_primitives.specs.Name.{Name};
     ghost use Rattle.wac_shapes.specs.Named.{names_of};
 
     ghost Value = { List Name };
@@ -308,7 +308,7 @@ pub struct LabelNames<'a> {
 
 impl<'a> Model for LabelNames<'a> {
     ghost use Rattle.std.specs.Prelude.{List};
-    ghost use Rattle.wac_shapes.specs.Name.{Name};
+    ghost use Rattle.wac_primitives.specs.Name.{Name};
     ghost use Rattle.wac_shapes.specs.Named.{names_of};
 
     ghost Value = { List Name };
@@ -488,7 +488,7 @@ pub struct Entries<'a, V> {
 impl<'a, V> Model for Entries<'a, V> {
     ghost use Rattle.std.specs.Prelude.{List, ◌++◌};
     ghost use Rattle.std.specs.Slice.Iter.{iter_rest};
-    ghost use Rattle.wac_shapes.specs.Name.{Name};
+    ghost use Rattle.wac_primitives.specs.Name.{Name};
 
     ghost Value = { List (Name × V) };
 

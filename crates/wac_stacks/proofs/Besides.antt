@@ -1,7 +1,7 @@
 -- Two collections whose types are written into the same scopes.
 use Rattle.std.specs.Prelude.{◌≡◌, true, List, [], ◌∷◌}
 use Rattle.std.proofs.Common.{refl, ap, ◌∙◌, sym, subst}
-use Rattle.wac_collection.specs.Tree.{resource}
+use Rattle.wac_primitives.specs.Tree.{resource}
 use Rattle.wac_collection.specs.Collection.{Collection}
 use Rattle.wac_collection.specs.Bound.{Bindings}
 use Rattle.wac_binary.specs.Items.{Item}

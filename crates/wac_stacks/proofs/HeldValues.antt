@@ -1,7 +1,7 @@
 -- What is held as a value type is a value type.
 use Rattle.std.specs.Prelude.{ℕ, zero, suc, ◌≡◌, ◌≤◌, [], Option, Some, None, slice_get}
 use Rattle.std.proofs.Common.{refl, ap, ◌∙◌, sym, subst, arith}
-use Rattle.wac_shapes.specs.Name.{option_case}
+use Rattle.wac_primitives.specs.Name.{option_case}
 use Rattle.wac_shapes.specs.declared.component.ResourceId.{ResourceId}
 use Rattle.wac_shapes.specs.declared.component.DefinedTypeId.{DefinedTypeId}
 use Rattle.wac_shapes.specs.declared.component.DefinedType.{DefinedType}
@@ -10,7 +10,7 @@ use Rattle.wac_shapes.specs.declared.component.ValueType.{ValueType}
 use Rattle.wac_shapes.specs.declared.component.ValueType.TheVariants as val
 use Rattle.wac_shapes.specs.declared.component.«Type».TheVariants as ty
 use Rattle.wac_collection.specs.declared.collection.Held.{Held}
-use Rattle.wac_collection.specs.Tree.{imported, Leaf, Tree, absent, own, borrow, moved}
+use Rattle.wac_primitives.specs.Tree.{imported, Leaf, Tree, absent, own, borrow, moved}
 use Rattle.wac_collection.specs.Collection.{Collection, IsWellFormed, IsValueBefore, AreBefore, AddedBefore, defined_mentions, item_of, item_at}
 use Rattle.wac_collection.specs.Held.{resolved}
 use Rattle.wac_collection.specs.Bound.{Bindings, held_tree}

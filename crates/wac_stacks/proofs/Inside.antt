@@ -3,7 +3,7 @@ use Rattle.std.specs.Prelude.{zero, suc, ◌≡◌, true, false, [], ◌∷◌, 
 use Rattle.std.proofs.Common.{refl, ap}
 use Rattle.std.proofs.lemmas.Bool.{eq-eqb}
 use Rattle.wac_shapes.specs.declared.component.ResourceId.{ResourceId}
-use Rattle.wac_collection.specs.Tree.{out_by}
+use Rattle.wac_primitives.specs.Tree.{out_by}
 use Rattle.wac_binary.specs.declared.sorts.Sort.TheVariants as s
 use Rattle.wac_binary.specs.Items.{export_alias}
 use Rattle.wac_binary.specs.Meaning.{meaning}

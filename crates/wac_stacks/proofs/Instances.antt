@@ -3,7 +3,7 @@ use Rattle.std.specs.Prelude.{ℕ, zero, suc, ◌≡◌, ◌==◌, ◌&&◌, Boo
 use Rattle.std.proofs.Common.{refl, ap, ◌∙◌, sym, subst}
 use Rattle.std.proofs.Math.Path.{fun_ext}
 use Rattle.std.proofs.lemmas.Bool.{eqb-true}
-use Rattle.wac_shapes.specs.Name.{Name, same_name, find_name, option_case}
+use Rattle.wac_primitives.specs.Name.{Name, same_name, find_name, option_case}
 use Rattle.wac_shapes.proofs.Names.{same_name-refl}
 use Rattle.wac_shapes.specs.declared.component.ResourceId.{ResourceId}
 use Rattle.wac_shapes.specs.declared.component.InterfaceId.{InterfaceId}
@@ -13,7 +13,7 @@ use Rattle.wac_shapes.specs.declared.component.ValueType.{ValueType}
 use Rattle.wac_shapes.specs.declared.component.«Type».TheVariants as ty
 use Rattle.wac_shapes.specs.declared.component.ItemKind.{ItemKind}
 use Rattle.wac_shapes.specs.declared.component.ItemKind.TheVariants as kind
-use Rattle.wac_collection.specs.Tree.{Side, imported, exported, Place, named, Leaf, Tree, absent, resource, fresh, type_equal, further_out, inside, moved, out_by, taken_from, items_in, type_in}
+use Rattle.wac_primitives.specs.Tree.{Side, imported, exported, Place, named, Leaf, Tree, absent, resource, fresh, type_equal, further_out, inside, moved, out_by, taken_from, items_in, type_in}
 use Rattle.wac_collection.specs.Collection.{Collection, IsWellFormed, item_at}
 use Rattle.wac_collection.specs.Held.{source_of, resolved_in, resolved, item_tree, interface_tree}
 use Rattle.wac_collection.specs.Bound.{Bindings, is_alias, own_name, inside_interface, is_here, binds_here, by_place, held_tree}

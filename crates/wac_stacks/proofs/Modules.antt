@@ -1,7 +1,7 @@
 -- Core module types in an open scope; and what is held as bindings grow.
 use Rattle.std.specs.Prelude.{ℕ, ◌≡◌, true, List, [], ◌∷◌, ◌++◌, length, slice_get}
 use Rattle.std.proofs.Common.{refl, ap, ◌∙◌, sym, subst, arith}
-use Rattle.wac_collection.specs.Tree.{Tree}
+use Rattle.wac_primitives.specs.Tree.{Tree}
 use Rattle.wac_collection.specs.Held.{of_held, module_tree as held_module_tree}
 use Rattle.wac_collection.specs.Bound.{held_tree}
 use Rattle.wac_stacks.specs.Reads.{Reads}

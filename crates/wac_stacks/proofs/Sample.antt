@@ -1,7 +1,7 @@
 -- The laws put together: an interface with a resource of its own and a function over it, as an encoder would write it.
 use Rattle.std.specs.Prelude.{◌≡◌, false, List, [], ◌∷◌, Some, None, if◌then◌else◌}
 use Rattle.std.proofs.Common.{refl, ap, ◌∙◌, sym, subst}
-use Rattle.wac_shapes.specs.Name.{Name, same_name}
+use Rattle.wac_primitives.specs.Name.{Name, same_name}
 use Rattle.wac_shapes.specs.declared.component.ResourceId.{ResourceId}
 use Rattle.wac_shapes.specs.declared.component.InterfaceId.{InterfaceId}
 use Rattle.wac_shapes.specs.declared.component.FuncTypeId.{FuncTypeId}
@@ -12,7 +12,7 @@ use Rattle.wac_shapes.specs.declared.component.«Type».TheVariants as ty
 use Rattle.wac_shapes.specs.declared.component.ItemKind.TheVariants as kind
 use Rattle.wac_binary.specs.Unfold.{with_item}
 use Rattle.wac_binary.specs.HasMeaning.{IsFree}
-use Rattle.wac_collection.specs.Tree.{exported, Tree, absent, instance, fresh, function_item, own}
+use Rattle.wac_primitives.specs.Tree.{exported, Tree, absent, instance, fresh, function_item, own}
 use Rattle.wac_collection.specs.Collection.{Collection, IsWellFormed, item_at}
 use Rattle.wac_collection.specs.Bound.{Bindings, own_name, inside_interface}
 use Rattle.wac_binary.specs.declared.types.ComponentValType.TheVariants.{Index}

@@ -5,7 +5,7 @@ use Rattle.wac_shapes.specs.declared.component.ResourceId.{ResourceId}
 use Rattle.wac_shapes.specs.declared.component.ValueType.{ValueType}
 use Rattle.wac_shapes.specs.declared.component.ValueType.TheVariants as val
 use Rattle.wac_shapes.specs.declared.component.«Type».TheVariants as ty
-use Rattle.wac_collection.specs.Tree.{Leaf, Tree, resource, primitive, own, borrow, out_by, seen_from}
+use Rattle.wac_primitives.specs.Tree.{Leaf, Tree, resource, primitive, own, borrow, out_by, seen_from}
 use Rattle.wac_collection.specs.Collection.{Collection}
 use Rattle.wac_collection.specs.Bound.{Bindings}
 use Rattle.wac_binary.specs.Items.{outer_alias, TypeDef, value_def, func_def, own_def, borrow_def, primitive_def}

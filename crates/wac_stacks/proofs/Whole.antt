@@ -3,7 +3,7 @@ use Rattle.std.specs.Prelude.{◌≡◌, ◌&&◌, Bool, true, false, List, [], 
 use Rattle.std.proofs.Common.{refl, ap, ◌∙◌, sym}
 use Rattle.std.proofs.Math.Path.{fun_ext}
 use Rattle.std.proofs.Math.Dec.{eqb-suc-zero}
-use Rattle.wac_shapes.specs.Name.{Name, same_name, find_name, option_case}
+use Rattle.wac_primitives.specs.Name.{Name, same_name, find_name, option_case}
 use Rattle.wac_shapes.proofs.Names.{same_name-true}
 use Rattle.wac_shapes.specs.declared.component.InterfaceId.{InterfaceId}
 use Rattle.wac_shapes.specs.declared.component.WorldId.{WorldId}
@@ -12,7 +12,7 @@ use Rattle.wac_shapes.specs.declared.component.World.{World}
 use Rattle.wac_shapes.specs.declared.component.«Type».TheVariants as ty
 use Rattle.wac_shapes.specs.declared.component.ItemKind.{ItemKind}
 use Rattle.wac_shapes.specs.declared.component.ItemKind.TheVariants as kind
-use Rattle.wac_collection.specs.Tree.{Side, imported, exported, Place, named, Leaf, Tree, absent, instance, component, fresh, type_equal, function_item, instance_item, component_item, module_item, value_item, inside, moved}
+use Rattle.wac_primitives.specs.Tree.{Side, imported, exported, Place, named, Leaf, Tree, absent, instance, component, fresh, type_equal, function_item, instance_item, component_item, module_item, value_item, inside, moved}
 use Rattle.wac_collection.specs.Collection.{Collection, IsWellFormed, item_at}
 use Rattle.wac_collection.specs.Held.{resolved, items_under, item_tree, of_held, listed_tree, interface_tree, world_tree}
 use Rattle.wac_collection.specs.Bound.{Bindings, own_name, inside_interface, bound_by_imports, bound_in_world, same_side, same_path, is_here, binds_here, by_place, held_tree}

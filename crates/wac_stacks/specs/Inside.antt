@@ -1,9 +1,9 @@
 -- Work inside an open scope: several steps and items; resources reached through all the scopes; and the root as it goes on.
 use Rattle.std.specs.Prelude.{ℕ, suc, zero, ◌≡◌, false, List, [], ◌∷◌, ◌++◌, Some}
-use Rattle.wac_shapes.specs.Name.{Name}
+use Rattle.wac_primitives.specs.Name.{Name}
 use Rattle.wac_shapes.specs.declared.component.ResourceId.{ResourceId}
 use Rattle.wac_shapes.specs.declared.component.«Type».{«Type» as AnyType}
-use Rattle.wac_collection.specs.Tree.{Side, Leaf, Tree, resource}
+use Rattle.wac_primitives.specs.Tree.{Side, Leaf, Tree, resource}
 use Rattle.wac_collection.specs.Collection.{Collection}
 use Rattle.wac_collection.specs.Bound.{Bindings}
 use Rattle.wac_binary.specs.declared.sorts.Sort.TheVariants as s

@@ -1,6 +1,6 @@
 -- What an instance in scope binds and has, what the root's imports give, and what is held further out.
 use Rattle.std.specs.Prelude.{ℕ, ◌≡◌, true, List, [], ◌∷◌, ◌++◌, length, map, Some, None}
-use Rattle.wac_shapes.specs.Name.{Name, find_name, option_case}
+use Rattle.wac_primitives.specs.Name.{Name, find_name, option_case}
 use Rattle.wac_shapes.specs.declared.component.ResourceId.{ResourceId}
 use Rattle.wac_shapes.specs.declared.component.InterfaceId.{InterfaceId}
 use Rattle.wac_shapes.specs.declared.component.Interface.{Interface}
@@ -10,7 +10,7 @@ use Rattle.wac_shapes.specs.declared.component.ValueType.TheVariants as val
 use Rattle.wac_shapes.specs.declared.component.«Type».{«Type» as AnyType}
 use Rattle.wac_shapes.specs.declared.component.«Type».TheVariants as ty
 use Rattle.wac_shapes.specs.declared.component.ItemKind.TheVariants as kind
-use Rattle.wac_collection.specs.Tree.{Side, imported, Place, position, named, Tree, resource, out_by, seen_from, taken_from, items_in}
+use Rattle.wac_primitives.specs.Tree.{Side, imported, Place, position, named, Tree, resource, out_by, seen_from, taken_from, items_in}
 use Rattle.wac_collection.specs.Collection.{Collection, IsWellFormed, item_at, holds_value}
 use Rattle.wac_collection.specs.Aliases.{value_resolved}
 use Rattle.wac_collection.specs.Bound.{Bindings, own_name, inside_interface, held_tree}

@@ -1,7 +1,7 @@
 -- What each step of a type encoder keeps and gives. Resources are called by m in the innermost scope, and by ms around it.
 use Rattle.std.specs.Prelude.{ℕ, suc, ◌≡◌, List, ◌∷◌, Some}
-use Rattle.wac_shapes.specs.Name.{Name}
-use Rattle.wac_shapes.specs.declared.component.PrimitiveType.{PrimitiveType}
+use Rattle.wac_primitives.specs.Name.{Name}
+use Rattle.wac_primitives.specs.declared.component.PrimitiveType.{PrimitiveType}
 use Rattle.wac_shapes.specs.declared.component.ResourceId.{ResourceId}
 use Rattle.wac_shapes.specs.declared.component.DefinedTypeId.{DefinedTypeId}
 use Rattle.wac_shapes.specs.declared.component.FuncTypeId.{FuncTypeId}
@@ -11,7 +11,7 @@ use Rattle.wac_shapes.specs.declared.component.ValueType.{ValueType}
 use Rattle.wac_shapes.specs.declared.component.ValueType.TheVariants as val
 use Rattle.wac_shapes.specs.declared.component.«Type».{«Type» as AnyType}
 use Rattle.wac_shapes.specs.declared.component.«Type».TheVariants as ty
-use Rattle.wac_collection.specs.Tree.{Leaf, Tree, resource, primitive, own, borrow, out_by, seen_from}
+use Rattle.wac_primitives.specs.Tree.{Leaf, Tree, resource, primitive, own, borrow, out_by, seen_from}
 use Rattle.wac_collection.specs.Collection.{Collection, IsWellFormed, item_at}
 use Rattle.wac_collection.specs.Held.{resolved}
 use Rattle.wac_collection.specs.Aliases.{value_resolved}

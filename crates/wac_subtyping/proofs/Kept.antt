@@ -1,7 +1,7 @@
 -- A collection that grows keeps the trees of what it held.
 use Rattle.std.proofs.Common.{ℕ, zero, suc, Bool, true, false, not, cond, List, [], ◌∷◌, ◌++◌, map, filter, ◌≡◌, ◌<◌, ◌≤◌, ◌+◌, ◌&&◌, ◌==◌, is_some, is_none, length, refl, ap, sym, ◌∙◌, Option, Some, None, arith, nat_lt, slice_get, length-append}
 use Rattle.std.specs.List.{AllByRecursion}
-use Rattle.wac_shapes.specs.Name.{Name, same_name, find_name, option_case, first_some}
+use Rattle.wac_primitives.specs.Name.{Name, same_name, find_name, option_case, first_some}
 use Rattle.wac_collection.specs.declared.collection.Held.{Held}
 use Rattle.wac_shapes.specs.declared.component.Resource.{Resource}
 use Rattle.wac_shapes.specs.declared.component.ResourceAlias.{ResourceAlias}
@@ -19,7 +19,7 @@ use Rattle.wac_shapes.specs.declared.component.ItemKind.{ItemKind}
 use Rattle.wac_shapes.specs.declared.component.ItemKind.TheVariants as kind
 use Rattle.wac_collection.specs.Collection.{Collection, size, func_values, defined_values, interface_mentions, world_mentions, used_types, kind_types, alias_types, IsWellFormed, IsBefore, AreBefore, AddedBefore, holds_type, item_of, with_resource, with_func, with_defined, with_interface, with_world, with_module}
 use Rattle.wac_shapes.specs.Kinds.{kind_type}
-use Rattle.wac_collection.specs.Tree.{Side, imported, exported, Place, Leaf, named, further_out, TypeTree, absent, own, borrow, resource, instance, component}
+use Rattle.wac_primitives.specs.Tree.{Side, imported, exported, Place, Leaf, named, further_out, TypeTree, absent, own, borrow, resource, instance, component}
 use Rattle.wac_collection.specs.Held.{Naming, Names, Unfolding, items_under, item_tree, of_held, step, unfolded_to, unfolded, source_of, resolved, resolved_in}
 use Rattle.wac_collection.specs.Bound.{Bindings, by_place, held_tree, lists_own, own_name, is_alias, bound_by, bound_in_order, first_bound, lists_type, binds_here, is_here}
 use Rattle.wac_subtyping.specs.Subtype.{by_name, resource_names, held_name, type_tree}

@@ -1,6 +1,6 @@
 -- The resource at the end of the aliases of a held one is held.
 use Rattle.std.proofs.Common.{ℕ, zero, suc, true, ◌≡◌, length, refl, Option, Some, None, slice_get}
-use Rattle.wac_shapes.specs.Name.{option_case}
+use Rattle.wac_primitives.specs.Name.{option_case}
 use Rattle.wac_collection.specs.declared.collection.Held.{Held}
 use Rattle.wac_shapes.specs.declared.component.Resource.{Resource}
 use Rattle.wac_shapes.specs.declared.component.ResourceAlias.{ResourceAlias}

@@ -1,7 +1,7 @@
 -- Trees at greater depths, and trees of aliases.
 use Rattle.std.proofs.Common.{zero, suc, ◌≡◌, ap, ◌∙◌, Option, Some, None, arith, slice_get}
-use Rattle.wac_shapes.specs.Name.{option_case}
-use Rattle.wac_collection.specs.Tree.{TypeTree}
+use Rattle.wac_primitives.specs.Name.{option_case}
+use Rattle.wac_primitives.specs.Tree.{TypeTree}
 use Rattle.wac_shapes.specs.declared.component.DefinedType.{DefinedType}
 use Rattle.wac_shapes.specs.declared.component.DefinedType.TheVariants as def
 use Rattle.wac_shapes.specs.declared.component.ValueType.{ValueType}

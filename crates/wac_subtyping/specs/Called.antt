@@ -1,7 +1,7 @@
 -- What resources are called where it counts what binds each: something inside an item, or an import that is known by the number of its class.
 use Rattle.std.specs.Prelude.{ℕ, false, List, [], ◌∷◌, Option, Some, None}
-use Rattle.wac_shapes.specs.Name.{Name, option_case, first_some}
-use Rattle.wac_collection.specs.Tree.{exported, Place, named, Leaf, further_out}
+use Rattle.wac_primitives.specs.Name.{Name, option_case, first_some}
+use Rattle.wac_primitives.specs.Tree.{exported, Place, named, Leaf, further_out}
 use Rattle.wac_collection.specs.Collection.{Collection, item_at}
 use Rattle.wac_collection.specs.Held.{Naming, Names}
 use Rattle.wac_collection.specs.Bound.{own_name, bound_by_imports, bound_in_world}

@@ -1,8 +1,8 @@
 -- Subtyping, of types without ids, by its rules.
 use Rattle.std.specs.Prelude.{ℕ, ◌≡◌, ◌≢◌, ◌≤◌, false, List, map, Option, Some, None, slice_get}
-use Rattle.wac_shapes.specs.Name.{Name}
-use Rattle.wac_shapes.specs.Core.{CoreItem, no_item, core_table, core_memory}
-use Rattle.wac_collection.specs.Tree.{TypeTree, absent, instance, component, module_of, type_equal, instance_item, component_item, module_item}
+use Rattle.wac_primitives.specs.Name.{Name}
+use Rattle.wac_primitives.specs.Core.{CoreItem, no_item, core_table, core_memory}
+use Rattle.wac_primitives.specs.Tree.{TypeTree, absent, instance, component, module_of, type_equal, instance_item, component_item, module_item}
 use Rattle.wac_collection.specs.Collection.{Collection}
 use Rattle.wac_collection.specs.Held.{Naming, Names, unfolded, item_tree, items_under}
 use Rattle.wac_collection.specs.declared.collection.Held.{Held}

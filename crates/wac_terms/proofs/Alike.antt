@@ -3,8 +3,8 @@ use Rattle.std.proofs.Common.{◌≡◌, Bool, true, false, if◌then◌else◌,
 use Rattle.std.proofs.Math.Path.{fun_ext}
 use Rattle.std.proofs.lemmas.Bool.{cases_Bool, false≢true, false_from_ne_true}
 use Rattle.wac_names.specs.Reading.{read_track}
-use Rattle.wac_shapes.specs.Name.{Name, option_case, first_some}
-use Rattle.wac_collection.specs.Tree.{TypeTree, imported, exported, absent, named, instance, instance_item}
+use Rattle.wac_primitives.specs.Name.{Name, option_case, first_some}
+use Rattle.wac_primitives.specs.Tree.{TypeTree, imported, exported, absent, named, instance, instance_item}
 use Rattle.wac_collection.specs.Bound.{own_name}
 use Rattle.wac_subtyping.specs.Called.{Called, called_at, own_leaf, by_binding}
 use Rattle.wac_collection.specs.Collection.{Collection, item_at}

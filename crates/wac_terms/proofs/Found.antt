@@ -2,7 +2,7 @@
 use Rattle.std.proofs.Common.{◌≡◌, ℕ, zero, suc, ◌+◌, ◌<◌, Bool, true, cond, List, [], ◌∷◌, ◌⊎◌, inl, inr, filter, length, map, Option, Some, None, refl, ap, sym, ◌∙◌, subst, arith, if◌then◌else◌}
 use Rattle.std.specs.Prelude.{slice_get}
 use Rattle.std.proofs.lemmas.Bool.{cases_Bool}
-use Rattle.wac_shapes.specs.Name.{Name, same_name, find_name}
+use Rattle.wac_primitives.specs.Name.{Name, same_name, find_name}
 use Rattle.wac_shapes.proofs.Names.{same_name-true}
 
 pub some_same : {A : Type 0} (a b : A) → Some a ≡ Some b → a ≡ b

@@ -4,7 +4,7 @@ use Rattle.std.proofs.lemmas.Bool.{cases_Bool}
 use Rattle.std.specs.Borrow.{Bor}
 use Rattle.std.specs.Str.{bytes_eq}
 use Rattle.std.specs.Option.{option_copied}
-use Rattle.wac_shapes.specs.Name.{Name, same_name, find_name, option_case}
+use Rattle.wac_primitives.specs.Name.{Name, same_name, find_name, option_case}
 use Rattle.wac_collection.specs.Collection.{Collection, item_at}
 use Rattle.wac_shapes.proofs.Names.{ne-false, ne-true, same_name-from, same_name-true}
 use Rattle.wac_shapes.specs.declared.component.Interface.{Interface}

@@ -1,7 +1,7 @@
 -- The resources of a merged collection, and which of them each resource becomes. Private functions alone cite this.
 use Rattle.std.specs.Prelude.{ℕ, zero, suc, ◌≡◌, ◌≤◌, ◌↔◌, true, List, [], ◌∷◌, length, Option, Some, None, IsSome, slice_get}
-use Rattle.wac_shapes.specs.Name.{Name, find_name, option_case}
-use Rattle.wac_collection.specs.Tree.{Place, named}
+use Rattle.wac_primitives.specs.Name.{Name, find_name, option_case}
+use Rattle.wac_primitives.specs.Tree.{Place, named}
 use Rattle.wac_collection.specs.Collection.{Collection, HasResource, item_at}
 use Rattle.wac_collection.specs.Bound.{own_name}
 use Rattle.wac_collection.specs.Held.{resolved}
@@ -10,7 +10,7 @@ use Rattle.wac_subtyping.specs.Subtype.{resource_names}
 use Rattle.wac_shapes.specs.declared.component.ResourceId.{ResourceId}
 use Rattle.wac_entries.specs.Bindings.{ClassBindings, path_in, first_in}
 use Rattle.wac_entries.specs.Places.{find_resource}
-use Rattle.wac_collection.specs.Tree.{Leaf}
+use Rattle.wac_primitives.specs.Tree.{Leaf}
 use Rattle.wac_terms.specs.declared.parts.Part.{Part}
 use Rattle.wac_terms.specs.declared.parts.Export.{Export}
 use Rattle.wac_terms.specs.declared.parts.Union.{Union}

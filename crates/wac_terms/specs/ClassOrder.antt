@@ -1,8 +1,8 @@
 -- The order in which classes are written: instances, type items, the rest, each after what it rests on.
 use Rattle.std.specs.Prelude.{ℕ, suc, ◌≡◌, ◌≢◌, ◌≤◌, Bool, true, ◌==◌, if◌then◌else◌, List, [], ◌∷◌, ◌++◌, Some, slice_get, Contains}
 use Rattle.wac_cycles.specs.Cycles.{Path}
-use Rattle.wac_shapes.specs.Name.{Name, same_name}
-use Rattle.wac_collection.specs.Tree.{Place, position, TypeTree, resource, own, borrow, record_of, variant_of, list_of, fixed_list_of, tuple_of, option_of, result_of, stream_of, future_of, function, instance, component, type_equal, function_item, instance_item, component_item, module_item, value_item}
+use Rattle.wac_primitives.specs.Name.{Name, same_name}
+use Rattle.wac_primitives.specs.Tree.{Place, position, TypeTree, resource, own, borrow, record_of, variant_of, list_of, fixed_list_of, tuple_of, option_of, result_of, stream_of, future_of, function, instance, component, type_equal, function_item, instance_item, component_item, module_item, value_item}
 use Rattle.wac_collection.specs.Collection.{Collection, item_at}
 use Rattle.wac_shapes.specs.declared.component.InterfaceId.{InterfaceId}
 use Rattle.wac_shapes.specs.declared.component.Interface.{Interface}

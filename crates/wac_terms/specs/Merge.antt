@@ -1,8 +1,8 @@
 -- What a finished merge holds.
 use Rattle.std.specs.Prelude.{ℕ, suc, ◌≡◌, ◌==◌, Bool, false, if◌then◌else◌, List, [], ◌∷◌, ◌++◌, map, length, Option, Some, None, slice_get}
 use Rattle.std.specs.List.{AllByRecursion, list_any}
-use Rattle.wac_shapes.specs.Name.{Name, same_name, find_name, option_case}
-use Rattle.wac_collection.specs.Tree.{imported, position}
+use Rattle.wac_primitives.specs.Name.{Name, same_name, find_name, option_case}
+use Rattle.wac_primitives.specs.Tree.{imported, position}
 use Rattle.wac_collection.specs.Collection.{Collection, item_at, interface_exports}
 use Rattle.wac_collection.specs.Bound.{held_item, is_alias}
 use Rattle.wac_shapes.specs.declared.component.Interface.{Interface}

@@ -1,7 +1,7 @@
 -- The item that a class is: the union of its members' items.
 use Rattle.std.specs.Prelude.{ℕ, List, [], ◌∷◌, map, Some, None}
-use Rattle.wac_shapes.specs.Name.{Name, option_case, first_some}
-use Rattle.wac_collection.specs.Tree.{imported, exported, position, named, Tree, absent, fresh, type_equal, instance, instance_item, further_out}
+use Rattle.wac_primitives.specs.Name.{Name, option_case, first_some}
+use Rattle.wac_primitives.specs.Tree.{imported, exported, position, named, Tree, absent, fresh, type_equal, instance, instance_item, further_out}
 use Rattle.wac_collection.specs.Collection.{Collection, item_at}
 use Rattle.wac_collection.specs.Held.{items_under}
 use Rattle.wac_collection.specs.Bound.{Bindings, own_name, held_item}

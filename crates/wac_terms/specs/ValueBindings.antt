@@ -1,7 +1,7 @@
 -- What binds a value type: the first class, in asked order, that lists it as its own.
 use Rattle.std.specs.Prelude.{ℕ, suc, ◌≡◌, ◌==◌, Bool, false, if◌then◌else◌, List, [], ◌∷◌, Option, Some, None}
-use Rattle.wac_shapes.specs.Name.{Name, option_case, first_some}
-use Rattle.wac_collection.specs.Tree.{Place, named}
+use Rattle.wac_primitives.specs.Name.{Name, option_case, first_some}
+use Rattle.wac_primitives.specs.Tree.{Place, named}
 use Rattle.wac_collection.specs.Collection.{Collection, item_at}
 use Rattle.wac_shapes.specs.declared.component.DefinedTypeId.{DefinedTypeId}
 use Rattle.wac_shapes.specs.declared.component.ItemKind.{ItemKind}

@@ -1,7 +1,7 @@
 -- Unions as interfaces of a merged collection. Private functions alone cite this.
 use Rattle.std.specs.Prelude.{ℕ, ◌≡◌, Bool, true, false, List, [], Option, Some, None, slice_get}
 use Rattle.std.specs.List.{AllZip}
-use Rattle.wac_shapes.specs.Name.{Name}
+use Rattle.wac_primitives.specs.Name.{Name}
 use Rattle.wac_collection.specs.Collection.{Collection, HasInterface, HasResource, item_at}
 use Rattle.wac_collection.specs.Held.{resolved}
 use Rattle.wac_shapes.specs.declared.component.ResourceId.{ResourceId}

@@ -6,12 +6,18 @@ ghost use Rattle.wac_terms.specs.Became.{new_at, own_in, whole_in};
 use wac_collection::{Named, ResourceId};
 
 /// New resources.
-#[derive(Drop)]
 pub struct Fresh {
     /// For each union those that it binds, by name.
     pub own: Vec<Named<ResourceId>>,
     /// For each class the one that it is, where it is a resource that it binds.
     pub whole: Vec<Option<ResourceId>>,
+}
+
+/// What is new is let go of here, and not anew at each place where one goes out of scope.
+impl Drop for Fresh {
+    fn drop(self) {
+        let Fresh { own: _, whole: _ } = self;
+    }
 }
 
 impl Fresh {

@@ -26,10 +26,19 @@ pub struct Export {
 }
 
 /// Interfaces united name by name.
-#[derive(Drop)]
 pub struct Union {
     /// The positions of its parts.
     pub parts: Vec<usize>,
     /// What stands under each name, in order of first appearance.
     pub exports: Named<Export>,
+}
+
+/// A union is let go of here, and not anew at each place where one goes out of scope.
+impl Drop for Union {
+    fn drop(self) {
+        let Union {
+            parts: _,
+            exports: _,
+        } = self;
+    }
 }

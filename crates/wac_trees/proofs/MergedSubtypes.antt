@@ -4,8 +4,8 @@ use Rattle.std.proofs.Math.Path.{fun_ext}
 use Rattle.std.proofs.lemmas.Option.{slice_get_within}
 use Rattle.std.specs.List.{AllZip, Contains}
 use Rattle.std.specs.Option.{MatchOption}
-use Rattle.wac_shapes.specs.Name.{Name, find_name, option_case}
-use Rattle.wac_collection.specs.Tree.{absent, instance, instance_item, resource, type_equal}
+use Rattle.wac_primitives.specs.Name.{Name, find_name, option_case}
+use Rattle.wac_primitives.specs.Tree.{absent, instance, instance_item, resource, type_equal}
 use Rattle.wac_collection.specs.Collection.{Collection, IsWellFormed, holds_type, interface_exports, item_at, item_of}
 use Rattle.wac_shapes.specs.Kinds.{kind_type}
 use Rattle.wac_collection.specs.Held.{Names, item_tree, items_under, unfolded}

@@ -2,8 +2,8 @@
 use Rattle.std.proofs.Common.{◌≡◌, ℕ, true, false, List, [], map, Option, Some, None, slice_get, refl, sym, ap, ◌∙◌}
 use Rattle.std.specs.List.{Contains}
 use Rattle.std.specs.Option.{option_map}
-use Rattle.wac_shapes.specs.Name.{Name, first_some, option_case}
-use Rattle.wac_collection.specs.Tree.{Leaf, Place, TypeTree, absent, exported, imported, instance, instance_item}
+use Rattle.wac_primitives.specs.Name.{Name, first_some, option_case}
+use Rattle.wac_primitives.specs.Tree.{Leaf, Place, TypeTree, absent, exported, imported, instance, instance_item}
 use Rattle.wac_collection.specs.Collection.{Collection, HasResource, IsWellFormed, holds_type, interface_exports, item_at}
 use Rattle.wac_shapes.specs.Kinds.{kind_type}
 use Rattle.wac_collection.specs.Held.{Names, item_tree, items_under, resolved, unfolded}

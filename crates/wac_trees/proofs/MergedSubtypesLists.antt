@@ -4,7 +4,7 @@ use Rattle.std.specs.List.{AllZip, Contains, list_all, list_any}
 use Rattle.std.proofs.lemmas.Bool.{and_parts, cases_Bool, false≢true, or_cases}
 use Rattle.std.proofs.lemmas.Option.{get_or_from_slice_get, slice_get_read, slice_get_within}
 use Rattle.wac_shapes.proofs.Names.{same_name-from, same_name-true}
-use Rattle.wac_shapes.specs.Name.{Name, find_name, option_case, same_name}
+use Rattle.wac_primitives.specs.Name.{Name, find_name, option_case, same_name}
 use Rattle.wac_collection.specs.Collection.{Collection}
 use Rattle.wac_shapes.specs.declared.component.InterfaceId.{InterfaceId}
 use Rattle.wac_shapes.specs.declared.component.ItemKind.{ItemKind}

@@ -3,8 +3,8 @@ use Rattle.std.proofs.Common.{◌≡◌, ℕ, zero, suc, ◌<◌, true, false, i
 use Rattle.std.proofs.Math.Path.{fun_ext}
 use Rattle.std.specs.List.{AllByRecursion}
 use Rattle.std.specs.Option.{option_map}
-use Rattle.wac_shapes.specs.Name.{Name, same_name, option_case, first_some}
-use Rattle.wac_collection.specs.Tree.{Leaf, TypeTree, absent, resource, primitive, own, borrow, record_of, variant_of, list_of, fixed_list_of, tuple_of, flags_of, enum_of, option_of, result_of, stream_of, future_of, function, instance, component, module_of, fresh, type_equal, function_item, instance_item, component_item, module_item, value_item}
+use Rattle.wac_primitives.specs.Name.{Name, same_name, option_case, first_some}
+use Rattle.wac_primitives.specs.Tree.{Leaf, TypeTree, absent, resource, primitive, own, borrow, record_of, variant_of, list_of, fixed_list_of, tuple_of, flags_of, enum_of, option_of, result_of, stream_of, future_of, function, instance, component, module_of, fresh, type_equal, function_item, instance_item, component_item, module_item, value_item}
 use Rattle.wac_collection.specs.Collection.{Collection, HasResource, IsBefore, IsWellFormed, and_maybe, case_values, defined_values, func_values, holds_type, item_of, kind_types, seconds, size, used_types}
 use Rattle.wac_shapes.specs.Kinds.{kind_type}
 use Rattle.wac_collection.specs.Bound.{bound_by_imports, bound_in_world}

@@ -1,8 +1,8 @@
 -- The trees of interfaces, one id unfolded, and what they list.
 use Rattle.std.proofs.Common.{◌≡◌, ℕ, zero, suc, true, false, if◌then◌else◌, List, [], ◌∷◌, length, map, nat_lt, Option, Some, None, slice_get, sym, ap, ◌∙◌, subst, inl, inr, arith}
 use Rattle.std.proofs.lemmas.Bool.{and_parts, cases_Bool}
-use Rattle.wac_shapes.specs.Name.{Name, find_name, option_case, same_name}
-use Rattle.wac_collection.specs.Tree.{TypeTree, absent, instance}
+use Rattle.wac_primitives.specs.Name.{Name, find_name, option_case, same_name}
+use Rattle.wac_primitives.specs.Tree.{TypeTree, absent, instance}
 use Rattle.wac_collection.specs.Collection.{Collection, holds_all, holds_type, item_at, item_of, kind_types, size}
 use Rattle.wac_shapes.specs.Kinds.{kind_type}
 use Rattle.wac_collection.specs.Held.{Names, interface_tree, item_tree, items_under, of_held, unfolded}

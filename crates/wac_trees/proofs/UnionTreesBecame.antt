@@ -1,8 +1,8 @@
 -- What a resource becomes: at the end of its aliases, and its union's own where its part lists it so.
 use Rattle.std.proofs.Common.{◌≡◌, ℕ, zero, suc, ◌<◌, Bool, true, false, not, cond, ◌&&◌, ◌==◌, List, [], ◌∷◌, length, Option, Some, None, is_some, is_none, slice_get, refl, sym, ap, ◌∙◌, subst, arith}
 use Rattle.std.proofs.lemmas.Bool.{false≢true, and_from, eq-eqb}
-use Rattle.wac_shapes.specs.Name.{Name, find_name, first_some, option_case}
-use Rattle.wac_collection.specs.Tree.{Place, position, named}
+use Rattle.wac_primitives.specs.Name.{Name, find_name, first_some, option_case}
+use Rattle.wac_primitives.specs.Tree.{Place, position, named}
 use Rattle.wac_collection.specs.Collection.{Collection, HasResource, IsWellFormed, interface_mentions, item_at, item_of}
 use Rattle.wac_collection.specs.Bound.{is_alias, lists_own, own_name}
 use Rattle.wac_collection.specs.Held.{resolved, source_of}

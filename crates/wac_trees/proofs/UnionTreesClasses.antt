@@ -2,8 +2,8 @@
 use Rattle.std.proofs.Common.{◌≡◌, ℕ, zero, suc, ◌<◌, true, false, List, [], ◌∷◌, map, Option, Some, None, slice_get, refl, sym, ap, ◌∙◌, subst, inl, inr, arith}
 use Rattle.std.proofs.lemmas.Bool.{cases_lt}
 use Rattle.std.specs.List.{AllZip, Contains}
-use Rattle.wac_shapes.specs.Name.{Name, option_case}
-use Rattle.wac_collection.specs.Tree.{TypeTree, Tree, absent, exported, instance, instance_item, named}
+use Rattle.wac_primitives.specs.Name.{Name, option_case}
+use Rattle.wac_primitives.specs.Tree.{TypeTree, Tree, absent, exported, instance, instance_item, named}
 use Rattle.wac_collection.specs.Collection.{Collection, item_at}
 use Rattle.wac_collection.specs.Held.{Names, item_tree, items_under, unfolded}
 use Rattle.wac_collection.specs.Bound.{Bindings, held_item, held_tree, inside_interface}

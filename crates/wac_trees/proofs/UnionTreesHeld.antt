@@ -1,8 +1,8 @@
 -- Trees of interfaces: by what is listed under each name.
 use Rattle.std.proofs.Common.{◌≡◌, ℕ, zero, suc, ◌<◌, nat_lt, true, false, List, [], ◌∷◌, map, length, Option, Some, None, slice_get, refl, sym, ap, ◌∙◌, subst, arith}
 use Rattle.std.proofs.Math.Path.{fun_ext}
-use Rattle.wac_shapes.specs.Name.{Name, find_name, option_case}
-use Rattle.wac_collection.specs.Tree.{TypeTree, Tree, absent, exported, instance, named}
+use Rattle.wac_primitives.specs.Name.{Name, find_name, option_case}
+use Rattle.wac_primitives.specs.Tree.{TypeTree, Tree, absent, exported, instance, named}
 use Rattle.wac_collection.specs.Collection.{Collection, AreBefore, HasInterface, IsBefore, IsWellFormed, holds_type, interface_mentions, item_at, item_of, kind_types, size, used_types}
 use Rattle.wac_shapes.specs.Kinds.{kind_type}
 use Rattle.wac_collection.specs.Held.{Names, item_tree, items_under, of_held, unfolded}

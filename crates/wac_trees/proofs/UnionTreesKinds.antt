@@ -1,8 +1,8 @@
 -- Items under one name: of one sort where they agree, and what each became.
 use Rattle.std.proofs.Common.{◌≡◌, Bool, true, false, cond, List, Option, Some, refl, sym, ap, ◌∙◌}
 use Rattle.std.proofs.lemmas.Bool.{false≢true}
-use Rattle.wac_shapes.specs.Name.{Name, option_case}
-use Rattle.wac_collection.specs.Tree.{TypeTree, Tree, Leaf, Place, Side, absent, fresh, resource, type_equal, function_item, component_item, module_item, value_item}
+use Rattle.wac_primitives.specs.Name.{Name, option_case}
+use Rattle.wac_primitives.specs.Tree.{TypeTree, Tree, Leaf, Place, Side, absent, fresh, resource, type_equal, function_item, component_item, module_item, value_item}
 use Rattle.wac_collection.specs.Collection.{Collection, HasResource, holds_type}
 use Rattle.wac_shapes.specs.Kinds.{kind_type}
 use Rattle.wac_collection.specs.Held.{item_tree, resolved}

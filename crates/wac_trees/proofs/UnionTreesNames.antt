@@ -3,8 +3,8 @@ use Rattle.std.proofs.Common.{◌≡◌, ℕ, Bool, true, false, cond, List, [],
 use Rattle.std.proofs.Math.Path.{fun_ext}
 use Rattle.std.proofs.lemmas.Bool.{cases_Bool, false≢true}
 use Rattle.std.specs.List.{AllByRecursion}
-use Rattle.wac_shapes.specs.Name.{Name, same_name, find_name, option_case}
-use Rattle.wac_collection.specs.Tree.{TypeTree, Tree, absent, fresh, type_equal, instance, instance_item}
+use Rattle.wac_primitives.specs.Name.{Name, same_name, find_name, option_case}
+use Rattle.wac_primitives.specs.Tree.{TypeTree, Tree, absent, fresh, type_equal, instance, instance_item}
 use Rattle.wac_collection.specs.Collection.{Collection}
 use Rattle.wac_collection.specs.Held.{items_under}
 use Rattle.wac_shapes.specs.declared.component.ItemKind.{ItemKind}

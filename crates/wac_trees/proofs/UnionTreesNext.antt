@@ -4,8 +4,8 @@ use Rattle.std.proofs.Math.Path.{fun_ext}
 use Rattle.std.proofs.lemmas.Bool.{false≢true}
 use Rattle.std.specs.List.{AllByRecursion, AllZip, Contains, list_any}
 use Rattle.std.specs.Option.{MatchOption}
-use Rattle.wac_shapes.specs.Name.{Name, find_name, option_case}
-use Rattle.wac_collection.specs.Tree.{TypeTree, Tree, absent, exported, fresh, instance, instance_item, named, type_equal}
+use Rattle.wac_primitives.specs.Name.{Name, find_name, option_case}
+use Rattle.wac_primitives.specs.Tree.{TypeTree, Tree, absent, exported, fresh, instance, instance_item, named, type_equal}
 use Rattle.wac_collection.specs.Collection.{Collection, HasResource, IsWellFormed, holds_type, item_at}
 use Rattle.wac_shapes.specs.Kinds.{kind_type}
 use Rattle.wac_collection.specs.Held.{Names, item_tree, resolved, unfolded}

@@ -2,7 +2,7 @@
 use Rattle.std.proofs.Common.{◌≡◌, ℕ, zero, suc, ◌<◌, ◌≤◌, nat_eq, Bool, true, false, not, cond, ◌&&◌, ◌||◌, ◌==◌, List, [], ◌∷◌, Option, Some, None, is_some, is_none, slice_get, refl, sym, ap, ◌∙◌, subst, inl, inr, arith, length}
 use Rattle.std.proofs.lemmas.Bool.{cases_Bool, and_parts, eqb-true, false≢true}
 use Rattle.std.specs.List.{AllZip, list_all}
-use Rattle.wac_shapes.specs.Name.{Name, same_name, find_name, option_case}
+use Rattle.wac_primitives.specs.Name.{Name, same_name, find_name, option_case}
 use Rattle.wac_collection.specs.Collection.{Collection, HasResource, IsSourceBelow, IsWellFormed, item_at, item_of}
 use Rattle.wac_collection.specs.Held.{resolved, resolved_in, source_of}
 use Rattle.wac_collection.specs.Bound.{is_alias, lists_own, own_name}

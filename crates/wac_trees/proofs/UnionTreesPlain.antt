@@ -3,8 +3,8 @@ use Rattle.std.proofs.Common.{◌≡◌, ℕ, zero, suc, ◌<◌, nat_lt, Bool, 
 use Rattle.std.proofs.lemmas.Bool.{and_parts, eq-eqb, eqb-true, false≢true}
 use Rattle.std.specs.List.{AllByRecursion}
 use Rattle.wac_names.specs.Reading.{read_track}
-use Rattle.wac_shapes.specs.Name.{Name, first_some, option_case}
-use Rattle.wac_collection.specs.Tree.{TypeTree, Tree, Leaf, Place, absent, fresh, imported, instance_item, named, position, type_equal}
+use Rattle.wac_primitives.specs.Name.{Name, first_some, option_case}
+use Rattle.wac_primitives.specs.Tree.{TypeTree, Tree, Leaf, Place, absent, fresh, imported, instance_item, named, position, type_equal}
 use Rattle.wac_collection.specs.Collection.{Collection, HasResource, IsWellFormed, holds_type, item_at}
 use Rattle.wac_shapes.specs.Kinds.{kind_type}
 use Rattle.wac_collection.specs.Held.{item_tree, resolved}

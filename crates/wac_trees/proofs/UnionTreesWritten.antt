@@ -2,8 +2,8 @@
 use Rattle.std.proofs.Common.{◌≡◌, ℕ, suc, Bool, true, false, not, cond, ◌&&◌, ◌==◌, List, [], ◌∷◌, Option, Some, None, is_some, slice_get, refl, sym, ap, ◌∙◌, subst, arith}
 use Rattle.std.proofs.lemmas.Bool.{false≢true, and_from, and_left, eq-eqb}
 use Rattle.std.specs.List.{AllZip}
-use Rattle.wac_shapes.specs.Name.{Name, same_name, find_name, option_case}
-use Rattle.wac_collection.specs.Tree.{Leaf, exported, further_out, named}
+use Rattle.wac_primitives.specs.Name.{Name, same_name, find_name, option_case}
+use Rattle.wac_primitives.specs.Tree.{Leaf, exported, further_out, named}
 use Rattle.wac_collection.specs.Collection.{Collection, IsWellFormed}
 use Rattle.wac_collection.specs.Bound.{Bindings, inside_interface, is_alias, is_here, lists_own, own_name, same_path, same_side}
 use Rattle.wac_collection.specs.Held.{resolved}

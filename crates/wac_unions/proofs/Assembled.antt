@@ -1,7 +1,7 @@
 -- What is known once all of a merge is made.
 use Rattle.std.proofs.Common.{◌≡◌, ℕ, ◌<◌, ◌↔◌, List, Option, Some, length, slice_get}
 use Rattle.std.specs.Prelude.{Contains}
-use Rattle.wac_shapes.specs.Name.{Name}
+use Rattle.wac_primitives.specs.Name.{Name}
 use Rattle.wac_collection.specs.Collection.{Collection}
 use Rattle.wac_collection.specs.Bound.{by_place}
 use Rattle.wac_collection.specs.Uses.{IsSound}

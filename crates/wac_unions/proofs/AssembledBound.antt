@@ -3,8 +3,8 @@ use Rattle.std.proofs.Common.{◌≡◌, ℕ, zero, suc, Bool, true, cond, List,
 use Rattle.std.specs.List.{AllZip}
 use Rattle.std.proofs.lemmas.Bool.{cases_Bool}
 use Rattle.std.proofs.lemmas.Option.{slice_get_within}
-use Rattle.wac_shapes.specs.Name.{Name, same_name, option_case}
-use Rattle.wac_collection.specs.Tree.{Place, named}
+use Rattle.wac_primitives.specs.Name.{Name, same_name, option_case}
+use Rattle.wac_primitives.specs.Tree.{Place, named}
 use Rattle.wac_collection.specs.Collection.{Collection, item_at}
 use Rattle.wac_shapes.specs.declared.component.Interface.{Interface}
 use Rattle.wac_shapes.specs.declared.component.InterfaceId.{InterfaceId}

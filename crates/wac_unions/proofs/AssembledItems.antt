@@ -4,8 +4,8 @@ use Rattle.std.proofs.lemmas.Bool.{and_from, and_parts, false≢true, false_from
 use Rattle.std.proofs.lemmas.Option.{slice_get_within}
 use Rattle.std.specs.List.{Contains}
 use Rattle.std.specs.Option.{MatchOption}
-use Rattle.wac_shapes.specs.Name.{Name, same_name, option_case}
-use Rattle.wac_collection.specs.Tree.{TypeTree, absent, imported, instance, position, resource, type_equal}
+use Rattle.wac_primitives.specs.Name.{Name, same_name, option_case}
+use Rattle.wac_primitives.specs.Tree.{TypeTree, absent, imported, instance, position, resource, type_equal}
 use Rattle.wac_collection.specs.Collection.{Collection, HasInterface, holds_type, item_at}
 use Rattle.wac_shapes.specs.Kinds.{kind_type}
 use Rattle.wac_collection.specs.Held.{resolved, unfolded}

@@ -1,7 +1,7 @@
 -- Where no instance has a class's name, the entry at the class's position is its first member.
 use Rattle.std.proofs.Common.{◌≡◌, ℕ, zero, suc, ◌<◌, Bool, true, false, cond, List, [], ◌∷◌, filter, slice_get, Some, refl, sym, ap, ◌∙◌, inl, inr, arith}
 use Rattle.std.proofs.lemmas.Bool.{false≢true, false_from_ne_true}
-use Rattle.wac_shapes.specs.Name.{Name}
+use Rattle.wac_primitives.specs.Name.{Name}
 use Rattle.wac_entries.specs.Classes.{AreClasses, Entry, by_names, canonical, class_names, members, names_instance, same_class}
 use Rattle.wac_entries.proofs.ClassFacts.{class-of_same, class-parts}
 use Rattle.wac_terms.proofs.Found.{no_some, some_same}

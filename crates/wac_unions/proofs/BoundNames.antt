@@ -5,11 +5,11 @@ use Rattle.std.specs.Str.{bytes_eq}
 use Rattle.std.specs.declared.string.String.{String}
 use Rattle.std.proofs.lemmas.Bool.{and_parts, eqb-true, false≢true}
 use Rattle.std.proofs.lemmas.Option.{slice_get_within}
-use Rattle.wac_shapes.specs.Name.{Name, find_name, option_case, same_name}
+use Rattle.wac_primitives.specs.Name.{Name, find_name, option_case, same_name}
 use Rattle.wac_shapes.specs.Named.{NoNameTwice}
 use Rattle.wac_shapes.proofs.Names.{find_name-at, same_name-bytes_eq, same_name-from, same_name-refl, same_name-true}
 use Rattle.wac_shapes.proofs.Under.{not_some}
-use Rattle.wac_collection.specs.Tree.{Place, position, named}
+use Rattle.wac_primitives.specs.Tree.{Place, position, named}
 use Rattle.wac_collection.specs.Collection.{Collection, interface_exports, item_at}
 use Rattle.wac_collection.specs.Bound.{is_alias, lists_own, own_name, same_path}
 use Rattle.wac_shapes.specs.declared.component.Interface.{Interface}

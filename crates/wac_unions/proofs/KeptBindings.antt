@@ -2,9 +2,9 @@
 use Rattle.std.proofs.Common.{◌≡◌, ◌==◌, ◌&&◌, true, not, cond, is_none, is_some, List, [], ◌∷◌, length, Option, Some, None, refl, ap, ◌∙◌}
 use Rattle.std.specs.List.{AllByRecursion}
 use Rattle.std.proofs.lemmas.Bool.{and_parts}
-use Rattle.wac_shapes.specs.Name.{Name, find_name, first_some, option_case}
+use Rattle.wac_primitives.specs.Name.{Name, find_name, first_some, option_case}
 use Rattle.wac_shapes.specs.Kinds.{kind_type}
-use Rattle.wac_collection.specs.Tree.{Place, named}
+use Rattle.wac_primitives.specs.Tree.{Place, named}
 use Rattle.wac_collection.specs.Collection.{Collection, HasResource, IsWellFormed, holds_all, holds_type, item_at, item_of, kind_types}
 use Rattle.wac_collection.specs.Held.{source_of}
 use Rattle.wac_collection.specs.Bound.{is_alias, lists_own, own_name}

@@ -1,7 +1,7 @@
 -- An instance that is a subtype of another lists a type where that one does.
 use Rattle.std.proofs.Common.{◌≡◌, ◌≢◌, Bool, true, false, Option, Some, None, refl, sym, ap, ◌∙◌, subst}
 use Rattle.std.proofs.lemmas.Bool.{false≢true}
-use Rattle.wac_shapes.specs.Name.{Name, find_name}
+use Rattle.wac_primitives.specs.Name.{Name, find_name}
 use Rattle.wac_shapes.specs.declared.component.Interface.{Interface}
 use Rattle.wac_shapes.specs.declared.component.InterfaceId.{InterfaceId}
 use Rattle.wac_shapes.specs.declared.component.ItemKind.{ItemKind}
@@ -9,7 +9,7 @@ use Rattle.wac_shapes.specs.declared.component.ItemKind.TheVariants as kind
 use Rattle.wac_shapes.specs.declared.component.«Type».{«Type» as AnyType}
 use Rattle.wac_shapes.specs.declared.component.«Type».TheVariants as ty
 use Rattle.wac_collection.specs.Collection.{Collection, item_at}
-use Rattle.wac_collection.specs.Tree.{TypeTree, absent, instance, instance_item, type_equal}
+use Rattle.wac_primitives.specs.Tree.{TypeTree, absent, instance, instance_item, type_equal}
 use Rattle.wac_subtyping.specs.Subtype.{IsPlain, Sub, by_name, kind_tree, listed_in, type_tree}
 use Rattle.wac_subtyping.specs.TreeLaws.{IsDeepEnough}
 use Rattle.wac_trees.proofs.MergedSubtypesTrees.{interface_of, listed_none, listed_some}

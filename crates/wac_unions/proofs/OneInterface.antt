@@ -4,7 +4,7 @@ use Rattle.std.specs.List.{AllZip, list_any}
 use Rattle.std.specs.Option.{MatchOption}
 use Rattle.std.proofs.lemmas.Bool.{cases_Bool, false≢true}
 use Rattle.std.proofs.lemmas.Option.{slice_get_within}
-use Rattle.wac_shapes.specs.Name.{Name, find_name, option_case, same_name}
+use Rattle.wac_primitives.specs.Name.{Name, find_name, option_case, same_name}
 use Rattle.wac_shapes.specs.Named.{NoNameTwice, labelled, names_of}
 use Rattle.wac_shapes.specs.declared.component.FuncTypeId.{FuncTypeId}
 use Rattle.wac_shapes.specs.declared.component.Interface.{Interface}

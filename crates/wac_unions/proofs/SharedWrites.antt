@@ -5,10 +5,10 @@ use Rattle.std.specs.Cmp.Lexicographic.{bytes_decides, pointwise, pointwise_deci
 use Rattle.std.specs.Option.{option_eq}
 use denote.Enum.Bare.{same_true, true_same}
 use Rattle.wac_shapes.specs.Equal.{same_named, same_text}
-use Rattle.wac_shapes.specs.Name.{Name}
+use Rattle.wac_primitives.specs.Name.{Name}
 use Rattle.wac_shapes.specs.contracts.component.InterfacePartialEq.TheImpl as InterfaceEq
 use Rattle.wac_shapes.specs.contracts.component.ItemKindPartialEq.TheImpl as KindEq
-use Rattle.wac_shapes.specs.contracts.component.PrimitiveType.{the_type}
+use Rattle.wac_primitives.specs.contracts.component.PrimitiveType.{the_type}
 use Rattle.wac_shapes.specs.contracts.component.TypePartialEq.TheImpl as TypeEq
 use Rattle.wac_shapes.specs.contracts.component.UsedTypePartialEq.TheImpl as UsedEq
 use Rattle.wac_shapes.specs.contracts.component.ValueTypePartialEq.TheImpl as ValueEq

@@ -4,7 +4,7 @@ use Rattle.std.specs.Prelude.{slice_get}
 use Rattle.std.specs.List.{AllZip, list_all}
 use Rattle.std.proofs.lemmas.Bool.{and_from, false≢true, or_cases, or_left, or_right}
 use Rattle.std.proofs.lemmas.Option.{slice_get_within}
-use Rattle.wac_shapes.specs.Name.{Name, option_case, same_name}
+use Rattle.wac_primitives.specs.Name.{Name, option_case, same_name}
 use Rattle.wac_collection.specs.Collection.{Collection, HasResource, holds_all, holds_type, item_of, kind_types, resource_mentions, size, with_resource}
 use Rattle.wac_shapes.specs.Kinds.{kind_type}
 use Rattle.wac_collection.specs.Held.{resolved, source_of}

@@ -5,7 +5,7 @@ use Rattle.std.specs.List.{AllZip, list_all}
 use Rattle.std.specs.Option.{MatchOption}
 use Rattle.std.proofs.lemmas.List.{get_or-reverse, length-reverse}
 use Rattle.std.proofs.lemmas.Option.{get_or_from_slice_get, slice_get-get_or, slice_get_within}
-use Rattle.wac_shapes.specs.Name.{Name, find_name, first_some, option_case}
+use Rattle.wac_primitives.specs.Name.{Name, find_name, first_some, option_case}
 use Rattle.wac_collection.specs.Collection.{Collection, HasInterface, IsWellFormed, holds_all, holds_type, interface_exports, item_at, item_of, kind_types}
 use Rattle.wac_shapes.specs.Kinds.{kind_type}
 use Rattle.wac_collection.specs.Uses.{interface_fault, is_named_right, unless}

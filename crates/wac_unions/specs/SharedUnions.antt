@@ -1,7 +1,7 @@
 -- Which unions share an interface of a merged collection. Private functions alone cite this.
 use Rattle.std.specs.Prelude.{ℕ, ◌+◌, ◌≡◌, ◌⊎◌, nat_eq, List, [], ◌∷◌, Option, Some, slice_get}
 use Rattle.std.specs.HashMap.{get}
-use Rattle.wac_shapes.specs.Name.{Name}
+use Rattle.wac_primitives.specs.Name.{Name}
 use Rattle.wac_collection.specs.Collection.{Collection, HasInterface, item_at}
 use Rattle.wac_shapes.specs.declared.component.Interface.{Interface}
 use Rattle.wac_shapes.specs.declared.component.InterfaceId.{InterfaceId}

@@ -1,7 +1,7 @@
 -- Unions, as they are written one by one. Private functions alone cite this.
 use Rattle.std.specs.Prelude.{ℕ, ◌+◌, ◌<◌, ◌≤◌, ◌≡◌, true, List, [], length, Option, Some, None, slice_get}
 use Rattle.std.specs.List.{AllZip, list_all}
-use Rattle.wac_shapes.specs.Name.{Name, find_name}
+use Rattle.wac_primitives.specs.Name.{Name, find_name}
 use Rattle.wac_collection.specs.Collection.{Collection, HasInterface, holds_all, holds_type, item_at, kind_types}
 use Rattle.wac_shapes.specs.Kinds.{kind_type}
 use Rattle.wac_collection.specs.Uses.{is_named_right}

@@ -2,7 +2,7 @@
 ghost use Rattle.std.specs.Prelude.{◌≡◌, ◌<◌, ◌↔◌, [], ◌∷◌, ℕ, true, Some, length};
 ghost use Rattle.wac_collection.specs.Bound.{same_path};
 ghost use Rattle.wac_collection.specs.Collection.{holds_type};
-ghost use Rattle.wac_collection.specs.Tree.{named};
+ghost use Rattle.wac_primitives.specs.Tree.{named};
 ghost use Rattle.wac_shapes.specs.Kinds.{kind_type};
 ghost use Rattle.wac_entries.specs.Bindings.{AreBindings, AreHeld};
 ghost use Rattle.wac_entries.specs.CalledViews.{path_view};

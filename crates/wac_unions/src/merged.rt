@@ -3,7 +3,7 @@ ghost use Rattle.std.specs.Prelude.{Contains, List, Some, length, map, slice_get
 ghost use Rattle.std.specs.Option.{option_map};
 ghost use Rattle.wac_collection.specs.Collection.{HasInterface, holds_type};
 ghost use Rattle.wac_shapes.specs.Kinds.{kind_type};
-ghost use Rattle.wac_shapes.specs.Name.{Name as AName};
+ghost use Rattle.wac_primitives.specs.Name.{Name as AName};
 ghost use Rattle.wac_shapes.specs.declared.component.DefinedTypeId.{DefinedTypeId as Defined};
 ghost use Rattle.wac_shapes.specs.declared.component.InterfaceId.{InterfaceId as AnId};
 ghost use Rattle.wac_entries.specs.Agreement.{AllMembersAgree};

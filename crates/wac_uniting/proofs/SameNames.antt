@@ -1,7 +1,7 @@
 -- Entries under the same names, with values of two types.
 use Rattle.std.proofs.Common.{cond, ◌≡◌, sym, ap, ◌∙◌, subst, refl, List, [], ◌∷◌, ◌++◌, Some, None, inl, inr}
 use Rattle.std.proofs.lemmas.Bool.{cases_Bool}
-use Rattle.wac_shapes.specs.Name.{Name, same_name, find_name}
+use Rattle.wac_primitives.specs.Name.{Name, same_name, find_name}
 use Rattle.wac_shapes.specs.Named.{NoNameTwice, names_of}
 use Rattle.wac_uniting.proofs.UnionLists.{map_push}
 

@@ -4,7 +4,7 @@ use Rattle.std.proofs.Math.ListN.{set}
 use Rattle.std.specs.List.{AllByRecursion, AllZip}
 use Rattle.std.specs.Option.{MatchOption}
 use Rattle.std.proofs.lemmas.Option.{slice_get_within}
-use Rattle.wac_shapes.specs.Name.{Name, same_name, find_name, option_case}
+use Rattle.wac_primitives.specs.Name.{Name, same_name, find_name, option_case}
 use Rattle.wac_shapes.specs.Named.{NoNameTwice, names_of}
 use Rattle.wac_collection.specs.Collection.{Collection, IsWellFormed, HasInterface}
 use Rattle.wac_shapes.specs.declared.component.InterfaceId.{InterfaceId}

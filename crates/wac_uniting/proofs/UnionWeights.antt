@@ -2,7 +2,7 @@
 use Rattle.std.proofs.Common.{◌≡◌, ◌≢◌, inl, inr, ℕ, zero, suc, ◌+◌, ◌<◌, ◌≤◌, true, List, [], ◌∷◌, ◌++◌, map, length, slice_get, Some, refl, ap, ◌∙◌, arith}
 use Rattle.std.proofs.Math.ListN.{set}
 use Rattle.std.specs.List.{AllByRecursion}
-use Rattle.wac_shapes.specs.Name.{option_case}
+use Rattle.wac_primitives.specs.Name.{option_case}
 use Rattle.wac_collection.specs.Collection.{Collection, IsWellFormed, holds_type, interface_exports}
 use Rattle.wac_shapes.specs.declared.component.InterfaceId.{InterfaceId}
 use Rattle.wac_shapes.specs.declared.component.ItemKind.{ItemKind}

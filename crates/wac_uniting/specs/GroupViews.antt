@@ -1,7 +1,7 @@
 -- The view of what is grouped by name.
 use Rattle.std.specs.Prelude.{List, map, Vec}
 use Rattle.std.specs.declared.string.String.{String}
-use Rattle.wac_shapes.specs.Name.{Name}
+use Rattle.wac_primitives.specs.Name.{Name}
 use Rattle.wac_shapes.specs.Named.{by_bytes}
 
 -- lists under names, each name as its bytes

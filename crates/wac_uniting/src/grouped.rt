@@ -19,7 +19,7 @@ pub(crate) struct Grouped {
 
 impl Model for Grouped {
     ghost use Rattle.std.specs.Prelude.{List, ℕ};
-    ghost use Rattle.wac_shapes.specs.Name.{Name};
+    ghost use Rattle.wac_primitives.specs.Name.{Name};
     ghost use Rattle.wac_shapes.specs.Named.{by_bytes, NoNameTwice};
     ghost use Rattle.wac_shapes.specs.declared.component.ItemKind.{ItemKind};
     ghost use Rattle.wac_uniting.specs.GroupViews.{groups_of};

@@ -1,13 +1,13 @@
 -- An item and the same with uses bind the same, and have the same trees.
 use Rattle.std.proofs.Common.{◌≡◌, false, List, refl, sym, ap, subst}
 use Rattle.std.proofs.lemmas.Bool.{false≢true}
-use Rattle.wac_shapes.specs.Name.{Name}
+use Rattle.wac_primitives.specs.Name.{Name}
 use Rattle.wac_shapes.specs.declared.component.InterfaceId.{InterfaceId}
 use Rattle.wac_shapes.specs.declared.component.ResourceId.{ResourceId}
 use Rattle.wac_shapes.specs.declared.component.UsedType.{UsedType}
 use Rattle.wac_shapes.specs.declared.component.ItemKind.{ItemKind}
 use Rattle.wac_shapes.specs.declared.component.ItemKind.TheVariants as kind
-use Rattle.wac_collection.specs.Tree.{Place, Side, instance_item}
+use Rattle.wac_primitives.specs.Tree.{Place, Side, instance_item}
 use Rattle.wac_collection.specs.Collection.{Collection}
 use Rattle.wac_collection.specs.Bound.{Bindings, held_item}
 use Rattle.wac_subtyping.specs.Subtype.{kind_tree}

@@ -3,7 +3,7 @@ use Rattle.std.proofs.Common.{◌≡◌, ℕ, suc, true, cond, List, [], ◌∷�
 use Rattle.std.proofs.Math.ListN.{set}
 use Rattle.std.proofs.lemmas.Bool.{cases_Bool}
 use Rattle.std.proofs.lemmas.List.{append-nil}
-use Rattle.wac_shapes.specs.Name.{Name}
+use Rattle.wac_primitives.specs.Name.{Name}
 use Rattle.wac_entries.specs.Classes.{Entry, by_names, class_names, same_class}
 use Rattle.wac_entries.specs.Numbering.{IsNumbered, members_in}
 use Rattle.wac_entries.proofs.ClassFacts.{class-sym, class-trans, one-position}

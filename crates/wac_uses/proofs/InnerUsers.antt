@@ -6,7 +6,7 @@ use Rattle.std.proofs.Math.ListN.{length-set, set}
 use Rattle.std.proofs.lemmas.Bool.{cases_Bool}
 use Rattle.std.proofs.lemmas.List.{append_assoc, append-nil}
 use Rattle.std.proofs.lemmas.Option.{slice_get_within}
-use Rattle.wac_shapes.specs.Name.{Name, find_name, option_case, same_name}
+use Rattle.wac_primitives.specs.Name.{Name, find_name, option_case, same_name}
 use Rattle.wac_shapes.specs.Named.{NoNameTwice, named_at}
 use Rattle.wac_shapes.specs.declared.component.Interface.{Interface}
 use Rattle.wac_shapes.specs.declared.component.InterfaceId.{InterfaceId}

@@ -3,7 +3,7 @@ use Rattle.std.proofs.Common.{◌≡◌, ℕ, zero, suc, true, List, [], ◌∷�
 use Rattle.std.proofs.Math.Path.{fun_ext}
 use Rattle.std.proofs.lemmas.Bool.{cases_Bool, false≢true}
 use Rattle.std.proofs.Common.{inl, inr}
-use Rattle.wac_shapes.specs.Name.{Name, option_case}
+use Rattle.wac_primitives.specs.Name.{Name, option_case}
 use Rattle.wac_shapes.specs.declared.component.Interface.{Interface}
 use Rattle.wac_shapes.specs.declared.component.InterfaceId.{InterfaceId}
 use Rattle.wac_shapes.specs.declared.component.ResourceId.{ResourceId}
@@ -12,7 +12,7 @@ use Rattle.wac_shapes.specs.declared.component.«Type».TheVariants as ty
 use Rattle.wac_shapes.specs.declared.component.ItemKind.{ItemKind}
 use Rattle.wac_shapes.specs.declared.component.ItemKind.TheVariants as kind
 use Rattle.wac_collection.specs.declared.collection.Held.{Held}
-use Rattle.wac_collection.specs.Tree.{TypeTree, exported, further_out, instance, instance_item, named}
+use Rattle.wac_primitives.specs.Tree.{TypeTree, exported, further_out, instance, instance_item, named}
 use Rattle.wac_collection.specs.Collection.{Collection, item_of, size}
 use Rattle.wac_collection.specs.Held.{Names, Naming, interface_tree, item_tree, items_under, listed_tree, of_held, unfolded_to}
 use Rattle.wac_collection.specs.Bound.{Bindings, by_place, held_tree, inside_interface, own_name}

@@ -1,6 +1,6 @@
 -- What an import and the instances inside use is kept of what the interfaces that they are made of use.
 use Rattle.std.proofs.Common.{◌≡◌, ℕ, List, take, Some, slice_get, sym, ap, ◌∙◌, subst}
-use Rattle.wac_shapes.specs.Name.{Name}
+use Rattle.wac_primitives.specs.Name.{Name}
 use Rattle.wac_shapes.specs.declared.component.Interface.{Interface}
 use Rattle.wac_shapes.specs.declared.component.InterfaceId.{InterfaceId}
 use Rattle.wac_shapes.specs.declared.component.UsedType.{UsedType}

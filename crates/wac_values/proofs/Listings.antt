@@ -2,9 +2,9 @@
 use Rattle.std.proofs.Common.{◌≡◌, ℕ, zero, suc, nat_lt, nat_eq, Bool, true, false, not, cond, ◌&&◌, ◌||◌, List, [], ◌∷◌, ◌++◌, take, slice_get, Option, Some, None, refl, sym, ap, ◌∙◌, arith}
 use Rattle.std.proofs.lemmas.Bool.{le-ltb}
 use Rattle.std.proofs.lemmas.List.Folds.{list_any-append}
-use Rattle.wac_shapes.specs.Name.{Name, option_case, first_some}
+use Rattle.wac_primitives.specs.Name.{Name, option_case, first_some}
 use Rattle.wac_shapes.proofs.Names.{take_at}
-use Rattle.wac_collection.specs.Tree.{Place, named}
+use Rattle.wac_primitives.specs.Tree.{Place, named}
 use Rattle.wac_collection.specs.Collection.{Collection, holds_all, holds_type, item_at, used_types}
 use Rattle.wac_shapes.specs.declared.component.DefinedTypeId.{DefinedTypeId}
 use Rattle.wac_shapes.specs.declared.component.Interface.{Interface}

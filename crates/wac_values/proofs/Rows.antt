@@ -1,8 +1,8 @@
 -- Worked examples: what binds a value type, each decided by computing.
 use Rattle.std.proofs.Common.{◌≡◌, ℕ, nat_lt, Bool, false, List, [], ◌∷◌, Option, Some, None, refl}
 use Rattle.wac_names.specs.Track.{Track, whole, major}
-use Rattle.wac_shapes.specs.Name.{Name}
-use Rattle.wac_collection.specs.Tree.{Place, named}
+use Rattle.wac_primitives.specs.Name.{Name}
+use Rattle.wac_primitives.specs.Tree.{Place, named}
 use Rattle.wac_collection.specs.Collection.{Collection}
 use Rattle.wac_collection.specs.declared.collection.Held.{Held}
 use Rattle.wac_shapes.specs.declared.component.DefinedType.{DefinedType}

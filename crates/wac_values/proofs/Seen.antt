@@ -4,9 +4,9 @@ use Rattle.std.specs.Option.{option_map}
 use Rattle.std.proofs.lemmas.Bool.{false_from_ne_true, le-ltb, lt-ltb}
 use Rattle.std.proofs.lemmas.List.{append-nil}
 use Rattle.std.proofs.lemmas.List.Elements.{filter-append}
-use Rattle.wac_shapes.specs.Name.{Name, option_case, first_some}
+use Rattle.wac_primitives.specs.Name.{Name, option_case, first_some}
 use Rattle.wac_shapes.proofs.Names.{take_at}
-use Rattle.wac_collection.specs.Tree.{Place}
+use Rattle.wac_primitives.specs.Tree.{Place}
 use Rattle.wac_collection.specs.Collection.{Collection}
 use Rattle.wac_shapes.specs.declared.component.DefinedTypeId.{DefinedTypeId}
 use Rattle.wac_shapes.specs.declared.component.ItemKind.{ItemKind}

@@ -1,7 +1,7 @@
 -- What an answer says of the class that binds a value type.
 use Rattle.std.specs.Prelude.{ℕ, List}
 use Rattle.std.specs.Option.{option_copied}
-use Rattle.wac_collection.specs.Tree.{Place}
+use Rattle.wac_primitives.specs.Tree.{Place}
 use Rattle.wac_values.specs.declared.bindings.ValueBinding.{ValueBinding}
 use Rattle.wac_values.specs.Listings.{path_of}
 

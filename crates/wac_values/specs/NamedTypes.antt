@@ -1,7 +1,7 @@
 -- Which definitions are one named type.
 use Rattle.std.specs.Prelude.{◌≡◌, ◌⊎◌, ℕ, zero, suc, nat_eq, nat_lt, cond, true, ◌||◌, if◌then◌else◌, is_some, List, Option, Some, None, slice_get}
 use Rattle.std.specs.HashMap.{get}
-use Rattle.wac_shapes.specs.Name.{Name, find_name, option_case}
+use Rattle.wac_primitives.specs.Name.{Name, find_name, option_case}
 use Rattle.wac_collection.specs.Collection.{Collection, interface_exports}
 use Rattle.wac_shapes.specs.declared.component.DefinedTypeId.{DefinedTypeId}
 use Rattle.wac_shapes.specs.declared.component.ItemKind.{ItemKind}

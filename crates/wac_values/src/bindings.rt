@@ -100,7 +100,7 @@ impl Drop for ValueBindings {
 
 impl Model for ValueBindings {
     ghost use Rattle.std.specs.Prelude.{List, ℕ};
-    ghost use Rattle.wac_collection.specs.Tree.{Place};
+    ghost use Rattle.wac_primitives.specs.Tree.{Place};
     ghost use Rattle.wac_shapes.specs.declared.component.DefinedTypeId.{DefinedTypeId};
     ghost use Rattle.wac_values.specs.Listings.{places};
 

@@ -1,7 +1,7 @@
 //! Which definitions are one named type.
 ghost use Rattle.std.specs.Prelude.{◌≡◌, ◌⊎◌, ◌↔◌, ℕ, Some, None, IfOk, OnOk, slice_get};
 ghost use Rattle.wac_collection.specs.Collection.{HasInterface, interface_exports};
-ghost use Rattle.wac_shapes.specs.Name.{find_name};
+ghost use Rattle.wac_primitives.specs.Name.{find_name};
 ghost use Rattle.wac_shapes.specs.declared.component.DefinedTypeId.{DefinedTypeId as Defined};
 ghost use Rattle.wac_terms.specs.Values.{listed_value};
 ghost use Rattle.wac_terms.specs.declared.parts.Export.{Export as AnExport};

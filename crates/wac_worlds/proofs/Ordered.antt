@@ -4,7 +4,7 @@ use Rattle.std.specs.Borrow.{Bor}
 use Rattle.std.proofs.Common.{refl, ap, ◌∙◌, sym, subst, take, add-one, append_assoc}
 use Rattle.std.proofs.lemmas.List.{append-nil, map-append}
 use Rattle.std.proofs.lemmas.List.Sorted.{IsPermutation-refl, IsPermutation-sym, IsPermutation-trans, IsPermutation-cons, IsPermutation-middle}
-use Rattle.wac_shapes.specs.Name.{Name}
+use Rattle.wac_primitives.specs.Name.{Name}
 use Rattle.wac_shapes.specs.Named.{named_pairs}
 use Rattle.wac_shapes.proofs.Names.{take_at}
 use Rattle.wac_shapes.specs.declared.component.ItemKind.{ItemKind}

@@ -3,7 +3,7 @@ use Rattle.std.specs.Prelude.{ℕ, zero, suc, ◌+◌, ◌≡◌, ◌==◌, ◌&
 use Rattle.std.specs.List.{AllByRecursion}
 use Rattle.std.proofs.Common.{refl, ap, ◌∙◌, sym, subst, take, add-one, inl, inr, arith}
 use Rattle.std.proofs.Math.Path.{fun_ext}
-use Rattle.wac_shapes.specs.Name.{Name, option_case}
+use Rattle.wac_primitives.specs.Name.{Name, option_case}
 use Rattle.wac_shapes.specs.Kinds.{kind_type}
 use Rattle.wac_shapes.proofs.Names.{take_at}
 use Rattle.wac_shapes.specs.declared.component.ItemKind.{ItemKind}
@@ -12,7 +12,7 @@ use Rattle.wac_shapes.specs.declared.component.World.{World}
 use Rattle.wac_shapes.specs.declared.component.WorldId.{WorldId}
 use Rattle.wac_shapes.specs.declared.component.«Type».{«Type» as AnyType}
 use Rattle.wac_collection.specs.declared.collection.Held.{Held}
-use Rattle.wac_collection.specs.Tree.{imported, exported, Tree, component}
+use Rattle.wac_primitives.specs.Tree.{imported, exported, Tree, component}
 use Rattle.wac_collection.specs.Collection.{Collection, IsWellFormed, IsBefore, holds_type, item_at, item_of, kind_types, used_types}
 use Rattle.wac_collection.specs.Bound.{Bindings, bound_by_imports, bound_in_world}
 use Rattle.wac_collection.proofs.Growth.{type_within}

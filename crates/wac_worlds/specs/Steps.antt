@@ -1,9 +1,9 @@
 -- What each item of a world adds to a scope, under what is held. Private functions alone cite this.
 use Rattle.std.specs.Prelude.{◌≡◌, true, List, ◌∷◌}
-use Rattle.wac_shapes.specs.Name.{Name}
+use Rattle.wac_primitives.specs.Name.{Name}
 use Rattle.wac_shapes.specs.Kinds.{kind_type}
 use Rattle.wac_shapes.specs.declared.component.ItemKind.{ItemKind}
-use Rattle.wac_collection.specs.Tree.{Side, Tree, absent}
+use Rattle.wac_primitives.specs.Tree.{Side, Tree, absent}
 use Rattle.wac_collection.specs.Collection.{Collection, holds_type}
 use Rattle.wac_collection.specs.Bound.{Bindings}
 use Rattle.wac_scopes.specs.declared.scope.Scope.{Scope}

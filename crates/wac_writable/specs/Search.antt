@@ -1,6 +1,6 @@
 -- How faults are found; private functions alone cite this.
 use Rattle.std.specs.Prelude.{ℕ, ◌≡◌, true, slice_get, nat_lt, cond, List, [], ◌∷◌, ◌++◌, Option, Some, None}
-use Rattle.wac_shapes.specs.Name.{Name}
+use Rattle.wac_primitives.specs.Name.{Name}
 use Rattle.wac_shapes.specs.Kinds.{kind_type}
 use Rattle.wac_shapes.specs.declared.component.InterfaceId.{InterfaceId}
 use Rattle.wac_shapes.specs.declared.component.ItemKind.{ItemKind}

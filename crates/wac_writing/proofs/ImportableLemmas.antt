@@ -1,7 +1,7 @@
 -- What is importable stays so where it offers less.
 use Rattle.std.proofs.Common.{◌≡◌, ◌≢◌, Bool, true, false, refl, ap, sym, subst}
-use Rattle.wac_shapes.specs.Name.{Name}
-use Rattle.wac_collection.specs.Tree.{TypeTree, absent, type_equal, instance_item, module_item}
+use Rattle.wac_primitives.specs.Name.{Name}
+use Rattle.wac_primitives.specs.Tree.{TypeTree, absent, type_equal, instance_item, module_item}
 use Rattle.wac_subtyping.specs.Subtype.{Sub}
 use Rattle.wac_meaning.specs.Importable.{IsPlainItem, IsPlainWhereThere, IsImportable}
 

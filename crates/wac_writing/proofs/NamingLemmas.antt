@@ -15,7 +15,7 @@ use Rattle.std.proofs.lemmas.Map.Keys.{sorted_head, sorted_tail}
 use Rattle.std.specs.Borrow.{Bor}
 use Rattle.std.specs.Map.Iter.{deref_pair}
 use Rattle.std.proofs.lemmas.List.{append-nil, map-append}
-use Rattle.wac_shapes.specs.Name.{Name, option_case}
+use Rattle.wac_primitives.specs.Name.{Name, option_case}
 use Rattle.wac_binary.specs.declared.sorts.Sort.{Sort}
 use Rattle.wac_binary.specs.declared.sorts.Sort.TheVariants as sort
 use Rattle.wac_binary.specs.Customs as custom_section

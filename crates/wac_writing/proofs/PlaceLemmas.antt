@@ -5,7 +5,7 @@ use Rattle.std.proofs.lemmas.List.{map-append, take_all}
 use Rattle.std.specs.Borrow.{Bor}
 use Rattle.std.specs.Option.{option_map}
 use Rattle.std.proofs.lemmas.Option.{slice_get_within}
-use Rattle.wac_shapes.specs.Name.{Name, same_name}
+use Rattle.wac_primitives.specs.Name.{Name, same_name}
 use Rattle.wac_shapes.specs.Named.{named_at, NoNameTwice}
 use Rattle.wac_shapes.proofs.Names.{same_name-true, same_name-from}
 use Rattle.wac_shapes.specs.declared.component.ItemKind.{ItemKind}

@@ -2,7 +2,7 @@
 use Rattle.std.proofs.Common.{◌≡◌, ℕ, true, List, [], ◌∷◌, ◌++◌, ap, ◌∙◌, sym, subst, Option, Some, None, IfSome, IsSomeAnd, String, Global, string_bytes}
 use Rattle.std.specs.Option.{option_map}
 use Rattle.slab.specs.Slab.{get}
-use Rattle.wac_shapes.specs.Name.{Name}
+use Rattle.wac_primitives.specs.Name.{Name}
 use Rattle.wac_shapes.specs.Kinds.{kind_type}
 use Rattle.wac_shapes.specs.declared.component.ItemKind.{ItemKind}
 use Rattle.wac_shapes.specs.declared.component.ItemKind.TheVariants.{TypeItem}

@@ -1,7 +1,7 @@
 -- Exports by other names than definitions' first ones; cited by private functions alone, nothing public rests on it.
 use Rattle.std.specs.Prelude.{ℕ, List, [], ◌∷◌, slice_get}
 use Rattle.std.specs.List.{filter}
-use Rattle.wac_shapes.specs.Name.{Name, option_case}
+use Rattle.wac_primitives.specs.Name.{Name, option_case}
 use Rattle.wac_edges.specs.declared.node.NodeId.{NodeId}
 use Rattle.wac_nodes.specs.Graph.{Graph}
 use Rattle.wac_meaning.specs.Means.{is_further}

@@ -1,6 +1,6 @@
 -- The merged imports of what a graph asks for, and where the import of a name stands.
 use Rattle.std.specs.Prelude.{ℕ, ◌≡◌, true, length, map, List, Some, slice_get}
-use Rattle.wac_shapes.specs.Name.{Name}
+use Rattle.wac_primitives.specs.Name.{Name}
 use Rattle.wac_entries.specs.Classes.{Entry, by_names, imported_as}
 use Rattle.wac_merge.specs.Aggregate.{Aggregate}
 use Rattle.wac_merge.specs.Listed.{AreListedInOrder}

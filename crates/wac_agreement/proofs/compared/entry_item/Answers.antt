@@ -1,5 +1,5 @@
 use Rattle.std.proofs.Common.{ap, length, List, Option, sym, subst, ◌∙◌}
-use Rattle.wac_collection.specs.Tree.{Leaf}
+use Rattle.wac_primitives.specs.Tree.{Leaf}
 use Rattle.wac_shapes.specs.declared.component.ResourceId.{ResourceId}
 use Rattle.wac_entries.specs.declared.outward.Outward.{Outward}
 use Rattle.wac_entries.specs.Classes.{by_names, class_names}

@@ -1,7 +1,7 @@
 use Rattle.std.proofs.Common.{Global, ◌≡◌, ◌∙◌, refl, sym, ap, subst, List, Some, false, length, arith}
 use Rattle.std.specs.Prelude.{slice_get, Vec}
 use Rattle.std.proofs.lemmas.Option.{slice_get_read}
-use Rattle.wac_shapes.specs.Name.{Name}
+use Rattle.wac_primitives.specs.Name.{Name}
 use Rattle.wac_entries.specs.Classes.{by_names, class_names, is_instance}
 use Rattle.wac_coding.specs.Coding.{source_tree}
 use Rattle.wac_agreement.specs.Compared.{IsItemOf}

@@ -1,5 +1,5 @@
 use Rattle.std.proofs.Common.{ap, ◌∙◌}
-use Rattle.wac_collection.specs.Tree.{instance}
+use Rattle.wac_primitives.specs.Tree.{instance}
 use Rattle.wac_coding.specs.CallsView.{names_in}
 use Rattle.wac_coding.specs.Coding.{source_tree}
 use Rattle.wac_coding.specs.ItemCoding.{listing_under}

@@ -1,6 +1,6 @@
 use Rattle.std.proofs.Common.{◌≡◌, length, take, [], subst, sym, ap, ◌∙◌, arith}
 use Rattle.wac_shapes.specs.declared.component.ItemKind.{ItemKind}
-use Rattle.wac_shapes.specs.Name.{Name}
+use Rattle.wac_primitives.specs.Name.{Name}
 use Rattle.std.specs.Prelude.{List}
 use Rattle.std.proofs.Math.Seq.{take-length}
 use Rattle.wac_entries.specs.declared.nodes.Item.{Item}

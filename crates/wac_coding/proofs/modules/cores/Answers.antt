@@ -1,6 +1,6 @@
 use Rattle.std.proofs.Common.{◌≡◌, ℕ, drop, ◌<◌, subst, arith}
-use Rattle.wac_shapes.specs.Name.{Name}
-use Rattle.wac_shapes.specs.Core.{no_item}
+use Rattle.wac_primitives.specs.Name.{Name}
+use Rattle.wac_primitives.specs.Core.{no_item}
 use Rattle.wac_collection.specs.Held as held
 use Rattle.wac_entries.specs.NodeViews.{core_view}
 use Rattle.wac_coding.specs.ModuleCoding.{look}

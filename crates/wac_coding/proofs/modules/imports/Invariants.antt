@@ -1,5 +1,5 @@
 use Rattle.std.proofs.Common.{◌≡◌, ◌≤◌, length, drop}
-use Rattle.wac_shapes.specs.Name.{Name}
+use Rattle.wac_primitives.specs.Name.{Name}
 use Rattle.wac_collection.specs.Held.{core_imports}
 use Rattle.wac_coding.specs.ModuleCoding.{in_maps, AreFull}
 use Rattle.wac_coding.proofs.modules.imports.Given as goal

@@ -1,5 +1,5 @@
 use Rattle.std.proofs.Common.{◌∙◌, ap}
-use Rattle.wac_shapes.specs.Name.{same_name}
+use Rattle.wac_primitives.specs.Name.{same_name}
 use Rattle.wac_shapes.proofs.Names.{same_name-bytes_eq}
 use Rattle.wac_collection.proofs.uses.is_named.Goals as goal
 

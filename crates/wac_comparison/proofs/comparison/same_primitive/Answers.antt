@@ -1,6 +1,6 @@
 use Rattle.std.proofs.Common.{◌∙◌, sym, rules}
 use denote.Enum.Bare.{same_true, true_same}
-use Rattle.wac_shapes.specs.contracts.component.PrimitiveType.{the_type}
+use Rattle.wac_primitives.specs.contracts.component.PrimitiveType.{the_type}
 use Rattle.wac_comparison.proofs.Asking.{differ}
 use Rattle.wac_comparison.proofs.comparison.same_primitive.Goals as goal
 

@@ -1,6 +1,6 @@
 use Rattle.std.proofs.Common.{◌≡◌, ◌≤◌, length, Option, Some, None, arith, ap, below_more}
 use Rattle.std.specs.Option.{IfSome, option_map}
-use Rattle.wac_shapes.specs.Name.{Name}
+use Rattle.wac_primitives.specs.Name.{Name}
 use Rattle.wac_shapes.specs.declared.component.ValueType.{ValueType}
 use Rattle.wac_comparison.proofs.small.has_small_parts.Goals as goal
 

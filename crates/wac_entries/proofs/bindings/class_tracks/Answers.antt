@@ -4,7 +4,7 @@ use Rattle.std.proofs.lemmas.Option.{slice_get_read, slice_get_within, slice_get
 use Rattle.wac_names.specs.Track.{HasTrack}
 use Rattle.wac_names.specs.Views.{track_view}
 use Rattle.wac_names.specs.declared.tracks.Track.{Track}
-use Rattle.wac_shapes.specs.Name.{Name}
+use Rattle.wac_primitives.specs.Name.{Name}
 use Rattle.wac_entries.specs.Bindings.{HaveTracks}
 use Rattle.wac_entries.specs.Classes.{Entry}
 use Rattle.wac_entries.proofs.ClassPaths.{position-at, tracks-push}

@@ -1,6 +1,6 @@
 use Rattle.std.proofs.Common.{◌≡◌, Some, slice_get, length, refl, sym, ap, ◌∙◌, add-one}
 use Rattle.std.proofs.lemmas.Option.{slice_get_read}
-use Rattle.wac_shapes.specs.Name.{first_some}
+use Rattle.wac_primitives.specs.Name.{first_some}
 use Rattle.wac_entries.specs.Bindings.{numbered}
 use Rattle.wac_entries.proofs.ClassPaths.{first-more}
 use Rattle.wac_entries.proofs.bindings.first_classes.Goals as goal

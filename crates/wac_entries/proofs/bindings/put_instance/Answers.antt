@@ -1,8 +1,8 @@
 use Rattle.std.proofs.Common.{not, ap, ◌∙◌, None, subst}
 use Rattle.wac_names.specs.Track.{HasTrack}
 use Rattle.wac_names.specs.Views.{track_view}
-use Rattle.wac_shapes.specs.Name.{Name}
-use Rattle.wac_collection.specs.Tree.{imported}
+use Rattle.wac_primitives.specs.Name.{Name}
+use Rattle.wac_primitives.specs.Tree.{imported}
 use Rattle.wac_shapes.specs.declared.component.ItemKind.TheVariants as kind
 use Rattle.wac_shapes.proofs.Under.{on_ok}
 use Rattle.wac_entries.specs.Bindings.{member_leaves}

@@ -1,6 +1,6 @@
 use Rattle.std.proofs.Common.{List, is_some, sym, ap, ◌∙◌, subst, arith, add-one}
 use Rattle.std.proofs.lemmas.List.{take_all}
-use Rattle.wac_collection.specs.Tree.{Leaf}
+use Rattle.wac_primitives.specs.Tree.{Leaf}
 use Rattle.wac_shapes.specs.declared.component.ResourceId.{ResourceId}
 use Rattle.wac_entries.specs.Bindings.{numbered}
 use Rattle.wac_entries.specs.Places.{Adds, find_resource}

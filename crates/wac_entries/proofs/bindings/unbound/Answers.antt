@@ -1,6 +1,6 @@
 use Rattle.std.proofs.Common.{◌≡◌, ◌+◌, List, [], ◌∷◌, ◌++◌, slice_get, length, sym, ap, ◌∙◌, inl, inr}
 use Rattle.std.proofs.lemmas.List.{length-append}
-use Rattle.wac_collection.specs.Tree.{Leaf}
+use Rattle.wac_primitives.specs.Tree.{Leaf}
 use Rattle.wac_shapes.specs.declared.component.ResourceId.{ResourceId}
 use Rattle.wac_entries.proofs.Lists.{push-cases}
 use Rattle.wac_entries.proofs.bindings.unbound.Goals as goal

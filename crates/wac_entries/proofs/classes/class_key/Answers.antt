@@ -1,6 +1,6 @@
 use Rattle.std.proofs.Common.{◌≡◌, true, is_some, sym, ap, ◌∙◌}
 use Rattle.std.specs.Option.{option_copied}
-use Rattle.wac_shapes.specs.Name.{find_name}
+use Rattle.wac_primitives.specs.Name.{find_name}
 use Rattle.wac_names.specs.Views.{track_view}
 use Rattle.wac_names.proofs.TrackFacts.{had-track}
 use Rattle.wac_entries.proofs.classes.class_key.Goals as goal

@@ -1,5 +1,5 @@
 use Rattle.std.proofs.Common.{Err, ap, ◌∙◌}
-use Rattle.wac_shapes.specs.Name.{find_name}
+use Rattle.wac_primitives.specs.Name.{find_name}
 use Rattle.wac_entries.proofs.Numbers.{more-pushed, more-there, some-there}
 use Rattle.wac_entries.proofs.classes.put.Goals as goal
 

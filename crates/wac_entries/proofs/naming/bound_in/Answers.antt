@@ -1,5 +1,5 @@
 use Rattle.std.proofs.Common.{◌+◌, take, List, sym, subst}
-use Rattle.wac_collection.specs.Tree.{Leaf}
+use Rattle.wac_primitives.specs.Tree.{Leaf}
 use Rattle.wac_shapes.specs.declared.component.ResourceId.{ResourceId}
 use Rattle.wac_entries.specs.Walking.{AreBound}
 use Rattle.wac_entries.proofs.Walking.{bound-more}

@@ -1,6 +1,6 @@
 use Rattle.std.proofs.Common.{◌≡◌, ◌<◌, ℕ, List, length, Option, Some, None, get_or, sym, ap, ◌∙◌, refl, arith}
 use Rattle.std.proofs.lemmas.Option.{slice_get_read}
-use Rattle.wac_collection.specs.Tree.{Leaf}
+use Rattle.wac_primitives.specs.Tree.{Leaf}
 use Rattle.wac_shapes.specs.declared.component.ResourceId.{ResourceId}
 use Rattle.wac_entries.specs.declared.outward.Outward.{Outward}
 use Rattle.wac_entries.proofs.Lists.{some-at}

@@ -1,5 +1,5 @@
 use Rattle.std.proofs.Common.{◌≡◌, true, length, [], ap, ◌∙◌, subst}
-use Rattle.wac_shapes.specs.Name.{option_case}
+use Rattle.wac_primitives.specs.Name.{option_case}
 use Rattle.wac_collection.specs.Collection.{holds_type}
 use Rattle.wac_shapes.proofs.Under.{on_ok}
 use Rattle.wac_entries.specs.declared.scopes.Opener.{Opener}

@@ -1,5 +1,5 @@
 use Rattle.std.proofs.Common.{◌∙◌, List, refl, sym, subst, inl, inr}
-use Rattle.wac_shapes.specs.Name.{Name}
+use Rattle.wac_primitives.specs.Name.{Name}
 use Rattle.wac_shapes.specs.Named.{names_of}
 use Rattle.wac_plugging.specs.Matching.{exports_of_package}
 use Rattle.wac_plugging.specs.Plugging.{Answer, InOrder, PassesOn}

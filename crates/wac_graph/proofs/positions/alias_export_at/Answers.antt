@@ -1,5 +1,5 @@
 use Rattle.std.proofs.Common.{subst, sym, Ok}
-use Rattle.wac_shapes.specs.Name.{Name}
+use Rattle.wac_primitives.specs.Name.{Name}
 use Rattle.wac_shapes.specs.declared.component.ItemKind.{ItemKind}
 use Rattle.wac_nodes.specs.Steps.{Aliases}
 use Rattle.wac_plugging.specs.Positions.{HasExport}

@@ -1,5 +1,5 @@
 use Rattle.std.proofs.Common.{◌≡◌, List, Some, Err, ap, sym, ◌∙◌, subst, slice_get}
-use Rattle.wac_shapes.specs.Name.{Name}
+use Rattle.wac_primitives.specs.Name.{Name}
 use Rattle.wac_shapes.specs.Named.{names_of}
 use Rattle.wac_collection.specs.Collection.{world_exports}
 use Rattle.wac_plugging.specs.declared.errors.PlugError.TheVariants.{OutOfMemory}

@@ -1,6 +1,6 @@
 use Rattle.std.proofs.Common.{ap, sym, subst, true, ◌≡◌, ◌∙◌, drop, ◌+◌}
 use Rattle.std.specs.Prelude.{List}
-use Rattle.wac_shapes.specs.Name.{Name}
+use Rattle.wac_primitives.specs.Name.{Name}
 use Rattle.wac_shapes.specs.Kinds.{kind_type}
 use Rattle.wac_shapes.specs.declared.component.ItemKind.{ItemKind}
 use Rattle.wac_collection.specs.Collection.{holds_type}

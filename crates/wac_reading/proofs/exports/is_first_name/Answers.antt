@@ -1,6 +1,6 @@
 use Rattle.std.proofs.Common.{◌∙◌, ap, sym, false, string_bytes}
 use Rattle.std.specs.Option.{option_map}
-use Rattle.wac_shapes.specs.Name.{same_name, option_case}
+use Rattle.wac_primitives.specs.Name.{same_name, option_case}
 use Rattle.wac_shapes.proofs.Names.{same_name-bytes_eq}
 use Rattle.wac_reading.proofs.exports.is_first_name.Goals as goal
 

@@ -1,6 +1,6 @@
 use Rattle.std.proofs.Common.{◌≡◌, None, sym, subst, ap}
 use Rattle.wac_collection.specs.Collection.{Collection}
-use Rattle.wac_shapes.specs.Name.{Name}
+use Rattle.wac_primitives.specs.Name.{Name}
 use Rattle.wac_shapes.specs.declared.component.Resource.{Resource}
 use Rattle.wac_terms.specs.Became.{IsNew}
 use Rattle.wac_terms.specs.Renaming.{IsExtended}

@@ -1,6 +1,6 @@
 use Rattle.std.proofs.Common.{◌≡◌, List, [], Some, None, Err, take, sym, ap, ◌∙◌, subst, arith, add-one}
 use Rattle.std.proofs.lemmas.List.{take_all}
-use Rattle.wac_shapes.specs.Name.{Name}
+use Rattle.wac_primitives.specs.Name.{Name}
 use Rattle.wac_shapes.specs.declared.component.ResourceId.{ResourceId}
 use Rattle.wac_shapes.proofs.Names.{none_before, take_at}
 use Rattle.wac_renaming.specs.FreshSteps.{AreOwn}

@@ -1,7 +1,7 @@
 use Rattle.std.proofs.Common.{◌≡◌, suc, ◌+◌, ◌<◌, List, [], ◌∷◌, ◌++◌, get_or, take, length, sym, subst, ap, ◌∙◌, add-one, arith}
 use Rattle.std.proofs.lemmas.List.{length-append}
 use Rattle.std.proofs.lemmas.Option.{slice_get-get_or}
-use Rattle.wac_collection.specs.Tree.{Leaf}
+use Rattle.wac_primitives.specs.Tree.{Leaf}
 use Rattle.wac_shapes.specs.declared.component.ResourceId.{ResourceId}
 use Rattle.wac_terms.specs.Became.{AreBoundParts}
 use Rattle.wac_renaming.proofs.BecameWalks.{bounds-more, no-part}

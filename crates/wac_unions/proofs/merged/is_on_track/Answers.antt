@@ -2,7 +2,7 @@ use Rattle.std.proofs.Common.{◌≡◌, Bool, true, false, not, refl, sym, ap, 
 use Rattle.wac_names.specs.Reading.{read_track}
 use Rattle.wac_names.specs.Track.{HasTrack}
 use Rattle.wac_names.specs.Views.{track_view}
-use Rattle.wac_shapes.specs.Name.{Name, option_case}
+use Rattle.wac_primitives.specs.Name.{Name, option_case}
 use Rattle.wac_entries.specs.Classes.{by_names, same_track}
 use Rattle.wac_terms.specs.Merge.{is_on_track}
 use Rattle.wac_entries.proofs.ClassPaths.{track-test}

@@ -5,7 +5,7 @@ use Rattle.std.proofs.lemmas.List.{take_all}
 use Rattle.std.proofs.lemmas.List.Folds.{list_any-append}
 use Rattle.std.proofs.lemmas.Option.{slice_get_read, slice_get_within, slice_get-get_or}
 use Rattle.wac_names.specs.declared.tracks.Track.{Track}
-use Rattle.wac_shapes.specs.Name.{Name}
+use Rattle.wac_primitives.specs.Name.{Name}
 use Rattle.wac_collection.specs.Collection.{holds_type}
 use Rattle.wac_shapes.specs.Kinds.{kind_type}
 use Rattle.wac_entries.specs.Classes.{Entry, by_names, class_names}

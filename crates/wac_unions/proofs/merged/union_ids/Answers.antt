@@ -3,7 +3,7 @@ use Rattle.std.specs.Global.{Global}
 use Rattle.std.specs.Option.{option_map}
 use Rattle.std.specs.declared.string.String.{String}
 use Rattle.std.proofs.lemmas.List.{length-append, map-append}
-use Rattle.wac_shapes.specs.Name.{Name}
+use Rattle.wac_primitives.specs.Name.{Name}
 use Rattle.wac_unions.specs.MergedClasses.{IsUnionId}
 use Rattle.wac_entries.proofs.Lists.{push-cases}
 use Rattle.wac_terms.proofs.Found.{mapped_length}

@@ -1,6 +1,6 @@
 use Rattle.std.proofs.Common.{◌≡◌, ℕ, Option, Some, length, map, slice_get, string_bytes}
 use Rattle.std.specs.Option.{option_map}
-use Rattle.wac_shapes.specs.Name.{Name}
+use Rattle.wac_primitives.specs.Name.{Name}
 use Rattle.wac_unions.specs.MergedClasses.{IsUnionId}
 use Rattle.wac_terms.specs.declared.parts.Union.{Union}
 use Rattle.wac_unions.proofs.merged.union_ids.Given as goal

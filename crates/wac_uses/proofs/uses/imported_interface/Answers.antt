@@ -1,6 +1,6 @@
 use Rattle.std.proofs.Common.{Some, sym, ap, ◌∙◌}
 use Rattle.std.specs.Option.{option_copied}
-use Rattle.wac_shapes.specs.Name.{Name, find_name}
+use Rattle.wac_primitives.specs.Name.{Name, find_name}
 use Rattle.wac_entries.specs.Classes.{by_names, imported_as}
 use Rattle.wac_uses.specs.KeptUses.{instance_of}
 use Rattle.wac_uses.proofs.KeptUses.{imported-is, no-instance}

@@ -1,6 +1,6 @@
 use Rattle.std.proofs.Common.{List, ap, sym, ◌∙◌, arith, add-one}
 use Rattle.std.proofs.lemmas.List.{take_all}
-use Rattle.wac_shapes.specs.Name.{Name}
+use Rattle.wac_primitives.specs.Name.{Name}
 use Rattle.wac_shapes.specs.declared.component.UsedType.{UsedType}
 use Rattle.wac_uses.specs.Using.{keep_from, use_in, with_use}
 use Rattle.wac_uses.proofs.KeptUses.{folded-next, used-at}

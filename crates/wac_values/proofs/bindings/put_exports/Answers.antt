@@ -1,5 +1,5 @@
 use Rattle.std.proofs.Common.{suc, Bool, [], ◌∷◌, take, Some, sym, subst, ◌∙◌, add-one}
-use Rattle.wac_collection.specs.Tree.{named}
+use Rattle.wac_primitives.specs.Tree.{named}
 use Rattle.wac_values.specs.Listings.{Takes, exported, found, has_value, only}
 use Rattle.wac_values.proofs.Listings.{exported-stays, exported-step}
 use Rattle.wac_values.proofs.bindings.put_exports.Goals as goal

@@ -1,5 +1,5 @@
 use Rattle.std.proofs.Common.{◌≡◌, ℕ, ◌<◌, Some, slice_get}
-use Rattle.wac_shapes.specs.Name.{Name}
+use Rattle.wac_primitives.specs.Name.{Name}
 use Rattle.wac_shapes.specs.declared.component.ItemKind.{ItemKind}
 use Rattle.wac_values.specs.NamedTypes.{AreAllOne, IsListedIn, IsListedWith, JoinsAlong, StayOne}
 use Rattle.wac_values.proofs.named.join_part.Given as goal

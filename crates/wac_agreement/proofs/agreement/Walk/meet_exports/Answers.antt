@@ -1,7 +1,7 @@
 use Rattle.std.proofs.Common.{◌≡◌, ◌<◌, ◌≤◌, refl, subst, List, Some, length, take, string_bytes, arith}
 use Rattle.std.specs.Prelude.{slice_get}
 use Rattle.std.proofs.lemmas.Option.{slice_get_read}
-use Rattle.wac_shapes.specs.Name.{Name}
+use Rattle.wac_primitives.specs.Name.{Name}
 use Rattle.wac_entries.specs.Nodes.{Item, type_of}
 use Rattle.wac_entries.specs.NodeViews.{listed, item_view}
 use Rattle.wac_agreement.specs.Slots.{export}

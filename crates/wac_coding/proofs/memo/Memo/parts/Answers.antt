@@ -1,4 +1,4 @@
-use Rattle.wac_shapes.specs.declared.component.PrimitiveType.TheVariants as primitive
+use Rattle.wac_primitives.specs.declared.component.PrimitiveType.TheVariants as primitive
 use Rattle.wac_shapes.specs.declared.component.ValueType.TheVariants as val
 use Rattle.wac_coding.specs.Coding.{source_tree, values_of}
 use Rattle.wac_coding.proofs.CodingGrowth.{grown_twice, right_grown}

@@ -1,6 +1,6 @@
 use Rattle.std.proofs.Common.{arith, map, ◌≢◌}
 use Rattle.wac_collection.specs.Collection.{value_types, case_values}
-use Rattle.wac_collection.specs.Tree.{absent}
+use Rattle.wac_primitives.specs.Tree.{absent}
 use Rattle.wac_subtyping.specs.Subtype.{type_tree}
 use Rattle.wac_comparison.specs.Compare.{optional_in, case_in}
 use Rattle.wac_shapes.proofs.Names.{ne-true, ne-false}

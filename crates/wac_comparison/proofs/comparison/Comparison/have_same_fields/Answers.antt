@@ -1,6 +1,6 @@
 use Rattle.std.proofs.Common.{arith, ◌≡◌, ◌∙◌, ap, sym, Some, below_more}
-use Rattle.wac_shapes.specs.Name.{Name}
-use Rattle.wac_collection.specs.Tree.{TypeTree}
+use Rattle.wac_primitives.specs.Name.{Name}
+use Rattle.wac_primitives.specs.Tree.{TypeTree}
 use Rattle.wac_comparison.specs.Compare.{value_in, entry_in}
 use Rattle.wac_shapes.proofs.Names.{ne-false}
 use Rattle.wac_comparison.proofs.Agreeing.{get_map, maps_agree}

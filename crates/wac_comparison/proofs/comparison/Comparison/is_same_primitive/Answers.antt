@@ -1,6 +1,6 @@
 use Rattle.std.proofs.Common.{◌∙◌, sym, rules}
 use denote.Enum.Bare.{same_true}
-use Rattle.wac_shapes.specs.contracts.component.PrimitiveType.{the_type}
+use Rattle.wac_primitives.specs.contracts.component.PrimitiveType.{the_type}
 use Rattle.wac_comparison.proofs.Values.{primitives_along}
 use Rattle.wac_comparison.proofs.comparison.Comparison.is_same_primitive.Goals as goal
 

@@ -1,6 +1,6 @@
 use Rattle.std.proofs.Common.{◌≡◌, List, length, subst, arith, add-one}
 use Rattle.std.proofs.lemmas.List.{take_all}
-use Rattle.wac_shapes.specs.Name.{Name}
+use Rattle.wac_primitives.specs.Name.{Name}
 use Rattle.wac_shapes.specs.declared.component.ItemKind.{ItemKind}
 use Rattle.wac_shapes.proofs.Loops.{entry_at}
 use Rattle.wac_shapes.proofs.Under.{on_ok}

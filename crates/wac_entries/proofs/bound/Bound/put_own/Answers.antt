@@ -1,7 +1,7 @@
 use Rattle.std.proofs.Common.{◌≡◌, suc, List, take, length, Some, sym, subst, ◌∙◌, arith, add-one}
 use Rattle.std.specs.Option.{option_copied}
 use Rattle.std.proofs.lemmas.List.{take_all}
-use Rattle.wac_shapes.specs.Name.{Name}
+use Rattle.wac_primitives.specs.Name.{Name}
 use Rattle.wac_shapes.specs.declared.component.ItemKind.{ItemKind}
 use Rattle.wac_shapes.proofs.Loops.{entry_at}
 use Rattle.wac_entries.specs.CalledViews.{side_view}

@@ -1,7 +1,7 @@
 use Rattle.std.proofs.Common.{◌≡◌, [], ◌∷◌, ◌++◌, Some, slice_get, length, is_some, refl, sym, ap, ◌∙◌, subst}
 use Rattle.std.specs.Option.{option_copied}
 use Rattle.std.proofs.lemmas.Option.{slice_get_read}
-use Rattle.wac_shapes.specs.Name.{Name, find_name}
+use Rattle.wac_primitives.specs.Name.{Name, find_name}
 use Rattle.wac_entries.specs.Classes.{Entry}
 use Rattle.wac_entries.specs.Numbering.{Places, class_key, key_for}
 use Rattle.wac_entries.proofs.Numbers.{seen-again, seen-new}

@@ -1,5 +1,5 @@
 use Rattle.std.proofs.Common.{lit<, ℕ, ◌<◌, arith, below_more, inr, subst, sym}
-use Rattle.wac_shapes.specs.Name.{Name}
+use Rattle.wac_primitives.specs.Name.{Name}
 use Rattle.wac_edges.specs.declared.node.NodeId.{NodeId}
 use Rattle.wac_causes.specs.Cause.{IsConflict, HasNoConflict, conflict}
 use Rattle.wac_edges.specs.Edge.{node_number}

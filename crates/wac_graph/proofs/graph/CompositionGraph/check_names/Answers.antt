@@ -1,6 +1,6 @@
 -- A refusal names the one fault of the names of the imports and exports.
 use Rattle.std.proofs.Common.{◌≡◌, List, IsTrue, ap, ◌∙◌, subst}
-use Rattle.wac_shapes.specs.Name.{Name}
+use Rattle.wac_primitives.specs.Name.{Name}
 use Rattle.wac_validation.specs.FirstFault.{IsFirstFault, IsRefusal}
 use Rattle.wac_validation.specs.Valid.{AreValid}
 use Rattle.wac_validation.specs.Views.{texts}

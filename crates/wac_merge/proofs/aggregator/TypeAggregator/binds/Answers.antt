@@ -1,6 +1,6 @@
 use Rattle.std.proofs.Common.{◌≡◌, IfSome, List, true, ap, subst, sym, ◌∙◌}
 use Rattle.std.specs.Prelude.{◌↔◌}
-use Rattle.wac_shapes.specs.Name.{option_case}
+use Rattle.wac_primitives.specs.Name.{option_case}
 use Rattle.wac_entries.specs.Bindings.{AreBindings, AreHeld}
 use Rattle.wac_entries.specs.Classes.{AreClasses, Entry, by_names}
 use Rattle.wac_terms.specs.Merge.{Merged}

@@ -1,5 +1,5 @@
 use Rattle.std.proofs.Common.{Some, None, false, not, sym, ap, ◌∙◌}
-use Rattle.wac_shapes.specs.Name.{option_case}
+use Rattle.wac_primitives.specs.Name.{option_case}
 use Rattle.wac_meaning.specs.Means.{is_import}
 use Rattle.wac_writing.proofs.EncodingLemmas.{node_is}
 use Rattle.wac_reading.specs.Inside.{fields_of}

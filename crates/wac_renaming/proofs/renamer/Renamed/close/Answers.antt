@@ -1,5 +1,5 @@
 use Rattle.std.proofs.Common.{[], ◌∷◌, Some, IsSome, refl, sym, ap, ◌∙◌, subst}
-use Rattle.wac_shapes.specs.Name.{option_case}
+use Rattle.wac_primitives.specs.Name.{option_case}
 use Rattle.wac_collection.specs.Collection.{defined_values}
 use Rattle.wac_shapes.specs.declared.component.DefinedType.TheVariants as def
 use Rattle.wac_shapes.specs.declared.component.ValueType.{ValueType}

@@ -1,4 +1,4 @@
-use Rattle.wac_shapes.specs.declared.component.PrimitiveType.TheVariants as primitive
+use Rattle.wac_primitives.specs.declared.component.PrimitiveType.TheVariants as primitive
 use Rattle.wac_shapes.specs.declared.component.ValueType.TheVariants as val
 use Rattle.wac_renaming.specs.RenamingSteps.{IsRenamedIn}
 use Rattle.wac_renaming.proofs.RenamingLoops.{parts_further}

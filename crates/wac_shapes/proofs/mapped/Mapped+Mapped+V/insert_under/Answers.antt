@@ -1,6 +1,6 @@
 use Rattle.std.proofs.Common.{◌≡◌, ◌∙◌, sym, ap, subst, Err, [], ◌∷◌, ◌++◌, IsSome}
 use Rattle.indexmap.specs.IndexMap.{set_value_at}
-use Rattle.wac_shapes.specs.Name.{find_name}
+use Rattle.wac_primitives.specs.Name.{find_name}
 use Rattle.wac_shapes.specs.Named.{by_bytes, named_at, inserted_under}
 use Rattle.wac_shapes.specs.declared.named.ShapeError.TheVariants.{NameTwice}
 use Rattle.wac_shapes.proofs.Under.{stands, some_mut, now_is, none_mapped, not_some, found_under, nothing_found, nothing_under, new_under, once_same, names_set, on_ok, on_err}

@@ -1,5 +1,5 @@
 use Rattle.std.proofs.Common.{◌∙◌, ap}
-use Rattle.wac_shapes.specs.Name.{find_name}
+use Rattle.wac_primitives.specs.Name.{find_name}
 use Rattle.wac_shapes.proofs.Names.{found-by_bytes}
 use Rattle.wac_shapes.proofs.mapped.Mapped.get.Goals as goal
 

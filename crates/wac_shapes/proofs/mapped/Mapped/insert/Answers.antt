@@ -1,6 +1,6 @@
 use Rattle.std.proofs.Common.{◌∙◌, ap, refl, ◌++◌, ◌∷◌, [], None, ◌≡◌}
 use Rattle.std.specs.String.{string_eq}
-use Rattle.wac_shapes.specs.Name.{find_name}
+use Rattle.wac_primitives.specs.Name.{find_name}
 use Rattle.wac_shapes.specs.Named.{by_bytes}
 use Rattle.wac_shapes.proofs.Names.{inserts, nothing_there}
 use Rattle.wac_shapes.proofs.mapped.Mapped.insert.Goals as goal

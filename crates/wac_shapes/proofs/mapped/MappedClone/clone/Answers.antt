@@ -1,5 +1,5 @@
 use Rattle.std.proofs.Common.{subst, List}
-use Rattle.wac_shapes.specs.Name.{Name}
+use Rattle.wac_primitives.specs.Name.{Name}
 use Rattle.wac_shapes.specs.Named.{by_bytes, AreNamedClones}
 use Rattle.wac_shapes.proofs.Clones.{bytes_cloned, once_cloned}
 use Rattle.wac_shapes.proofs.mapped.MappedClone.clone.Goals as goal

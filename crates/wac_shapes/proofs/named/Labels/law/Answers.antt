@@ -1,5 +1,5 @@
 use Rattle.std.proofs.Common.{◌∙◌, ap, sym, subst, List}
-use Rattle.wac_shapes.specs.Name.{Name}
+use Rattle.wac_primitives.specs.Name.{Name}
 use Rattle.wac_shapes.specs.Named.{NoNameTwice, labelled}
 use Rattle.wac_shapes.proofs.AsGiven.{labelled-names_of}
 use Rattle.wac_shapes.proofs.named.Labels.law.Goals as goal

@@ -1,5 +1,5 @@
 use Rattle.std.proofs.Common.{◌≡◌, ◌∙◌, ap, subst, Err, List}
-use Rattle.wac_shapes.specs.Name.{Name}
+use Rattle.wac_primitives.specs.Name.{Name}
 use Rattle.wac_shapes.specs.Named.{NoNameTwice, names_of, given_names}
 use Rattle.wac_shapes.specs.declared.named.ShapeError.TheVariants.{NameTwice}
 use Rattle.wac_shapes.proofs.AsGiven.{label_more, label_twice, all_labels, names_of-labelled}

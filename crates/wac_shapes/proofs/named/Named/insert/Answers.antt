@@ -1,5 +1,5 @@
 use Rattle.std.proofs.Common.{◌∙◌, ap, ◌++◌, ◌∷◌, [], None, ◌≡◌, string_bytes}
-use Rattle.wac_shapes.specs.Name.{find_name}
+use Rattle.wac_primitives.specs.Name.{find_name}
 use Rattle.wac_shapes.proofs.Names.{nothing_there}
 use Rattle.wac_shapes.proofs.Parts.{none_in_second, goes_first, goes_second}
 use Rattle.wac_shapes.proofs.named.Named.insert.Goals as goal

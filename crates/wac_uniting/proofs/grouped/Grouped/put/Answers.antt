@@ -2,7 +2,7 @@ use Rattle.std.proofs.Common.{ℕ, string_bytes, ◌≡◌, ◌∙◌, sym, ap, 
 use Rattle.std.specs.String.{string_eq}
 use Rattle.std.specs.Str.{bytes_eq}
 use Rattle.wac_shapes.specs.declared.component.ItemKind.{ItemKind}
-use Rattle.wac_shapes.specs.Name.{find_name, same_name}
+use Rattle.wac_primitives.specs.Name.{find_name, same_name}
 use Rattle.wac_shapes.specs.Named.{by_bytes}
 use Rattle.wac_shapes.proofs.Names.{same_name-bytes_eq, key_passes, found-by_bytes, inserts}
 use Rattle.wac_shapes.proofs.Under.{now_is, none_mapped, once_same, names_set}

@@ -1,5 +1,5 @@
 use Rattle.std.proofs.Common.{◌∙◌, take, ap, sym, add-one}
-use Rattle.wac_shapes.specs.Name.{Name}
+use Rattle.wac_primitives.specs.Name.{Name}
 use Rattle.wac_shapes.specs.declared.component.ItemKind.{ItemKind}
 use Rattle.wac_shapes.proofs.Names.{take_at}
 use Rattle.wac_uniting.specs.UnionSteps.{with_listed}

@@ -1,8 +1,8 @@
 -- A type without ids. Each resource is named by where it is bound.
 use Rattle.std.specs.Prelude.{ℕ, zero, suc, Bool, List, ◌++◌}
-use Rattle.wac_shapes.specs.declared.component.PrimitiveType.{PrimitiveType}
-use Rattle.wac_shapes.specs.Core.{CoreItem}
-use Rattle.wac_shapes.specs.Name.{Name}
+use Rattle.wac_primitives.specs.declared.component.PrimitiveType.{PrimitiveType}
+use Rattle.wac_primitives.specs.Core.{CoreItem}
+use Rattle.wac_primitives.specs.Name.{Name}
 
 pub data Side : Type 0 where
   imported : Side

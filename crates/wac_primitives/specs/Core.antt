@@ -1,7 +1,7 @@
 -- What a core module imports and exports.
 use Rattle.std.specs.Prelude.{ℕ, Bool, List, Option}
-use Rattle.wac_shapes.specs.declared.core_types.CoreType.{CoreType}
-use Rattle.wac_shapes.specs.declared.core_types.CoreRefType.{CoreRefType}
+use Rattle.wac_primitives.specs.declared.core_types.CoreType.{CoreType}
+use Rattle.wac_primitives.specs.declared.core_types.CoreRefType.{CoreRefType}
 
 -- a core item; `no_item` is what stands under a name that is not there
 pub data CoreItem : Type 0 where
