@@ -1,1 +1,2 @@
+mod DefinitionLemmas
 mod NodeLemmas

@@ -13,7 +13,7 @@ ghost use Rattle.wac_meaning.specs.Encoding.{HasRoom, index_in};
 ghost use Rattle.wac_meaning.specs.Means.{Means, is_written, is_import};
 ghost use Rattle.wac_meaning.specs.MergedImports.{merged_imports};
 ghost use Rattle.wac_meaning.specs.Writing.{WritesNode, IsArgumentItem, AreArgumentItems, Wrote, WroteAll};
-ghost use Rattle.wac_nodes.specs.Graph.{node_at, imports_of, instantiation, IsArgumentOf, IsUnsatisfied};
+ghost use Rattle.wac_nodes.specs.Graph.{node_at, imports_of, instantiation, definition, IsArgumentOf, IsUnsatisfied};
 ghost use Rattle.wac_scopes.specs.Contents.{items_of};
 ghost use Rattle.wac_scopes.specs.Rooted.{IsRightRoot};
 ghost use Rattle.wac_writing.specs.Naming.{IsNamed};
@@ -108,11 +108,31 @@ fn write_node(
     let index = match reader.kind(n) {
         NodeKind::Instantiation(_) => write_instantiation(reader, encoder, imports, n)?,
         NodeKind::Alias => reader.write_alias(encoder, imports, n)?,
-        NodeKind::Definition => reader.write_definition(encoder, imports, n)?,
+        NodeKind::Definition => write_definition(reader, encoder, imports, n)?,
         NodeKind::Import(_) => unreachable!(),
     };
     encoder.indexes[n.0] = index;
     Ok(())
+}
+
+/// Writes a definition: the types that it is made of, and the export by its first name, whose index it answers.
+fn write_definition(
+    reader: &GraphReader<'_>,
+    encoder: &mut Encoder,
+    imports: &ImportPlaces,
+    n: NodeId,
+) -> Result<u32, EncodeError>
+    requires definition { IsSomeAnd (node_at reader.now n) (λ node. node.kind ≡ definition) }
+    requires definable { AllDefinable reader.now }
+    requires right { IsRightRoot reader.now.types encoder.old.root }
+    ensures written { IfOk result (λ i. IfSome (node_at reader.now n) (λ node. WritesNode reader.now imports.now.places.items n node (index_in encoder.old.indexes.items) encoder.old.components.entries encoder.new.components.entries (items_of encoder.old.root.content) (items_of encoder.new.root.content) i)) }
+    ensures right { OnOk result (IsRightRoot reader.now.types encoder.new.root) }
+    ensures kept { encoder.new.indexes ≡ encoder.old.indexes }
+    ensures fault { IfErr result (λ e. cause_of e ≡ None) }
+{
+    let (name, ty) = reader.definition(n);
+    let index = wac_importing::write_definition(reader.types(), &mut encoder.root, name, ty)?;
+    Ok(index)
 }
 
 /// Writes an instantiation behind its package's component, and answers its index.

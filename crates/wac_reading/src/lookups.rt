@@ -1,21 +1,30 @@
-//! What is looked up of a graph's instantiations and imports.
-ghost use Rattle.std.specs.Prelude.{◌≡◌, IsSome, IsSomeAnd, IfSome, Some, ◌∷◌, [], MatchOption, slice_get, false};
+//! What is looked up of a graph's instantiations, imports and definitions.
+ghost use Rattle.std.specs.Prelude.{◌≡◌, IsSome, IsSomeAnd, IfSome, Some, ◌∷◌, [], MatchOption, slice_get, true, false};
+ghost use Rattle.wac_collection.specs.Collection.{holds_type};
 ghost use Rattle.wac_edges.specs.Edge.{node_number};
 ghost use Rattle.wac_nodes.specs.Graph.{node_at, package_at, imports_of, instantiation, package_in, definition};
 ghost use Rattle.wac_nodes.specs.Imports.{node_rows};
 ghost use Rattle.wac_nodes.specs.Nodes.{kind_of};
 ghost use Rattle.std.specs.Option.{option_copied};
 ghost use Rattle.wac_edges.specs.declared.node.NodeId.{NodeId as AnId};
+ghost use Rattle.wac_shapes.specs.declared.component.ItemKind.TheVariants.{TypeItem};
 
 use crate::reader::GraphReader;
 use std::alloc::Global;
 use wac_nodes::{NodeId, NodeKind, PackageId, Slot};
-use wac_types::{ItemKind, Named, Package};
+use wac_types::{ItemKind, Named, Package, Type, Types};
 
 impl<'a> GraphReader<'a> {
     /// What memory is asked of.
     pub fn allocator(&self) -> Global {
         self.alloc
+    }
+
+    /// The collection of types.
+    pub fn types(&self) -> &'a Types
+        ensures { result.now ≡ self.now.types }
+    {
+        self.types
     }
 
     /// The kind of a node.
@@ -65,6 +74,22 @@ impl<'a> GraphReader<'a> {
         let node = self.nodes.get(n)?;
         let name = node.import_name()?;
         Some((name, node.item_kind))
+    }
+
+    /// The first name of a definition, and the type that it defines.
+    pub fn definition(&self, n: NodeId) -> (&'a str, Type)
+        requires { IsSomeAnd (node_at self.now n) (λ node. node.kind ≡ definition) }
+        ensures held { holds_type self.now.types result.1 ≡ true }
+        ensures defined { IfSome (node_at self.now n) (λ node. (node.item_kind ≡ TypeItem result.1) × (node.first_name ≡ Some result.0.now)) }
+    {
+        let node = &self.nodes[n.0];
+        let ItemKind::TypeItem(ty) = node.item_kind else {
+            unreachable!()
+        };
+        let Some(name) = &node.first_name else {
+            unreachable!()
+        };
+        (name.as_str(), ty)
     }
 
     /// Whether a node is a definition. Each has a first name, by which it is exported, so exports tell it.

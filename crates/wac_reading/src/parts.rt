@@ -1,15 +1,14 @@
-//! The parts that are written of a graph: where its imports stand, an alias, a definition, the exports, and what is named.
+//! The parts that are written of a graph: where its imports stand, an alias, the exports, and what is named.
 ghost use Rattle.std.specs.Prelude.{◌≡◌, ◌++◌, ℕ, IsSomeAnd, false, OnOk, IfOk, IfErr, IfSome, None, List, map};
 ghost use Rattle.wac_binary.specs.declared.sorts.Sort.{Sort as ASort};
 ghost use Rattle.wac_causes.specs.Cause.{cause_of};
-ghost use Rattle.wac_causes.specs.NotYet.{AllDefinable};
 ghost use Rattle.wac_edges.specs.Edge.{node_number};
 ghost use Rattle.wac_edges.specs.declared.node.NodeId.{NodeId as AnId};
 ghost use Rattle.wac_meaning.specs.Encoding.{HasRoom, index_in};
 ghost use Rattle.wac_meaning.specs.Means.{sort_of_kind, custom_item, name_customs, AreNames, processor_customs, export_item_of, further_exports};
 ghost use Rattle.wac_meaning.specs.MergedImports.{IsFoundAt};
 ghost use Rattle.wac_meaning.specs.Writing.{WritesNode};
-ghost use Rattle.wac_nodes.specs.Graph.{node_at, definition, alias, import};
+ghost use Rattle.wac_nodes.specs.Graph.{node_at, alias, import};
 ghost use Rattle.wac_scopes.specs.Contents.{items_of};
 ghost use Rattle.wac_scopes.specs.Rooted.{IsRightRoot};
 ghost use Rattle.wac_primitives.specs.Name.{Name as AName};
@@ -23,7 +22,6 @@ use crate::reader::GraphReader;
 use std::alloc::{AllocError, Global};
 use wac_builder::{ComponentBuilder, component_names, producers};
 use wac_causes::EncodeError;
-use wac_importing::write_definition;
 use wac_merge::laws::{class_laws, order_law};
 use wac_nodes::{NodeId, Processor};
 use wac_scopes::rooted_law;
@@ -87,31 +85,6 @@ impl<'a> GraphReader<'a> {
         let sort = sort_of(self.nodes[n.0].item_kind);
         let instance = encoder.indexes[source.0];
         Ok(encoder.root.alias_export(sort, instance, name)?)
-    }
-
-    /// Writes a definition: the types that it is made of, and the export by its first name, whose index it answers.
-    pub fn write_definition(
-        &self,
-        encoder: &mut Encoder,
-        imports: &ImportPlaces,
-        n: NodeId,
-    ) -> Result<u32, EncodeError>
-        requires definition { IsSomeAnd (node_at self.now n) (λ node. node.kind ≡ definition) }
-        requires definable { AllDefinable self.now }
-        requires right { IsRightRoot self.now.types encoder.old.root }
-        ensures written { IfOk result (λ i. IfSome (node_at self.now n) (λ node. WritesNode self.now imports.now.places.items n node (index_in encoder.old.indexes.items) encoder.old.components.entries encoder.new.components.entries (items_of encoder.old.root.content) (items_of encoder.new.root.content) i)) }
-        ensures right { OnOk result (IsRightRoot self.now.types encoder.new.root) }
-        ensures kept { encoder.new.indexes ≡ encoder.old.indexes }
-        ensures fault { IfErr result (λ e. cause_of e ≡ None) }
-    {
-        let node = &self.nodes[n.0];
-        let ItemKind::TypeItem(ty) = node.item_kind else {
-            unreachable!()
-        };
-        let Some(name) = &node.first_name else {
-            unreachable!()
-        };
-        Ok(write_definition(&self.types, &mut encoder.root, name.as_str(), ty)?)
     }
 
     /// Writes the graph's exports by other names than definitions' first ones, in its order.

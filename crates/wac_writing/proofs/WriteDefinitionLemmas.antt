@@ -57,13 +57,3 @@ module _ (a : Fields) (v : Invariant a) (n : ℕ) (node : Node) (had : get a.nod
   module _ (t : AnyType) (typed : node.item_kind ≡ TypeItem t) where
     pub type_held : holds_type a.types t ≡ true
     type_held = subst (λ k. holds_type a.types (kind_type k) ≡ true) typed (item_held a v n node had)
-
-    pub type_definable : (g : Graph) → graph_of a ≡ g → AllDefinable g → IsDefinableKind a.types (TypeItem t)
-    type_definable g view all = subst (IsDefinableKind a.types) typed (subst AllDefinable (sym view) all (node_number n) (node_of node) (node_is a n (Some node) had) defined)
-
-    pub definition_added : (places : Places) (name : String Global) (text : Name) → node.first_name ≡ Some name → text ≡ string_bytes name → (f : NodeId → ℕ) (components : List (PackageId × ℕ)) (items mid items' : List Item) (k i : ℕ)
-        → WritesType (definition_tree a.types t) items mid k → items' ≡ mid ++ export_item text sort.«Type» k ∷ [] → i ≡ indexes (space sort.«Type») mid
-        → IfSome (node_at (graph_of a) (node_number n)) (λ x. WritesNode (graph_of a) places (node_number n) x f components components items items' i)
-    definition_added places name text first is f components items mid items' k i writes exported counted =
-        if_node a n node (λ x. WritesNode (graph_of a) places (node_number n) x f components components items items' i) had
-        (writes_definition t text k mid defined typed (ap (option_map string_bytes) first ∙ ap Some (sym is)) (λ j. components) writes exported counted)

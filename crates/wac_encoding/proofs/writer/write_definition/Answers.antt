@@ -1,0 +1,32 @@
+use Rattle.std.proofs.Common.{◌≡◌, true, sym, subst}
+use Rattle.wac_collection.specs.Collection.{Collection, holds_type}
+use Rattle.wac_meaning.specs.Definition.{definition_tree}
+use Rattle.wac_meaning.specs.Encoding.{index_in}
+use Rattle.wac_meaning.specs.Importable.{IsDefinableKind}
+use Rattle.wac_meaning.specs.Writing.{WritesType}
+use Rattle.wac_shapes.specs.declared.component.ItemKind.TheVariants.{TypeItem}
+use Rattle.wac_scopes.specs.Contents.{items_of}
+use Rattle.wac_scopes.specs.Rooted.{IsRightRoot}
+use Rattle.wac_encoding.proofs.DefinitionLemmas.{definable, written}
+use Rattle.wac_encoding.proofs.writer.write_definition.Goals as goal
+
+pub write_definition-requires-clause-held : goal.write_definition-requires-clause-held
+write_definition-requires-clause-held c = subst (λ (t : Collection). holds_type t c.definition.result.1 ≡ true) (sym c.types.ensures) c.definition.ensures.held
+
+pub write_definition-requires-clause-definable : goal.write_definition-requires-clause-definable
+write_definition-requires-clause-definable c =
+    subst (λ (t : Collection). IsDefinableKind t (TypeItem c.definition.result.1)) (sym c.types.ensures)
+    (definable c.args.reader.now c.args.n c.definition.result.1 c.definition.result.0.now c.requires.definition c.definition.ensures.defined c.requires.definable)
+
+pub write_definition-requires-clause-right : goal.write_definition-requires-clause-right
+write_definition-requires-clause-right c = subst (λ (t : Collection). IsRightRoot t c.args.encoder.now.root) (sym c.types.ensures) c.requires.right
+
+pub returns-clause-written : goal.returns-clause-written
+returns-clause-written c =
+    let w = c.in_ok-write_definition.ensures.written in
+    written c.args.reader.now c.args.n c.definition.result.1 c.definition.result.0.now c.requires.definition c.definition.ensures.defined c.args.imports.now.places.items
+    (index_in c.args.encoder.now.indexes.items) c.args.encoder.now.components.entries (items_of c.args.encoder.now.root.content) w.mid (items_of c.write_definition.new.root.content) w.k c.in_ok-write_definition.field-0
+    (subst (λ (t : Collection). WritesType (definition_tree t c.definition.result.1) (items_of c.args.encoder.now.root.content) w.mid w.k) c.types.ensures w.writes) w.exported w.index
+
+pub returns-clause-right : goal.returns-clause-right
+returns-clause-right c = subst (λ (t : Collection). IsRightRoot t c.write_definition.new.root) c.types.ensures c.in_ok-write_definition.ensures.right
