@@ -17,7 +17,7 @@ ghost use Rattle.wac_nodes.specs.Graph.{node_at, imports_of, instantiation, defi
 ghost use Rattle.wac_scopes.specs.Contents.{items_of};
 ghost use Rattle.wac_scopes.specs.Rooted.{IsRightRoot};
 ghost use Rattle.wac_writing.specs.Naming.{IsNamed};
-ghost use Rattle.wac_writing.specs.Places.{ArePlaced};
+ghost use Rattle.wac_places.specs.Places.{ArePlaced};
 ghost use Rattle.wac_reading.specs.EncoderView.{progress};
 
 use std::alloc::AllocError;
@@ -25,9 +25,9 @@ use wac_builder::{ComponentBuilder, Sort};
 use wac_causes::EncodeError;
 use wac_merge::laws::{class_laws, order_law};
 use wac_nodes::{EncodeOptions, NodeId, NodeKind};
+use wac_places::{ImportPlaces, import_indexes};
 use wac_reading::{Encoder, GraphReader, sort_of, write_processor};
 use wac_scopes::rooted_law;
-use wac_writing::ImportPlaces;
 
 /// The bytes of one component that is what the graph composes, behind items that import what it asks for: these nodes in
 /// order, which are those that are no imports, the exports, the names of nodes where any is named, and the processor.
@@ -54,7 +54,7 @@ pub fn write(
     class_laws();
     order_law();
     reader.law();
-    let indexes = reader.import_indexes(imports)?;
+    let indexes = import_indexes(reader, imports)?;
     let mut encoder = Encoder::new(reader.allocator(), root, indexes);
     write_nodes(reader, &mut encoder, imports, order)?;
     let (mut component, indexes) = encoder.finish();
@@ -107,7 +107,7 @@ fn write_node(
 {
     let index = match reader.kind(n) {
         NodeKind::Instantiation(_) => write_instantiation(reader, encoder, imports, n)?,
-        NodeKind::Alias => reader.write_alias(encoder, imports, n)?,
+        NodeKind::Alias => reader.write_alias(encoder, n)?,
         NodeKind::Definition => write_definition(reader, encoder, imports, n)?,
         NodeKind::Import(_) => unreachable!(),
     };

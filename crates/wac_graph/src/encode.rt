@@ -5,7 +5,7 @@ ghost use Rattle.wac_binary.specs.Items.{Item as AnItem};
 ghost use Rattle.wac_meaning.specs.Means.{Means};
 ghost use Rattle.wac_meaning.specs.Beginning.{Begins};
 ghost use Rattle.wac_meaning.specs.MergedImports.{merged_imports};
-ghost use Rattle.wac_writing.specs.Places.{IsMergedFor, ArePlaced};
+ghost use Rattle.wac_places.specs.Places.{IsMergedFor, ArePlaced};
 ghost use Rattle.std.specs.Result.{IsErrAnd};
 ghost use Rattle.wac_causes.specs.Cause.{AnswersFor, Cause, cause_of, HasMerge, HasNoConflict, Stands};
 ghost use Rattle.wac_causes.specs.OuterNames.{export_names, import_names};
@@ -24,7 +24,7 @@ use wac_importing::WrittenImports;
 use wac_merge::TypeAggregator;
 use wac_merge::laws::{class_laws, fault_law, order_law};
 use wac_nodes::EncodeOptions;
-use wac_writing::ImportPlaces;
+use wac_places::ImportPlaces;
 
 impl CompositionGraph {
     /// The bytes of one component that is what the graph composes: its imports, packages, instances, aliases, definitions and

@@ -9,7 +9,7 @@ ghost use Rattle.wac_nodes.specs.Entries.{asked_entries, to_merge};
 ghost use Rattle.wac_asking.specs.EntriesLeft.{entry_view, IsHeldKind};
 ghost use Rattle.wac_edges.specs.Order.{IsAcyclic};
 ghost use Rattle.wac_causes.specs.Search.{IsRefused};
-ghost use Rattle.wac_writing.specs.Places.{IsMergedFor};
+ghost use Rattle.wac_places.specs.Places.{IsMergedFor};
 ghost use Rattle.wac_nodes.specs.declared.options.EncodeOptions.{EncodeOptions as Asked};
 
 use crate::graph::CompositionGraph;
@@ -19,8 +19,8 @@ use wac_causes::EncodeError;
 use wac_merge::laws::listed_law;
 use wac_merge::{MergeFault, TypeAggregator};
 use wac_nodes::NodeId;
+use wac_places::exports_law;
 use wac_types::Types;
-use wac_writing::exports_law;
 
 impl CompositionGraph {
     /// The merge of all that the graph asks for, and what that is. Refuses a graph that asks for what cannot be merged.

@@ -4,15 +4,15 @@ ghost use Rattle.wac_causes.specs.OuterNames.{written_exports};
 ghost use Rattle.wac_causes.specs.Search.{NamesFault};
 ghost use Rattle.wac_validation.specs.FirstFault.{Fault, IsFirstFault};
 ghost use Rattle.wac_validation.specs.Valid.{AreValid};
-ghost use Rattle.wac_writing.specs.Places.{names_of};
+ghost use Rattle.wac_places.specs.Places.{names_of};
 
 use crate::graph::CompositionGraph;
 use std::alloc::AllocError;
 use wac_causes::EncodeError;
 use wac_merge::TypeAggregator;
 use wac_nodes::NodeId;
+use wac_places::import_names;
 use wac_validation::{one_answer, validate};
-use wac_writing::import_names;
 
 impl CompositionGraph {
     /// Refuses, where it is asked for, imports and exports whose names may not stand together, with the first fault.

@@ -4,7 +4,7 @@ ghost use Rattle.wac_causes.specs.NotYet.{AllImportable};
 ghost use Rattle.wac_causes.specs.declared.errors.EncodeError.TheVariants as error;
 ghost use Rattle.wac_meaning.specs.Beginning.{Begins};
 ghost use Rattle.wac_meaning.specs.MergedImports.{merged_imports, AreOfSorts};
-ghost use Rattle.wac_writing.specs.Places.{IsMergedFor};
+ghost use Rattle.wac_places.specs.Places.{IsMergedFor};
 
 use crate::graph::CompositionGraph;
 use wac_causes::EncodeError;

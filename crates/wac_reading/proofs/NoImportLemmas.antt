@@ -1,4 +1,4 @@
--- Where nothing is imported no node is an import, and none is looked up.
+-- Where nothing is imported no node is an import.
 use Rattle.std.proofs.Common.{◌≡◌, ℕ, List, [], ◌∷◌, None, Some, Option, ap, length, subst, sym}
 use Rattle.std.specs.Prelude.{IsSomeAnd}
 use Rattle.wac_primitives.specs.Name.{Name, find_name}
@@ -6,8 +6,6 @@ use Rattle.wac_edges.specs.declared.node.NodeId.{NodeId}
 use Rattle.wac_nodes.specs.Graph as graph
 use Rattle.wac_nodes.specs.Graph.{IsImportOf}
 use Rattle.wac_nodes.specs.Nodes.{names_of}
-use Rattle.wac_writing.specs.Places.{AreFound}
-use Rattle.wac_writing.specs.declared.places.ImportPlaces.{ImportPlaces}
 use Rattle.wac_fields.specs.Fields.{Fields, graph_of, Invariant}
 
 none_of : {A : Type 0} (xs : List A) → length xs ≡ 0 → xs ≡ []
@@ -19,7 +17,3 @@ pub no_import : (a : Fields) → Invariant a → length a.imports.entries ≡ 0 
 no_import a v none name n is = nothing (find_name (names_of a.imports.entries) name) (ap (λ es. find_name (names_of es) name) (none_of a.imports.entries none)) (v.named name n is) where
   nothing : (o : Option NodeId) → o ≡ None → o ≡ Some n → ⊥
   nothing o p q = cc
-
--- so each has the index of its import, whatever the indexes are
-pub none_found : (a : Fields) → Invariant a → length a.imports.entries ≡ 0 → (p : ImportPlaces) (indexes : List ℕ) → AreFound (graph_of a) p indexes
-none_found a v none p indexes n node name at is = absurd (no_import a v none name n (subst (λ o. IsSomeAnd o (λ x. x.kind ≡ graph.import name)) (sym at) is))

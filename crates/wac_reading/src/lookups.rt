@@ -1,12 +1,13 @@
 //! What is looked up of a graph's instantiations, imports and definitions.
-ghost use Rattle.std.specs.Prelude.{◌≡◌, IsSome, IsSomeAnd, IfSome, Some, ◌∷◌, [], MatchOption, slice_get, true, false};
+ghost use Rattle.std.specs.Prelude.{◌≡◌, ◌<◌, IsSome, IsSomeAnd, IfSome, Some, ◌∷◌, [], MatchOption, slice_get, true, false};
 ghost use Rattle.wac_collection.specs.Collection.{holds_type};
 ghost use Rattle.wac_edges.specs.Edge.{node_number};
-ghost use Rattle.wac_nodes.specs.Graph.{node_at, package_at, imports_of, instantiation, package_in, definition};
+ghost use Rattle.wac_nodes.specs.Graph.{node_at, package_at, imports_of, instantiation, package_in, definition, IsImportOf};
 ghost use Rattle.wac_nodes.specs.Imports.{node_rows};
 ghost use Rattle.wac_nodes.specs.Nodes.{kind_of};
 ghost use Rattle.std.specs.Option.{option_copied};
 ghost use Rattle.wac_edges.specs.declared.node.NodeId.{NodeId as AnId};
+ghost use Rattle.wac_primitives.specs.Name.{Name as AName};
 ghost use Rattle.wac_shapes.specs.declared.component.ItemKind.TheVariants.{TypeItem};
 
 use crate::reader::GraphReader;
@@ -65,6 +66,20 @@ impl<'a> GraphReader<'a> {
     {
         let (_, package) = self.package_of(n);
         &self.types[package.ty()].imports
+    }
+
+    /// A number above those of all nodes.
+    pub fn capacity(&self) -> usize
+        ensures { (n : AnId) → IsSome (node_at self.now n) → n.0 < result }
+    {
+        self.nodes.capacity()
+    }
+
+    /// Whether no node is an import. Each stands under its name among the imports, so these tell it.
+    pub fn imports_nothing(&self) -> bool
+        ensures { result ≡ true → (name : AName) (n : AnId) → IsImportOf self.now name n → ⊥ }
+    {
+        self.imports.is_empty()
     }
 
     /// The name and the kind of the node of this number, where it is an import node.

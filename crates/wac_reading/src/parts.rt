@@ -1,19 +1,17 @@
-//! The parts that are written of a graph: where its imports stand, an alias, the exports, and what is named.
+//! The parts that are written of a graph: an alias, the exports, and what is named.
 ghost use Rattle.std.specs.Prelude.{◌≡◌, ◌++◌, ℕ, IsSomeAnd, false, OnOk, IfOk, IfErr, IfSome, None, List, map};
 ghost use Rattle.wac_binary.specs.declared.sorts.Sort.{Sort as ASort};
 ghost use Rattle.wac_causes.specs.Cause.{cause_of};
-ghost use Rattle.wac_edges.specs.Edge.{node_number};
 ghost use Rattle.wac_edges.specs.declared.node.NodeId.{NodeId as AnId};
+ghost use Rattle.wac_meaning.specs.Beginning.{Places};
 ghost use Rattle.wac_meaning.specs.Encoding.{HasRoom, index_in};
 ghost use Rattle.wac_meaning.specs.Means.{sort_of_kind, custom_item, name_customs, AreNames, processor_customs, export_item_of, further_exports};
-ghost use Rattle.wac_meaning.specs.MergedImports.{IsFoundAt};
 ghost use Rattle.wac_meaning.specs.Writing.{WritesNode};
-ghost use Rattle.wac_nodes.specs.Graph.{node_at, alias, import};
+ghost use Rattle.wac_nodes.specs.Graph.{node_at, alias};
 ghost use Rattle.wac_scopes.specs.Contents.{items_of};
 ghost use Rattle.wac_scopes.specs.Rooted.{IsRightRoot};
 ghost use Rattle.wac_primitives.specs.Name.{Name as AName};
 ghost use Rattle.wac_writing.specs.Naming.{IsNamed};
-ghost use Rattle.wac_writing.specs.Places.{ArePlaced, AreFound};
 ghost use Rattle.std.specs.List.{flat_map};
 ghost use Rattle.wac_writing.specs.Further.{further_at};
 
@@ -22,54 +20,17 @@ use crate::reader::GraphReader;
 use std::alloc::{AllocError, Global};
 use wac_builder::{ComponentBuilder, component_names, producers};
 use wac_causes::EncodeError;
-use wac_merge::laws::{class_laws, order_law};
 use wac_nodes::{NodeId, Processor};
 use wac_scopes::rooted_law;
 use wac_types::ItemKind;
-use wac_writing::ImportPlaces;
 
 impl<'a> GraphReader<'a> {
-    /// At each import node's number the index of its import.
-    pub fn import_indexes(&self, imports: &ImportPlaces) -> Result<Vec<u32>, AllocError>
-        requires { ArePlaced self.now imports.now }
-        ensures room { IfOk result (λ v. HasRoom self.now v.items) }
-        ensures found { IfOk result (λ v. AreFound self.now imports.now v.items) }
-    {
-        if self.imports.is_empty() {
-            let zeros = vec![in self.alloc; 0; self.nodes.capacity()]?;
-            return Ok(zeros);
-        }
-        let mut indexes = Vec::new(self.alloc);
-        for n in 0..self.nodes.capacity() {
-            indexes.push(self.import_index(imports, n))?;
-        }
-        Ok(indexes)
-    }
-
-    /// The index of the import of an import node; zero of any other number.
-    fn import_index(&self, imports: &ImportPlaces, n: usize) -> u32
-        requires { ArePlaced self.now imports.now }
-        ensures { IfSome (node_at self.now (node_number n)) (λ node. (name : AName) → node.kind ≡ import name → IsFoundAt self.now imports.now.merge.merge imports.now.places.items name (sort_of_kind node.item_kind) result) }
-    {
-        class_laws();
-        order_law();
-        match self.import_node_at(n) {
-            Some((name, _)) => imports.place_of(name).1,
-            None => 0,
-        }
-    }
-
     /// Writes an alias, and answers its index.
-    pub fn write_alias(
-        &self,
-        encoder: &mut Encoder,
-        imports: &ImportPlaces,
-        n: NodeId,
-    ) -> Result<u32, EncodeError>
+    pub fn write_alias(&self, encoder: &mut Encoder, n: NodeId) -> Result<u32, EncodeError>
         requires alias { IsSomeAnd (node_at self.now n) (λ node. node.kind ≡ alias) }
         requires right { IsRightRoot self.now.types encoder.old.root }
         requires room { HasRoom self.now encoder.old.indexes.items }
-        ensures written { IfOk result (λ i. IfSome (node_at self.now n) (λ node. WritesNode self.now imports.now.places.items n node (index_in encoder.old.indexes.items) encoder.old.components.entries encoder.new.components.entries (items_of encoder.old.root.content) (items_of encoder.new.root.content) i)) }
+        ensures written { IfOk result (λ i. (places : Places) → IfSome (node_at self.now n) (λ node. WritesNode self.now places n node (index_in encoder.old.indexes.items) encoder.old.components.entries encoder.new.components.entries (items_of encoder.old.root.content) (items_of encoder.new.root.content) i)) }
         ensures right { OnOk result (IsRightRoot self.now.types encoder.new.root) }
         ensures kept { encoder.new.indexes ≡ encoder.old.indexes }
         ensures fault { IfErr result (λ e. cause_of e ≡ None) }

@@ -29,7 +29,6 @@ use Rattle.wac_scopes.specs.declared.fault.WriteFault.{WriteFault}
 use Rattle.wac_writable.specs.Faults.{IsLowest}
 use Rattle.wac_writable.proofs.Lowest.{one_lowest}
 use Rattle.wac_writing.specs.Refused.{IsRefusedBefore}
-use Rattle.wac_writing.proofs.OuterLemmas.{nothing_left}
 use Rattle.wac_causes.proofs.StandsLemmas.{stands_cycle, stands_unwritable, stands_not_yet, same_kind, none_there, invalid_alone}
 use Rattle.wac_causes.specs.OuterNames.{IsOuterFault}
 use Rattle.wac_validation.specs.FirstFault as names
@@ -276,6 +275,15 @@ begun_refused g sound law o acyclic apart merges types e (inr (none, written)) c
 pub binary_nameless : (e : BinaryFault) → cause_of (encode_error e) ≡ None
 binary_nameless binary.TooLarge = refl
 binary_nameless binary.OutOfMemory = refl
+
+-- where all is importable, all definitions are definable, and components are defined, nothing is left for later
+pub nothing_left : (g : Graph) → AllImportable g → AllDefinable g → (o : EncodeOptions) → o.define_components ≡ true → IsNotYet g o → ⊥
+nothing_left g all types o define (unwritten not) = not all
+nothing_left g all types o define (undefined_type not) = not types
+nothing_left g all types o define (undefined_components is) = clash o.define_components define is where
+  clash : (b : Bool) → b ≡ true → b ≡ false → ⊥
+  clash true _ h = cc
+  clash false h _ = cc
 
 -- a refusal of the imports' writer is for want of memory, or of room where all can be written
 pub begin_refused : (g : Graph) → AllDefinable g → (o : EncodeOptions) → o.define_components ≡ true → (e : EncodeError) → (e ≡ error.OutOfMemory) ⊎ ((e ≡ error.TooLarge) × AllImportable g) → IsRefusedBefore g o e

@@ -1,6 +1,4 @@
 pub mod ImportableLemmas
-pub mod PlaceLemmas
-pub mod OuterLemmas
 pub mod ComponentLemmas
 pub mod CauseLemmas
 pub mod EncodingLemmas
@@ -10,11 +8,9 @@ pub mod ImportRows
 pub mod AskingWalk
 pub mod AskedHeld
 pub mod WantedLemmas
-pub mod MergeLemmas
 pub mod ConflictLemmas
 pub mod WriteAliasLemmas
 pub mod WriteArgumentsLemmas
 pub mod NamingLemmas
-pub mod OuterNameLemmas
 pub mod FurtherRows
 pub mod WriteDefinitionLemmas

@@ -1,4 +1,3 @@
-pub mod Places
 pub mod Refused
 pub mod Naming
 pub mod Further

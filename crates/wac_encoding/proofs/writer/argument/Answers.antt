@@ -1,7 +1,7 @@
 use Rattle.wac_edges.specs.Edge.{argument_edge}
 use Rattle.wac_nodes.specs.Graph.{IsArgumentOf, IsUnsatisfied}
 use Rattle.wac_writing.proofs.MeansLemmas.{when_some, when_none}
-use Rattle.wac_writing.proofs.WriteArgumentsLemmas.{unset_imported, unset_argument}
+use Rattle.wac_places.proofs.FoundLemmas.{unset_imported, unset_argument}
 use Rattle.wac_encoding.proofs.NodeLemmas.{set_argument}
 use Rattle.wac_encoding.proofs.writer.argument.Goals as goal
 

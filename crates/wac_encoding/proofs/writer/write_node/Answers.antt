@@ -27,6 +27,6 @@ unreachable-requires c = no_import c.args.reader.now c.args.n c.kind.result.now 
 pub returns-clause-written : goal.returns-clause-written
 returns-clause-written c = elim c.match-kind.branch [
   | in-Instantiation+in_ok-index-in-Instantiation w ↦ noted c.args.reader.now c.args.imports.now.places.items c.args.n.0 (progress c.args.encoder.now) (progress w.write_instantiation.new.encoder) (progress c.match-kind.encoder) _ c.match-kind.index (ap progress w.encoder-is) w.index-is w.in_ok-index-in-Instantiation.ensures.written (ap (λ v. v.items) w.in_ok-index-in-Instantiation.ensures.kept)
-  | in-Alias+in_ok-index-in-Alias w ↦ noted c.args.reader.now c.args.imports.now.places.items c.args.n.0 (progress c.args.encoder.now) (progress w.write_alias.new.encoder) (progress c.match-kind.encoder) _ c.match-kind.index (ap progress w.encoder-is) w.index-is w.in_ok-index-in-Alias.ensures.written (ap (λ v. v.items) w.in_ok-index-in-Alias.ensures.kept)
+  | in-Alias+in_ok-index-in-Alias w ↦ noted c.args.reader.now c.args.imports.now.places.items c.args.n.0 (progress c.args.encoder.now) (progress w.write_alias.new.encoder) (progress c.match-kind.encoder) _ c.match-kind.index (ap progress w.encoder-is) w.index-is (w.in_ok-index-in-Alias.ensures.written c.args.imports.now.places.items) (ap (λ v. v.items) w.in_ok-index-in-Alias.ensures.kept)
   | in-Definition+in_ok-index-in-Definition w ↦ noted c.args.reader.now c.args.imports.now.places.items c.args.n.0 (progress c.args.encoder.now) (progress w.write_definition.new.encoder) (progress c.match-kind.encoder) _ c.match-kind.index (ap progress w.encoder-is) w.index-is w.in_ok-index-in-Definition.ensures.written (ap (λ v. v.items) w.in_ok-index-in-Definition.ensures.kept)
 ]

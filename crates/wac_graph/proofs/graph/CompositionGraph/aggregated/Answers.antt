@@ -4,7 +4,7 @@ use Rattle.wac_collection.specs.Collection.{Collection}
 use Rattle.wac_nodes.specs.Asked.{Entry}
 use Rattle.wac_asking.specs.EntriesLeft.{entry_view, IsHeldKind}
 use Rattle.wac_nodes.specs.Graph.{Graph}
-use Rattle.wac_writing.proofs.MergeLemmas.{all_index}
+use Rattle.wac_places.proofs.MergeLemmas.{all_index}
 use Rattle.wac_graph.proofs.graph.CompositionGraph.aggregated.Goals as goal
 
 pub aggregate-requires : goal.aggregate-requires

@@ -7,9 +7,9 @@ use Rattle.wac_validation.specs.Views.{texts}
 use Rattle.wac_causes.specs.Faults.{validation_failure}
 use Rattle.wac_causes.specs.OuterNames.{written_exports}
 use Rattle.wac_causes.specs.Search.{NamesFault}
-use Rattle.wac_writing.specs.Places.{names_of}
+use Rattle.wac_places.specs.Places.{names_of}
 use Rattle.wac_writing.proofs.CauseLemmas.{exit_cause}
-use Rattle.wac_writing.proofs.OuterNameLemmas.{refusal_names, entry_names}
+use Rattle.wac_places.proofs.OuterNameLemmas.{refusal_names, entry_names}
 use Rattle.wac_graph.proofs.graph.CompositionGraph.check_names.Goals as goal
 
 pub returns-in_err-validate-clause-fault : goal.returns-in_err-validate-clause-fault

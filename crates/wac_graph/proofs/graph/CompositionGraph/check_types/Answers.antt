@@ -13,7 +13,7 @@ use Rattle.wac_writable.specs.Faults.{IsLowest}
 use Rattle.wac_causes.specs.TypeFaults.{wanted_entries, IsEntryFault}
 use Rattle.wac_writing.proofs.AskedHeld.{held_wanted}
 use Rattle.wac_writing.proofs.CauseLemmas.{at_type_fault}
-use Rattle.wac_writing.proofs.MergeLemmas.{all_slice}
+use Rattle.wac_places.proofs.MergeLemmas.{all_slice}
 use Rattle.wac_writing.proofs.WantedLemmas.{none_before_next, first_fault}
 use Rattle.wac_graph.proofs.graph.CompositionGraph.check_types.Goals as goal
 

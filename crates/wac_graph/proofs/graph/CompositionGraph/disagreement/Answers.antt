@@ -5,7 +5,7 @@ use Rattle.wac_nodes.specs.Asked.{Entry}
 use Rattle.wac_nodes.specs.Entries.{asked_entries}
 use Rattle.wac_asking.specs.EntriesLeft.{entry_view}
 use Rattle.wac_edges.specs.Edge.{node_number}
-use Rattle.wac_writing.proofs.MergeLemmas.{entry_at, explicit_refused, implicit_refused, index_there, mapped_within}
+use Rattle.wac_places.proofs.MergeLemmas.{entry_at, explicit_refused, implicit_refused, index_there, mapped_within}
 use Rattle.wac_graph.proofs.graph.CompositionGraph.disagreement.Goals as goal
 
 pub returns-then-is_some : goal.returns-then-is_some

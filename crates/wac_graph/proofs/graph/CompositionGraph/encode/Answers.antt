@@ -6,9 +6,9 @@ use Rattle.wac_causes.specs.NotYet.{AllDefinable}
 use Rattle.wac_causes.specs.Search.{IsRefused}
 use Rattle.wac_edges.specs.Order.{Writes, IsAcyclic}
 use Rattle.wac_meaning.specs.Means.{Means, is_written}
-use Rattle.wac_writing.specs.Places.{ArePlaced}
+use Rattle.wac_places.specs.Places.{ArePlaced}
 use Rattle.wac_writing.proofs.CauseLemmas.{names_cause, refused_for, begun_cause, begun_refused, none_stands, nameless_answers, exit_cause, exit_refused}
-use Rattle.wac_writing.proofs.OuterNameLemmas.{items_valid, names_valid, fault_stands, fault_answers}
+use Rattle.wac_places.proofs.OuterNameLemmas.{items_valid, names_valid, fault_stands, fault_answers}
 use Rattle.wac_graph.proofs.graph.CompositionGraph.encode.Goals as goal
 
 pub returns-in_err-order-clause-cause : goal.returns-in_err-order-clause-cause

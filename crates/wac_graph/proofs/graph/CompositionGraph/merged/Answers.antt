@@ -15,7 +15,7 @@ use Rattle.wac_nodes.specs.Entries.{asked_entries, to_merge}
 use Rattle.wac_asking.specs.EntriesLeft.{entry_view, IsHeldKind}
 use Rattle.wac_nodes.specs.Graph.{Graph}
 use Rattle.wac_writing.proofs.AskedHeld.{held_entries}
-use Rattle.wac_writing.proofs.MergeLemmas.{is_fault, merge_held}
+use Rattle.wac_places.proofs.MergeLemmas.{is_fault, merge_held}
 use Rattle.wac_graph.proofs.graph.CompositionGraph.merged.Goals as goal
 
 pub aggregated-requires : goal.aggregated-requires

@@ -15,10 +15,10 @@ use Rattle.wac_nodes.specs.OuterImports.{outer_entries}
 use Rattle.wac_meaning.proofs.MergeLemmas.{OrderHasClasses}
 use Rattle.wac_importing.proofs.Asked.{merge_importable}
 use Rattle.wac_merge.specs.Aggregate.{Aggregate}
-use Rattle.wac_writing.specs.Places.{IsMergedFor}
-use Rattle.wac_writing.proofs.OuterLemmas.{asked_importable}
+use Rattle.wac_places.specs.Places.{IsMergedFor}
+use Rattle.wac_places.proofs.OuterLemmas.{asked_importable}
 use Rattle.wac_writing.proofs.AskedHeld.{held_entries}
-use Rattle.wac_writing.proofs.MergeLemmas.{merge_held}
+use Rattle.wac_places.proofs.MergeLemmas.{merge_held}
 use Rattle.wac_writing.proofs.CauseLemmas.{exit_cause}
 use Rattle.wac_graph.proofs.graph.CompositionGraph.written_imports.Goals as goal
 

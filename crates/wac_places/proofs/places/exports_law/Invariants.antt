@@ -1,5 +1,5 @@
-use Rattle.wac_writing.proofs.PlaceLemmas.{AreLawful}
-use Rattle.wac_writing.proofs.places.exports_law.Given as goal
+use Rattle.wac_places.proofs.PlaceLemmas.{AreLawful}
+use Rattle.wac_places.proofs.places.exports_law.Given as goal
 
 abbrev pub invariant-loop-interface : goal.invariant-loop-interface
 invariant-loop-interface l =

@@ -25,7 +25,7 @@ use Rattle.wac_meaning.specs.MergedImports.{IsFoundAt}
 use Rattle.wac_meaning.proofs.AskedMembers.{IsIn, in_filter}
 use Rattle.wac_meaning.proofs.MergeLemmas.{OrderHasClasses, found_name, imported_canonical, place_of_name}
 use Rattle.wac_meaning.proofs.OuterOrder.{one_order}
-use Rattle.wac_writing.specs.Places.{IsImportedName, IsPlaceOf, IsMergedFor}
+use Rattle.wac_places.specs.Places.{IsImportedName, IsPlaceOf, IsMergedFor}
 
 the_entry : {A : Type 0} (xs : List A) (p : ℕ) → p < length xs → (x : A) × (slice_get xs p ≡ Some x)
 the_entry [] p h = absurd (omega (arith, h))
@@ -65,15 +65,6 @@ module _ (laws : ClassLaws) (has_classes : OrderHasClasses) (g : Graph) where
       named = at.named ∙ ap (λ es. imported_as by_names es x.name) merged.entries ∙ imported_canonical (outer_entries g) x within;
       placed = at.placed;
     }
-
--- where all is importable, all definitions are definable, and components are defined, nothing is left for later
-pub nothing_left : (g : Graph) → AllImportable g → AllDefinable g → (o : EncodeOptions) → o.define_components ≡ true → IsNotYet g o → ⊥
-nothing_left g all types o define (unwritten not) = not all
-nothing_left g all types o define (undefined_type not) = not types
-nothing_left g all types o define (undefined_components is) = clash o.define_components define is where
-  clash : (b : Bool) → b ≡ true → b ≡ false → ⊥
-  clash true _ h = cc
-  clash false h _ = cc
 
 -- ---- a subtype is of one sort
 abbrev sort_in : {L : Type 0} → TypeTree L → Sort

@@ -1,7 +1,7 @@
 use Rattle.std.proofs.Common.{arith, length, refl}
 use Rattle.std.proofs.lemmas.Option.{slice_get_read}
-use Rattle.wac_writing.proofs.PlaceLemmas.{never_missed, position_within, is_place}
-use Rattle.wac_writing.proofs.places.ImportPlaces.place_of.Goals as goal
+use Rattle.wac_places.proofs.PlaceLemmas.{never_missed, position_within, is_place}
+use Rattle.wac_places.proofs.places.ImportPlaces.place_of.Goals as goal
 
 pub unreachable-requires : goal.unreachable-requires
 unreachable-requires c = never_missed c.args.self.now.merge c.args.name.now c.canonical_import_name.result.now c.canonical_import_name.ensures c.imports-imports.result.now c.imports-imports.ensures c.get_full.result c.get_full.ensures c.requires.imported c.in_default.is

@@ -1,6 +1,6 @@
 use Rattle.std.proofs.Common.{◌∙◌}
-use Rattle.wac_writing.proofs.PlaceLemmas.{lawful_start, lawful_next, lawful_end}
-use Rattle.wac_writing.proofs.places.exports_law.Goals as goal
+use Rattle.wac_places.proofs.PlaceLemmas.{lawful_start, lawful_next, lawful_end}
+use Rattle.wac_places.proofs.places.exports_law.Goals as goal
 
 pub loop-interface-init : goal.loop-interface-init
 loop-interface-init c = (tt, tt, lawful_start c.args.types.now c.into_iter-interface-iterator.result (c.into_iter-interface-iterator.ensures.into_iter_gives ∙ c.interfaces-interface-items.ensures))

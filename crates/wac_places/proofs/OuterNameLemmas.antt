@@ -24,8 +24,8 @@ use Rattle.wac_entries.specs.Classes.{Entry, ClassLaws}
 use Rattle.wac_terms.specs.Merge.{Merged, import_entries}
 use Rattle.wac_shapes.specs.declared.component.ItemKind.{ItemKind}
 use Rattle.wac_merge.specs.Aggregate.{Aggregate}
-use Rattle.wac_writing.specs.Places.{IsMergedFor, names_of}
-use Rattle.wac_writing.proofs.OuterLemmas.{one_outer}
+use Rattle.wac_places.specs.Places.{IsMergedFor, names_of}
+use Rattle.wac_places.proofs.OuterLemmas.{one_outer}
 use Rattle.wac_validation.specs.FirstFault.{Fault, IsFirstFault, IsRefusal, fault_view}
 use Rattle.wac_validation.specs.Valid.{AreValid}
 use Rattle.wac_validation.specs.declared.fault.ValidationError.{ValidationError}

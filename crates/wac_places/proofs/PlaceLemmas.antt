@@ -19,7 +19,7 @@ use Rattle.wac_entries.specs.Classes.{Entry, by_names, imported_as}
 use Rattle.wac_terms.specs.Merge.{import_entries}
 use Rattle.wac_merge.specs.Aggregate.{Aggregate}
 use Rattle.wac_binary.specs.declared.sorts.Sort.{Sort}
-use Rattle.wac_writing.specs.Places.{IsImportedName, IsPlaceOf}
+use Rattle.wac_places.specs.Places.{IsImportedName, IsPlaceOf}
 
 -- what stands under a name
 stands_under : (i : ℕ) (n : Name) (es : List (Name × ItemKind)) (p : ℕ) (v : ItemKind) → named_at i n es ≡ Some (p, v) → (j : ℕ) × (p ≡ i + j) × (slice_get (import_entries es) j ≡ Some (record { name = n; kind = v }))

@@ -2,7 +2,7 @@
 ghost use Rattle.std.specs.Prelude.{◌≡◌, IfOk, length, map, true};
 ghost use Rattle.wac_meaning.specs.MergedImports.{ExportsOnce};
 ghost use Rattle.wac_validation.specs.Views.{texts};
-ghost use Rattle.wac_writing.specs.Places.{IsImportedName, IsPlaceOf};
+ghost use Rattle.wac_places.specs.Places.{IsImportedName, IsPlaceOf};
 
 use std::alloc::{AllocError, Global};
 use wac_binary::Sort;

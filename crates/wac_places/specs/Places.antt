@@ -13,7 +13,7 @@ use Rattle.wac_meaning.specs.Means.{sort_of_kind}
 use Rattle.wac_meaning.specs.Beginning.{Places}
 use Rattle.wac_meaning.specs.Encoding.{index_in}
 use Rattle.wac_meaning.specs.MergedImports.{AreOfSorts, IsMergeOf, IsFoundAt}
-use Rattle.wac_writing.specs.declared.places.ImportPlaces.{ImportPlaces}
+use Rattle.wac_places.specs.declared.places.ImportPlaces.{ImportPlaces}
 
 -- there is an import under what the name is imported as
 pub record IsImportedName (a : Aggregate) (name : Name) : Type 0 where

@@ -1,0 +1,5 @@
+pub mod PlaceLemmas
+pub mod OuterLemmas
+pub mod OuterNameLemmas
+pub mod MergeLemmas
+pub mod FoundLemmas
