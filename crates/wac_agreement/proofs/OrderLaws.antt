@@ -11,7 +11,7 @@ use Rattle.wac_shapes.specs.declared.component.ItemKind.TheVariants as kind
 use Rattle.wac_cycles.specs.Cycles.{IsStep, Path, step, further}
 use Rattle.wac_entries.specs.Classes.{Entry, NameRules, by_names, class_names}
 use Rattle.wac_terms.specs.ClassOrder.{Arranges, done, there, new, Selects, none, takes, leaves, RestsOn, IsWrittenOrder, group_of, group_under, in_group, grouped}
-use Rattle.wac_agreement.specs.Faults.{HasNoCircle}
+use Rattle.wac_terms.specs.Faults.{HasNoCircle}
 use Rattle.wac_agreement.specs.Order.{IsOnce, AreAll}
 use Rattle.wac_agreement.proofs.KeySets.{In}
 use Rattle.wac_entries.proofs.Lists.{some-at}

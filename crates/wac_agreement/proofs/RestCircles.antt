@@ -22,7 +22,7 @@ use Rattle.wac_cycles.specs.Cycles.{AreWithin, HasLowestOnCycle, IsStep}
 use Rattle.wac_cycles.specs.Cycles as cycles
 use Rattle.wac_entries.specs.Classes.{Entry, by_names, class_names}
 use Rattle.wac_terms.specs.ClassOrder.{IsFirstOnCircle, RestsOn, by_resource, by_use}
-use Rattle.wac_agreement.specs.Faults.{HasNoCircle}
+use Rattle.wac_terms.specs.Faults.{HasNoCircle}
 use Rattle.wac_terms.specs.Union.{inside_member, member_tree}
 use Rattle.wac_cycles.proofs.CycleSearch.{along}
 use Rattle.wac_agreement.proofs.Resting.{No, Nothing, Quiet, free_class, held, no_first, no_none, no_outer, no_some, quiet_item, quiet_items, quiet_to, Free}

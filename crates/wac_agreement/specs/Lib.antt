@@ -5,7 +5,6 @@ pub mod Levels
 pub mod Reach
 pub mod ReachSteps
 pub mod Compared
-pub mod Faults
 pub mod Resting
 pub mod Order
 pub mod Picked

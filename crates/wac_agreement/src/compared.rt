@@ -10,7 +10,7 @@ ghost use Rattle.wac_entries.specs.Classes.{AreClasses, by_names, class_names};
 ghost use Rattle.wac_coding.specs.Coding.{IsGrown};
 ghost use Rattle.wac_agreement.specs.Compared.{AreCompared, IsItemOf};
 ghost use Rattle.wac_coding.specs.CallsView.{AreNamed};
-ghost use Rattle.wac_agreement.specs.Faults.{Disagrees};
+ghost use Rattle.wac_terms.specs.Faults.{Disagrees};
 ghost use Rattle.wac_terms.specs.NoDisagreement.{HasNoDisagreement};
 ghost use Rattle.wac_entries.specs.NodeViews.{item_view};
 

@@ -6,7 +6,6 @@
 pub mod agreement;
 pub mod apart;
 pub mod compared;
-pub mod fault;
 pub mod order;
 pub mod picked;
 pub mod reach;

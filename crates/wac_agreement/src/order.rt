@@ -7,7 +7,7 @@ ghost use Rattle.wac_cycles.specs.Numbers.{AreBelow, Has};
 ghost use Rattle.wac_cycles.specs.Cycles.{AreWithin, HasNoCycle, IsStep};
 ghost use Rattle.wac_entries.specs.Classes.{AreClasses, by_names, class_names};
 ghost use Rattle.wac_terms.specs.ClassOrder.{Arranges, IsWrittenOrder, RestsOn, Selects, grouped};
-ghost use Rattle.wac_agreement.specs.Faults as faults;
+ghost use Rattle.wac_terms.specs.Faults as faults;
 ghost use Rattle.wac_agreement.specs.Order.{AreAll, AreRanks, IsOnce, openings};
 ghost use Rattle.wac_agreement.specs.ReachSteps.{with_all};
 

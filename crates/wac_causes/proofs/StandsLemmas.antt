@@ -4,7 +4,7 @@ use Rattle.std.proofs.lemmas.Bool.Decides.{nat_tests}
 use Rattle.wac_primitives.specs.Name.{Name}
 use Rattle.wac_collection.specs.Package.{Key}
 use Rattle.wac_entries.specs.Classes.{by_names}
-use Rattle.wac_agreement.specs.Faults.{HasNoCircle}
+use Rattle.wac_terms.specs.Faults.{HasNoCircle}
 use Rattle.wac_terms.specs.NoDisagreement.{HasNoDisagreement}
 use Rattle.wac_nodes.specs.declared.options.EncodeOptions.{EncodeOptions}
 use Rattle.wac_scopes.specs.declared.fault.WriteFault.{WriteFault}

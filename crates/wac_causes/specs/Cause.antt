@@ -6,10 +6,10 @@ use Rattle.wac_shapes.specs.declared.component.ItemKind.{ItemKind}
 use Rattle.wac_entries.specs.Agreement.{IsDisagreement}
 use Rattle.wac_entries.specs.Classes.{by_names}
 use Rattle.wac_terms.specs.ClassOrder.{IsOnCircle}
-use Rattle.wac_agreement.specs.Faults.{Disagrees, HasNoCircle, UseEachOther}
+use Rattle.wac_terms.specs.Faults.{Disagrees, HasNoCircle, UseEachOther}
 use Rattle.wac_terms.specs.NoDisagreement.{HasNoDisagreement}
-use Rattle.wac_agreement.specs.declared.fault.MergeFault.{MergeFault}
-use Rattle.wac_agreement.specs.declared.fault.MergeFault.TheVariants as merge
+use Rattle.wac_terms.specs.declared.fault.MergeFault.{MergeFault}
+use Rattle.wac_terms.specs.declared.fault.MergeFault.TheVariants as merge
 use Rattle.wac_scopes.specs.declared.fault.WriteFault.{WriteFault}
 use Rattle.wac_nodes.specs.declared.options.EncodeOptions.{EncodeOptions}
 use Rattle.wac_causes.specs.declared.errors.EncodeError.{EncodeError}

@@ -3,10 +3,10 @@ ghost use Rattle.std.specs.Prelude.{◌≡◌};
 
 use std::alloc::{AllocError, AllocFailed};
 use thiserror::Error;
-use wac_agreement::fault::MergeFault;
 use wac_binary::BinaryFault;
 use wac_nodes::NodeId;
 use wac_scopes::WriteFault;
+use wac_terms::fault::MergeFault;
 use wac_types::PackageKey;
 use wac_validation::{ValidationError, ValidationFault};
 

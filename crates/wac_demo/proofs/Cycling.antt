@@ -13,7 +13,7 @@ use Rattle.wac_nodes.specs.Graph.{Graph, node_at}
 use Rattle.wac_nodes.specs.Steps.{Instantiates, SetsArgument}
 use Rattle.wac_nodes.specs.Stays.{IsArgumentBy}
 use Rattle.wac_nodes.proofs.StaysLemmas.{argument-stays}
-use Rattle.wac_agreement.specs.declared.fault.MergeFault.TheVariants as merge
+use Rattle.wac_terms.specs.declared.fault.MergeFault.TheVariants as merge
 use Rattle.wac_causes.specs.declared.errors.EncodeError.{EncodeError}
 use Rattle.wac_causes.specs.declared.errors.EncodeError.TheVariants as error
 use Rattle.wac_causes.specs.Cause.{Cause, cycle, CauseKind, a_cycle, a_conflict, a_disagreement, a_circle, a_type_fault, unwritten, an_invalid_name, rank, IsFirstKind, Stands, cause_of, AnswersFor}

@@ -35,7 +35,7 @@ use Rattle.wac_entries.specs.Classes as merge
 use Rattle.wac_terms.specs.ClassOrder.{RestsOn, by_use}
 use Rattle.wac_cycles.specs.Cycles.{step, further}
 use Rattle.wac_terms.specs.NoDisagreement.{HasNoDisagreement}
-use Rattle.wac_agreement.specs.Faults.{Disagrees, UseEachOther}
+use Rattle.wac_terms.specs.Faults.{Disagrees, UseEachOther}
 use Rattle.wac_edges.specs.declared.edges.Edge.{Edge}
 use Rattle.wac_edges.specs.declared.node.NodeId.{NodeId}
 use Rattle.wac_nodes.specs.declared.options.EncodeOptions.{EncodeOptions}

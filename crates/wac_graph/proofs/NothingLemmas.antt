@@ -12,7 +12,7 @@ use Rattle.wac_terms.specs.Merge.{Merged, IsMerge, names_behind}
 use Rattle.wac_uses.specs.United.{listed_by}
 use Rattle.wac_terms.specs.NoDisagreement.{HasNoDisagreement}
 use Rattle.wac_merge.specs.Listed.{AreListedInOrder, Unites, as_import, inside, united_interfaces}
-use Rattle.wac_agreement.specs.Faults.{Fault, disagree, use_each_other, HasFault, HasNoCircle}
+use Rattle.wac_terms.specs.Faults.{Fault, disagree, use_each_other, HasFault, HasNoCircle}
 use Rattle.wac_agreement.proofs.OrderLaws.{arranges_alike}
 use Rattle.wac_nodes.specs.Graph.{Graph}
 use Rattle.wac_nodes.specs.Entries.{asked_entries, to_merge}

@@ -3,7 +3,7 @@ ghost use Rattle.std.specs.Prelude.{◌≡◌, [], map, IfErr, IfOk, OnOk, strin
 ghost use Rattle.std.specs.List.{AllByRecursion};
 ghost use Rattle.wac_merge.specs.Aggregate.{IsFault};
 ghost use Rattle.wac_entries.specs.Classes.{by_names};
-ghost use Rattle.wac_agreement.specs.Faults.{Disagrees};
+ghost use Rattle.wac_terms.specs.Faults.{Disagrees};
 ghost use Rattle.wac_causes.specs.Cause.{HasMerge, HasNoConflict};
 ghost use Rattle.wac_nodes.specs.Entries.{asked_entries, to_merge};
 ghost use Rattle.wac_asking.specs.EntriesLeft.{entry_view, IsHeldKind};

@@ -11,14 +11,14 @@ use Rattle.wac_collection.specs.Collection.{Collection, interface_exports}
 use Rattle.wac_shapes.specs.declared.component.ItemKind.{ItemKind}
 use Rattle.wac_shapes.specs.declared.component.ItemKind.TheVariants as kind
 use Rattle.wac_shapes.specs.declared.component.InterfaceId.{InterfaceId}
-use Rattle.wac_agreement.specs.declared.fault.MergeFault.{MergeFault}
-use Rattle.wac_agreement.specs.declared.fault.MergeFault.TheVariants as merge
+use Rattle.wac_terms.specs.declared.fault.MergeFault.{MergeFault}
+use Rattle.wac_terms.specs.declared.fault.MergeFault.TheVariants as merge
 use Rattle.wac_entries.specs.Classes.{Entry, by_names, class_names, canonical}
 use Rattle.wac_entries.specs.Agreement.{compared, AreInstances, AgreesAt, IsDisagreement, LeadsApart, here, below, joined}
 use Rattle.wac_terms.specs.ClassOrder.{IsOnCircle, RestsOn, by_use, by_resource}
 use Rattle.wac_cycles.specs.Cycles.{Path, step, further}
 use Rattle.wac_terms.specs.NoDisagreement.{HasNoDisagreement}
-use Rattle.wac_agreement.specs.Faults.{HasNoCircle, Disagrees, UseEachOther, Fault, disagree, use_each_other, HasFault, fault_of}
+use Rattle.wac_terms.specs.Faults.{HasNoCircle, Disagrees, UseEachOther, Fault, disagree, use_each_other, HasFault, fault_of}
 use Rattle.wac_merge.specs.Aggregate.{IsFault}
 
 pub same_some : {A : Type 0} (o : Option A) (x y : A) → o ≡ Some x → o ≡ Some y → x ≡ y

@@ -9,7 +9,7 @@ use Rattle.wac_terms.specs.ClassOrder.{Mentions, begins_at}
 use Rattle.wac_terms.specs.Merge.{IsMerge, Merged}
 use Rattle.wac_terms.specs.NoDisagreement.{HasNoDisagreement}
 use Rattle.wac_agreement.proofs.OrderLaws.{order_each}
-use Rattle.wac_agreement.specs.Faults.{HasNoCircle}
+use Rattle.wac_terms.specs.Faults.{HasNoCircle}
 use Rattle.wac_merge.specs.MergedPlaces.{MentionsBefore}
 use Rattle.wac_merge.proofs.OrderMentions.{merged_mentions}
 use Rattle.wac_agreement.proofs.RestLinks.{contains_at}

@@ -20,7 +20,7 @@ use Rattle.wac_terms.specs.Merge.{position_in}
 use Rattle.wac_terms.specs.NoDisagreement.{HasNoDisagreement}
 use Rattle.wac_terms.specs.Union.{member_tree, merged, union, union_all}
 use Rattle.wac_terms.proofs.Found.{at-filter, no_some, some_same}
-use Rattle.wac_agreement.specs.Faults.{HasNoCircle}
+use Rattle.wac_terms.specs.Faults.{HasNoCircle}
 use Rattle.wac_agreement.specs.Order.{IsOnce}
 use Rattle.wac_agreement.proofs.OrderLaws.{contains_in, in_at, order_each, order_once}
 use Rattle.wac_merge.proofs.OrderOnce.{order_rests}

@@ -4,10 +4,10 @@ use Rattle.wac_primitives.specs.Name.{Name}
 use Rattle.wac_collection.specs.Collection.{Collection, empty}
 use Rattle.wac_entries.specs.Bindings.{AreBindings, AreHeld, ClassBindings}
 use Rattle.wac_entries.specs.Classes.{AreClasses, Entry, by_names, canonical, class_names}
-use Rattle.wac_agreement.specs.Faults.{Fault, HasFault, fault_of}
+use Rattle.wac_terms.specs.Faults.{Fault, HasFault, fault_of}
 use Rattle.wac_terms.specs.Merge.{Merged, import_under}
-use Rattle.wac_agreement.specs.declared.fault.MergeFault.{MergeFault}
-use Rattle.wac_agreement.specs.declared.fault.MergeFault.TheVariants.{OutOfMemory}
+use Rattle.wac_terms.specs.declared.fault.MergeFault.{MergeFault}
+use Rattle.wac_terms.specs.declared.fault.MergeFault.TheVariants.{OutOfMemory}
 
 -- the entries that are asked for, whether they were merged, and to what; to nothing as long as they were not
 pub record Aggregate : Type 0 where

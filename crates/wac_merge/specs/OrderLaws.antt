@@ -15,7 +15,7 @@ use Rattle.wac_terms.specs.ClassOrder.{IsWrittenOrder, RestsOn}
 use Rattle.wac_terms.specs.Merge.{IsMerge, Merged}
 use Rattle.wac_uses.specs.KeptUses.{imported_interface, of_interface}
 use Rattle.wac_unions.specs.OneId.{HasOneIdEach}
-use Rattle.wac_agreement.specs.Faults.{HasNoCircle}
+use Rattle.wac_terms.specs.Faults.{HasNoCircle}
 use Rattle.wac_merge.specs.Listed.{AreListedInOrder}
 
 -- an order that has the number of each class, once where no class rests on itself through others, and is the only written one

@@ -13,7 +13,7 @@ ghost use Rattle.wac_entries.specs.Agreement.{AllMembersAgree};
 ghost use Rattle.wac_entries.specs.Bindings.{AreBindings, AreHeld};
 ghost use Rattle.wac_terms.specs.ClassOrder.{IsWrittenOrder};
 ghost use Rattle.wac_entries.specs.Classes.{AreClasses, by_names, canonical, class_names, imported_as};
-ghost use Rattle.wac_agreement.specs.Faults.{Fault as AFault, HasFault, HasNoCircle, fault_of, use_each_other};
+ghost use Rattle.wac_terms.specs.Faults.{Fault as AFault, HasFault, HasNoCircle, fault_of, use_each_other};
 ghost use Rattle.wac_terms.specs.NoDisagreement.{HasNoDisagreement};
 ghost use Rattle.wac_terms.specs.Merge.{IsMerge, bound_resource, import_entries, listed_resource, own_resource};
 ghost use Rattle.wac_unions.specs.MergedScope.{BindsAsClasses, BindsUnder, IsBoundAs};
@@ -25,7 +25,6 @@ ghost use Rattle.wac_shapes.specs.declared.component.ResourceId.{ResourceId as A
 use std::alloc::{AllocError, Global};
 use std::marker::Model;
 use wac_agreement::compared::{entry_items, first_pair};
-use wac_agreement::fault::MergeFault;
 use wac_agreement::order::written_order;
 use wac_agreement::rests::rests;
 use wac_collection::{ItemKind, Named, ResourceId, Type, Types};
@@ -34,6 +33,7 @@ use wac_entries::bindings::Bindings;
 use wac_entries::classes::Classes;
 use wac_entries::entry::Entry;
 use wac_entries::nodes::Nodes;
+use wac_terms::fault::MergeFault;
 use wac_unions::bound::class_binds;
 use wac_unions::merged::Merged;
 

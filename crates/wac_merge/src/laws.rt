@@ -1,6 +1,6 @@
 //! Laws of classes, of faults and of the order in which classes are written, each given by a call.
 ghost use Rattle.wac_entries.specs.Classes.{ClassLaws};
-ghost use Rattle.wac_agreement.specs.Faults.{OneFault};
+ghost use Rattle.wac_terms.specs.Faults.{OneFault};
 ghost use Rattle.wac_merge.specs.OrderLaws.{ListedLaw, OrderLaw, RestsLaw, UsedLaw};
 ghost use Rattle.wac_merge.specs.UsedResources.{UsedResourceLaw};
 ghost use Rattle.wac_merge.specs.UsedValues.{UsedValueLaw};

@@ -22,4 +22,4 @@ mod aggregator;
 pub mod laws;
 
 pub use aggregator::TypeAggregator;
-pub use wac_agreement::fault::MergeFault;
+pub use wac_terms::fault::MergeFault;

@@ -13,9 +13,9 @@ use Rattle.wac_merge.specs.Aggregate.{IsFault}
 use Rattle.wac_entries.specs.Bindings.{AreHeld}
 use Rattle.wac_entries.specs.Classes as merge
 use Rattle.wac_entries.specs.Classes.{by_names}
-use Rattle.wac_agreement.specs.Faults.{Disagrees, HasFault, UseEachOther, disagree, fault_of, use_each_other}
-use Rattle.wac_agreement.specs.declared.fault.MergeFault.{MergeFault}
-use Rattle.wac_agreement.specs.declared.fault.MergeFault.TheVariants as fault
+use Rattle.wac_terms.specs.Faults.{Disagrees, HasFault, UseEachOther, disagree, fault_of, use_each_other}
+use Rattle.wac_terms.specs.declared.fault.MergeFault.{MergeFault}
+use Rattle.wac_terms.specs.declared.fault.MergeFault.TheVariants as fault
 use Rattle.wac_nodes.specs.declared.options.EncodeOptions.{EncodeOptions}
 use Rattle.wac_causes.specs.declared.errors.EncodeError.TheVariants as error
 use Rattle.wac_edges.specs.declared.node.NodeId.{NodeId}

@@ -1,6 +1,7 @@
 pub mod Union
 pub mod ClassOrder
 pub mod NoDisagreement
+pub mod Faults
 pub mod Merge
 pub mod Unions
 pub mod Became

@@ -17,7 +17,7 @@ use Rattle.wac_nodes.specs.Graph.{Graph, GraphNode, node_at, imports_of, package
 use Rattle.wac_nodes.specs.Sound.{IsSound}
 use Rattle.wac_edges.specs.Order.{IsAcyclic, IsLowestOnCycle}
 use Rattle.wac_causes.specs.NotYet.{AllImportable, AllDefinable, IsNotYet}
-use Rattle.wac_agreement.specs.Faults.{OneFault, Fault, disagree, use_each_other}
+use Rattle.wac_terms.specs.Faults.{OneFault, Fault, disagree, use_each_other}
 use Rattle.wac_entries.specs.Classes.{by_names}
 use Rattle.wac_terms.specs.NoDisagreement.{HasNoDisagreement}
 use Rattle.wac_nodes.specs.Asked.{Entry}
@@ -32,7 +32,7 @@ use Rattle.wac_writing.specs.Refused.{IsRefusedBefore}
 use Rattle.wac_causes.proofs.StandsLemmas.{stands_cycle, stands_unwritable, stands_not_yet, same_kind, none_there, invalid_alone}
 use Rattle.wac_causes.specs.OuterNames.{IsOuterFault}
 use Rattle.wac_validation.specs.FirstFault as names
-use Rattle.wac_agreement.specs.declared.fault.MergeFault.TheVariants as merge
+use Rattle.wac_terms.specs.declared.fault.MergeFault.TheVariants as merge
 
 same_id : (n m : NodeId) → n.0 ≤ m.0 → m.0 ≤ n.0 → n ≡ m
 same_id n m up down = let e : n.0 ≡ m.0 = omega arith in λ i. record { 0 = e i }

@@ -7,7 +7,7 @@ use Rattle.wac_cycles.specs.Cycles as cycles
 use Rattle.wac_entries.specs.Classes.{by_names, class_names, canonical}
 use Rattle.wac_terms.specs.ClassOrder.{IsFirstOnCircle}
 use Rattle.wac_agreement.specs.Compared.{AreCompared}
-use Rattle.wac_agreement.specs.Faults.{Disagrees, HasNoCircle, disagree, use_each_other}
+use Rattle.wac_terms.specs.Faults.{Disagrees, HasNoCircle, disagree, use_each_other}
 use Rattle.wac_terms.specs.NoDisagreement.{HasNoDisagreement}
 use Rattle.wac_entries.specs.NodeViews.{item_view}
 use Rattle.wac_agreement.specs.declared.compared.Disagreement.{Disagreement}

@@ -6,9 +6,9 @@ use Rattle.wac_merge.specs.Listed.{AreListedInOrder}
 use Rattle.wac_entries.specs.Bindings.{AreHeld}
 use Rattle.wac_terms.specs.Merge.{IsMerge}
 use Rattle.wac_meaning.specs.MergedImports.{ExportsOnce}
-use Rattle.wac_agreement.specs.Faults.{HasNoCircle}
+use Rattle.wac_terms.specs.Faults.{HasNoCircle}
 use Rattle.wac_terms.specs.NoDisagreement.{HasNoDisagreement}
-use Rattle.wac_agreement.specs.declared.fault.MergeFault.{MergeFault}
+use Rattle.wac_terms.specs.declared.fault.MergeFault.{MergeFault}
 use Rattle.wac_entries.specs.Classes as merge
 use Rattle.wac_nodes.specs.Asked.{Entry}
 use Rattle.wac_nodes.specs.Entries.{asked_entries, to_merge}

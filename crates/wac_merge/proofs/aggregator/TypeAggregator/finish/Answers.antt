@@ -3,10 +3,10 @@ use Rattle.std.specs.Prelude.{◌↔◌}
 use Rattle.wac_entries.specs.Bindings.{AreHeld}
 use Rattle.wac_merge.specs.Aggregate.{Aggregate, AreKnown, IsFault}
 use Rattle.wac_entries.specs.Classes.{Entry, by_names, class_names}
-use Rattle.wac_agreement.specs.Faults.{HasFault, HasNoCircle, fault_of}
+use Rattle.wac_terms.specs.Faults.{HasFault, HasNoCircle, fault_of}
 use Rattle.wac_terms.specs.NoDisagreement.{HasNoDisagreement}
-use Rattle.wac_agreement.specs.declared.fault.MergeFault.{MergeFault}
-use Rattle.wac_agreement.specs.declared.fault.MergeFault.TheVariants.{OutOfMemory}
+use Rattle.wac_terms.specs.declared.fault.MergeFault.{MergeFault}
+use Rattle.wac_terms.specs.declared.fault.MergeFault.TheVariants.{OutOfMemory}
 use Rattle.wac_uses.specs.KeptUses.{KeepsUses}
 use Rattle.wac_merge.proofs.BoundLookups.{bindings-kept}
 use Rattle.wac_merge.proofs.FaultLemmas.{exit_cause, exit_refused, names_fault, no_fault, refused_for}

@@ -26,7 +26,7 @@ pub enum MergeFault {
 }
 
 impl From<AllocError> for MergeFault {
-    ghost use Rattle.wac_agreement.specs.declared.fault.MergeFault.TheVariants.{OutOfMemory};
+    ghost use Rattle.wac_terms.specs.declared.fault.MergeFault.TheVariants.{OutOfMemory};
 
     ghost from_gives = { λ _ e. e ≡ OutOfMemory };
 
@@ -36,7 +36,7 @@ impl From<AllocError> for MergeFault {
 }
 
 impl<T: Drop> From<AllocFailed<T>> for MergeFault {
-    ghost use Rattle.wac_agreement.specs.declared.fault.MergeFault.TheVariants.{OutOfMemory};
+    ghost use Rattle.wac_terms.specs.declared.fault.MergeFault.TheVariants.{OutOfMemory};
 
     ghost from_gives = { λ _ e. e ≡ OutOfMemory };
 

@@ -5,8 +5,8 @@ use Rattle.wac_collection.specs.Collection.{Collection}
 use Rattle.wac_entries.specs.Classes.{Entry, NameRules, by_names, class_names, canonical}
 use Rattle.wac_entries.specs.Agreement.{compared, IsFirstDisagreement, LeadsApart, joined}
 use Rattle.wac_terms.specs.ClassOrder.{IsOnCircle, IsFirstOnCircle}
-use Rattle.wac_agreement.specs.declared.fault.MergeFault.{MergeFault}
-use Rattle.wac_agreement.specs.declared.fault.MergeFault.TheVariants as merge
+use Rattle.wac_terms.specs.declared.fault.MergeFault.{MergeFault}
+use Rattle.wac_terms.specs.declared.fault.MergeFault.TheVariants as merge
 use Rattle.wac_terms.specs.NoDisagreement.{HasNoDisagreement}
 
 -- the earliest entry that disagrees, the earliest that it disagrees with, and the names of the exports that lead to where they do
