@@ -13,7 +13,7 @@ use Rattle.wac_asking.specs.EntriesLeft.{entries_of, imported_at, all_imported_b
 use Rattle.wac_nodes.specs.Sound.{IsSound}
 use Rattle.wac_writing.proofs.AskingWalk.{nothing_asked, number_asked, number_passed, one_number, asked_node, no_node, all_imported}
 use Rattle.wac_graph.specs.Inside.{fields_of}
-use Rattle.wac_reading.proofs.NoImportLemmas.{no_import}
+use Rattle.wac_writing.proofs.NoImportLemmas.{no_import}
 use Rattle.wac_graph.proofs.WantedAskedLemmas.{none_imported}
 use Rattle.wac_graph.proofs.graph.CompositionGraph.ask_nodes.Goals as goal
 use Rattle.wac_graph.proofs.graph.CompositionGraph.ask_nodes.Goals.{in-Some+in_ok-ask, in_default}
