@@ -1,5 +1,5 @@
 -- One cause stands at most; from what a call refuses to what `encode` does.
-use Rattle.std.proofs.Common.{lit<, ◌<◌, IsTrue, Ok, Err, Result, IfErr, ◌≡◌, ℕ, ◌≤◌, refl, ap, ◌∙◌, sym, subst, arith, Option, Some, None, IfSome, IsSomeAnd, true, ◌⊎◌, inl, inr}
+use Rattle.std.proofs.Common.{lit<, ◌<◌, IsTrue, Ok, Err, Result, IfErr, ◌≡◌, ℕ, ◌≤◌, refl, ap, ◌∙◌, sym, subst, arith, Option, Some, None, IfSome, IsSomeAnd, Bool, true, false, ◌⊎◌, inl, inr}
 use Rattle.std.specs.Prelude.{slice_get}
 use Rattle.std.specs.Result.{IsErrAnd}
 use Rattle.wac_primitives.specs.Name.{Name, option_case}
@@ -16,7 +16,7 @@ use Rattle.wac_nodes.specs.Graph as graph
 use Rattle.wac_nodes.specs.Graph.{Graph, GraphNode, node_at, imports_of, package_of, IsImportOf}
 use Rattle.wac_nodes.specs.Sound.{IsSound}
 use Rattle.wac_edges.specs.Order.{IsAcyclic, IsLowestOnCycle}
-use Rattle.wac_causes.specs.NotYet.{AllImportable, AllDefinable, IsNotYet}
+use Rattle.wac_causes.specs.NotYet.{AllImportable, AllDefinable, IsNotYet, unwritten, undefined_type, undefined_components}
 use Rattle.wac_terms.specs.Faults.{OneFault, Fault, disagree, use_each_other}
 use Rattle.wac_entries.specs.Classes.{by_names}
 use Rattle.wac_terms.specs.NoDisagreement.{HasNoDisagreement}

@@ -1,9 +1,7 @@
 -- Where nothing is imported no node is an import.
-use Rattle.std.proofs.Common.{◌≡◌, ℕ, List, [], ◌∷◌, None, Some, Option, ap, length, subst, sym}
-use Rattle.std.specs.Prelude.{IsSomeAnd}
+use Rattle.std.proofs.Common.{◌≡◌, List, [], ◌∷◌, None, Some, Option, ap, length}
 use Rattle.wac_primitives.specs.Name.{Name, find_name}
 use Rattle.wac_edges.specs.declared.node.NodeId.{NodeId}
-use Rattle.wac_nodes.specs.Graph as graph
 use Rattle.wac_nodes.specs.Graph.{IsImportOf}
 use Rattle.wac_nodes.specs.Nodes.{names_of}
 use Rattle.wac_fields.specs.Fields.{Fields, graph_of, Invariant}

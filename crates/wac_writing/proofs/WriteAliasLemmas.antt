@@ -1,20 +1,18 @@
 -- What the fields say of aliases and exports that are written.
-use Rattle.std.proofs.Common.{refl, ◌≡◌, ℕ, zero, suc, ◌+◌, ◌<◌, ◌≤◌, true, false, List, [], ◌∷◌, ◌++◌, length, take, ap, ◌∙◌, sym, subst, arith, Some, None, Option, IfSome, IsSome, IsSomeAnd, is_some, String, Global, string_bytes}
+use Rattle.std.proofs.Common.{refl, ◌≡◌, ℕ, zero, suc, ◌<◌, true, false, List, [], ◌∷◌, ◌++◌, length, take, ap, ◌∙◌, sym, Some, None, Option, IfSome, IsSome, IsSomeAnd, is_some, String, Global, string_bytes}
 use Rattle.std.specs.Prelude.{slice_get}
-use Rattle.std.specs.List.{flat_map}
 use Rattle.std.specs.Option.{option_map}
 use Rattle.std.specs.FinSet as set
-use Rattle.std.proofs.lemmas.List.{flat_map_more, take_all, length-map}
 use Rattle.std.proofs.lemmas.Option.{slice_get-map, slice_get_within}
 use Rattle.slab.specs.Slab.{get, ContainsKey}
-use Rattle.wac_primitives.specs.Name.{Name, option_case}
+use Rattle.wac_primitives.specs.Name.{Name}
 use Rattle.wac_collection.specs.Collection.{item_at}
 use Rattle.wac_shapes.specs.declared.component.Interface.{Interface}
 use Rattle.wac_shapes.specs.declared.component.InterfaceId.{InterfaceId}
 use Rattle.wac_shapes.specs.declared.component.ItemKind.{ItemKind}
 use Rattle.wac_shapes.specs.declared.component.ItemKind.TheVariants as item
 use Rattle.wac_binary.specs.declared.sorts.Sort.{Sort}
-use Rattle.wac_binary.specs.Items.{Item, alias_item, export_alias, export_item}
+use Rattle.wac_binary.specs.Items.{Item, alias_item, export_alias}
 use Rattle.wac_binary.specs.Indexes.{space, indexes}
 use Rattle.wac_nodes.specs.declared.node.Node.{Node}
 use Rattle.wac_edges.specs.declared.node.NodeId.{NodeId}
@@ -25,9 +23,8 @@ use Rattle.wac_edges.specs.Edge.{node_number}
 use Rattle.wac_nodes.specs.Graph.{Graph, GraphNode, node_at, exports_of, IsSourceOf}
 use Rattle.wac_nodes.specs.Nodes.{node_of, kind_of}
 use Rattle.wac_fields.specs.Fields.{Fields, graph_of, Invariant}
-use Rattle.wac_meaning.specs.Means.{sort_of_kind, export_item_of}
+use Rattle.wac_meaning.specs.Means.{sort_of_kind}
 use Rattle.wac_meaning.specs.Beginning.{Places}
-use Rattle.wac_meaning.specs.Encoding.{HasRoom}
 use Rattle.wac_meaning.specs.Writing.{WritesNode, writes_alias}
 use Rattle.wac_nodes.proofs.NodeLemmas.{there, text_pair}
 use Rattle.wac_writing.proofs.EncodingLemmas.{node_is, some_node, if_node}

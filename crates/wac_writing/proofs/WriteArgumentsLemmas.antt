@@ -1,5 +1,5 @@
 -- Steps of writing arguments, instantiations and nodes.
-use Rattle.std.proofs.Common.{◌≡◌, ℕ, zero, suc, ◌+◌, ◌<◌, ◌≤◌, true, false, List, [], ◌∷◌, ◌++◌, length, take, drop, refl, ap, ◌∙◌, sym, subst, arith, Option, Some, None, IfSome, IfNone, IsSome, IsSomeAnd, is_some, ◌⊎◌, inl, inr, String, Global, string_bytes}
+use Rattle.std.proofs.Common.{◌≡◌, ℕ, zero, suc, ◌+◌, ◌<◌, ◌≤◌, true, false, List, [], ◌∷◌, ◌++◌, length, take, drop, refl, ap, ◌∙◌, sym, subst, arith, Option, Some, None, IfSome, IfNone, IsSome, IsSomeAnd, String, Global}
 use Rattle.std.specs.Borrow.{Bor}
 use Rattle.std.specs.Prelude.{slice_get, slice_set, slice_index_or}
 use Rattle.std.proofs.lemmas.Option.{slice_get-get_or}
@@ -17,7 +17,6 @@ use Rattle.wac_binary.specs.Items.{Item, instantiate}
 use Rattle.wac_binary.specs.Indexes.{space, indexes}
 use Rattle.wac_binary.specs.Views.{arguments_of}
 use Rattle.wac_nodes.specs.declared.node.Node.{Node}
-use Rattle.wac_nodes.specs.declared.node.NodeKind.{NodeKind}
 use Rattle.wac_nodes.specs.declared.node.NodeKind.TheVariants as code
 use Rattle.wac_nodes.specs.declared.packages.PackageId.{PackageId}
 use Rattle.wac_edges.specs.declared.node.NodeId.{NodeId}
@@ -31,17 +30,8 @@ use Rattle.wac_fields.specs.Fields.{Fields, graph_of, Invariant}
 use Rattle.wac_meaning.specs.Means.{is_import, sort_of_kind, package_bytes}
 use Rattle.wac_meaning.specs.Encoding.{index_in, HasComponent, HasRoom, Progress}
 use Rattle.wac_meaning.specs.Beginning.{Places}
-use Rattle.wac_meaning.specs.Writing.{IsArgumentItem, of_node, of_import, AreArgumentItems, WritesNode, writes_instantiation, Wrote, WroteAll}
-use Rattle.wac_entries.specs.Classes.{Entry, ClassLaws}
-use Rattle.wac_nodes.specs.OuterImports.{outer_entries}
-use Rattle.wac_meaning.specs.MergedImports.{IsFoundAt}
-use Rattle.wac_nodes.specs.Imports.{node_rows}
-use Rattle.std.proofs.lemmas.List.{get_or_append_left}
-use Rattle.std.proofs.Math.Seq.{get_or-append_seam}
-use Rattle.wac_meaning.proofs.AskedMembers.{IsIn, import_asked, unset_asked}
-use Rattle.wac_meaning.proofs.MergeLemmas.{OrderHasClasses, placed_argument}
+use Rattle.wac_meaning.specs.Writing.{IsArgumentItem, of_node, AreArgumentItems, WritesNode, writes_instantiation, Wrote, WroteAll}
 use Rattle.wac_writing.proofs.SourceLemmas.{source_at}
-use Rattle.wac_writing.proofs.ImportRows.{unsatisfied_false, row_node}
 use Rattle.wac_nodes.proofs.NodeLemmas.{there}
 use Rattle.wac_writing.proofs.EncodingLemmas as nodes
 use Rattle.wac_writing.proofs.EncodingLemmas.{node_is}

@@ -1,33 +1,21 @@
 -- What the fields say of a definition that is written.
-use Rattle.std.proofs.Common.{◌≡◌, ℕ, true, List, [], ◌∷◌, ◌++◌, ap, ◌∙◌, sym, subst, Option, Some, None, IfSome, IsSomeAnd, String, Global, string_bytes}
+use Rattle.std.proofs.Common.{◌≡◌, ℕ, true, ap, ◌∙◌, sym, subst, Some, None, IsSomeAnd, string_bytes}
 use Rattle.std.specs.Option.{option_map}
 use Rattle.slab.specs.Slab.{get}
-use Rattle.wac_primitives.specs.Name.{Name}
 use Rattle.wac_shapes.specs.Kinds.{kind_type}
-use Rattle.wac_shapes.specs.declared.component.ItemKind.{ItemKind}
 use Rattle.wac_shapes.specs.declared.component.ItemKind.TheVariants.{TypeItem}
 use Rattle.wac_shapes.specs.declared.component.«Type».{«Type» as AnyType}
 use Rattle.wac_collection.specs.Collection.{holds_type}
-use Rattle.wac_binary.specs.declared.sorts.Sort.TheVariants as sort
-use Rattle.wac_binary.specs.Items.{Item, export_item}
-use Rattle.wac_binary.specs.Indexes.{space, indexes}
-use Rattle.wac_edges.specs.declared.node.NodeId.{NodeId}
 use Rattle.wac_edges.specs.Edge.{node_number}
 use Rattle.wac_nodes.specs.declared.node.Node.{Node}
 use Rattle.wac_nodes.specs.declared.node.NodeKind.{NodeKind}
 use Rattle.wac_nodes.specs.declared.node.NodeKind.TheVariants as code
-use Rattle.wac_nodes.specs.declared.packages.PackageId.{PackageId}
 use Rattle.wac_nodes.specs.Graph as graph
 use Rattle.wac_nodes.specs.Graph.{Graph, GraphNode, node_at}
 use Rattle.wac_nodes.specs.Nodes.{node_of, kind_of}
 use Rattle.wac_nodes.specs.Sound.{IsTypeUnderName}
 use Rattle.wac_fields.specs.Fields.{Fields, graph_of, Invariant}
-use Rattle.wac_meaning.specs.Beginning.{Places}
-use Rattle.wac_meaning.specs.Definition.{definition_tree}
-use Rattle.wac_meaning.specs.Importable.{IsDefinableKind}
-use Rattle.wac_meaning.specs.Writing.{WritesType, WritesNode, writes_definition}
-use Rattle.wac_causes.specs.NotYet.{AllDefinable}
-use Rattle.wac_writing.proofs.EncodingLemmas.{node_is, of_node, if_node}
+use Rattle.wac_writing.proofs.EncodingLemmas.{node_is, of_node}
 
 pub the_definition : (k : NodeKind) → kind_of k ≡ graph.definition → k ≡ code.Definition
 the_definition code.Definition h = λ i. code.Definition
