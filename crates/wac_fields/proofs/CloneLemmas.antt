@@ -16,14 +16,14 @@ use Rattle.wac_nodes.specs.declared.packages.PackageId.{PackageId}
 use Rattle.wac_nodes.specs.declared.packages.Slot.{Slot}
 use Rattle.wac_nodes.specs.Graph.{Graph, GraphNode, node_at, IsImportOf}
 use Rattle.wac_nodes.proofs.NodeLemmas.{get-nodes_of}
-use Rattle.wac_removing.specs.Told.{tells}
-use Rattle.wac_removing.specs.Lost.{is_again}
+use Rattle.wac_fields.specs.Told.{tells}
+use Rattle.wac_fields.specs.Lost.{is_again}
 use Rattle.std.specs.Option.{option_map}
 use Rattle.std.specs.Prelude.{slice_get, vec_capacity}
 use Rattle.wac_nodes.specs.Nodes.{node_of, nodes_of, names_of, satisfied_at}
 use Rattle.wac_nodes.specs.Clones.{IsNodeClone}
 use Rattle.wac_nodes.specs.Sound.{IsSound}
-use Rattle.wac_removing.specs.Slots.{AreKeyed}
+use Rattle.wac_fields.specs.Slots.{AreKeyed}
 use Rattle.wac_fields.specs.Fields.{Fields, graph_of, Invariant}
 
 abbrev AreClones : List (Option Node) → List (Option Node) → Type 0

@@ -20,8 +20,8 @@ use Rattle.wac_nodes.specs.Nodes.{node_of, nodes_of, names_of, kind_of, satisfie
 use Rattle.wac_nodes.specs.Definitions.{definition_node, WithDependencies}
 use Rattle.wac_nodes.specs.Steps.{Defines}
 use Rattle.wac_nodes.proofs.NodeLemmas.{get-nodes_of, nodes_of-insert, lookup_text, text_last}
-use Rattle.wac_removing.specs.Lost.{is_again}
-use Rattle.wac_removing.specs.declared.lost.Lost.{Lost}
+use Rattle.wac_fields.specs.Lost.{is_again}
+use Rattle.wac_fields.specs.declared.lost.Lost.{Lost}
 use Rattle.wac_fields.specs.Definable.{IsDefinable}
 use Rattle.wac_fields.specs.Fields.{Fields, Names, graph_of, Invariant}
 use Rattle.wac_fields.proofs.InvariantLemmas.{invariant_definition}

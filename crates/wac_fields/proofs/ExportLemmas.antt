@@ -19,7 +19,7 @@ use Rattle.wac_nodes.specs.Graph.{GraphNode, node_at}
 use Rattle.wac_nodes.specs.Nodes.{node_of, nodes_of}
 use Rattle.wac_fields.specs.Fields.{Fields, graph_of, Invariant}
 use Rattle.wac_nodes.specs.ExternName.{IsExportName}
-use Rattle.wac_removing.specs.Lost.{is_again}
+use Rattle.wac_fields.specs.Lost.{is_again}
 use Rattle.wac_nodes.specs.Steps.{Exports}
 use Rattle.wac_nodes.proofs.NodeLemmas.{get-nodes_of, nodes_of-insert, text_pair, text_last, lookup_text}
 use Rattle.wac_fields.proofs.InvariantLemmas.{invariant_export}

@@ -28,12 +28,12 @@ use Rattle.wac_nodes.specs.Graph.{GraphNode, node_at, package_at, package_in, ex
 use Rattle.wac_fields.specs.Arguments.{CanBeGiven}
 use Rattle.wac_nodes.specs.Sound.{IsSound}
 use Rattle.wac_nodes.specs.Nodes.{node_of, nodes_of, names_of, satisfied, satisfied_at}
-use Rattle.wac_removing.specs.Told.{tells}
-use Rattle.wac_removing.specs.Lost.{is_again, AreTold}
-use Rattle.wac_removing.specs.declared.lost.Lost.{Lost}
-use Rattle.wac_removing.proofs.ToldLemmas.{tells_there, keeps_name, tells_more, tells_kept, listed_before}
-use Rattle.wac_removing.specs.Slots.{key_of, AreKeyed, vacant_of}
-use Rattle.wac_removing.proofs.SlotLemmas.{put_takes, sound_takes, room_takes, free_key, keyed_put}
+use Rattle.wac_fields.specs.Told.{tells}
+use Rattle.wac_fields.specs.Lost.{is_again, AreTold}
+use Rattle.wac_fields.specs.declared.lost.Lost.{Lost}
+use Rattle.wac_fields.proofs.ToldLemmas.{tells_there, keeps_name, tells_more, tells_kept, listed_before}
+use Rattle.wac_fields.specs.Slots.{key_of, AreKeyed, vacant_of}
+use Rattle.wac_fields.proofs.SlotLemmas.{put_takes, sound_takes, room_takes, free_key, keyed_put}
 use Rattle.wac_fields.specs.Fields.{Fields, Names, graph_of, Invariant}
 use Rattle.wac_nodes.specs.Steps.{instance_node, import_node, alias_node, TakesSlot, Defines}
 use Rattle.wac_nodes.specs.Definitions.{definition_node, IsDependency, reached, reaching}

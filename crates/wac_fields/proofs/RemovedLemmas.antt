@@ -28,17 +28,17 @@ use Rattle.wac_nodes.specs.TakenOut.{without}
 use Rattle.wac_nodes.proofs.NodeLemmas.{get-nodes_of, is_some-node_of, lookup_text}
 use Rattle.wac_nodes.proofs.TakenOut.{Left, left_without, none_without}
 use Rattle.wac_fields.specs.Fields.{Fields, graph_of, Invariant}
-use Rattle.wac_removing.specs.Removal.{Follows, GoesWith, itself, behind, IsWithout, Removes}
-use Rattle.wac_removing.specs.Removing.{AreTied, AreTaken}
-use Rattle.wac_fields.specs.Removing.{imports, AreLeft}
-use Rattle.wac_removing.proofs.WayLemmas.{IsIn}
-use Rattle.wac_removing.proofs.TiedLemmas.{clash, none_some}
-use Rattle.wac_removing.specs.declared.lost.Lost.{Lost}
-use Rattle.wac_removing.specs.Lost.{is_again, AreNoted}
-use Rattle.wac_removing.specs.Slots.{vacant_of}
-use Rattle.wac_removing.specs.Told.{tells}
-use Rattle.wac_removing.proofs.LostLemmas.{told_there, alike_without}
-use Rattle.wac_removing.proofs.WithoutLemmas.{nodes_left, edges_left, still_there, sound_without}
+use Rattle.wac_fields.specs.Removal.{Follows, GoesWith, itself, behind, IsWithout, Removes}
+use Rattle.wac_fields.specs.Removing.{AreTied, AreTaken}
+use Rattle.wac_fields.specs.Taking.{imports, AreLeft}
+use Rattle.wac_fields.proofs.WayLemmas.{IsIn}
+use Rattle.wac_fields.proofs.TiedLemmas.{clash, none_some}
+use Rattle.wac_fields.specs.declared.lost.Lost.{Lost}
+use Rattle.wac_fields.specs.Lost.{is_again, AreNoted}
+use Rattle.wac_fields.specs.Slots.{vacant_of}
+use Rattle.wac_fields.specs.Told.{tells}
+use Rattle.wac_fields.proofs.LostLemmas.{told_there, alike_without}
+use Rattle.wac_fields.proofs.WithoutLemmas.{nodes_left, edges_left, still_there, sound_without}
 
 -- ---- names of imports
 abbrev Names : Type 0

@@ -17,7 +17,7 @@ use Rattle.wac_nodes.specs.Graph as graph
 use Rattle.wac_nodes.specs.Graph.{GraphNode, package_at, IsRegistered}
 use Rattle.wac_nodes.specs.Nodes.{node_of}
 use Rattle.wac_fields.specs.Fields.{Fields, graph_of, Invariant}
-use Rattle.wac_removing.specs.Slots.{key_of, vacant_of}
+use Rattle.wac_fields.specs.Slots.{key_of, vacant_of}
 use Rattle.wac_nodes.specs.Steps.{AddsNode, Instantiates, instance_node, Registers, TakesSlot}
 use Rattle.wac_nodes.proofs.NodeLemmas.{get-nodes_of, nodes_of-insert}
 

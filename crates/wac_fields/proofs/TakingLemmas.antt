@@ -24,10 +24,10 @@ use Rattle.wac_edges.specs.declared.node.NodeId.{NodeId}
 use Rattle.wac_nodes.specs.Graph as graph
 use Rattle.wac_nodes.specs.Graph.{Graph, GraphNode, node_at}
 use Rattle.wac_nodes.specs.Nodes.{node_of, nodes_of, names_of, kind_of, satisfied, satisfied_at}
-use Rattle.wac_removing.specs.Told.{tells}
-use Rattle.wac_removing.specs.Lost.{is_again, AreTold}
-use Rattle.wac_removing.specs.Slots.{vacant_of}
-use Rattle.wac_removing.specs.declared.lost.Lost.{Lost}
+use Rattle.wac_fields.specs.Told.{tells}
+use Rattle.wac_fields.specs.Lost.{is_again, AreTold}
+use Rattle.wac_fields.specs.Slots.{vacant_of}
+use Rattle.wac_fields.specs.declared.lost.Lost.{Lost}
 use Rattle.wac_nodes.specs.Steps.{SetsName, Unexports}
 use Rattle.wac_nodes.specs.TakenOut.{taken_at, without}
 use Rattle.wac_nodes.specs.declared.errors.UnexportError.TheVariants.{MustExportDefinition}
@@ -40,7 +40,7 @@ use Rattle.wac_nodes.proofs.JoinLemmas.{AreAlike, alike_itself}
 use Rattle.wac_nodes.proofs.NodeLemmas.{get-nodes_of, nodes_of-insert, nodes_of-same}
 use Rattle.wac_nodes.proofs.TakenOut.{found_left, Left, left_itself, left_without, none_without}
 use Rattle.wac_nodes.proofs.PartLemmas.{IsPart, IsClosed, sound_part}
-use Rattle.wac_removing.proofs.LostLemmas.{names_taken}
+use Rattle.wac_fields.proofs.LostLemmas.{names_taken}
 use Rattle.wac_fields.specs.Fields.{Fields, graph_of, Invariant}
 use Rattle.wac_fields.proofs.InvariantLemmas.{invariant_lost}
 

@@ -20,17 +20,17 @@ use Rattle.wac_nodes.specs.Graph.{node_at, package_at, IsImportOf}
 use Rattle.wac_nodes.specs.Nodes.{node_of, nodes_of, names_of}
 use Rattle.wac_nodes.proofs.NodeLemmas.{get-nodes_of}
 use Rattle.wac_nodes.proofs.TakenOut.{Left}
-use Rattle.wac_removing.specs.Removal.{IsWithout}
-use Rattle.wac_removing.specs.Removing.{AreTied, AreTaken}
-use Rattle.wac_removing.specs.Owned.{is_of_at}
-use Rattle.wac_removing.specs.Unregistering.{is_of, FreesSlot, Unregisters}
-use Rattle.wac_removing.specs.Slots.{AreKeyed, vacant_of}
-use Rattle.wac_removing.specs.Told.{tells}
-use Rattle.wac_removing.specs.Lost.{is_again}
-use Rattle.wac_removing.specs.declared.lost.Lost.{Lost}
-use Rattle.wac_removing.proofs.SlotLemmas.{vacant_fewer}
-use Rattle.wac_removing.proofs.WithoutLemmas.{nodes_left, edges_left}
-use Rattle.wac_removing.proofs.UnregisteringLemmas.{import_of_none, kept_exports, none_exports, sound_unregistered, length_freed}
+use Rattle.wac_fields.specs.Removal.{IsWithout}
+use Rattle.wac_fields.specs.Removing.{AreTied, AreTaken}
+use Rattle.wac_fields.specs.Owned.{is_of_at}
+use Rattle.wac_fields.specs.Unregistering.{is_of, FreesSlot, Unregisters}
+use Rattle.wac_fields.specs.Slots.{AreKeyed, vacant_of}
+use Rattle.wac_fields.specs.Told.{tells}
+use Rattle.wac_fields.specs.Lost.{is_again}
+use Rattle.wac_fields.specs.declared.lost.Lost.{Lost}
+use Rattle.wac_fields.proofs.SlotLemmas.{vacant_fewer}
+use Rattle.wac_fields.proofs.WithoutLemmas.{nodes_left, edges_left}
+use Rattle.wac_fields.proofs.UnregisteringLemmas.{import_of_none, kept_exports, none_exports, sound_unregistered, length_freed}
 use Rattle.wac_fields.specs.Fields.{Fields, graph_of, Invariant}
 
 abbrev Names : Type 0

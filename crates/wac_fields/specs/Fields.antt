@@ -18,9 +18,9 @@ use Rattle.wac_nodes.specs.declared.packages.Slot.{Slot}
 use Rattle.wac_nodes.specs.Graph.{Graph, IsImportOf}
 use Rattle.wac_nodes.specs.Nodes.{nodes_of, names_of, satisfied_at}
 use Rattle.wac_nodes.specs.Sound.{IsSound}
-use Rattle.wac_removing.specs.declared.lost.Lost.{Lost}
-use Rattle.wac_removing.specs.Lost.{AreTold}
-use Rattle.wac_removing.specs.Slots.{AreKeyed, vacant_of}
+use Rattle.wac_fields.specs.declared.lost.Lost.{Lost}
+use Rattle.wac_fields.specs.Lost.{AreTold}
+use Rattle.wac_fields.specs.Slots.{AreKeyed, vacant_of}
 
 -- nodes under names
 abbrev pub Names : Type 0

@@ -1,4 +1,14 @@
 pub mod Fields
 pub mod Arguments
-pub mod Removing
+pub mod Taking
 pub mod Definable
+pub mod EntriesLeft
+pub mod ImportsLeft
+pub mod Stored
+pub mod Removal
+pub mod Removing
+pub mod Told
+pub mod Lost
+pub mod Slots
+pub mod Unregistering
+pub mod Owned

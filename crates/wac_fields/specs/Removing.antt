@@ -1,19 +1,34 @@
--- Names of imports while a node is taken out; cited by private functions alone, nothing public rests on it.
-use Rattle.std.specs.Prelude.{◌≡◌, Bool, false, List, None, String, string_bytes, if◌then◌else◌}
-use Rattle.std.specs.Global.{Global}
-use Rattle.wac_primitives.specs.Name.{Name, same_name, find_name}
+-- Nodes and edges while some of them are taken out; cited by private functions alone, nothing public rests on it.
+use Rattle.std.specs.Prelude.{◌≡◌, ◌⊎◌, ℕ, zero, suc, true, None, IsSome}
+use Rattle.std.specs.Option.{option_map}
+use Rattle.std.specs.FinSet as set
+use Rattle.slab.specs.Slab.{Slab, get}
+use Rattle.wac_edges.specs.declared.edges.Edge.{Edge}
 use Rattle.wac_edges.specs.declared.node.NodeId.{NodeId}
-use Rattle.wac_nodes.specs.declared.node.NodeKind.{NodeKind}
-use Rattle.wac_nodes.specs.declared.node.NodeKind.TheVariants as code
-use Rattle.wac_nodes.specs.Nodes.{names_of}
+use Rattle.wac_edges.specs.Edge.{argument_edge}
+use Rattle.wac_edges.specs.Order.{Edges}
+use Rattle.wac_nodes.specs.declared.node.Node.{Node}
+use Rattle.wac_nodes.specs.Nodes.{node_of, satisfied_at, IsInstantiationAt}
+use Rattle.wac_fields.specs.Removal.{Follows}
 
--- a node of this kind imports the name
-abbrev pub imports : NodeKind → Name → Bool
-imports (code.Import name) other = same_name other (string_bytes name)
-imports code.Definition other = false
-imports (code.Instantiation _) other = false
-imports code.Alias other = false
+-- edges join nodes that are there; the positions that an instantiation keeps are those of its arguments, one for each
+pub record AreTied (nodes : Slab Node) (edges : Edges) : Type 0 where
+  pub ends : (e : Edge) → set.contains edges e ≡ true → IsSome (get nodes e.source.0) × IsSome (get nodes e.target.0)
+  pub consumers : (source target : NodeId) (position : ℕ) → set.contains edges (argument_edge source target position) ≡ true → IsInstantiationAt (get nodes target.0)
+  pub one_argument : (source other target : NodeId) (position : ℕ) → set.contains edges (argument_edge source target position) ≡ true → set.contains edges (argument_edge other target position) ≡ true → source ≡ other
+  pub marked : (source target : NodeId) (position : ℕ) → set.contains edges (argument_edge source target position) ≡ true → satisfied_at (get nodes target.0) position ≡ true
+  pub edged : (target : NodeId) (position : ℕ) → satisfied_at (get nodes target.0) position ≡ true → (source : NodeId) × (set.contains edges (argument_edge source target position) ≡ true)
 
--- a name that such a node imports is free, and each other one is that of the same node as before
-abbrev pub AreLeft : NodeKind → List (String Global × NodeId) → List (String Global × NodeId) → Type 0
-AreLeft k old new = (other : Name) → find_name (names_of new) other ≡ (if imports k other then None else find_name (names_of old) other)
+-- the nodes that go are taken out, and edges at them; all other nodes are the same
+pub record AreTaken (Goes : NodeId → Type 0) (nodes : Slab Node) (edges : Edges) (nodes' : Slab Node) (edges' : Edges) : Type 0 where
+  pub gone : (n : NodeId) → Goes n → get nodes' n.0 ≡ None
+  pub others : (n : NodeId) → (option_map node_of (get nodes' n.0) ≡ option_map node_of (get nodes n.0)) ⊎ ((get nodes' n.0 ≡ None) × Goes n)
+  pub less : (e : Edge) → set.contains edges' e ≡ true → set.contains edges e ≡ true
+  pub taken : (e : Edge) → set.contains edges e ≡ true → (set.contains edges' e ≡ true) ⊎ (Goes e.source ⊎ Goes e.target)
+
+-- So many edges lead from the root to here, each followed by its target, and no other edge leads to a node on the way.
+abbrev pub IsWay : Edges → NodeId → ℕ → NodeId → Type 0
+IsWay edges root zero here = (here ≡ root) × ((e : Edge) → set.contains edges e ≡ true → e.target ≡ root → ⊥)
+IsWay edges root (suc k) here =
+    (e : Edge) × (set.contains edges e ≡ true) × Follows e.label × (e.target ≡ here)
+    × ((other : Edge) → set.contains edges other ≡ true → other.target ≡ here → other ≡ e) × IsWay edges root k e.source

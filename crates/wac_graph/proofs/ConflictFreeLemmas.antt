@@ -2,7 +2,7 @@
 use Rattle.std.proofs.Common.{◌≡◌, length}
 use Rattle.wac_causes.specs.Cause.{HasNoConflict}
 use Rattle.wac_fields.specs.Fields.{Fields, graph_of, Invariant}
-use Rattle.wac_reading.proofs.NoImportLemmas.{no_import}
+use Rattle.wac_writing.proofs.NoImportLemmas.{no_import}
 
 pub no_imports : (a : Fields) → Invariant a → length a.imports.entries ≡ 0 → HasNoConflict (graph_of a)
 no_imports a v none import instantiation position name c = no_import a v none name import c.imported

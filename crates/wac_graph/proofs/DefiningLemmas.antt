@@ -14,10 +14,10 @@ use Rattle.wac_nodes.specs.declared.node.Node.{Node}
 use Rattle.wac_nodes.specs.Nodes.{node_of, nodes_of}
 use Rattle.wac_nodes.specs.Definitions.{IsResource}
 use Rattle.wac_nodes.proofs.NodeLemmas.{get-nodes_of}
-use Rattle.wac_removing.specs.Lost.{is_again}
-use Rattle.wac_removing.specs.declared.lost.Lost.{Lost}
-use Rattle.wac_defining.specs.Stored.{AreHeld}
-use Rattle.wac_defining.proofs.GraphLemmas.{defined_held, vacant_bare}
+use Rattle.wac_fields.specs.Lost.{is_again}
+use Rattle.wac_fields.specs.declared.lost.Lost.{Lost}
+use Rattle.wac_fields.specs.Stored.{AreHeld}
+use Rattle.wac_fields.proofs.GraphLemmas.{defined_held, vacant_bare}
 use Rattle.wac_fields.specs.Fields.{Fields, Names, graph_of, Invariant}
 use Rattle.wac_fields.proofs.InvariantLemmas.{invariant_exports, invariant_more}
 

@@ -12,7 +12,7 @@ use Rattle.wac_nodes.specs.Asked.{asked_by, imported_by}
 use Rattle.wac_nodes.specs.Entries.{asked_entries, once, with_used}
 use Rattle.wac_nodes.specs.Graph as graph
 use Rattle.wac_nodes.specs.Graph.{Graph, GraphNode, Kind, node_at, IsImportOf}
-use Rattle.wac_asking.specs.EntriesLeft.{imported_at, all_imported_by}
+use Rattle.wac_fields.specs.EntriesLeft.{imported_at, all_imported_by}
 use Rattle.wac_causes.specs.TypeFaults.{wanted_by, wanted_at, wanted_entries}
 
 -- the node is a definition

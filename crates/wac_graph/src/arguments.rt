@@ -17,8 +17,8 @@ use crate::graph::CompositionGraph;
 use slab::Slab;
 use std::alloc::AllocError;
 use wac_edges::edges::{Edge, Label};
+use wac_fields::unsatisfy;
 use wac_nodes::{InstantiationArgumentError, Node, NodeId, NodeKind};
-use wac_removing::unsatisfy;
 use wac_types::laws::subtyping_is_reflexive;
 use wac_types::{ItemKind, SubtypeChecker, TypeFault};
 

@@ -1,11 +1,11 @@
 //! All that a graph asks for: with each import the interfaces that it uses, each instance once under a name.
 ghost use Rattle.std.specs.Prelude.{◌≡◌, ◌++◌, [], map, IfOk, OnOk};
 ghost use Rattle.wac_nodes.specs.Entries.{asked_entries};
-ghost use Rattle.wac_asking.specs.EntriesLeft.{entry_view, entries_of, IsRight, AreSettled, AsksAlike, asked_at, all_with_used, all_asked_by, all_imported_by};
+ghost use Rattle.wac_fields.specs.EntriesLeft.{entry_view, entries_of, IsRight, AreSettled, AsksAlike, asked_at, all_with_used, all_asked_by, all_imported_by};
 
 use crate::graph::CompositionGraph;
 use std::alloc::AllocError;
-use wac_asking::{AskedEntry, Asking};
+use wac_fields::{AskedEntry, Asking};
 
 impl CompositionGraph {
     /// What the graph asks for, the interfaces that an asked instance uses before it, each instance once under a name.

@@ -8,7 +8,7 @@ ghost use Rattle.wac_nodes.specs.Steps.{Defines};
 
 use crate::graph::CompositionGraph;
 use std::alloc::{AllocError, Global};
-use wac_defining::{add_dependencies, is_defined};
+use wac_fields::{add_dependencies, is_defined};
 use wac_nodes::{DefineTypeError, Node, NodeId, NodeKind, import_fault};
 use wac_types::{ItemKind, Type};
 

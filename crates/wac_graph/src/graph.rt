@@ -27,11 +27,11 @@ use std::marker::Model;
 use std::ops::Index;
 use wac_edges::edges::{Edge, Edges, Label};
 use wac_encoding::package_in_slots;
+use wac_fields::{Lost, next_id, put_package};
 use wac_nodes::{
     AliasError, BorrowedPackageKey, ExportError, ImportError, InstantiationArgumentError, Node,
     NodeId, NodeKind, PackageId, RegisterPackageError, Slot, UnexportError,
 };
-use wac_removing::{Lost, next_id, put_package};
 use wac_types::laws::growth_keeps_trees;
 use wac_types::{
     AddTypeError, DefinedType, DefinedTypeId, FuncType, FuncTypeId, Interface, InterfaceId,

@@ -5,7 +5,7 @@ ghost use Rattle.std.specs.Ordering.{nat_cmp};
 ghost use Rattle.wac_edges.specs.Edge.{node_number};
 ghost use Rattle.wac_nodes.specs.Graph.{node_at};
 ghost use Rattle.wac_nodes.specs.Imports.{asked_rows};
-ghost use Rattle.wac_asking.specs.ImportsLeft.{unset_from, node_left, instantiations_left, nodes_left};
+ghost use Rattle.wac_fields.specs.ImportsLeft.{unset_from, node_left, instantiations_left, nodes_left};
 
 use crate::graph::CompositionGraph;
 use std::collections::BTreeSet;
@@ -32,7 +32,7 @@ impl<'a> Model for Imports<'a> {
     ghost use Rattle.wac_primitives.specs.Name.{Name};
     ghost use Rattle.wac_shapes.specs.declared.component.ItemKind.{ItemKind};
     ghost use Rattle.wac_edges.specs.declared.node.NodeId.{NodeId};
-    ghost use Rattle.wac_asking.specs.ImportsLeft.{left};
+    ghost use Rattle.wac_fields.specs.ImportsLeft.{left};
 
     ghost Value = { List (Name × ItemKind × Option NodeId) };
 

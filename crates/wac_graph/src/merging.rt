@@ -6,7 +6,7 @@ ghost use Rattle.wac_entries.specs.Classes.{by_names};
 ghost use Rattle.wac_terms.specs.Faults.{Disagrees};
 ghost use Rattle.wac_causes.specs.Cause.{HasMerge, HasNoConflict};
 ghost use Rattle.wac_nodes.specs.Entries.{asked_entries, to_merge};
-ghost use Rattle.wac_asking.specs.EntriesLeft.{entry_view, IsHeldKind};
+ghost use Rattle.wac_fields.specs.EntriesLeft.{entry_view, IsHeldKind};
 ghost use Rattle.wac_edges.specs.Order.{IsAcyclic};
 ghost use Rattle.wac_causes.specs.Search.{IsRefused};
 ghost use Rattle.wac_places.specs.Places.{IsMergedFor};
@@ -14,8 +14,8 @@ ghost use Rattle.wac_nodes.specs.declared.options.EncodeOptions.{EncodeOptions a
 
 use crate::graph::CompositionGraph;
 use std::alloc::AllocError;
-use wac_asking::AskedEntry;
 use wac_causes::EncodeError;
+use wac_fields::AskedEntry;
 use wac_merge::laws::listed_law;
 use wac_merge::{MergeFault, TypeAggregator};
 use wac_nodes::NodeId;

@@ -1,14 +1,14 @@
 //! Nodes and packages that are taken out of a graph.
 ghost use Rattle.std.specs.Prelude.{IsSome};
 ghost use Rattle.wac_nodes.specs.Graph.{node_at, package_at};
-ghost use Rattle.wac_removing.specs.Removal.{Removes};
-ghost use Rattle.wac_removing.specs.Unregistering.{Unregisters};
-ghost use Rattle.wac_fields.specs.Removing.{AreLeft};
+ghost use Rattle.wac_fields.specs.Removal.{Removes};
+ghost use Rattle.wac_fields.specs.Unregistering.{Unregisters};
+ghost use Rattle.wac_fields.specs.Taking.{AreLeft};
 
 use crate::graph::CompositionGraph;
 use indexmap::IndexMap;
+use wac_fields::{take_lost, take_nodes, take_owned, take_owned_exports, take_package};
 use wac_nodes::{NodeId, NodeKind, PackageId};
-use wac_removing::{take_lost, take_nodes, take_owned, take_owned_exports, take_package};
 
 impl CompositionGraph {
     /// Removes a node and all that goes with it: its aliases and the definitions that mention it, and what goes with these.

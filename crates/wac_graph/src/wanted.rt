@@ -1,6 +1,6 @@
 //! Whether what nodes ask for can be written, whatever stands around it.
 ghost use Rattle.std.specs.Prelude.{◌≡◌, ◌++◌, [], map, IfErr, IfOk, OnOk};
-ghost use Rattle.wac_asking.specs.EntriesLeft.{entry_view, entries_of, IsRight, IsHeldKind, AreSettled, AsksAlike, all_with_used};
+ghost use Rattle.wac_fields.specs.EntriesLeft.{entry_view, entries_of, IsRight, IsHeldKind, AreSettled, AsksAlike, all_with_used};
 ghost use Rattle.wac_causes.specs.Cause.{HasMerge, HasNoConflict};
 ghost use Rattle.wac_causes.specs.Search.{IsRefused};
 ghost use Rattle.wac_causes.specs.TypeFaults.{wanted_at, wanted_entries as wanted_of, role_of, role_of_kind, IsEntryFault, HasNoTypeFault};
@@ -14,8 +14,8 @@ ghost use Rattle.wac_writable.specs.Faults.{IsLowest};
 
 use crate::graph::CompositionGraph;
 use std::alloc::AllocError;
-use wac_asking::{AskedEntry, Asking};
 use wac_causes::EncodeError;
+use wac_fields::{AskedEntry, Asking};
 use wac_nodes::{NodeId, NodeKind};
 use wac_scopes::WriteFault;
 use wac_writable::{Role, lowest_fault};

@@ -25,7 +25,7 @@ use Rattle.wac_nodes.specs.Graph.{Graph, GraphNode, Kind}
 use Rattle.wac_nodes.specs.Asked.{Entry, imported_by}
 use Rattle.wac_causes.specs.Cause.{HasNoConflict, IsMergeConflict, AsksImplicitly, AsksExplicitly, implicit_merge, explicit_merge, import_circle}
 use Rattle.wac_nodes.specs.Entries.{asked_entries, to_merge}
-use Rattle.wac_asking.specs.EntriesLeft.{IsHeldKind}
+use Rattle.wac_fields.specs.EntriesLeft.{IsHeldKind}
 use Rattle.wac_nodes.specs.Imports.{node_row, node_rows}
 use Rattle.wac_edges.specs.Order.{IsAcyclic}
 use Rattle.wac_causes.specs.Search.{IsRefused}

@@ -1,4 +1,3 @@
-pub mod NoImportLemmas
 mod DefinitionExports
 pub mod RootLemmas
 mod NamesLemmas

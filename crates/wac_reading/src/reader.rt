@@ -6,8 +6,8 @@ use slab::Slab;
 use std::alloc::Global;
 use std::marker::Model;
 use wac_edges::edges::Edges;
+use wac_fields::Lost;
 use wac_nodes::{Node, NodeId, PackageId, Slot};
-use wac_removing::Lost;
 use wac_types::{PackageKey, Types};
 
 /// The fields of a graph, borrowed.

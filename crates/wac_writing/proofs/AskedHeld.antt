@@ -18,10 +18,10 @@ use Rattle.wac_nodes.specs.Graph.{Graph, GraphNode, Kind, node_at}
 use Rattle.wac_nodes.specs.Asked.{Entry, asked_by, imported_by, asked}
 use Rattle.wac_nodes.specs.Sound.{IsSound}
 use Rattle.wac_causes.specs.Cause.{AsksImplicitly, AsksExplicitly}
-use Rattle.wac_asking.specs.ImportsLeft.{node_left}
+use Rattle.wac_fields.specs.ImportsLeft.{node_left}
 use Rattle.wac_nodes.specs.Entries.{under_id, used_to, used_by, with_used, asks_again, once, asked_entries}
-use Rattle.wac_asking.specs.EntriesLeft.{IsHeldKind, by_node, row_entry, asked_at, imported_at}
-use Rattle.wac_asking.proofs.EntryLists.{all_joined}
+use Rattle.wac_fields.specs.EntriesLeft.{IsHeldKind, by_node, row_entry, asked_at, imported_at}
+use Rattle.wac_fields.proofs.EntryLists.{all_joined}
 use Rattle.wac_causes.specs.TypeFaults.{wanted_by, wanted_at, wanted_entries}
 use Rattle.wac_writing.proofs.AskingWalk.{first_entries, first_held, wanted_asked}
 

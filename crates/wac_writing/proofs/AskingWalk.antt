@@ -17,11 +17,11 @@ use Rattle.wac_nodes.specs.Graph.{Graph, GraphNode, Kind, node_at, imports_of, p
 use Rattle.wac_nodes.specs.Asked.{Entry, is_satisfied, unsatisfied, asked_by, imported_by, asked}
 use Rattle.wac_nodes.specs.Sound.{IsSound}
 use Rattle.wac_nodes.specs.Imports.{node_row, node_rows}
-use Rattle.wac_asking.specs.ImportsLeft.{unset, row_of, node_left}
+use Rattle.wac_fields.specs.ImportsLeft.{unset, row_of, node_left}
 use Rattle.wac_nodes.specs.Entries.{with_used}
-use Rattle.wac_asking.specs.EntriesLeft.{IsHeldKind, AsksAlike, row_entry, all_with_used, all_asked_by, all_imported_by, asked_at, imported_at}
+use Rattle.wac_fields.specs.EntriesLeft.{IsHeldKind, AsksAlike, row_entry, all_with_used, all_asked_by, all_imported_by, asked_at, imported_at}
 use Rattle.wac_fields.specs.Fields.{Fields, graph_of}
-use Rattle.wac_asking.proofs.EntryLists.{stands_itself, stands_through, stands_more}
+use Rattle.wac_fields.proofs.EntryLists.{stands_itself, stands_through, stands_more}
 use Rattle.wac_nodes.proofs.HeldLemmas.{imports_held}
 use Rattle.wac_causes.specs.TypeFaults.{wanted_by, wanted_at}
 use Rattle.wac_writing.proofs.EncodingLemmas.{node_is}

@@ -33,7 +33,7 @@ use Rattle.wac_nodes.specs.Nodes.{node_of, nodes_of, kind_of, satisfied, satisfi
 use Rattle.wac_fields.specs.Fields.{Fields, graph_of, Invariant}
 use Rattle.wac_nodes.specs.Asked.{is_argument, is_argument_label, is_satisfied, unsatisfied, asked_by, imported_by}
 use Rattle.wac_nodes.specs.Imports.{unset_row, node_row, unset_rows, node_rows, asked_rows}
-use Rattle.wac_asking.specs.ImportsLeft.{unset, unset_from, row_of, node_left, instantiations_left, nodes_left, left}
+use Rattle.wac_fields.specs.ImportsLeft.{unset, unset_from, row_of, node_left, instantiations_left, nodes_left, left}
 use Rattle.wac_edges.proofs.EdgeLemmas.{edge_cmp_total}
 use Rattle.wac_meaning.proofs.AskedLemmas.{satisfied as set_by_edge}
 use Rattle.wac_writing.proofs.EncodingLemmas.{node_is}

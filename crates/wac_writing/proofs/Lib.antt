@@ -14,3 +14,4 @@ pub mod WriteArgumentsLemmas
 pub mod NamingLemmas
 pub mod FurtherRows
 pub mod WriteDefinitionLemmas
+pub mod NoImportLemmas

@@ -10,8 +10,8 @@ use Rattle.wac_nodes.specs.Graph as graph
 use Rattle.wac_nodes.specs.Graph.{Graph, Kind, node_at}
 use Rattle.wac_nodes.specs.Nodes.{node_of, kind_of}
 use Rattle.wac_nodes.specs.Asked.{Entry}
-use Rattle.wac_asking.specs.EntriesLeft.{AsksAlike, all_with_used, asked_at}
-use Rattle.wac_asking.proofs.EntryLists.{stands_itself}
+use Rattle.wac_fields.specs.EntriesLeft.{AsksAlike, all_with_used, asked_at}
+use Rattle.wac_fields.proofs.EntryLists.{stands_itself}
 use Rattle.std.proofs.lemmas.List.{append-nil}
 use Rattle.wac_scopes.specs.declared.fault.WriteFault.{WriteFault}
 use Rattle.wac_writable.specs.declared.faults.Role.TheVariants as role

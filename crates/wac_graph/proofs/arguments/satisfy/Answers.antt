@@ -7,7 +7,7 @@ use Rattle.std.specs.Ordering.{nat_cmp}
 use Rattle.wac_nodes.specs.declared.node.Node.{Node}
 use Rattle.wac_nodes.specs.declared.node.NodeKind.{NodeKind}
 use Rattle.wac_nodes.specs.Nodes.{node_of, satisfied_at, satisfied}
-use Rattle.wac_removing.proofs.SatisfyLemmas.{kept_at, OnErr-from}
+use Rattle.wac_fields.proofs.SatisfyLemmas.{kept_at, OnErr-from}
 use Rattle.wac_graph.proofs.arguments.satisfy.Goals as goal
 
 pub returns-in_err-insert-clause-err : goal.returns-in_err-insert-clause-err

@@ -1,7 +1,7 @@
 use Rattle.std.proofs.Common.{◌≡◌, ap, refl, subst, ◌∙◌, arith, string_bytes}
 use Rattle.std.specs.String.{string_eq}
 use Rattle.indexmap.specs.IndexMap.{insert_entry}
-use Rattle.wac_defining.proofs.GraphLemmas.{with_brought}
+use Rattle.wac_fields.proofs.GraphLemmas.{with_brought}
 use Rattle.wac_fields.specs.Fields.{graph_of}
 use Rattle.wac_fields.proofs.AliasLemmas.{before_reserve, vacant_before}
 use Rattle.wac_fields.proofs.DefinitionLemmas.{defines, invariant_defined}

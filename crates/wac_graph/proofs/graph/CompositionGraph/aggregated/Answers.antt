@@ -2,7 +2,7 @@ use Rattle.std.proofs.Common.{◌≡◌, ap, sym, subst, map}
 use Rattle.std.specs.List.{AllByRecursion}
 use Rattle.wac_collection.specs.Collection.{Collection}
 use Rattle.wac_nodes.specs.Asked.{Entry}
-use Rattle.wac_asking.specs.EntriesLeft.{entry_view, IsHeldKind}
+use Rattle.wac_fields.specs.EntriesLeft.{entry_view, IsHeldKind}
 use Rattle.wac_nodes.specs.Graph.{Graph}
 use Rattle.wac_places.proofs.MergeLemmas.{all_index}
 use Rattle.wac_graph.proofs.graph.CompositionGraph.aggregated.Goals as goal

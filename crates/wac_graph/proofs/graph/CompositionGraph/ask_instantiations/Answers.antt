@@ -1,7 +1,7 @@
 use Rattle.std.proofs.Common.{◌≡◌, ◌++◌, sym, subst, arith}
 use Rattle.std.specs.List.{flat_map, range_with_len}
 use Rattle.wac_nodes.specs.Graph.{Graph}
-use Rattle.wac_asking.specs.EntriesLeft.{entries_of, asked_at, all_asked_by, all_with_used, AsksAlike}
+use Rattle.wac_fields.specs.EntriesLeft.{entries_of, asked_at, all_asked_by, all_with_used, AsksAlike}
 use Rattle.wac_writing.proofs.AskingWalk.{nothing_asked, number_asked, all_asked}
 use Rattle.wac_graph.specs.Inside.{fields_of}
 use Rattle.wac_graph.proofs.graph.CompositionGraph.ask_instantiations.Goals as goal

@@ -1,6 +1,6 @@
 use Rattle.std.proofs.Common.{◌++◌, []}
 use Rattle.std.specs.List.{flat_map, range_with_len}
-use Rattle.wac_asking.specs.EntriesLeft.{entries_of, asked_at, all_with_used, IsRight, AreSettled, AsksAlike}
+use Rattle.wac_fields.specs.EntriesLeft.{entries_of, asked_at, all_with_used, IsRight, AreSettled, AsksAlike}
 use Rattle.wac_graph.proofs.graph.CompositionGraph.ask_instantiations.Given as goal
 
 abbrev pub invariant-loop-n : goal.invariant-loop-n

@@ -5,8 +5,8 @@ use Rattle.wac_edges.specs.Edge.{node_number}
 use Rattle.wac_nodes.specs.Graph.{Graph, node_at}
 use Rattle.wac_nodes.specs.Asked.{Entry}
 use Rattle.wac_nodes.specs.Entries.{with_used}
-use Rattle.wac_asking.specs.EntriesLeft.{entries_of, row_entry, left_entries, asked_at, all_with_used, IsHeldKind, AsksAlike}
-use Rattle.wac_asking.proofs.EntryLists.{stands_itself}
+use Rattle.wac_fields.specs.EntriesLeft.{entries_of, row_entry, left_entries, asked_at, all_with_used, IsHeldKind, AsksAlike}
+use Rattle.wac_fields.proofs.EntryLists.{stands_itself}
 use Rattle.wac_writing.proofs.AskingWalk.{first_entries, first_held, one_asked}
 use Rattle.wac_graph.proofs.graph.CompositionGraph.ask_unset.Goals as goal
 

@@ -5,8 +5,8 @@ use Rattle.wac_nodes.specs.Graph.{Graph}
 use Rattle.wac_nodes.specs.Nodes.{kind_of}
 use Rattle.wac_nodes.specs.Asked.{Entry}
 use Rattle.wac_nodes.specs.Entries.{with_used}
-use Rattle.wac_asking.specs.EntriesLeft.{entries_of, all_with_used, asked_at, AsksAlike}
-use Rattle.wac_asking.proofs.AskingTasks.{on_ok}
+use Rattle.wac_fields.specs.EntriesLeft.{entries_of, all_with_used, asked_at, AsksAlike}
+use Rattle.wac_fields.proofs.AskingTasks.{on_ok}
 use Rattle.wac_causes.specs.TypeFaults.{wanted_at}
 use Rattle.wac_writing.proofs.AskingWalk.{one_number}
 use Rattle.wac_writing.proofs.WantedLemmas.{none_wanted, node_wanted, instantiation_wanted, nothing_wanted}

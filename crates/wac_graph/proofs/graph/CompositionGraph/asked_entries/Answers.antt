@@ -1,7 +1,7 @@
 use Rattle.std.proofs.Common.{◌++◌, ◌∙◌, subst}
 use Rattle.wac_nodes.specs.Asked.{asked}
-use Rattle.wac_asking.specs.EntriesLeft.{entries_of, all_asked_by, all_with_used, AsksAlike}
-use Rattle.wac_asking.proofs.EntryLists.{stands_once}
+use Rattle.wac_fields.specs.EntriesLeft.{entries_of, all_asked_by, all_with_used, AsksAlike}
+use Rattle.wac_fields.proofs.EntryLists.{stands_once}
 use Rattle.wac_writing.proofs.AskingWalk.{both_asked}
 use Rattle.wac_graph.proofs.graph.CompositionGraph.asked_entries.Goals as goal
 

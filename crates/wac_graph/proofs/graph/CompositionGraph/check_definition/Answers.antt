@@ -5,7 +5,7 @@ use Rattle.wac_edges.specs.Edge.{node_number}
 use Rattle.wac_nodes.specs.Definitions.{IsResource}
 use Rattle.wac_nodes.specs.ExternName.{IsImportName}
 use Rattle.wac_nodes.proofs.NodeLemmas.{lookup_text}
-use Rattle.wac_defining.proofs.GraphLemmas.{defined_there, defined_nowhere}
+use Rattle.wac_fields.proofs.GraphLemmas.{defined_there, defined_nowhere}
 use Rattle.wac_fields.specs.Fields.{graph_of}
 use Rattle.wac_graph.specs.Inside.{fields_of}
 use Rattle.wac_graph.proofs.DefiningLemmas.{no_resource}

@@ -7,8 +7,8 @@ use Rattle.wac_collection.specs.Collection.{IsWellFormed}
 use Rattle.wac_edges.specs.Edge.{node_number}
 use Rattle.wac_nodes.specs.Asked.{Entry}
 use Rattle.wac_nodes.specs.Graph.{Graph}
-use Rattle.wac_asking.specs.declared.asked.AskedEntry.{AskedEntry}
-use Rattle.wac_asking.specs.EntriesLeft.{entry_view, IsHeldKind}
+use Rattle.wac_fields.specs.declared.asked.AskedEntry.{AskedEntry}
+use Rattle.wac_fields.specs.EntriesLeft.{entry_view, IsHeldKind}
 use Rattle.wac_writable.specs.Faults.{IsLowest}
 use Rattle.wac_causes.specs.TypeFaults.{wanted_entries, IsEntryFault}
 use Rattle.wac_writing.proofs.AskedHeld.{held_wanted}

@@ -1,9 +1,9 @@
 use Rattle.std.proofs.Common.{ℕ, List, Some, sym, ap, ◌∙◌}
 use Rattle.std.specs.Prelude.{slice_get}
-use Rattle.wac_asking.specs.declared.asked.AskedEntry.{AskedEntry}
+use Rattle.wac_fields.specs.declared.asked.AskedEntry.{AskedEntry}
 use Rattle.wac_nodes.specs.Asked.{Entry}
 use Rattle.wac_nodes.specs.Entries.{asked_entries}
-use Rattle.wac_asking.specs.EntriesLeft.{entry_view}
+use Rattle.wac_fields.specs.EntriesLeft.{entry_view}
 use Rattle.wac_edges.specs.Edge.{node_number}
 use Rattle.wac_places.proofs.MergeLemmas.{entry_at, explicit_refused, implicit_refused, index_there, mapped_within}
 use Rattle.wac_graph.proofs.graph.CompositionGraph.disagreement.Goals as goal

@@ -12,7 +12,7 @@ use Rattle.wac_terms.specs.declared.fault.MergeFault.{MergeFault}
 use Rattle.wac_entries.specs.Classes as merge
 use Rattle.wac_nodes.specs.Asked.{Entry}
 use Rattle.wac_nodes.specs.Entries.{asked_entries, to_merge}
-use Rattle.wac_asking.specs.EntriesLeft.{entry_view, IsHeldKind}
+use Rattle.wac_fields.specs.EntriesLeft.{entry_view, IsHeldKind}
 use Rattle.wac_nodes.specs.Graph.{Graph}
 use Rattle.wac_writing.proofs.AskedHeld.{held_entries}
 use Rattle.wac_places.proofs.MergeLemmas.{is_fault, merge_held}

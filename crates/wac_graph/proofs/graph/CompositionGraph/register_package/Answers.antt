@@ -1,5 +1,5 @@
 use Rattle.std.proofs.Common.{refl, sym, ap, reverse, subst}
-use Rattle.wac_removing.specs.Slots.{vacant_of, IsNext}
+use Rattle.wac_fields.specs.Slots.{vacant_of, IsNext}
 use Rattle.wac_fields.specs.Fields.{graph_of}
 use Rattle.wac_fields.proofs.InvariantLemmas.{room_put, invariant_register}
 use Rattle.wac_fields.proofs.StepLemmas.{there_already, registered}

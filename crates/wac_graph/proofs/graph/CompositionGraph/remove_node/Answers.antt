@@ -1,5 +1,5 @@
 use Rattle.wac_nodes.proofs.NodeLemmas.{there}
-use Rattle.wac_removing.proofs.LostLemmas.{noted_told}
+use Rattle.wac_fields.proofs.LostLemmas.{noted_told}
 use Rattle.wac_fields.proofs.RemovedLemmas.{tied_inside, removes, invariant_removed}
 use Rattle.wac_graph.specs.Inside.{fields_of}
 use Rattle.wac_graph.proofs.graph.CompositionGraph.remove_node.Goals as goal

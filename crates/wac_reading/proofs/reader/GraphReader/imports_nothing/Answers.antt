@@ -1,5 +1,5 @@
 use Rattle.wac_reading.specs.Inside.{fields_of}
-use Rattle.wac_reading.proofs.NoImportLemmas.{no_import}
+use Rattle.wac_writing.proofs.NoImportLemmas.{no_import}
 use Rattle.wac_reading.proofs.reader.GraphReader.imports_nothing.Goals as goal
 
 pub returns : goal.returns

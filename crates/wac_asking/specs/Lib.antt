@@ -1,2 +1,0 @@
-pub mod EntriesLeft
-pub mod ImportsLeft

@@ -1,4 +1,0 @@
-pub mod AddingLemmas
-pub mod StoredLemmas
-pub mod DependencyLemmas
-pub mod GraphLemmas

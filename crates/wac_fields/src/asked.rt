@@ -1,0 +1,198 @@
+//! All that a graph asks for: with each import the interfaces that it uses, each instance once under a name.
+//!
+//! An interface whose uses aren't asked for yet waits in a list of tasks, below them, so that no chain of uses is too
+//! long. What an instance uses is asked for before it, so one that is asked for already needs no walk.
+ghost use Rattle.std.specs.Prelude.{ℕ, ◌≡◌, ◌++◌, List, [], map, IfOk, OnOk};
+ghost use Rattle.wac_collection.specs.Collection.{HasInterface};
+ghost use Rattle.wac_shapes.specs.declared.component.ItemKind.TheVariants.{Instance};
+ghost use Rattle.wac_fields.specs.declared.asked.Task.{Task as ATask};
+ghost use Rattle.wac_fields.specs.declared.asked.Task.TheVariants.{Open, Close};
+ghost use Rattle.wac_nodes.specs.Entries.{used_by, with_used};
+ghost use Rattle.wac_fields.specs.EntriesLeft.{entry_view, entries_of, IsRight, IsHeldTask, IsHeldKind, AreSettled, AsksAlike, Did, has, added, by_node, instance_under, openings};
+
+use std::alloc::{AllocError, Global};
+use std::collections::HashSet;
+use wac_types::{InterfaceId, ItemKind, Named, Types, UsedType};
+
+/// An import that is asked for, by a node.
+#[derive(Clone, Copy)]
+pub struct AskedEntry<'a> {
+    /// Its name.
+    pub name: &'a str,
+    /// What it is.
+    pub kind: ItemKind,
+    /// The number of the node.
+    pub node: usize,
+}
+
+/// What is to be done with an interface that is used.
+#[derive(Clone, Copy)]
+enum Task {
+    /// What it uses is to be asked for first.
+    Open(InterfaceId),
+    /// What it uses is asked for, and it is to be.
+    Close(InterfaceId),
+}
+
+/// What is asked for so far.
+#[derive(Drop)]
+pub struct Asking<'a> {
+    /// The memory that it grows in.
+    alloc: Global,
+    /// The entries.
+    entries: Vec<AskedEntry<'a>>,
+    /// The instances among them.
+    known: HashSet<(&'a str, InterfaceId)>,
+}
+
+/// The interfaces of used types are to be opened, the first at the end.
+fn open_used(tasks: &mut Vec<Task>, uses: &Named<UsedType>) -> Result<(), AllocError>
+    ensures { OnOk result (tasks.new.items ≡ tasks.old.items ++ openings uses.now) }
+{
+    let mut i = uses.len();
+    while i > 0 {
+        i -= 1;
+        tasks.push(Task::Open(uses.value_at(i).interface))?;
+    }
+    Ok(())
+}
+
+impl<'a> Asking<'a> {
+    /// Nothing.
+    pub fn new(alloc: Global) -> Asking<'a>
+        ensures right { IsRight result }
+        ensures empty { entries_of result ≡ [] }
+    {
+        Asking {
+            alloc,
+            entries: Vec::new(alloc),
+            known: HashSet::new(alloc),
+        }
+    }
+
+    /// What was asked for, in order.
+    pub fn into_entries(self) -> Vec<AskedEntry<'a>>
+        ensures { map entry_view result.items ≡ entries_of self.entry }
+    {
+        self.entries
+    }
+
+    /// Whether an instance is asked for under a name.
+    fn has(&self, name: &'a str, id: InterfaceId) -> bool
+        requires { IsRight self.now }
+        ensures { result ≡ has (entries_of self.now) (instance_under name.now id) }
+    {
+        self.known.contains(&(name, id))
+    }
+
+    /// Asks for one more import, unless it is an instance that is asked for under its name.
+    fn add(&mut self, asked: AskedEntry<'a>) -> Result<(), AllocError>
+        requires { IsRight self.old }
+        ensures right { OnOk result (IsRight self.new) }
+        ensures entries { OnOk result (entries_of self.new ≡ added (entries_of self.old) (entry_view asked.entry)) }
+    {
+        if let ItemKind::Instance(id) = asked.kind {
+            match self.known.insert((asked.name, id)) {
+                Ok(true) => {}
+                Ok(false) => return Ok(()),
+                Err(_) => return Err(AllocError),
+            }
+        }
+        self.entries.push(asked)?;
+        Ok(())
+    }
+
+    /// Leaves an interface to be asked for behind what it uses, unless it is asked for.
+    fn open(
+        &self,
+        types: &'a Types,
+        id: InterfaceId,
+        tasks: &mut Vec<Task>,
+    ) -> Result<(), AllocError>
+        requires held { HasInterface types.now id }
+        requires right { IsRight self.now }
+        ensures { (node : ℕ) → OnOk result (Did types.now node (Open id) (entries_of self.now) (entries_of self.now) tasks.old.items tasks.new.items) }
+    {
+        let interface = &types[id];
+        if let Some(name) = &interface.id {
+            if self.has(name.as_str(), id) {
+                return Ok(());
+            }
+        }
+        tasks.push(Task::Close(id))?;
+        open_used(tasks, &interface.uses)
+    }
+
+    /// Asks for an interface under its id.
+    fn close(&mut self, types: &'a Types, node: usize, id: InterfaceId) -> Result<(), AllocError>
+        requires held { HasInterface types.now id }
+        requires right { IsRight self.old }
+        ensures right { OnOk result (IsRight self.new) }
+        ensures did { (left : List ATask) → OnOk result (Did types.now node (Close id) (entries_of self.old) (entries_of self.new) left left) }
+    {
+        let Some(name) = &types[id].id else {
+            return Ok(());
+        };
+        self.add(AskedEntry {
+            name: name.as_str(),
+            kind: ItemKind::Instance(id),
+            node,
+        })
+    }
+
+    /// Does a task: asks for its interface, or leaves it behind what it uses.
+    fn perform(
+        &mut self,
+        types: &'a Types,
+        node: usize,
+        task: Task,
+        tasks: &mut Vec<Task>,
+    ) -> Result<(), AllocError>
+        requires held { IsHeldTask types.now task }
+        requires right { IsRight self.old }
+        ensures right { OnOk result (IsRight self.new) }
+        ensures did { OnOk result (Did types.now node task (entries_of self.old) (entries_of self.new) tasks.old.items tasks.new.items) }
+    {
+        match task {
+            Task::Open(id) => self.open(types, id, tasks),
+            Task::Close(id) => self.close(types, node, id),
+        }
+    }
+
+    /// Asks for what an interface uses.
+    fn ask_used(&mut self, types: &'a Types, node: usize, id: InterfaceId) -> Result<(), AllocError>
+        requires held { HasInterface types.now id }
+        requires right { IsRight self.old }
+        requires settled { AreSettled types.now [] (entries_of self.old) }
+        ensures right { OnOk result (IsRight self.new) }
+        ensures stands { OnOk result (AsksAlike types.now (entries_of self.old ++ map (by_node node) (used_by types.now (Instance id))) (entries_of self.new)) }
+    {
+        types.law();
+        let mut tasks = Vec::new(self.alloc);
+        open_used(&mut tasks, &types[id].uses)?;
+        while let Some(task) = tasks.pop() {
+            self.perform(types, node, task, &mut tasks)?;
+        }
+        Ok(())
+    }
+
+    /// Asks for an import, and before it for what it uses.
+    pub fn ask(&mut self, types: &'a Types, asked: AskedEntry<'a>) -> Result<(), AllocError>
+        requires held { IsHeldKind types.now asked.kind }
+        requires right { IsRight self.old }
+        requires settled { AreSettled types.now [] (entries_of self.old) }
+        ensures right { OnOk result (IsRight self.new) }
+        ensures settled { OnOk result (AreSettled types.now [] (entries_of self.new)) }
+        ensures stands { OnOk result (AsksAlike types.now (entries_of self.old ++ with_used types.now (entry_view asked.entry)) (entries_of self.new)) }
+    {
+        types.law();
+        let ItemKind::Instance(id) = asked.kind else {
+            return self.add(asked);
+        };
+        if self.has(asked.name, id) {
+            return Ok(());
+        }
+        self.ask_used(types, asked.node, id)?;
+        self.add(asked)
+    }
+}

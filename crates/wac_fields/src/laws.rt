@@ -1,0 +1,29 @@
+//! Laws over the steps of graphs, given to the caller of a call that does nothing else.
+ghost use Rattle.std.specs.Prelude.{◌≡◌, ℕ, None, IsSome, Result};
+ghost use Rattle.wac_collection.specs.Package.{PackageParts};
+ghost use Rattle.wac_edges.specs.declared.node.NodeId.{NodeId as AnId};
+ghost use Rattle.wac_nodes.specs.declared.errors.RegisterPackageError.{RegisterPackageError};
+ghost use Rattle.wac_nodes.specs.declared.packages.PackageId.{PackageId as APackageId};
+ghost use Rattle.wac_nodes.specs.Graph.{Graph, node_at, package_at, IsArgumentOf, IsUnsatisfied};
+ghost use Rattle.wac_nodes.specs.Sound.{IsSound};
+ghost use Rattle.wac_nodes.specs.Steps.{Registers};
+ghost use Rattle.wac_fields.specs.Removal.{GoesWith, Removes};
+ghost use Rattle.wac_fields.specs.Unregistering.{Unregisters, IsSpent};
+
+/// What a removal leaves: what goes with the node is gone, each other node is as it was, and an import whose argument went has
+/// none any more.
+pub fn removal_law()
+    ensures gone { (old new : Graph) (id n : AnId) → Removes old id new → GoesWith old.edges id n → node_at new n ≡ None }
+    ensures stays { (old new : Graph) (id n : AnId) → Removes old id new → (GoesWith old.edges id n → ⊥) → node_at new n ≡ node_at old n }
+    ensures unsatisfied { (old new : Graph) (id n consumer : AnId) (i : ℕ) → IsSound old → Removes old id new → GoesWith old.edges id n → IsArgumentOf old consumer i n → IsUnsatisfied new consumer i }
+{}
+
+/// An id whose package was unregistered is never valid again: it is spent, and stays so when packages are registered and
+/// unregistered; no other call changes slots.
+pub fn unregistered_law()
+    ensures spent { (old new : Graph) (id : APackageId) → IsSound old → IsSome (package_at old id) → Unregisters old id new → IsSpent new id }
+    ensures invalid { (g : Graph) (id : APackageId) → IsSpent g id → package_at g id ≡ None }
+    ensures registers { (old new : Graph) (id : APackageId) (p : PackageParts) (result : Result APackageId RegisterPackageError) → IsSpent old id → Registers old p result new → IsSpent new id }
+    ensures unregisters { (old new : Graph) (id other : APackageId) → IsSound old → IsSome (package_at old other) → IsSpent old id → Unregisters old other new → IsSpent new id }
+    ensures others { (old new : Graph) (id : APackageId) → IsSpent old id → new.slots ≡ old.slots → new.vacant ≡ old.vacant → IsSpent new id }
+{}

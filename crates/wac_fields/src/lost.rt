@@ -1,0 +1,196 @@
+//! Exports of nodes that were taken out: where they stand, and how they are taken out themselves.
+ghost use Rattle.std.specs.Prelude.{◌≡◌, ◌≢◌, ℕ, true, not, OnOk, IfOk, is_some, IsSome, Some, None, slice_get, Contains};
+ghost use Rattle.slab.specs.Slab.{get, Updates};
+ghost use Rattle.wac_primitives.specs.Name.{Name as AName};
+ghost use Rattle.wac_edges.specs.declared.node.NodeId.{NodeId as AnId};
+ghost use Rattle.wac_nodes.specs.Nodes.{node_of, names_of};
+ghost use Rattle.wac_fields.specs.Told.{tells};
+ghost use Rattle.wac_nodes.specs.TakenOut.{without, taken_at};
+ghost use Rattle.wac_fields.specs.Lost.{is_again, IsNoted, AreNoted};
+
+use indexmap::IndexMap;
+use slab::Slab;
+use std::alloc::{AllocError, Global};
+use std::collections::BTreeSet;
+use wac_nodes::{Node, NodeId};
+
+/// The positions of exports whose nodes were taken out.
+///
+/// A node keeps the name by which it was exported last, which leads to its place. Of nodes that may have further names all
+/// exports have to be gone through.
+pub struct Lost {
+    positions: Vec<usize>,
+    // Whether no position is missing.
+    is_complete: bool,
+    // The numbers of nodes that may have further names.
+    again: BTreeSet<usize>,
+}
+
+/// A record of what was lost is let go of here, and not anew at each place where one goes out of scope.
+impl Drop for Lost {
+    fn drop(self) {
+        let Lost {
+            positions: _,
+            is_complete: _,
+            again: _,
+        } = self;
+    }
+}
+
+impl Lost {
+    /// No position and no such node; without room.
+    pub fn new(alloc: Global) -> Lost {
+        Lost {
+            positions: Vec::new(alloc),
+            is_complete: true,
+            again: BTreeSet::new(alloc),
+        }
+    }
+
+    /// The same marks, with no position and with room for so many.
+    pub fn clone_with_room(&self, alloc: Global, count: usize) -> Result<Lost, AllocError>
+        ensures { IfOk result (λ lost. (q : ℕ) → is_again lost q ≡ is_again self.now q) }
+    {
+        let again = self.again.clone()?;
+        let mut positions = Vec::new(alloc);
+        positions.reserve(count)?;
+        Ok(Lost {
+            positions,
+            is_complete: true,
+            again,
+        })
+    }
+
+    /// Begins anew, with no position.
+    pub fn clear(&mut self)
+        ensures { (q : ℕ) → is_again self.new q ≡ is_again self.old q }
+    {
+        self.positions.clear();
+        self.is_complete = true;
+    }
+
+    /// Makes room for so many positions, before the node of this number is exported. Where it has a name already it may have
+    /// further ones from now on.
+    pub fn prepare(&mut self, count: usize, number: usize, is_named: bool) -> Result<(), AllocError>
+        ensures kept { (q : ℕ) → is_again self.old q ≡ true → is_again self.new q ≡ true }
+        ensures marked { OnOk result (is_named ≡ true → is_again self.new number ≡ true) }
+    {
+        self.positions.clear();
+        self.positions.reserve(count)?;
+        if is_named {
+            self.again.insert(number)?;
+        }
+        Ok(())
+    }
+
+    /// The node of this number has no names. Answers whether it may have had further ones.
+    pub fn unmark(&mut self, number: usize) -> bool
+        ensures was { result ≡ is_again self.old number }
+        ensures others { (q : ℕ) → q ≢ number → is_again self.new q ≡ is_again self.old q }
+        ensures kept { (i : ℕ) → IsNoted self.old i → IsNoted self.new i }
+    {
+        !self.again.is_empty() && self.again.remove(&number)
+    }
+
+    /// Notes a position, where there is room for it. Takes no memory.
+    fn note(&mut self, position: usize)
+        ensures noted { IsNoted self.new position }
+        ensures kept { (i : ℕ) → IsNoted self.old i → IsNoted self.new i }
+        ensures same { (q : ℕ) → is_again self.new q ≡ is_again self.old q }
+    {
+        if self.positions.len() < self.positions.capacity() {
+            self.positions.push(position).unwrap();
+        } else {
+            self.is_complete = false;
+        }
+    }
+
+    /// Notes the exports of a node of this number.
+    fn note_exports(&mut self, exports: &IndexMap<String, NodeId>, number: usize, node: &Node)
+        ensures noted { (i : ℕ) (name : AName) (n : AnId) → slice_get (names_of exports.now.entries) i ≡ Some (name, n) → tells (is_again self.old number) (Some (node_of node.now)) name ≡ true → IsNoted self.new i }
+        ensures kept { (i : ℕ) → IsNoted self.old i → IsNoted self.new i }
+        ensures others { (q : ℕ) → q ≢ number → is_again self.new q ≡ is_again self.old q }
+    {
+        if self.unmark(number) {
+            self.is_complete = false;
+            return;
+        }
+        let Some(name) = &node.export_name else {
+            return;
+        };
+        if let Some(position) = exports.get_index_of(name.as_str()) {
+            self.note(position);
+        }
+    }
+}
+
+/// Takes a node out and notes its exports.
+pub(crate) fn take_node(
+    nodes: &mut Slab<Node>,
+    exports: &IndexMap<String, NodeId>,
+    lost: &mut Lost,
+    number: usize,
+) -> Node
+    requires there { IsSome (get nodes.old number) }
+    requires noted { AreNoted nodes.old lost.old exports.now.entries }
+    ensures value { get nodes.old number ≡ Some result }
+    ensures updates { Updates nodes.old nodes.new number None }
+    ensures next { nodes.new.vacant_key ≡ number }
+    ensures noted { AreNoted nodes.new lost.new exports.now.entries }
+{
+    let node = &nodes[number];
+    lost.note_exports(exports, number, node);
+    nodes.remove(number)
+}
+
+/// Takes the exports out whose nodes are not there, from the last to the first; each time the last export takes the freed place.
+/// Where all their positions are noted, only those are looked at.
+pub fn take_lost(exports: &mut IndexMap<String, NodeId>, nodes: &Slab<Node>, lost: &mut Lost)
+    requires { AreNoted nodes.now lost.old exports.old.entries }
+    ensures same { (q : ℕ) → is_again lost.new q ≡ is_again lost.old q }
+    ensures left { names_of exports.new.entries ≡ without (λ m. not (is_some (get nodes.now m.0))) (names_of exports.old.entries) }
+{
+    if lost.is_complete {
+        take_noted(exports, nodes, &mut lost.positions);
+    } else {
+        take_all(exports, nodes);
+    }
+}
+
+/// Takes those of the exports at these positions out whose nodes are not there.
+fn take_noted(
+    exports: &mut IndexMap<String, NodeId>,
+    nodes: &Slab<Node>,
+    positions: &mut Vec<usize>,
+)
+    requires { (i : ℕ) (name : AName) (n : AnId) → slice_get (names_of exports.old.entries) i ≡ Some (name, n) → get nodes.now n.0 ≡ None → Contains positions.old.items i }
+    ensures { names_of exports.new.entries ≡ without (λ m. not (is_some (get nodes.now m.0))) (names_of exports.old.entries) }
+{
+    positions.sort_unstable();
+    while let Some(position) = positions.pop() {
+        take_lost_at(exports, nodes, position);
+    }
+}
+
+/// Goes through all exports.
+fn take_all(exports: &mut IndexMap<String, NodeId>, nodes: &Slab<Node>)
+    ensures { names_of exports.new.entries ≡ without (λ m. not (is_some (get nodes.now m.0))) (names_of exports.old.entries) }
+{
+    let mut i = exports.len();
+    while i > 0 {
+        i -= 1;
+        take_lost_at(exports, nodes, i);
+    }
+}
+
+/// Takes the export at a position out where its node is not there; the last export takes its place.
+fn take_lost_at(exports: &mut IndexMap<String, NodeId>, nodes: &Slab<Node>, position: usize)
+    ensures { names_of exports.new.entries ≡ taken_at (λ m. not (is_some (get nodes.now m.0))) position (slice_get (names_of exports.old.entries) position) (names_of exports.old.entries) }
+{
+    let Some((_, node)) = exports.get_index(position) else {
+        return;
+    };
+    if !nodes.contains(node.0) {
+        exports.swap_remove_index(position);
+    }
+}
