@@ -1,5 +1,5 @@
 -- One plug after another: what is matched in a graph is so in one with the same types and packages.
-use Rattle.std.proofs.Common.{◌≡◌, ℕ, suc, ◌+◌, ◌≤◌, ◌||◌, Bool, true, false, List, [], ◌∷◌, ◌++◌, length, drop, slice_get, refl, ap, ◌∙◌, sym, subst, Some, Result, Ok, Err, OnOk, arith}
+use Rattle.std.proofs.Common.{◌≡◌, ℕ, suc, ◌+◌, ◌≤◌, ◌||◌, Bool, true, false, List, [], ◌∷◌, ◌++◌, length, drop, slice_get, refl, ap, ◌∙◌, sym, subst, Some, Err, arith}
 use Rattle.std.specs.Option.{option_map}
 use Rattle.std.proofs.lemmas.Bool.{false≢true}
 use Rattle.std.proofs.lemmas.List.{drop_all}
@@ -38,10 +38,6 @@ listed-imports g id p w t x at is same there = imports-of g id p at ∙ ap (worl
 
 pub listed-exports : (g : Graph) (id : PackageId) (p : PackageParts) (w : WorldId) (t : Collection) (x : World) → package_at g id ≡ Some p → w ≡ p.world → t ≡ g.types → item_at t.worlds w.0 ≡ Some x → exports_of_package g id ≡ x.exports
 listed-exports g id p w t x at is same there = exports-of g id p at ∙ ap (world_exports g.types) (sym is) ∙ ap (λ c. world_exports c w) (sym same) ∙ world-exports t w x there
-
-pub on-ok : {A E : Type 0} (r : Result A E) (P : Type 0) → P → OnOk r P
-on-ok (Ok a) P h = h
-on-ok (Err e) P h = tt
 
 -- the name at a position of what a world exports, in a graph whose types are the same
 pub export-named : (old now : Collection) (w : WorldId) (x : World) (i : ℕ) (name : Name) → now ≡ old → item_at now.worlds w.0 ≡ Some x → option_map (λ e. e.0) (slice_get x.exports i) ≡ Some name → slice_get (names_of (world_exports old w)) i ≡ Some name

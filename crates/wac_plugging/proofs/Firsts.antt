@@ -43,10 +43,6 @@ first-push (e ∷ es) j x key =
     ∙ first-if (same_name key (track_key e.0)) j (first_at (suc j) key es) (cond (same_name key (track_key x.0)) (Some (suc j + length es)) None)
     ∙ ap (λ k. first_some (cond (same_name key (track_key e.0)) (Some j) (first_at (suc j) key es)) (cond (same_name key (track_key x.0)) (Some k) None)) at
 
--- nothing is found before the first import
-pub none-first : {V : Type 0} (imports : List (Name × V)) → AreFirsts (take 0 imports) []
-none-first imports key = refl
-
 -- one more import
 module _ {V : Type 0} (imports : List (Name × V)) (i : ℕ) (e : Name × V) (old new : List (Name × ℕ)) (at : slice_get imports i ≡ Some e) (are : AreFirsts (take i imports) old) where
   abbrev key : Name

@@ -31,9 +31,6 @@ keeps-same old new e = record {
   same = λ n x y was now. one-node (node_at new n) x y (ap (λ (g : Graph). node_at g n) e ∙ was) now;
 }
 
-pub keeps-refl : (g : Graph) → Keeps g g
-keeps-refl g = keeps-same g g refl
-
 pub keeps-trans : (a b c : Graph) → Keeps a b → Keeps b c → Keeps a c
 keeps-trans a b c ab bc = record {
   types = bc.types ∙ ab.types;
@@ -45,10 +42,6 @@ keeps-trans a b c ab bc = record {
       let second = bc.same n y.0 z y.1 now in
       (second.0 ∙ first.0, second.1 ∙ first.1);
 }
-
--- a package stays
-pub keeps-package : (old new : Graph) (id : PackageId) → Keeps old new → package_at new id ≡ package_at old id
-keeps-package old new id k = ap (λ s. package_at (record old { slots = s }) id) k.slots
 
 -- one node more, or another in its place
 insert-there : (nodes : map.FinMap nat_cmp GraphNode) (n : ℕ) (node : GraphNode) (m : ℕ) → IsSome (map.get nodes m) → IsSome (map.get (map.insert nodes n node) m)
