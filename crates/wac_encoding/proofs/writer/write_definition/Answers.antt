@@ -11,22 +11,22 @@ use Rattle.wac_encoding.proofs.DefinitionLemmas.{definable, written}
 use Rattle.wac_encoding.proofs.writer.write_definition.Goals as goal
 
 pub write_definition-requires-clause-held : goal.write_definition-requires-clause-held
-write_definition-requires-clause-held c = subst (λ (t : Collection). holds_type t c.definition.result.1 ≡ true) (sym c.types.ensures) c.definition.ensures.held
+write_definition-requires-clause-held c = subst (λ (t : Collection). holds_type t c.definition-ty.result.1 ≡ true) (sym c.types.ensures) c.definition-ty.ensures.held
 
 pub write_definition-requires-clause-definable : goal.write_definition-requires-clause-definable
 write_definition-requires-clause-definable c =
-    subst (λ (t : Collection). IsDefinableKind t (TypeItem c.definition.result.1)) (sym c.types.ensures)
-    (definable c.args.reader.now c.args.n c.definition.result.1 c.definition.result.0.now c.requires.definition c.definition.ensures.defined c.requires.definable)
+    subst (λ (t : Collection). IsDefinableKind t (TypeItem c.definition-ty.result.1)) (sym c.types.ensures)
+    (definable c.args.reader.now c.args.n c.definition-ty.result.1 c.definition-ty.result.0.now c.requires.definition c.definition-ty.ensures.defined c.requires.definable)
 
 pub write_definition-requires-clause-right : goal.write_definition-requires-clause-right
 write_definition-requires-clause-right c = subst (λ (t : Collection). IsRightRoot t c.args.encoder.now.root) (sym c.types.ensures) c.requires.right
 
 pub returns-clause-written : goal.returns-clause-written
 returns-clause-written c =
-    let w = c.in_ok-write_definition.ensures.written in
-    written c.args.reader.now c.args.n c.definition.result.1 c.definition.result.0.now c.requires.definition c.definition.ensures.defined c.args.imports.now.places.items
-    (index_in c.args.encoder.now.indexes.items) c.args.encoder.now.components.entries (items_of c.args.encoder.now.root.content) w.mid (items_of c.write_definition.new.root.content) w.k c.in_ok-write_definition.field-0
-    (subst (λ (t : Collection). WritesType (definition_tree t c.definition.result.1) (items_of c.args.encoder.now.root.content) w.mid w.k) c.types.ensures w.writes) w.exported w.index
+    let w = c.in_ok-index.ensures.written in
+    written c.args.reader.now c.args.n c.definition-ty.result.1 c.definition-ty.result.0.now c.requires.definition c.definition-ty.ensures.defined c.args.imports.now.places.items
+    (index_in c.args.encoder.now.indexes.items) c.args.encoder.now.components.entries (items_of c.args.encoder.now.root.content) w.mid (items_of c.write_definition.new.root.content) w.k c.in_ok-index.index
+    (subst (λ (t : Collection). WritesType (definition_tree t c.definition-ty.result.1) (items_of c.args.encoder.now.root.content) w.mid w.k) c.types.ensures w.writes) w.exported w.index
 
 pub returns-clause-right : goal.returns-clause-right
-returns-clause-right c = subst (λ (t : Collection). IsRightRoot t c.write_definition.new.root) c.types.ensures c.in_ok-write_definition.ensures.right
+returns-clause-right c = subst (λ (t : Collection). IsRightRoot t c.write_definition.new.root) c.types.ensures c.in_ok-index.ensures.right
