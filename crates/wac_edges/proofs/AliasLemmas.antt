@@ -1,10 +1,10 @@
 -- Aliases that are noted.
-use Rattle.std.proofs.Common.{◌≡◌, ◌≢◌, eqb, ◌↔◌, ◌⊎◌, ℕ, ◌<◌, ◌||◌, Bool, true, false, cond, List, [], ◌∷◌, Option, Some, None, refl, sym, ap, ◌∙◌, subst, inl, inr, arith}
+use Rattle.std.proofs.Common.{◌≡◌, ◌≢◌, eqb, ◌↔◌, ◌⊎◌, ℕ, ◌<◌, ◌||◌, Bool, true, false, cond, List, [], ◌∷◌, Option, Some, None, Result, Ok, Err, refl, sym, ap, ◌∙◌, subst, inl, inr, arith}
 use Rattle.std.specs.List.{list_any}
 use Rattle.std.specs.BTreeSet.{BTreeSet, contains, IsKeyRangeOf, IsKeyInRange}
 use Rattle.std.specs.BTreeMap.Range.{IsLeBy}
 use Rattle.std.specs.declared.ops.Bound.TheVariants.{Included, Unbounded}
-use Rattle.std.specs.Prelude.{◌==◌, is_some, slice_get, IfSome, IfNone}
+use Rattle.std.specs.Prelude.{◌==◌, ◌&&◌, nat_eq, slice_get, Vec, IfSome, IfNone, OnErr}
 use Rattle.std.specs.BTreeMap.{is_at}
 use Rattle.std.specs.declared.cmp.Ordering.{Ordering}
 use Rattle.std.specs.declared.cmp.Ordering.TheVariants.{Less, Equal, Greater}
@@ -18,6 +18,10 @@ use Rattle.std.specs.FinSet as set
 use Rattle.std.specs.HashMap as hash
 use Rattle.std.specs.HashMap.{HashMap}
 use Rattle.std.specs.Map.{lookup}
+use Rattle.std.specs.Option.{MatchOption, IsSomeAnd, IsSome, is_some}
+use Rattle.std.specs.List.{AllZip}
+use Rattle.std.proofs.lemmas.Map.Entries.{lookup_clone}
+use Rattle.std.specs.Global.{Global}
 use Rattle.std.specs.declared.hash.BuildHasherDefault.{BuildHasherDefault}
 use Rattle.std.specs.declared.hash.FoldHasher.{FoldHasher}
 use Rattle.wac_edges.specs.declared.aliases.Aliases.{Aliases}
@@ -33,7 +37,7 @@ use Rattle.std.proofs.Common.{◌++◌, length, take, drop, map, Contains}
 use Rattle.std.proofs.Math.Seq.{take-append_seam}
 use Rattle.wac_edges.specs.declared.records.Firsts.{Firsts}
 use Rattle.wac_edges.specs.Records.{Table, HasEdge, AreListed, edge_at, list_at, first_at}
-use Rattle.wac_edges.specs.Aliases.{triple_cmp, pair_eq, is_number, is_first, is_among, is_noted, is_crowded, AreNoted}
+use Rattle.wac_edges.specs.Aliases.{triple_cmp, place, first, is_number, is_first, is_among, is_noted, is_crowded, AreNoted}
 use Rattle.wac_edges.specs.declared.edges.End.TheVariants.{Outgoing}
 use Rattle.slab.proofs.SlabLemmas.{Contains-cons, Contains-cons_cases}
 use Rattle.wac_edges.proofs.EdgeLemmas.{same_node}
@@ -110,7 +114,58 @@ module _ (s : Aliases) (edge : Edge) (other : (position : ℕ) → edge.label �
   pub noted_still : (is_noted s source i target ≡ true) ↔ ((is_noted s source i target ≡ true) × (alias_edge source target i ≡ edge → ⊥))
   noted_still = (λ w. (w, none_here), λ w. w.0)
 
+-- ---- lists of places under numbers
+abbrev Places : Type 0
+Places = Vec (Option ℕ) Global
+
+abbrev pub Lists : Type 0
+Lists = HashMap ℕ Places (BuildHasherDefault FoldHasher)
+
+abbrev pub read : Option Places → ℕ → Option ℕ
+read o i = elim o as (λ _. Option ℕ) [ None ↦ None | Some places ↦ place places.items i ]
+
+pub is_there : {v : Places} {o : Option Places} → Some v ≡ o → IsSome o
+is_there h = ap (λ (o : Option Places). is_some o) (sym h)
+
+-- the list of one number is another one now
+module _ (old new : Lists) (source : ℕ) (list : Places) (puts : (q : ℕ) → hash.get nat_eq new q ≡ cond (nat_eq source q) (Some list) (hash.get nat_eq old q)) where
+  pub put_here : (i : ℕ) → first new source i ≡ place list.items i
+  put_here i = ap (λ o. read o i) (puts source ∙ ap (λ (b : Bool). cond b (Some list) (hash.get nat_eq old source)) (eq-eqb source source refl))
+
+  -- which differs at one position from the one before
+  pub put_elsewhere : (position : ℕ) → ((i : ℕ) → i ≢ position → place list.items i ≡ first old source i) → (s i : ℕ) → (s ≡ source → i ≢ position) → first new s i ≡ first old s i
+  put_elsewhere position others s i away = elim (cases_Bool (nat_eq source s)) [
+    | inl same ↦
+        let is : s ≡ source = sym (eqb-true source s same) in
+        ap (λ n. first new n i) is ∙ put_here i ∙ others i (away is) ∙ ap (λ n. first old n i) (sym is)
+    | inr differ ↦ ap (λ o. read o i) (puts s ∙ ap (λ (b : Bool). cond b (Some list) (hash.get nat_eq old s)) differ)
+  ]
+
+-- what is said of two places is said of two that have the same
+pub both : (P : Option ℕ → Option ℕ → Type 0) {a b x y : Option ℕ} → a ≡ x → b ≡ y → P a b → P x y
+both P {a} {b} {x} {y} p q h = subst (λ z. P z y) p (subst (λ z. P a z) q h)
+
+-- a list of clones has the same at each position
+pub same_option : (R : Option ℕ → Option ℕ → Type 0) → ((y : ℕ) → R None (Some y) → ⊥) → ((x : ℕ) → R (Some x) None → ⊥) → ((x y : ℕ) → R (Some x) (Some y) → y ≡ x) → (a b : Option ℕ) → R a b → b ≡ a
+same_option R more less same None None h = refl
+same_option R more less same None (Some y) h = absurd (more y h)
+same_option R more less same (Some x) None h = absurd (less x h)
+same_option R more less same (Some x) (Some y) h = ap (λ (n : ℕ). Some n) (same x y h)
+
+read_clone : (D : Places → Places → Type 0) → ((v w : Places) → D v w → w.items ≡ v.items) → (o p : Option Places) → MatchOption o (p ≡ None) (λ v. IsSomeAnd p (D v)) → (i : ℕ) → read p i ≡ read o i
+read_clone D same None p h i = ap (λ q. read q i) h
+read_clone D same (Some v) None h i = absurd h
+read_clone D same (Some v) (Some w) h i = ap (λ (l : List (Option ℕ)). place l i) (same v w h)
+
+pub first_clone : (C : ℕ → ℕ → Type 0) (D : Places → Places → Type 0) → ((x y : ℕ) → C x y → y ≡ x) → ((v w : Places) → D v w → w.items ≡ v.items) → (old new : Lists) → AllZip (λ p q. C p.0 q.0 × D p.1 q.1) old.entries new.entries → (s i : ℕ) → first new s i ≡ first old s i
+first_clone C D keys same old new zip s i =
+    read_clone D same (lookup (nat_eq s) old.entries) (lookup (nat_eq s) new.entries) (lookup_clone C D (nat_eq s) (λ x y c. ap (nat_eq s) (keys x y c)) old.entries new.entries zip) i
+
 -- ---- aliases that were noted first
+-- both numbers are equal
+abbrev pair_eq : ℕ × ℕ → ℕ × ℕ → Bool
+pair_eq x y = (x.0 == y.0) && (x.1 == y.1)
+
 pair_parts : (a b x y : ℕ) → pair_eq (a, b) (x, y) ≡ true → (a ≡ x) × (b ≡ y)
 pair_parts a b x y h = let (p, q) = and_parts (a == x) (b == y) h in (eqb-true a x p, eqb-true b y q)
 
@@ -123,10 +178,6 @@ number_is k (Some x) h = ap (λ (n : ℕ). Some n) (eqb-true x k h)
 
 the_number : (k : ℕ) (o : Option ℕ) → o ≡ Some k → is_number k o ≡ true
 the_number k o h = ap (is_number k) h ∙ eq-eqb k k refl
-
-pub no_first : (o : Option ℕ) → is_some o ≡ false → o ≡ None
-no_first None h = refl
-no_first (Some x) h = cc
 
 or_left : (a b : Bool) → a ≡ true → (a || b) ≡ true
 or_left true b h = refl
@@ -182,15 +233,29 @@ module _ (old new : Aliases) (edge : Edge) (position : ℕ) (is : edge.label ≡
   pairs same = let (s, p, t) = edge_parts same in pair_itself edge.source.0 position source.0 i s p
 
   -- what is at the edge's place is at the place of the node
-  moved : (a : Aliases) → paired ≡ true → hash.get pair_eq a.firsts (source.0, i) ≡ hash.get pair_eq a.firsts (edge.source.0, position)
-  moved a h = let (s, p) = pair_parts edge.source.0 position source.0 i h in λ j. hash.get pair_eq a.firsts (sym s j, sym p j)
+  moved : (a : Aliases) → paired ≡ true → first a.firsts source.0 i ≡ first a.firsts edge.source.0 position
+  moved a h = let (s, p) = pair_parts edge.source.0 position source.0 i h in λ j. first a.firsts (sym s j) (sym p j)
+
+  -- where one place is written, and no other
+  pub written : (v : Option ℕ) → first new.firsts edge.source.0 position ≡ v → ((s k : ℕ) → (s ≡ edge.source.0 → k ≢ position) → first new.firsts s k ≡ first old.firsts s k) → first new.firsts source.0 i ≡ cond paired v (first old.firsts source.0 i)
+  written v here others = split paired refl where
+    split : (b : Bool) → paired ≡ b → first new.firsts source.0 i ≡ cond b v (first old.firsts source.0 i)
+    split true h = moved new h ∙ here
+    split false h = others source.0 i (λ s k. clash paired (pair_itself edge.source.0 position source.0 i (sym s) (sym k)) h)
+
+  -- none is
+  pub kept : first new.firsts edge.source.0 position ≡ first old.firsts edge.source.0 position → ((s k : ℕ) → (s ≡ edge.source.0 → k ≢ position) → first new.firsts s k ≡ first old.firsts s k) → first new.firsts source.0 i ≡ first old.firsts source.0 i
+  kept here others = split paired refl where
+    split : (b : Bool) → paired ≡ b → first new.firsts source.0 i ≡ first old.firsts source.0 i
+    split true h = moved new h ∙ here ∙ sym (moved old h)
+    split false h = others source.0 i (λ s k. clash paired (pair_itself edge.source.0 position source.0 i (sym s) (sym k)) h)
 
   is_edge : paired ≡ true → edge.target.0 ≡ target.0 → alias_edge source target i ≡ edge
   is_edge h t = let (s, p) = pair_parts edge.source.0 position source.0 i h in the_edge edge position source target i is s p t
 
-  first_more : hash.get pair_eq old.firsts (edge.source.0, position) ≡ None → hash.get pair_eq new.firsts (source.0, i) ≡ cond paired (Some edge.target.0) (hash.get pair_eq old.firsts (source.0, i)) → (is_first new source i target ≡ true) ↔ ((is_first old source i target ≡ true) ⊎ (alias_edge source target i ≡ edge))
+  first_more : first old.firsts edge.source.0 position ≡ None → first new.firsts source.0 i ≡ cond paired (Some edge.target.0) (first old.firsts source.0 i) → (is_first new source i target ≡ true) ↔ ((is_first old source i target ≡ true) ⊎ (alias_edge source target i ≡ edge))
   first_more none now = split paired refl now where
-    split : (b : Bool) → paired ≡ b → hash.get pair_eq new.firsts (source.0, i) ≡ cond b (Some edge.target.0) (hash.get pair_eq old.firsts (source.0, i)) → (is_first new source i target ≡ true) ↔ ((is_first old source i target ≡ true) ⊎ (alias_edge source target i ≡ edge))
+    split : (b : Bool) → paired ≡ b → first new.firsts source.0 i ≡ cond b (Some edge.target.0) (first old.firsts source.0 i) → (is_first new source i target ≡ true) ↔ ((is_first old source i target ≡ true) ⊎ (alias_edge source target i ≡ edge))
     split true h put = (to, from) where
       to : is_first new source i target ≡ true → (is_first old source i target ≡ true) ⊎ (alias_edge source target i ≡ edge)
       to w = let same : Some edge.target.0 ≡ Some target.0 = sym put ∙ number_is target.0 _ w in inr (is_edge h (cc))
@@ -201,9 +266,9 @@ module _ (old new : Aliases) (edge : Edge) (position : ℕ) (is : edge.label ≡
     split false h put = (λ w. inl (ap (is_number target.0) (sym put) ∙ w), λ w. elim w [ inl was ↦ ap (is_number target.0) put ∙ was | inr same ↦ absurd (clash paired (pairs same) h) ])
 
   -- one that was noted first is struck out
-  first_less : is_number edge.target.0 (hash.get pair_eq old.firsts (edge.source.0, position)) ≡ true → hash.get pair_eq new.firsts (source.0, i) ≡ cond paired None (hash.get pair_eq old.firsts (source.0, i)) → (is_first new source i target ≡ true) ↔ ((is_first old source i target ≡ true) × (alias_edge source target i ≡ edge → ⊥))
+  first_less : is_number edge.target.0 (first old.firsts edge.source.0 position) ≡ true → first new.firsts source.0 i ≡ cond paired None (first old.firsts source.0 i) → (is_first new source i target ≡ true) ↔ ((is_first old source i target ≡ true) × (alias_edge source target i ≡ edge → ⊥))
   first_less there now = split paired refl now where
-    split : (b : Bool) → paired ≡ b → hash.get pair_eq new.firsts (source.0, i) ≡ cond b None (hash.get pair_eq old.firsts (source.0, i)) → (is_first new source i target ≡ true) ↔ ((is_first old source i target ≡ true) × (alias_edge source target i ≡ edge → ⊥))
+    split : (b : Bool) → paired ≡ b → first new.firsts source.0 i ≡ cond b None (first old.firsts source.0 i) → (is_first new source i target ≡ true) ↔ ((is_first old source i target ≡ true) × (alias_edge source target i ≡ edge → ⊥))
     split true h gone = (to, from) where
       to : is_first new source i target ≡ true → (is_first old source i target ≡ true) × (alias_edge source target i ≡ edge → ⊥)
       to w = let wrong : None ≡ Some target.0 = sym gone ∙ number_is target.0 _ w in absurd (cc)
@@ -215,42 +280,51 @@ module _ (old new : Aliases) (edge : Edge) (position : ℕ) (is : edge.label ≡
     split false h kept = (λ w. (ap (is_number target.0) (sym kept) ∙ w, λ same. clash paired (pairs same) h), λ w. ap (is_number target.0) kept ∙ w.0)
 
   -- or it was not the first
-  first_same : is_number edge.target.0 (hash.get pair_eq old.firsts (edge.source.0, position)) ≡ false → (is_first old source i target ≡ true) ↔ ((is_first old source i target ≡ true) × (alias_edge source target i ≡ edge → ⊥))
+  first_same : is_number edge.target.0 (first old.firsts edge.source.0 position) ≡ false → (is_first old source i target ≡ true) ↔ ((is_first old source i target ≡ true) × (alias_edge source target i ≡ edge → ⊥))
   first_same differ = (λ w. (w, other w), λ w. w.0) where
     other : is_first old source i target ≡ true → alias_edge source target i ≡ edge → ⊥
     other w same =
-        let at : hash.get pair_eq old.firsts (edge.source.0, position) ≡ Some target.0 = sym (moved old (pairs same)) ∙ number_is target.0 _ w in
-        clash (is_number edge.target.0 (hash.get pair_eq old.firsts (edge.source.0, position))) (the_number edge.target.0 _ (at ∙ ap (λ (n : ℕ). Some n) (sym (edge_parts same).2))) differ
+        let at : first old.firsts edge.source.0 position ≡ Some target.0 = sym (moved old (pairs same)) ∙ number_is target.0 _ w in
+        clash (is_number edge.target.0 (first old.firsts edge.source.0 position)) (the_number edge.target.0 _ (at ∙ ap (λ (n : ℕ). Some n) (sym (edge_parts same).2))) differ
 
   -- ---- an edge is noted
-  pub noted_first : new.others ≡ old.others → hash.get pair_eq old.firsts (edge.source.0, position) ≡ None → hash.get pair_eq new.firsts (source.0, i) ≡ cond paired (Some edge.target.0) (hash.get pair_eq old.firsts (source.0, i)) → (is_noted new source i target ≡ true) ↔ ((is_noted old source i target ≡ true) ⊎ (alias_edge source target i ≡ edge))
+  pub noted_first : new.others ≡ old.others → first old.firsts edge.source.0 position ≡ None → first new.firsts source.0 i ≡ cond paired (Some edge.target.0) (first old.firsts source.0 i) → (is_noted new source i target ≡ true) ↔ ((is_noted old source i target ≡ true) ⊎ (alias_edge source target i ≡ edge))
   noted_first others none now =
       subst (λ (s : BTreeSet (ℕ × ℕ × ℕ)). ((is_first new source i target || is_among s source i target) ≡ true) ↔ ((is_noted old source i target ≡ true) ⊎ (alias_edge source target i ≡ edge))) (sym others)
       (more_firsts (is_first old source i target) (is_among old.others source i target) (is_first new source i target) (alias_edge source target i ≡ edge) (first_more none now))
 
   -- an edge is struck out
-  pub struck_first : is_number edge.target.0 (hash.get pair_eq old.firsts (edge.source.0, position)) ≡ true → hash.get pair_eq new.firsts (source.0, i) ≡ cond paired None (hash.get pair_eq old.firsts (source.0, i)) → (is_among new.others source i target ≡ true) ↔ ((is_among old.others source i target ≡ true) × (alias_edge source target i ≡ edge → ⊥))
+  pub struck_first : is_number edge.target.0 (first old.firsts edge.source.0 position) ≡ true → first new.firsts source.0 i ≡ cond paired None (first old.firsts source.0 i) → (is_among new.others source i target ≡ true) ↔ ((is_among old.others source i target ≡ true) × (alias_edge source target i ≡ edge → ⊥))
       → (is_noted new source i target ≡ true) ↔ ((is_noted old source i target ≡ true) × (alias_edge source target i ≡ edge → ⊥))
   struck_first there now others = less_both (is_first old source i target) (is_among old.others source i target) (is_first new source i target) (is_among new.others source i target) (alias_edge source target i ≡ edge → ⊥) (first_less there now) others
 
-  pub struck_other : is_number edge.target.0 (hash.get pair_eq old.firsts (edge.source.0, position)) ≡ false → new.firsts ≡ old.firsts → (is_among new.others source i target ≡ true) ↔ ((is_among old.others source i target ≡ true) × (alias_edge source target i ≡ edge → ⊥))
+  pub struck_other : is_number edge.target.0 (first old.firsts edge.source.0 position) ≡ false → first new.firsts source.0 i ≡ first old.firsts source.0 i → (is_among new.others source i target ≡ true) ↔ ((is_among old.others source i target ≡ true) × (alias_edge source target i ≡ edge → ⊥))
       → (is_noted new source i target ≡ true) ↔ ((is_noted old source i target ≡ true) × (alias_edge source target i ≡ edge → ⊥))
   struck_other differ same others = less_both (is_first old source i target) (is_among old.others source i target) (is_first new source i target) (is_among new.others source i target) (alias_edge source target i ≡ edge → ⊥)
-      (subst (λ (m : HashMap (ℕ × ℕ) ℕ (BuildHasherDefault FoldHasher)). (is_number target.0 (hash.get pair_eq m (source.0, i)) ≡ true) ↔ ((is_first old source i target ≡ true) × (alias_edge source target i ≡ edge → ⊥))) (sym same) (first_same differ)) others
+      (subst (λ (o : Option ℕ). (is_number target.0 o ≡ true) ↔ ((is_first old source i target ≡ true) × (alias_edge source target i ≡ edge → ⊥))) (sym same) (first_same differ)) others
+
+  -- the first one is struck out where it is this one
+  pub struck : (first old.firsts edge.source.0 position ≡ Some edge.target.0 → first new.firsts edge.source.0 position ≡ None) → (first old.firsts edge.source.0 position ≢ Some edge.target.0 → first new.firsts edge.source.0 position ≡ first old.firsts edge.source.0 position)
+      → ((s k : ℕ) → (s ≡ edge.source.0 → k ≢ position) → first new.firsts s k ≡ first old.firsts s k) → (is_among new.others source i target ≡ true) ↔ ((is_among old.others source i target ≡ true) × (alias_edge source target i ≡ edge → ⊥))
+      → (is_noted new source i target ≡ true) ↔ ((is_noted old source i target ≡ true) × (alias_edge source target i ≡ edge → ⊥))
+  struck gone other rest others = elim (cases_Bool (is_number edge.target.0 (first old.firsts edge.source.0 position))) [
+    | inl there ↦ struck_first there (written None (gone (number_is edge.target.0 _ there)) rest) others
+    | inr differ ↦ struck_other differ (kept (other (λ same. clash (is_number edge.target.0 (first old.firsts edge.source.0 position)) (the_number edge.target.0 _ same) differ)) rest) others
+  ]
 
 -- another one is noted
-pub noted_other : (old new : Aliases) (edge : Edge) (source target : NodeId) (i : ℕ) → new.firsts ≡ old.firsts → (is_among new.others source i target ≡ true) ↔ ((is_among old.others source i target ≡ true) ⊎ (alias_edge source target i ≡ edge))
+pub noted_other : (old new : Aliases) (edge : Edge) (source target : NodeId) (i : ℕ) → first new.firsts source.0 i ≡ first old.firsts source.0 i → (is_among new.others source i target ≡ true) ↔ ((is_among old.others source i target ≡ true) ⊎ (alias_edge source target i ≡ edge))
     → (is_noted new source i target ≡ true) ↔ ((is_noted old source i target ≡ true) ⊎ (alias_edge source target i ≡ edge))
 noted_other old new edge source target i same others =
-    subst (λ (m : HashMap (ℕ × ℕ) ℕ (BuildHasherDefault FoldHasher)). ((is_number target.0 (hash.get pair_eq m (source.0, i)) || is_among new.others source i target) ≡ true) ↔ ((is_noted old source i target ≡ true) ⊎ (alias_edge source target i ≡ edge))) (sym same)
+    subst (λ (o : Option ℕ). ((is_number target.0 o || is_among new.others source i target) ≡ true) ↔ ((is_noted old source i target ≡ true) ⊎ (alias_edge source target i ≡ edge))) (sym same)
     (more_others (is_first old source i target) (is_among old.others source i target) (is_among new.others source i target) (alias_edge source target i ≡ edge) others)
 
 -- the same are noted where the same stand in both
-pub noted_kept : (old new : Aliases) → new.firsts.entries ≡ old.firsts.entries → new.others.keys ≡ old.others.keys → (source target : NodeId) (i : ℕ) → is_noted new source i target ≡ is_noted old source i target
-noted_kept old new firsts others source target i = λ j. is_number target.0 (lookup (pair_eq (source.0, i)) (firsts j)) || list_any (is_at (triple_cmp (source.0, i, target.0))) (others j)
+pub noted_kept : (old new : Aliases) (source target : NodeId) (i : ℕ) → first new.firsts source.0 i ≡ first old.firsts source.0 i → new.others.keys ≡ old.others.keys → is_noted new source i target ≡ is_noted old source i target
+noted_kept old new source target i firsts others = λ j. is_number target.0 (firsts j) || list_any (is_at (triple_cmp (source.0, i, target.0))) (others j)
 
 pub noted_empty : (a : Aliases) → a.firsts.entries ≡ [] → a.others.keys ≡ [] → (source target : NodeId) (i : ℕ) → is_noted a source i target ≡ false
-noted_empty a firsts others source target i = λ j. is_number target.0 (lookup (pair_eq (source.0, i)) (firsts j)) || list_any (is_at (triple_cmp (source.0, i, target.0))) (others j)
+noted_empty a firsts others source target i = λ j. is_number target.0 (read (lookup (nat_eq source.0) (firsts j)) i) || list_any (is_at (triple_cmp (source.0, i, target.0))) (others j)
 
 -- ---- the first of those of an export
 -- what stands between two triples of the same two numbers has them too
@@ -294,6 +368,10 @@ pub none_first : (aliases : BTreeSet (ℕ × ℕ × ℕ)) (s p : ℕ) (r rest : 
 none_first aliases s p r rest k range is other =
     let first : IsKeyInRange triple_cmp (Included (s, p, 0)) Unbounded aliases k = subst (λ (l : List (ℕ × ℕ × ℕ)). IfSome (slice_get l 0) (IsKeyInRange triple_cmp (Included (s, p, 0)) Unbounded aliases)) is range.1 in
     none_of aliases s p k first.0.0 (λ q from there. subst (λ (l : List (ℕ × ℕ × ℕ)). IfSome (slice_get l 0) (λ x. IsLeBy triple_cmp x q)) is (range.2 q (from, tt) there)) other
+
+pub if_err : {T E : Type 0} (r : Result T E) {P : Type 0} → P → OnErr r P
+if_err (Ok x) p = tt
+if_err (Err e) p = p
 
 pub if_none : {T : Type 0} (o : Option T) {P : Type 0} → P → IfNone o P
 if_none None p = p

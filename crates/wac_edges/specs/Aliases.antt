@@ -1,7 +1,8 @@
 -- The aliases of exports, noted by source, position and target. Private functions alone cite this.
-use Rattle.std.specs.Prelude.{ℕ, ◌≡◌, ◌==◌, ◌&&◌, ◌||◌, Bool, true, false, List, Option, Some, None, slice_get}
+use Rattle.std.specs.Prelude.{ℕ, ◌≡◌, ◌==◌, ◌||◌, Bool, true, false, nat_eq, List, Option, Some, None, slice_get, Vec}
+use Rattle.std.specs.Global.{Global}
 use Rattle.std.specs.BTreeSet.{BTreeSet, contains}
-use Rattle.std.specs.HashMap.{get}
+use Rattle.std.specs.HashMap.{HashMap, get}
 use Rattle.std.specs.declared.cmp.Ordering.{Ordering}
 use Rattle.std.specs.Ordering.{nat_cmp, ordering_then}
 use Rattle.wac_edges.specs.declared.aliases.Aliases.{Aliases}
@@ -13,9 +14,13 @@ use Rattle.wac_edges.specs.Records.{Table, HasEdge}
 abbrev pub triple_cmp : ℕ × ℕ × ℕ → ℕ × ℕ × ℕ → Ordering
 triple_cmp x y = ordering_then (ordering_then (nat_cmp x.0 y.0) (nat_cmp x.1 y.1)) (nat_cmp x.2 y.2)
 
--- both numbers are equal
-abbrev pub pair_eq : ℕ × ℕ → ℕ × ℕ → Bool
-pair_eq x y = (x.0 == y.0) && (x.1 == y.1)
+-- what stands at this position of a list, if there is such a place and it is not empty
+abbrev pub place : List (Option ℕ) → ℕ → Option ℕ
+place places i = elim (slice_get places i) as (λ _. Option ℕ) [ None ↦ None | Some held ↦ held ]
+
+-- what stands at this position of the list under the source's number, if there is one
+abbrev pub first : {S : Type 0} → HashMap ℕ (Vec (Option ℕ) Global) S → ℕ → ℕ → Option ℕ
+first firsts source i = elim (get nat_eq firsts source) as (λ _. Option ℕ) [ None ↦ None | Some places ↦ place places.items i ]
 
 -- whether there is a number, and it is this one
 abbrev pub is_number : ℕ → Option ℕ → Bool
@@ -24,7 +29,7 @@ is_number k (Some x) = x == k
 
 -- whether the node is the alias of the source's export at this position that was noted first
 abbrev pub is_first : Aliases → NodeId → ℕ → NodeId → Bool
-is_first a source i target = is_number target.0 (get pair_eq a.firsts (source.0, i))
+is_first a source i target = is_number target.0 (first a.firsts source.0 i)
 
 -- whether the node is among the others that are noted
 abbrev pub is_among : BTreeSet (ℕ × ℕ × ℕ) → NodeId → ℕ → NodeId → Bool

@@ -1,22 +1,27 @@
 //! The aliases of each export of a node from which many edges lead, noted by their source and position.
-ghost use Rattle.std.specs.Prelude.{◌≡◌, ◌≢◌, ◌↔◌, ◌⊎◌, ℕ, true, false, Contains, is_some, IfSome, IfNone, OnOk, OnErr};
+ghost use Rattle.std.specs.Prelude.{◌≡◌, ◌≢◌, ◌↔◌, ◌⊎◌, ℕ, true, false, None, Some, Contains, IfOk, IfSome, IfNone, OnOk, OnErr};
+ghost use Rattle.std.specs.Bool.{OnTrue, OnFalse};
 ghost use Rattle.wac_edges.specs.declared.node.NodeId.{NodeId as AnId};
 ghost use Rattle.wac_edges.specs.Edge.{node_number, alias_edge};
-ghost use Rattle.wac_edges.specs.Aliases.{pair_eq, is_noted, is_first, is_among, is_crowded};
-ghost use Rattle.std.specs.HashMap.{get};
+ghost use Rattle.wac_edges.specs.Aliases.{place, first, is_noted, is_among, is_crowded};
 
 use crate::edges::{Edge, Label};
 use crate::walk::Walk;
 use std::alloc::{AllocError, Global};
 use std::collections::{BTreeSet, HashMap};
 
-/// Aliases of exports that are noted: of each export the one that was noted first, by its source and position, and any others, in
-/// an order in which those of one export stand together. A graph has one alias of an export at most, so there are no others.
+/// Aliases of exports that are noted: of each export the one that was noted first, and any others, in an order in which those of
+/// one export stand together. A graph has one alias of an export at most, so others are those alone whose positions are far apart.
 #[derive(Drop)]
 pub(crate) struct Aliases {
-    firsts: HashMap<(usize, usize), usize>,
+    // For each source a list: at each position the alias that was noted first, if there is one.
+    firsts: HashMap<usize, Vec<Option<usize>>>,
     others: BTreeSet<(usize, usize, usize)>,
+    alloc: Global,
 }
+
+/// So many places a list grows by at most for one alias, so that lists are no longer than eight times what was noted.
+const NEAR: usize = 8;
 
 /// The clone has the same aliases. Answers `AllocError` where memory ran out.
 impl Clone for Aliases {
@@ -27,7 +32,11 @@ impl Clone for Aliases {
     fn clone(&self) -> Result<Aliases, AllocError> {
         let firsts = self.firsts.clone()?;
         let others = self.others.clone()?;
-        Ok(Aliases { firsts, others })
+        Ok(Aliases {
+            firsts,
+            others,
+            alloc: self.alloc,
+        })
     }
 }
 
@@ -39,6 +48,7 @@ impl Aliases {
         Aliases {
             firsts: HashMap::new(alloc),
             others: BTreeSet::new(alloc),
+            alloc,
         }
     }
 }
@@ -53,21 +63,70 @@ pub(crate) fn note_alias(aliases: &mut Aliases, edge: Edge) -> Result<(), AllocE
     };
     let source = edge.source.0;
     let target = edge.target.0;
-    if has_first(aliases, source, position) {
-        aliases.others.insert((source, position, target))?;
+    let alloc = aliases.alloc;
+    if fill_first(&mut aliases.firsts, alloc, source, position, target)? {
         return Ok(());
     }
-    aliases.firsts.insert((source, position), target)?;
+    aliases.others.insert((source, position, target))?;
     Ok(())
 }
 
-/// Whether an alias of an export at this position is noted as its first.
-fn has_first(aliases: &Aliases, source: usize, position: usize) -> bool
-    ensures { result ≡ is_some (get pair_eq aliases.now.firsts (source, position)) }
+/// Writes a first alias of a source at a position, and answers whether. It does not where there is one, or where the list would
+/// grow by more than it may for one; where memory runs out nothing has changed.
+fn fill_first(
+    firsts: &mut HashMap<usize, Vec<Option<usize>>>,
+    alloc: Global,
+    source: usize,
+    position: usize,
+    target: usize,
+) -> Result<bool, AllocError>
+    ensures filled { IfOk result (λ filled. OnTrue filled ((first firsts.old source position ≡ None) × (first firsts.new source position ≡ Some target))) }
+    ensures not { IfOk result (λ filled. OnFalse filled (first firsts.new source position ≡ first firsts.old source position)) }
+    ensures err { OnErr result (first firsts.new source position ≡ first firsts.old source position) }
+    ensures others { (s i : ℕ) → (s ≡ source → i ≢ position) → first firsts.new s i ≡ first firsts.old s i }
 {
-    match aliases.firsts.get(&(source, position)) {
-        Some(_) => true,
-        None => false,
+    if let Some(places) = firsts.get_mut(&source) {
+        return fill_place(places, position, target);
+    }
+    let mut places = Vec::new(alloc);
+    let filled = fill_place(&mut places, position, target)?;
+    if !filled {
+        return Ok(false);
+    }
+    firsts.insert(source, places)?;
+    Ok(true)
+}
+
+/// Writes an alias at a position of a list, and answers whether. It does not where there is one, or where the list would grow by
+/// more than it may for one; where memory runs out nothing has changed.
+fn fill_place(
+    places: &mut Vec<Option<usize>>,
+    position: usize,
+    target: usize,
+) -> Result<bool, AllocError>
+    ensures filled { IfOk result (λ filled. OnTrue filled ((place places.old.items position ≡ None) × (place places.new.items position ≡ Some target))) }
+    ensures not { IfOk result (λ filled. OnFalse filled (place places.new.items position ≡ place places.old.items position)) }
+    ensures err { OnErr result (place places.new.items position ≡ place places.old.items position) }
+    ensures others { (i : ℕ) → i ≢ position → place places.new.items i ≡ place places.old.items i }
+{
+    let near = places.len().saturating_add(NEAR);
+    if position >= near || place_of(places, position).is_some() {
+        return Ok(false);
+    }
+    if position >= places.len() {
+        places.resize(position + 1, None)?;
+    }
+    places[position] = Some(target);
+    Ok(true)
+}
+
+/// The alias at a position of a list.
+fn place_of(places: &[Option<usize>], position: usize) -> Option<usize>
+    ensures { result ≡ place places.now position }
+{
+    match places.get(position) {
+        Some(place) => *place,
+        None => None,
     }
 }
 
@@ -129,19 +188,35 @@ pub(crate) fn forget_alias(aliases: &mut Aliases, edge: Edge)
     };
     let source = edge.source.0;
     let target = edge.target.0;
-    if is_first(aliases, source, position, target) {
-        aliases.firsts.remove(&(source, position));
-    }
+    empty_first(&mut aliases.firsts, source, position, target);
     aliases.others.remove(&(source, position, target));
 }
 
-/// Whether the node of a number is the alias of an export that was noted first.
-fn is_first(aliases: &Aliases, source: usize, position: usize, target: usize) -> bool
-    ensures { result ≡ is_first aliases.now (node_number source) position (node_number target) }
+/// Strikes out a first alias of a source at a position where it is this one. Takes no memory.
+fn empty_first(
+    firsts: &mut HashMap<usize, Vec<Option<usize>>>,
+    source: usize,
+    position: usize,
+    target: usize,
+)
+    ensures gone { first firsts.old source position ≡ Some target → first firsts.new source position ≡ None }
+    ensures other { first firsts.old source position ≢ Some target → first firsts.new source position ≡ first firsts.old source position }
+    ensures others { (s i : ℕ) → (s ≡ source → i ≢ position) → first firsts.new s i ≡ first firsts.old s i }
 {
-    match aliases.firsts.get(&(source, position)) {
-        Some(first) => *first == target,
-        None => false,
+    let Some(places) = firsts.get_mut(&source) else {
+        return;
+    };
+    empty_place(places, position, target);
+}
+
+/// Empties the place at a position of a list where this alias is there. Takes no memory.
+fn empty_place(places: &mut Vec<Option<usize>>, position: usize, target: usize)
+    ensures gone { place places.old.items position ≡ Some target → place places.new.items position ≡ None }
+    ensures other { place places.old.items position ≢ Some target → place places.new.items position ≡ place places.old.items position }
+    ensures others { (i : ℕ) → i ≢ position → place places.new.items i ≡ place places.old.items i }
+{
+    if position < places.len() && places[position] == Some(target) {
+        places[position] = None;
     }
 }
 
@@ -150,10 +225,24 @@ pub(crate) fn first_alias(aliases: &Aliases, source: usize, position: usize) -> 
     ensures some { IfSome result (λ target. is_noted aliases.now (node_number source) position (node_number target) ≡ true) }
     ensures none { IfNone result ((target : AnId) → is_noted aliases.now (node_number source) position target ≡ false) }
 {
-    if let Some(first) = aliases.firsts.get(&(source, position)) {
-        return Some(*first);
+    if let Some(first) = first_of(&aliases.firsts, source, position) {
+        return Some(first);
     }
     lowest_among(&aliases.others, source, position)
+}
+
+/// The first alias of a source at a position.
+fn first_of(
+    firsts: &HashMap<usize, Vec<Option<usize>>>,
+    source: usize,
+    position: usize,
+) -> Option<usize>
+    ensures { result ≡ first firsts.now source position }
+{
+    match firsts.get(&source) {
+        Some(places) => place_of(places, position),
+        None => None,
+    }
 }
 
 /// The number of the lowest alias of an export at this position that is in a set.

@@ -130,6 +130,14 @@ impl Edges {
         }
     }
 
+    /// Makes room in the table of edges, so that it does not grow as so many edges are added. What is kept of each node grows as
+    /// edges are added all the same. Where memory runs out nothing has changed, as nothing that can be seen does otherwise.
+    pub fn reserve(&mut self, count: usize) -> Result<(), AllocError>
+        ensures { self.new ≡ self.old }
+    {
+        self.records.reserve(count)
+    }
+
     /// Adds an edge; where memory runs out nothing has changed. No memory is there for more than 2 ^ 32 edges.
     pub fn add(&mut self, edge: Edge) -> Result<(), AllocError>
         ensures ok { OnOk result (self.new ≡ set.insert self.old edge) }

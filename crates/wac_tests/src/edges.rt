@@ -38,16 +38,20 @@ fn compare(rt: &impl Abort, edges: &Edges, list: &[Edge], node: NodeId, end: End
     assert!(rt; walk.next().is_none());
 }
 
-/// Adds or removes an edge, in the list too where memory was not refused.
-fn change(rt: &impl Abort, edges: &mut Edges, list: &mut Vec<Edge>, number: usize) {
-    let edge = edge_of(number);
-    if number / 128 % 5 > 2 {
+/// Removes an edge, or adds it, in the list too where memory was not refused.
+fn put(rt: &impl Abort, edges: &mut Edges, list: &mut Vec<Edge>, edge: Edge, removes: bool) {
+    if removes {
         edges.remove(edge);
         list.retain(|e| *e != edge);
     } else if edges.add(edge).is_ok() && !list.contains(&edge) {
         list.push(edge).expect(rt, "room for an edge");
     }
     assert!(rt; edges.contains(edge) == list.contains(&edge));
+}
+
+/// Adds or removes an edge, and compares the edges at each end of the nodes.
+fn change(rt: &impl Abort, edges: &mut Edges, list: &mut Vec<Edge>, number: usize) {
+    put(rt, edges, list, edge_of(number), number / 128 % 5 > 2);
     for node in 0..5 {
         compare(rt, edges, list, NodeId(node), End::Outgoing);
         compare(rt, edges, list, NodeId(node), End::Incoming);
@@ -66,6 +70,87 @@ fn adds_and_removes(rt: HostRuntime) {
         change(&rt, &mut edges, &mut list, number / 8589934592);
     }
     assert!(rt; !list.is_empty());
+}
+
+/// Positions of exports in the order in which they are aliased: in order, in reverse, and far apart.
+const POSITIONS: &[&[usize]] = &[
+    &[
+        0, 1, 2, 3, 4, 5, 6, 7, 8, 9, 10, 11, 12, 13, 14, 15, 16, 17, 18, 19,
+    ],
+    &[
+        19, 18, 17, 16, 15, 14, 13, 12, 11, 10, 9, 8, 7, 6, 5, 4, 3, 2, 1, 0,
+    ],
+    &[
+        7,
+        8,
+        16,
+        25,
+        1_000_000,
+        33,
+        17,
+        usize::MAX,
+        42,
+        9,
+        41,
+        0,
+        34,
+    ],
+];
+
+/// The first or the second alias of the first node's export at this position.
+fn alias_of(position: usize, second: bool) -> Edge {
+    let target = position % 64 + if second { 2 } else { 1 };
+    Edge {
+        source: NodeId(0),
+        target: NodeId(target),
+        label: Label::Alias(position),
+    }
+}
+
+/// In turn, of each export: whether the second alias is meant, and whether it is removed.
+const TURNS: &[(bool, bool)] = &[
+    (false, false),
+    (true, false),
+    (false, true),
+    (false, false),
+    (true, true),
+    (false, true),
+];
+
+/// The alias at each position is one of the list, and there is none where the list has none.
+fn compare_aliases(rt: &impl Abort, edges: &Edges, list: &[Edge], positions: &[usize]) {
+    for position in positions {
+        let label = Label::Alias(*position);
+        let source = NodeId(0);
+        match edges.alias(source, *position) {
+            Some(target) => {
+                let edge = Edge {
+                    source,
+                    target,
+                    label,
+                };
+                assert!(rt; list.contains(&edge));
+            }
+            None => assert!(rt; list.iter().all(|edge| edge.label != label)),
+        }
+    }
+}
+
+#[test]
+fn finds_aliases_in_any_order_of_positions(rt: HostRuntime) {
+    for positions in POSITIONS {
+        let mut edges = Edges::new(rt.alloc());
+        let mut list = Vec::with_capacity(rt.alloc(), 128).expect(&rt, "room for edges");
+        let _ = edges.reserve(positions.len());
+        for (second, removes) in TURNS {
+            for position in *positions {
+                let edge = alias_of(*position, *second);
+                put(&rt, &mut edges, &mut list, edge, *removes);
+                compare_aliases(&rt, &edges, &list, positions);
+            }
+        }
+        assert!(rt; list.is_empty());
+    }
 }
 
 /// Adds a step between numbers that have sets.
