@@ -3,10 +3,9 @@ use Rattle.wac_causes.specs.NotYet.{AllImportable, undefined_components, undefin
 use Rattle.wac_meaning.specs.Beginning.{Begins}
 use Rattle.wac_meaning.specs.MergedImports.{merged_imports, AreOfSorts}
 use Rattle.wac_nodes.specs.declared.options.EncodeOptions.{EncodeOptions}
-use Rattle.wac_places.proofs.OuterLemmas.{nothing_left}
 use Rattle.wac_writing.specs.Refused.{IsRefusedBefore}
 use Rattle.wac_importing.specs.declared.written.WrittenImports.{WrittenImports}
-use Rattle.wac_writing.proofs.CauseLemmas.{at_not_yet, begin_refused, exit_cause}
+use Rattle.wac_writing.proofs.CauseLemmas.{at_not_yet, begin_refused, exit_cause, nothing_left}
 use Rattle.wac_writing.proofs.MeansLemmas.{when_none, when_some}
 use Rattle.wac_places.proofs.OuterNameLemmas.{merged_count}
 use Rattle.wac_graph.proofs.graph.CompositionGraph.begin.Goals as goal
