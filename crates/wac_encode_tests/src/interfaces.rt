@@ -76,7 +76,7 @@ fn scope(types: &Types) -> Scope {
     Scope::new(alloc, Encodable::Builder(ComponentBuilder::new(alloc)))
 }
 
-// The bytes of a component that imports an interface of these items.
+/// The bytes of a component that imports an interface of these items.
 pub fn imported(rt: &impl Abort, types: &Types, interface: InterfaceId) -> Vec<u8>
     requires { HasInterface types.now interface }
 {

@@ -1,4 +1,4 @@
-//! Tests of open scopes, of the writers of types and of the root, and of the imports of a merge, through what they make public.
+//! Tests of open scopes, of the writers of types, of worlds and of the root, and of the imports of a merge, through what they make public.
 #![tactic(auto)]
 
 #[cfg(test)]
@@ -21,3 +21,5 @@ mod rows;
 mod scopes;
 #[cfg(test)]
 mod values;
+#[cfg(test)]
+mod worlds;

@@ -8,7 +8,7 @@ use wac_collection::Types;
 use wac_scopes::{Encodable, Scope};
 use wac_shapes::{
     DefinedType, DefinedTypeId, Enum, FuncType, FuncTypeId, Interface, InterfaceId, ItemKind,
-    PrimitiveType, Resource, ResourceId, Type, ValueType,
+    PrimitiveType, Resource, ResourceId, Type, ValueType, World, WorldId,
 };
 
 /// A name, and the place of what it is of.
@@ -39,6 +39,8 @@ pub enum Row {
     Async(&'static [Item], Option<usize>),
     /// An instance of an interface of this id, which lists these.
     Instance(Option<&'static str>, &'static [Item]),
+    /// A component of a world of this id, which imports and exports these.
+    Component(Option<&'static str>, &'static [Item], &'static [Item]),
     /// The type of a function or of an instance.
     TypeOf(usize),
     /// A value of a type.
@@ -50,6 +52,7 @@ pub enum Row {
 /// The items of a table, and the collection of their types.
 #[derive(Drop)]
 pub struct Items {
+    /// The collection.
     pub types: Types,
     kinds: Vec<ItemKind>,
 }
@@ -93,6 +96,7 @@ impl Items {
             Row::Func(params, returned) => self.function(rt, params, returned, false),
             Row::Async(params, returned) => self.function(rt, params, returned, true),
             Row::Instance(id, exports) => self.instance(rt, id, exports),
+            Row::Component(id, imports, exports) => self.component(rt, id, imports, exports),
             Row::TypeOf(of) => ItemKind::TypeItem(self.kind(rt, of).ty()),
             Row::Value(of) => ItemKind::Value(self.value(rt, of)),
             Row::Module(exports) => self.module(rt, exports),
@@ -155,6 +159,14 @@ impl Items {
         match self.kind(rt, place) {
             ItemKind::Instance(id) => id,
             _ => panic!(rt; "no instance"),
+        }
+    }
+
+    /// The world of the component at a place.
+    pub fn world(&self, rt: &impl Abort, place: usize) -> WorldId {
+        match self.kind(rt, place) {
+            ItemKind::Component(id) => id,
+            _ => panic!(rt; "no component"),
         }
     }
 
@@ -222,5 +234,19 @@ impl Items {
         let interface = Interface::new(self.types.allocator(), id, &exports);
         let interface = interface.expect(rt, "an interface");
         ItemKind::Instance(self.types.add_interface(interface).expect(rt, "its id"))
+    }
+
+    fn component(
+        &mut self,
+        rt: &impl Abort,
+        id: Option<&str>,
+        imports: &[Item],
+        exports: &[Item],
+    ) -> ItemKind {
+        let imports = self.named(rt, imports);
+        let exports = self.named(rt, exports);
+        let world = World::new(self.types.allocator(), id, &imports, &exports);
+        let world = world.expect(rt, "a world");
+        ItemKind::Component(self.types.add_world(world).expect(rt, "its id"))
     }
 }

@@ -28,6 +28,7 @@ const BROUGHT_IN: &[&str] = &[
     "0a0a0100056e3a702f690502", // an instance of it
 ];
 
+/// Imports that are made of what another lists.
 pub const ALIASED: &[Case] = &[
     // A function takes an enum that an interface lists; both are imported, the function by the lower node.
     Case {

@@ -1,5 +1,5 @@
 // Definitions of types.
-use crate::parts::encode;
+use crate::parts::{assert_displayed, define, encode};
 use crate::tables::Row::{
     Alias, Bool, Component, Enumeration, Func, Instance, List, Optional, Own, Pair, Record,
     Resource,
@@ -7,45 +7,32 @@ use crate::tables::Row::{
 use crate::tables::Step::{
     Define, Export, Exported, Import, Instantiate, Kept, Nodes, Register, Remove, Undefined,
 };
-use crate::tables::Want::{Parts, Text};
-use crate::tables::{Calls, Case, Row};
+use crate::tables::Want::{Parts, Text, Unexportable};
+use crate::tables::{Calls, Case, Made, Row};
 use std::process::Abort;
-use wac_causes::EncodeError;
 use wac_graph::CompositionGraph;
 use wac_nodes::{DefineTypeError, EncodeOptions, NodeId};
-use wac_types::{PrimitiveType, Type, ValueType};
-use wac_validation::ValidationFault;
+use wac_types::Type;
 
-const BOOL: Type = Type::Value(ValueType::Primitive(PrimitiveType::Bool));
-
-// Defines a type. Where memory was refused nothing changed: made again the call answers as if it had not been refused.
-fn answer(
+/// Defines a type. Where memory was refused nothing changed: made again the call answers as if it had not been refused.
+pub fn answer(
     rt: &impl Abort,
     graph: &mut CompositionGraph,
     name: &str,
     ty: Type,
 ) -> Result<NodeId, DefineTypeError> {
-    let held = graph.types().contains(ty);
-    assert!(rt; held);
     let nodes = graph.node_ids().count();
     let exported = graph.get_export(name);
-    match graph.define_type(name, ty) {
+    match define(rt, graph, name, ty) {
         Err(DefineTypeError::OutOfMemory) => {
             assert!(rt; graph.node_ids().count() == nodes && graph.get_export(name) == exported);
-            let held = graph.types().contains(ty);
-            assert!(rt; held);
-            graph.define_type(name, ty)
+            define(rt, graph, name, ty)
         }
         answer => answer,
     }
 }
 
-// Defines a type that may be defined.
-pub fn define(rt: &impl Abort, graph: &mut CompositionGraph, name: &str, ty: Type) -> NodeId {
-    answer(rt, graph, name, ty).expect(rt, "a node")
-}
-
-// A type is not defined, and this is why.
+/// A type is not defined, and this is why.
 pub fn assert_undefined(
     rt: &(impl Abort + AllocGlobal),
     graph: &mut CompositionGraph,
@@ -53,19 +40,10 @@ pub fn assert_undefined(
     ty: Type,
     want: &str,
 ) {
-    let Err(error) = answer(rt, graph, name, ty) else {
-        panic!(rt; "the type is defined");
-    };
-    let text = format!(in rt.alloc(); "{error}").expect(rt, "a text");
-    assert_eq!(rt; text.as_str(), want);
-}
-
-// Removes the node that is exported by this name.
-pub fn remove(rt: &impl Abort, graph: &mut CompositionGraph, name: &str) {
-    let node = graph.get_export(name).expect(rt, "a node");
-    let held = graph.has_node(node);
-    assert!(rt; held);
-    graph.remove_node(node);
+    match answer(rt, graph, name, ty) {
+        Ok(_) => panic!(rt; "the type is defined"),
+        Err(error) => assert_displayed(rt, &error, want),
+    }
 }
 
 const NOT_YET: &str = "the graph holds something that is not written yet";
@@ -83,7 +61,14 @@ const INTERFACE: &[Row] = &[
 const INTERFACE_TYPE: &str =
     "072a014102014204016d0101610400017403000001400101780101000400016601020400056e3a702f690500";
 
+/// Definitions that are encoded.
 pub const DEFINED: &[Case] = &[
+    // A name that may not be exported is refused.
+    Case {
+        rows: &[Bool],
+        steps: &[Define("url=<u>", 0)],
+        want: Unexportable("url=<u>"),
+    },
     // Each definition stands behind those that it is made of, and a later one goes by the export's index.
     Case {
         rows: DIAMOND,
@@ -235,6 +220,7 @@ pub const DEFINED: &[Case] = &[
     },
 ];
 
+/// Definitions that are made, refused and removed.
 pub const CALLS: &[Calls] = &[
     // A type is defined once, until it is removed.
     (
@@ -312,28 +298,13 @@ pub const CALLS: &[Calls] = &[
     ),
 ];
 
-// What `encode` answers, with the names validated or not.
-fn written(graph: &CompositionGraph, validate: bool) -> Result<Vec<u8>, EncodeError> {
+// A name that may not be exported is written where validation is not asked for.
+#[test]
+fn names_of_definitions_are_not_looked_at_unless_it_is_asked(rt: HostRuntime) {
+    let made = Made::new(&rt, &[Bool], &[Define("url=<u>", 0)]);
     let options = EncodeOptions {
-        validate,
+        validate: false,
         ..EncodeOptions::default()
     };
-    encode(graph, options)
-}
-
-// A name that may not be exported is refused where validation is asked for.
-#[test]
-fn names_of_definitions_are_validated(rt: HostRuntime) {
-    let mut graph = CompositionGraph::new(rt.alloc());
-    define(&rt, &mut graph, "url=<u>", BOOL);
-    assert!(rt; written(&graph, false).is_ok());
-    let Err(
-        EncodeError::ValidationFailure {
-            source: ValidationFault::NotExportable { name },
-        },
-    ) = written(&graph, true)
-    else {
-        panic!(rt; "the name is not refused");
-    };
-    assert_eq!(rt; name.as_str(), "url=<u>");
+    assert!(rt; encode(&made.graph, options).is_ok());
 }

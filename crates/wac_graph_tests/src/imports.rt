@@ -6,6 +6,7 @@ use crate::tables::Want::{Length, Parts, Text};
 
 const NOT_YET: &str = "the graph holds something that is not written yet";
 
+/// Imports of types, and what is written of them.
 pub const IMPORTS: &[Case] = &[
     // An interface of an enum and a function that takes it.
     Case {

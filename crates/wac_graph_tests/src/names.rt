@@ -1,8 +1,8 @@
 // Names of imports and exports, each with the fault that it is refused by.
-use crate::parts::{function, import};
+use crate::parts::{assert_row, export, function, import};
 use wac_graph::CompositionGraph;
 use wac_names::NameFault;
-use wac_nodes::{ExportError, ImportError};
+use wac_nodes::{ExportError, ImportError, NodeId};
 
 const IMPORTS: &[(&str, NameFault)] = &[
     ("", NameFault::Empty),
@@ -19,31 +19,33 @@ const EXPORTS: &[(&str, NameFault)] = &[
     ("unlocked-dep=<a:b>", NameFault::NotExportable),
 ];
 
-#[test]
-fn names_of_imports_are_refused_by_their_fault(rt: HostRuntime) {
-    let mut graph = CompositionGraph::new(rt.alloc());
-    let kind = function(&rt, rt.alloc(), &mut graph);
-    for (name, want) in IMPORTS {
-        let held = graph.types().contains(kind.ty());
-        assert!(rt; held);
-        let Err(ImportError::InvalidImportName { source, .. }) = graph.import(name, kind) else {
-            panic!(rt; "the import is not refused by its name");
-        };
-        assert!(rt; source == *want);
+// The fault of its name that an import is refused by.
+fn import_fault(answer: Result<NodeId, ImportError>) -> Option<NameFault> {
+    match answer {
+        Err(ImportError::InvalidImportName { source, .. }) => Some(source),
+        _ => None,
+    }
+}
+
+// The fault of its name that an export is refused by.
+fn export_fault(answer: Result<(), ExportError>) -> Option<NameFault> {
+    match answer {
+        Err(ExportError::InvalidExportName { source, .. }) => Some(source),
+        _ => None,
     }
 }
 
 #[test]
-fn names_of_exports_are_refused_by_their_fault(rt: HostRuntime) {
+fn names_are_refused_by_their_fault(rt: HostRuntime) {
     let mut graph = CompositionGraph::new(rt.alloc());
-    let kind = function(&rt, rt.alloc(), &mut graph);
-    let node = import(&rt, &mut graph, "x", kind);
+    let kind = function(&rt, rt.alloc(), &mut graph, &[], None);
+    let node = import(&rt, &mut graph, "x", kind).expect(&rt, "a node");
+    for (name, want) in IMPORTS {
+        let answer = import(&rt, &mut graph, name, kind);
+        assert_row(&rt, import_fault(answer) == Some(*want), name);
+    }
     for (name, want) in EXPORTS {
-        let held = graph.has_node(node);
-        assert!(rt; held);
-        let Err(ExportError::InvalidExportName { source, .. }) = graph.export(node, name) else {
-            panic!(rt; "the export is not refused by its name");
-        };
-        assert!(rt; source == *want);
+        let answer = export(&rt, &mut graph, node, name);
+        assert_row(&rt, export_fault(answer) == Some(*want), name);
     }
 }

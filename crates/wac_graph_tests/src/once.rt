@@ -7,6 +7,7 @@ use crate::tables::Want::Parts;
 // The type of an instance that exports a function `f`.
 const INSTANCE: &str = "070e0142020140000100040001660100";
 
+/// Imports that share a type, and others.
 pub const ONCE: &[Case] = &[
     // Import nodes of one function type share it.
     Case {

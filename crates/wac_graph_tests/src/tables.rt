@@ -1,9 +1,9 @@
 // Types and calls on a graph as the rows of a table, and what `encode` answers then.
 use crate::aliased::ALIASED;
-use crate::defining::{CALLS, DEFINED, assert_undefined, define, remove};
+use crate::defining::{CALLS, DEFINED, answer, assert_undefined};
 use crate::imports::IMPORTS;
 use crate::once::ONCE;
-use crate::parts::{encode, export, import, instantiate, register};
+use crate::parts::{self, assert_displayed, assert_row, encode, export, import, instantiate};
 use crate::writable::{DEPENDENCIES, WRITABLE};
 use std::alloc::Global;
 use std::process::Abort;
@@ -12,16 +12,17 @@ use wac_graph::CompositionGraph;
 use wac_nodes::{EncodeOptions, NodeId, PackageId};
 use wac_scopes::WriteFault;
 use wac_types::{
-    DefinedType, Enum, FuncType, Interface, InterfaceId, ItemKind, ModuleType, PrimitiveType,
-    Record, Resource, ResourceId, Type, ValueType, World,
+    DefinedType, Enum, InterfaceId, ItemKind, ModuleType, PrimitiveType, Record, Resource,
+    ResourceId, Type, ValueType,
 };
+use wac_validation::ValidationFault;
 
 const PREAMBLE: &str = "0061736d0d000100";
 
-// A name, and the place of what it is of.
+/// A name, and the place of what it is of.
 pub type Item = (&'static str, usize);
 
-// An item that a row adds to those before it, each of which it means by its place.
+/// An item that a row adds to those before it, each of which it means by its place.
 #[derive(Clone, Copy)]
 pub enum Row {
     // The type bool.
@@ -62,7 +63,7 @@ pub enum Row {
     TypeOf(usize),
 }
 
-// A call on the graph, or what is true of it then. A node is meant by its number.
+/// A call on the graph, or what is true of it then. A node is meant by its number.
 #[derive(Clone, Copy)]
 pub enum Step {
     // Defines the type of an item, under a name that is not exported yet.
@@ -87,7 +88,7 @@ pub enum Step {
     Set(usize, &'static str, usize),
 }
 
-// What `encode` answers.
+/// What `encode` answers.
 #[derive(Clone, Copy)]
 pub enum Want {
     // The preamble and these parts, in hexadecimal.
@@ -98,18 +99,20 @@ pub enum Want {
     Text(&'static str),
     // A refusal of the type that this node asks for.
     Fault(usize, WriteFault),
+    // A refusal of this name, which may not be exported.
+    Unexportable(&'static str),
 }
 
-// Items, calls on a graph of their types, and what `encode` answers.
+/// Items, calls on a graph of their types, and what `encode` answers.
 pub struct Case {
     pub rows: &'static [Row],
     pub steps: &'static [Step],
     pub want: Want,
 }
 
-// A graph, and the items of its types.
+/// A graph, and the items of its types.
 pub struct Made {
-    graph: CompositionGraph,
+    pub graph: CompositionGraph,
     kinds: Vec<ItemKind>,
     package: Option<PackageId>,
 }
@@ -129,8 +132,8 @@ fn value_item(value: ValueType) -> ItemKind {
 }
 
 impl Made {
-    // A graph after these calls.
-    fn new(rt: &(impl Abort + AllocGlobal), rows: &[Row], steps: &[Step]) -> Made {
+    /// A graph after these calls.
+    pub fn new(rt: &(impl Abort + AllocGlobal), rows: &[Row], steps: &[Step]) -> Made {
         let mut made = Made {
             graph: CompositionGraph::new(rt.alloc()),
             kinds: Vec::new(rt.alloc()),
@@ -183,7 +186,7 @@ impl Made {
             Row::Using(id, used, items) => self.using(rt, alloc, id, used, items),
             Row::Instance(id, items) => self.instance(rt, alloc, id, items),
             Row::Component(id, imports, exports) => self.component(rt, alloc, id, imports, exports),
-            Row::Module => self.module(rt, alloc),
+            Row::Module => parts::module(rt, &mut self.graph, ModuleType::new(alloc)),
             Row::TypeOf(of) => ItemKind::TypeItem(self.kind(rt, of).ty()),
             row => {
                 let definition = self.definition(rt, alloc, row);
@@ -193,7 +196,7 @@ impl Made {
     }
 
     fn defined(&mut self, rt: &impl Abort, definition: DefinedType) -> ValueType {
-        ValueType::Defined(self.graph.add_defined_type(definition).expect(rt, "its id"))
+        parts::defined(rt, &mut self.graph, definition)
     }
 
     fn definition(&self, rt: &impl Abort, alloc: Global, row: Row) -> DefinedType {
@@ -258,9 +261,7 @@ impl Made {
             Some(place) => Some(self.value(rt, place)),
             None => None,
         };
-        let function = FuncType::new(alloc, &params, returned, false);
-        let function = function.expect(rt, "a function type");
-        ItemKind::Func(self.graph.add_func_type(function).expect(rt, "its id"))
+        parts::function(rt, alloc, &mut self.graph, &params, returned)
     }
 
     fn named(
@@ -285,8 +286,7 @@ impl Made {
         items: &[Item],
     ) -> ItemKind {
         let items = self.named(rt, alloc, items);
-        let interface = Interface::new(alloc, id, &items).expect(rt, "an interface");
-        ItemKind::Instance(self.graph.add_interface(interface).expect(rt, "its id"))
+        parts::instance(rt, alloc, &mut self.graph, id, &[], &items)
     }
 
     fn using(
@@ -299,9 +299,14 @@ impl Made {
     ) -> ItemKind {
         let of = self.interface(rt, used.1);
         let items = self.named(rt, alloc, items);
-        let interface = Interface::with_uses(alloc, Some(id), &[(used.0, of, None)], &items);
-        let interface = interface.expect(rt, "an interface");
-        ItemKind::Instance(self.graph.add_interface(interface).expect(rt, "its id"))
+        parts::instance(
+            rt,
+            alloc,
+            &mut self.graph,
+            Some(id),
+            &[(used.0, of, None)],
+            &items,
+        )
     }
 
     fn component(
@@ -314,66 +319,79 @@ impl Made {
     ) -> ItemKind {
         let imports = self.named(rt, alloc, imports);
         let exports = self.named(rt, alloc, exports);
-        let world = World::new(alloc, id, &imports, &exports).expect(rt, "a world");
-        ItemKind::Component(self.graph.add_world(world).expect(rt, "its id"))
-    }
-
-    fn module(&mut self, rt: &impl Abort, alloc: Global) -> ItemKind {
-        let module = self.graph.add_module_type(ModuleType::new(alloc));
-        ItemKind::Module(module.expect(rt, "its id"))
+        ItemKind::Component(parts::world(rt, alloc, &mut self.graph, id, &imports, &exports))
     }
 
     fn call(&mut self, rt: &(impl Abort + AllocGlobal), step: Step) {
         match step {
-            Step::Define(name, place) => {
-                let ty = self.kind(rt, place).ty();
-                assert!(rt; self.graph.get_export(name).is_none());
-                let node = define(rt, &mut self.graph, name, ty);
-                assert!(rt; self.graph.get_export(name) == Some(node));
+            Step::Define(name, place) => self.define(rt, name, place),
+            Step::Import(name, place) => {
+                let kind = self.kind(rt, place);
+                import(rt, &mut self.graph, name, kind).expect(rt, "a node");
             }
+            Step::Export(node, name) => {
+                export(rt, &mut self.graph, NodeId(node), name).expect(rt, "an export");
+            }
+            Step::Register(imports) => {
+                self.package = Some(self.registered(rt, rt.alloc(), "my:package", imports, &[]));
+            }
+            Step::Instantiate => {
+                let package = self.package.expect(rt, "a package");
+                instantiate(rt, &mut self.graph, package).expect(rt, "a node");
+            }
+            Step::Set(node, name, argument) => {
+                let answer = parts::set(rt, &mut self.graph, NodeId(node), name, NodeId(argument));
+                answer.expect(rt, "an argument");
+            }
+            Step::Remove(name) => {
+                let node = self.graph.get_export(name).expect(rt, "a node");
+                parts::remove(rt, &mut self.graph, node);
+            }
+            step => self.assert_step(rt, step),
+        }
+    }
+
+    // What is true of the graph.
+    fn assert_step(&mut self, rt: &(impl Abort + AllocGlobal), step: Step) {
+        match step {
             Step::Undefined(name, place, want) => {
                 let ty = self.kind(rt, place).ty();
                 assert_undefined(rt, &mut self.graph, name, ty, want);
             }
-            Step::Import(name, place) => {
-                let kind = self.kind(rt, place);
-                import(rt, &mut self.graph, name, kind);
+            Step::Kept(node) => {
+                let answer = parts::unexport(rt, &mut self.graph, NodeId(node));
+                assert_row(rt, answer.is_err(), "a node that is kept");
             }
-            Step::Export(node, name) => export(rt, &mut self.graph, NodeId(node), name),
-            Step::Register(imports) => self.register(rt, imports),
-            Step::Instantiate => {
-                let package = self.package.expect(rt, "a package");
-                instantiate(rt, &mut self.graph, package);
-            }
-            Step::Set(node, name, argument) => self.set(rt, NodeId(node), name, NodeId(argument)),
-            Step::Remove(name) => remove(rt, &mut self.graph, name),
-            Step::Kept(node) => self.keep(rt, NodeId(node)),
             Step::Exported(name, node) => {
-                assert!(rt; self.graph.get_export(name) == node, "{name}");
+                assert_row(rt, self.graph.get_export(name) == node, name);
             }
-            Step::Nodes(count) => assert!(rt; self.graph.node_ids().count() == count),
+            Step::Nodes(count) => assert_row(rt, self.graph.node_ids().count() == count, "nodes"),
+            _ => panic!(rt; "a call"),
         }
     }
 
-    fn register(&mut self, rt: &(impl Abort + AllocGlobal), imports: &[Item]) {
-        let imports = self.named(rt, rt.alloc(), imports);
-        let package = register(rt, rt.alloc(), &mut self.graph, "my:package", &imports, &[]);
-        self.package = Some(package.expect(rt, "a package"));
+    fn define(&mut self, rt: &impl Abort, name: &str, place: usize) {
+        let ty = self.kind(rt, place).ty();
+        assert_row(rt, self.graph.get_export(name).is_none(), name);
+        let node = answer(rt, &mut self.graph, name, ty).expect(rt, "a node");
+        assert_row(rt, self.graph.get_export(name) == Some(node), name);
     }
 
-    fn keep(&mut self, rt: &impl Abort, node: NodeId) {
-        let held = self.graph.has_node(node);
-        assert!(rt; held);
-        assert!(rt; self.graph.unexport(node).is_err());
-    }
-
-    fn set(&mut self, rt: &impl Abort, node: NodeId, name: &str, argument: NodeId) {
-        let held = self.graph.has_node(node);
-        assert!(rt; held);
-        let held = self.graph.has_node(argument);
-        assert!(rt; held);
-        let answer = self.graph.set_instantiation_argument(node, name, argument);
-        answer.expect(rt, "an argument");
+    /// Registers a package with these imports and exports.
+    pub fn registered(
+        &mut self,
+        rt: &impl Abort,
+        alloc: Global,
+        name: &str,
+        imports: &[Item],
+        exports: &[Item],
+    ) -> PackageId {
+        let imports = self.named(rt, alloc, imports);
+        let exports = self.named(rt, alloc, exports);
+        parts::register(rt, alloc, &mut self.graph, (name, None), &imports, &exports).expect(
+            rt,
+            "a package",
+        )
     }
 }
 
@@ -385,19 +403,27 @@ fn assert_parts(rt: &(impl Abort + AllocGlobal), bytes: &[u8], want: &[&str]) {
     assert!(rt; items == Some(want.as_str()), "{text}");
 }
 
+// The name that is refused, since it may not be exported.
+fn assert_unexportable(rt: &impl Abort, error: &EncodeError, want: &str) {
+    match error {
+        EncodeError::ValidationFailure {
+            source: ValidationFault::NotExportable { name },
+        } => assert_row(rt, name.as_str() == want, want),
+        _ => panic!(rt; "another refusal"),
+    }
+}
+
 // The refusal is this one.
-fn assert_refused(rt: &(impl Abort + AllocGlobal), error: EncodeError, want: Want) {
+fn assert_refused(rt: &(impl Abort + AllocGlobal), error: &EncodeError, want: Want) {
     match want {
-        Want::Fault(wanted, why) => {
-            let EncodeError::TypeNotWritable { node, fault } = error else {
-                panic!(rt; "another refusal");
-            };
-            assert!(rt; node == NodeId(wanted) && fault == why);
-        }
-        Want::Text(want) => {
-            let text = format!(in rt.alloc(); "{error}").expect(rt, "a text");
-            assert_eq!(rt; text.as_str(), want);
-        }
+        Want::Fault(wanted, why) => match error {
+            EncodeError::TypeNotWritable { node, fault } => {
+                assert!(rt; *node == NodeId(wanted) && *fault == why);
+            }
+            _ => panic!(rt; "another refusal"),
+        },
+        Want::Text(want) => assert_displayed(rt, error, want),
+        Want::Unexportable(name) => assert_unexportable(rt, error, name),
         _ => panic!(rt; "a refusal"),
     }
 }
@@ -411,14 +437,19 @@ fn assert_written(rt: &(impl Abort + AllocGlobal), bytes: &[u8], want: Want) {
     }
 }
 
+/// What `encode` answers is this.
+pub fn assert_encoded(rt: &(impl Abort + AllocGlobal), graph: &CompositionGraph, want: Want) {
+    match encode(graph, EncodeOptions::default()) {
+        Ok(bytes) => assert_written(rt, &bytes, want),
+        Err(error) => assert_refused(rt, &error, want),
+    }
+}
+
 // Each case is answered so.
 fn assert_answers(rt: &(impl Abort + AllocGlobal), cases: &[Case]) {
     for case in cases {
         let made = Made::new(rt, case.rows, case.steps);
-        match encode(&made.graph, EncodeOptions::default()) {
-            Ok(bytes) => assert_written(rt, &bytes, case.want),
-            Err(error) => assert_refused(rt, error, case.want),
-        }
+        assert_encoded(rt, &made.graph, case.want);
     }
 }
 
@@ -429,7 +460,7 @@ fn graphs_are_encoded(rt: HostRuntime) {
     }
 }
 
-// Items, and calls on a graph of their types, which can be made.
+/// Items, and calls on a graph of their types, which can be made.
 pub type Calls = (&'static [Row], &'static [Step]);
 
 #[test]

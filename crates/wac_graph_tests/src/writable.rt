@@ -41,6 +41,7 @@ const NOT_YET: Want = Text("the graph holds something that is not written yet");
 
 const UNLISTED: Want = Fault(0, WriteFault::UnlistedDependency);
 
+/// Worlds that list what they use, and others.
 pub const DEPENDENCIES: &[Case] = &[
     // An interface that an imported instance uses is not imported.
     Case {
@@ -91,6 +92,7 @@ pub const DEPENDENCIES: &[Case] = &[
     },
 ];
 
+/// Types, written or refused.
 pub const WRITABLE: &[Case] = &[
     // A module type is no item.
     Case {

@@ -1,7 +1,7 @@
 //! Interfaces that are listed more than once in one, at one level or at many.
 
 use crate::merged::Check::Lists;
-use crate::merged::{Case, assert_merged};
+use crate::merged::{Case, assert_merged, interface_of};
 use crate::rows::Row::{Instance, Plain, TypeOf};
 use crate::rows::{Items, Row};
 use std::process::Abort;
@@ -74,30 +74,6 @@ fn listing(rt: &impl Abort, types: &mut Types, exports: &[(&str, ItemKind)]) -> 
     types.add_interface(interface).expect(rt, "its id")
 }
 
-// An interface that lists another twice, which lists another twice, at so many levels.
-fn doubled(rt: &impl Abort, types: &mut Types, levels: usize) -> InterfaceId {
-    let mut interface = listing(rt, types, &[]);
-    for _ in 0..levels {
-        let item = ItemKind::Instance(interface);
-        interface = listing(rt, types, &[("a", item), ("b", item)]);
-    }
-    interface
-}
-
-#[test]
-fn there_is_one_union_for_each_level(rt: HostRuntime) {
-    let alloc = rt.alloc();
-    let mut types = Types::new(alloc);
-    let interface = doubled(&rt, &mut types, 60);
-    assert!(rt; types.contains(Type::Interface(interface)));
-    let mut root = Vec::new(alloc);
-    root.push(interface).expect(&rt, "room for an interface");
-    let mut roots = Vec::new(alloc);
-    roots.push(root).expect(&rt, "room for a root");
-    let unions = Unions::new(alloc, &types, roots.as_slice()).expect(&rt, "the unions");
-    assert!(rt; unions.unions.len() == 61);
-}
-
 // What lists an item twice, at so many levels.
 fn above(rt: &impl Abort, types: &mut Types, item: ItemKind, levels: usize) -> ItemKind {
     let mut item = item;
@@ -105,6 +81,26 @@ fn above(rt: &impl Abort, types: &mut Types, item: ItemKind, levels: usize) -> I
         item = ItemKind::Instance(listing(rt, types, &[("a", item), ("b", item)]));
     }
     item
+}
+
+// How many unions there are of an interface alone.
+fn unions(rt: &impl Abort, types: &Types, interface: InterfaceId) -> usize {
+    let alloc = types.allocator();
+    assert!(rt; types.contains(Type::Interface(interface)));
+    let mut root = Vec::new(alloc);
+    root.push(interface).expect(rt, "room for an interface");
+    let mut roots = Vec::new(alloc);
+    roots.push(root).expect(rt, "room for a root");
+    let unions = Unions::new(alloc, types, roots.as_slice()).expect(rt, "the unions");
+    unions.unions.len()
+}
+
+#[test]
+fn there_is_one_union_for_each_level(rt: HostRuntime) {
+    let mut types = Types::new(rt.alloc());
+    let lowest = ItemKind::Instance(listing(&rt, &mut types, &[]));
+    let highest = above(&rt, &mut types, lowest, 60);
+    assert!(rt; unions(&rt, &types, interface_of(&rt, highest)) == 61);
 }
 
 const BASE: &[Row] = &[

@@ -41,8 +41,8 @@ pub struct Case {
     pub checks: &'static [Check],
 }
 
-// The interface of an instance, or of a type item.
-fn interface_of(rt: &impl Abort, item: ItemKind) -> InterfaceId {
+/// The interface of an instance, or of a type item.
+pub fn interface_of(rt: &impl Abort, item: ItemKind) -> InterfaceId {
     match item.ty() {
         Type::Interface(id) => id,
         _ => panic!(rt; "no interface"),

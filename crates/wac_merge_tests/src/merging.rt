@@ -1,14 +1,35 @@
 //! Which imports are one, which do not agree, and where resources are bound.
 ghost use Rattle.std.specs.Prelude.{◌≡◌, true, IfOk};
+ghost use Rattle.wac_entries.specs.Bindings.{AreHeld};
 
 use crate::merged::Check::{Bound, Canonical, Differ, Imports, Lists, Resource, Unbound};
 use crate::merged::{Case, assert_merged};
 use crate::rows::Row::{Enumeration, Instance, Plain, Telling, TypeOf};
-use crate::rows::{Item, Items, Row};
+use crate::rows::{Item, Items, Row, assert_row};
 use std::alloc::Global;
 use std::process::Abort;
 use wac_merge::{MergeFault, TypeAggregator};
 use wac_types::{ItemKind, Types};
+
+// An aggregator that is asked for these.
+fn aggregated(
+    alloc: Global,
+    rt: &impl Abort,
+    types: &Types,
+    asked: &[(&str, ItemKind)],
+) -> TypeAggregator
+    ensures { AreHeld types.now result.entries }
+{
+    let mut aggregator = TypeAggregator::new(alloc);
+    for i in 0..asked.len() {
+        let (name, kind) = asked[i];
+        assert!(rt; types.contains(kind.ty()));
+        aggregator = aggregator
+            .aggregate(name, types, kind)
+            .expect(rt, "an aggregator");
+    }
+    aggregator
+}
 
 // What `finish` answers where these are asked for.
 pub(crate) fn finished(
@@ -19,15 +40,7 @@ pub(crate) fn finished(
 ) -> Result<TypeAggregator, MergeFault>
     ensures { IfOk result (λ merged. merged.is_finished ≡ true) }
 {
-    let mut aggregator = TypeAggregator::new(alloc);
-    for i in 0..asked.len() {
-        let (name, kind) = asked[i];
-        assert!(rt; types.contains(kind.ty()));
-        aggregator = aggregator
-            .aggregate(name, types, kind)
-            .expect(rt, "an aggregator");
-    }
-    aggregator.finish(types)
+    aggregated(alloc, rt, types, asked).finish(types)
 }
 
 // Types, what is asked for of them, and the fault that is answered.
@@ -104,15 +117,21 @@ fn named(rt: &impl Abort, alloc: Global, fault: MergeFault) -> String {
     text.expect(rt, "a text")
 }
 
+// What the fault names that is answered.
+fn refused(rt: &impl Abort, alloc: Global, refusal: &Refusal) -> String {
+    let items = Items::new(rt, alloc, refusal.rows);
+    let asked = items.asked(rt, refusal.asked);
+    match finished(alloc, rt, &items.types, &asked) {
+        Ok(_) => panic!(rt; "a merge"),
+        Err(fault) => named(rt, alloc, fault),
+    }
+}
+
 #[test]
 fn imports_that_cannot_be_merged_are_refused(rt: HostRuntime) {
     for refusal in REFUSALS {
-        let items = Items::new(&rt, rt.alloc(), refusal.rows);
-        let asked = items.asked(&rt, refusal.asked);
-        let Err(fault) = finished(rt.alloc(), &rt, &items.types, &asked) else {
-            panic!(rt; "a merge");
-        };
-        assert_eq!(rt; named(&rt, rt.alloc(), fault).as_str(), refusal.want);
+        let text = refused(&rt, rt.alloc(), refusal);
+        assert_row(&rt, text.as_str() == refusal.want, refusal.want);
     }
 }
 

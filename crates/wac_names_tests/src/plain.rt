@@ -205,6 +205,7 @@ fn plain_word(alloc: Global, text: &str) -> Result<Sort, NameFault> {
     plain_label(text).then_some(Sort::Label).ok_or(BadLabel)
 }
 
+/// What a text is, or why it is no name.
 pub fn plain(alloc: Global, text: &str) -> Result<Sort, NameFault> {
     if text.starts_with('[') {
         return plain_bracketed(text);

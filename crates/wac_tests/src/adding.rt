@@ -1,19 +1,21 @@
 // Items that are added to a collection of types, as the rows of tables name them.
 use crate::modules::{importing, memory};
-use std::alloc::AllocError;
+use std::alloc::{AllocError, Global};
 use wac_types::*;
 
+/// The type bool.
 pub const BOOL: ValueType = ValueType::Primitive(PrimitiveType::Bool);
 
+/// The type of 32 bits.
 pub const U32: ValueType = ValueType::Primitive(PrimitiveType::U32);
 
-// A used type: its name, the interface that has it, and its name there, where that is another.
+/// A used type: its name, the interface that has it, and its name there, where that is another.
 pub type Use = (&'static str, InterfaceId, Option<&'static str>);
 
-// An item under its name.
+/// An item under its name.
 pub type Named = (&'static str, ItemKind);
 
-// An item that is added. It mentions those before it by their ids, which count the items of each list.
+/// An item that is added. It mentions those before it by their ids, which count the items of each list.
 #[derive(Clone, Copy)]
 pub enum Adding {
     Resource(&'static str),
@@ -34,7 +36,7 @@ pub enum Adding {
     Memory(u64, u64, bool),
 }
 
-// Why an item is not added: memory was refused, a name is given twice, or the item is refused.
+/// Why an item is not added: memory was refused, a name is given twice, or the item is refused.
 #[derive(Clone, Copy, PartialEq, Eq)]
 pub enum Refusal {
     Memory,
@@ -66,76 +68,71 @@ impl From<AddTypeError> for Refusal {
     }
 }
 
-fn resource(types: &mut Types, resource: Resource) -> Result<Type, Refusal> {
-    Ok(Type::Resource(types.add_resource(resource)?))
-}
-
-fn defined(types: &mut Types, defined: DefinedType) -> Result<Type, Refusal> {
-    let id = types.add_defined_type(defined)?;
-    Ok(Type::Value(ValueType::Defined(id)))
-}
-
-fn func(types: &mut Types, func: FuncType) -> Result<Type, Refusal> {
-    Ok(Type::Func(types.add_func_type(func)?))
-}
-
-fn interface(types: &mut Types, interface: Interface) -> Result<Type, Refusal> {
-    Ok(Type::Interface(types.add_interface(interface)?))
-}
-
-fn world(types: &mut Types, world: World) -> Result<Type, Refusal> {
-    Ok(Type::World(types.add_world(world)?))
-}
-
-fn module(types: &mut Types, module: ModuleType) -> Result<Type, Refusal> {
-    Ok(Type::Module(types.add_module_type(module)?))
-}
-
 fn add_listing(types: &mut Types, adding: Adding) -> Result<Type, Refusal> {
     let alloc = types.allocator();
-    match adding {
-        Adding::Interface(id, exports) => { interface(types, Interface::new(alloc, id, exports)?) }
+    Ok(match adding {
+        Adding::Interface(id, exports) => {
+            Type::Interface(types.add_interface(Interface::new(alloc, id, exports)?)?)
+        }
         Adding::User(id, uses, exports) => {
-            interface(types, Interface::with_uses(alloc, Some(id), uses, exports)?)
+            let interface = Interface::with_uses(alloc, Some(id), uses, exports)?;
+            Type::Interface(types.add_interface(interface)?)
         }
         Adding::World(id, imports, exports) => {
-            world(types, World::new(alloc, id, imports, exports)?)
+            Type::World(types.add_world(World::new(alloc, id, imports, exports)?)?)
         }
         Adding::WorldUser(uses, imports, exports) => {
-            world(
-                types,
-                World::with_uses(alloc, None, uses, imports, exports)?,
-            )
+            let world = World::with_uses(alloc, None, uses, imports, exports)?;
+            Type::World(types.add_world(world)?)
         }
-        Adding::Module(imports) => module(types, importing(alloc, imports)?),
+        Adding::Module(imports) => Type::Module(types.add_module_type(importing(alloc, imports)?)?),
         Adding::Memory(initial, maximum, shared) => {
-            module(types, memory(alloc, initial, maximum, shared)?)
+            let module = memory(alloc, initial, maximum, shared)?;
+            Type::Module(types.add_module_type(module)?)
         }
-        _ => Err(Refusal::Memory),
-    }
+        _ => return Err(Refusal::Memory),
+    })
 }
 
-// Adds an item, and answers its id.
+fn definition(alloc: Global, adding: Adding) -> Result<DefinedType, Refusal> {
+    Ok(match adding {
+        Adding::Enum(case) => DefinedType::Enum(Enum::new(alloc, &[case])?),
+        Adding::Alias(of) => DefinedType::Alias(of),
+        Adding::List(of) => DefinedType::List(of),
+        Adding::Tuple(of) => DefinedType::tuple(alloc, of)?,
+        Adding::Record(fields) => DefinedType::Record(Record::new(alloc, fields)?),
+        _ => return Err(Refusal::Memory),
+    })
+}
+
+/// Adds an item, and answers its id.
 pub fn add(types: &mut Types, adding: Adding) -> Result<Type, Refusal> {
     let alloc = types.allocator();
     match adding {
-        Adding::Resource(name) => resource(types, Resource::new(alloc, name)?),
-        Adding::ResourceAlias(name, owner, source) => {
-            resource(types, Resource::alias(alloc, name, owner, source)?)
+        Adding::Resource(name) => {
+            Ok(Type::Resource(types.add_resource(Resource::new(alloc, name)?)?))
         }
-        Adding::Enum(case) => defined(types, DefinedType::Enum(Enum::new(alloc, &[case])?)),
-        Adding::Alias(of) => defined(types, DefinedType::Alias(of)),
-        Adding::List(of) => defined(types, DefinedType::List(of)),
-        Adding::Tuple(of) => defined(types, DefinedType::tuple(alloc, of)?),
-        Adding::Record(fields) => defined(types, DefinedType::Record(Record::new(alloc, fields)?)),
+        Adding::ResourceAlias(name, owner, source) => {
+            let resource = Resource::alias(alloc, name, owner, source)?;
+            Ok(Type::Resource(types.add_resource(resource)?))
+        }
         Adding::Func(params, returned, is_async) => {
-            func(types, FuncType::new(alloc, params, returned, is_async)?)
+            let func = FuncType::new(alloc, params, returned, is_async)?;
+            Ok(Type::Func(types.add_func_type(func)?))
+        }
+        Adding::Enum(_)
+        | Adding::Alias(_)
+        | Adding::List(_)
+        | Adding::Tuple(_)
+        | Adding::Record(_) => {
+            let id = types.add_defined_type(definition(alloc, adding)?)?;
+            Ok(Type::Value(ValueType::Defined(id)))
         }
         listing => add_listing(types, listing),
     }
 }
 
-// Whether an item is added under this id. Where memory is refused, none of this id is held, and it is asked for once more.
+/// Whether an item is added under this id. Where memory is refused, none of this id is held, and it is asked for once more.
 pub fn adds(types: &mut Types, adding: Adding, ty: Type) -> bool {
     let mut answer = add(types, adding);
     if answer == Err(Refusal::Memory) {

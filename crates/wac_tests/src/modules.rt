@@ -12,7 +12,7 @@ fn global(mutable: bool) -> CoreExtern {
     }
 }
 
-// A core module that exports a memory with these limits.
+/// A core module that exports a memory with these limits.
 pub fn memory(
     alloc: Global,
     initial: u64,
@@ -31,7 +31,7 @@ pub fn memory(
     Ok(module)
 }
 
-// A core module that imports functions under these names.
+/// A core module that imports functions under these names.
 pub fn importing(alloc: Global, names: &[(&str, &str)]) -> Result<ModuleType, Refusal> {
     let mut module_type = ModuleType::new(alloc);
     for (source, name) in names {

@@ -15,7 +15,7 @@ fn are_found(found: &Reached, wanted: &[Type]) -> bool {
     found.as_slice() == wanted
 }
 
-// Whether a type reaches exactly these, in the order in which they are found.
+/// Whether a type reaches exactly these, in the order in which they are found.
 pub fn reaches(types: &Types, ty: Type, wanted: &[Type]) -> bool {
     let held = types.contains(ty);
     if !held {

@@ -6,6 +6,7 @@ use std::fmt::{Debug, Display};
 use std::process::Abort;
 use wac_types::*;
 
+/// What is done, or is true then.
 #[derive(Clone, Copy)]
 pub enum Row {
     // An item is added, and has this id.
@@ -26,7 +27,7 @@ pub enum Row {
     Subtype(ItemKind, ItemKind, bool),
 }
 
-// A table, under what it shows.
+/// A table, under what it shows.
 pub type Table = (&'static str, &'static [Row]);
 
 fn has_interfaces(types: &Types, wanted: &[InterfaceId]) -> bool {
@@ -53,7 +54,7 @@ fn holds(types: &mut Types, row: Row) -> bool {
     }
 }
 
-// A new collection, in which each row holds in turn.
+/// A new collection, in which each row holds in turn.
 pub fn made(rt: &(impl Abort + AllocGlobal), table: Table) -> Types {
     let (name, rows) = table;
     let mut types = Types::new(rt.alloc());
@@ -63,25 +64,25 @@ pub fn made(rt: &(impl Abort + AllocGlobal), table: Table) -> Types {
     types
 }
 
-// The tables hold, each in a collection of its own.
+/// The tables hold, each in a collection of its own.
 pub fn assert_tables(rt: &(impl Abort + AllocGlobal), tables: &[Table]) {
     for table in tables {
         let _types = made(rt, *table);
     }
 }
 
-// What is told is true, and nothing was refused.
+/// What is told is true, and nothing was refused.
 pub fn assert_told(rt: &impl Abort, told: Result<bool, Refusal>, what: &str) {
     assert!(rt; told == Ok(true), "{what}");
 }
 
-// A value is displayed as this text.
+/// A value is displayed as this text.
 pub fn assert_displayed<T: Display>(rt: &(impl Abort + AllocGlobal), value: &T, want: &str) {
     let text = format!(in rt.alloc(); "{value}").expect(rt, want);
     assert!(rt; text.as_str() == want, "{want}");
 }
 
-// A value is shown as this text to who debugs.
+/// A value is shown as this text to who debugs.
 pub fn assert_shown<T: Debug>(rt: &(impl Abort + AllocGlobal), value: &T, want: &str) {
     let text = format!(in rt.alloc(); "{value:?}").expect(rt, want);
     assert!(rt; text.as_str() == want, "{want}");

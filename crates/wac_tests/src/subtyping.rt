@@ -5,7 +5,7 @@ use crate::rows::{Table, assert_displayed, assert_tables};
 use std::alloc::Global;
 use wac_types::*;
 
-// Whether one item is a subtype of another, asked once more where memory was refused; none where one is not held.
+/// Whether one item is a subtype of another, asked once more where memory was refused; none where one is not held.
 pub fn is_subtype(a: ItemKind, at: &Types, b: ItemKind, bt: &Types) -> Option<bool> {
     let first = at.contains(a.ty());
     let second = bt.contains(b.ty());

@@ -1,26 +1,26 @@
 // Calls on a graph as the rows of a table, each with what it answers.
 ghost use Rattle.std.specs.Prelude.{IsSome};
-ghost use Rattle.wac_nodes.specs.Graph.{node_at, package_at};
+ghost use Rattle.wac_nodes.specs.Graph.{node_at};
 
+use crate::parts::{self, encode, function, instance, package_name};
 use std::alloc::{AllocError, Global};
 use std::fmt::Display;
 use std::process::Abort;
 use wac_causes::EncodeError;
 use wac_graph::CompositionGraph;
 use wac_merge::MergeFault;
-use wac_nodes::{EncodeOptions, NodeId, NodeKind, PackageId};
+use wac_nodes::{EncodeOptions, NodeId, NodeKind, PackageId, Processor};
 use wac_types::{
-    CoreExtern, CoreFuncType, DefinedType, Enum, FuncType, Interface, ItemKind, ModuleType,
-    PrimitiveType, Type, ValueType, World,
+    CoreExtern, CoreFuncType, DefinedType, Enum, ItemKind, ModuleType, PrimitiveType, Type,
+    ValueType,
 };
 use wac_validation::ValidationFault;
 
+const PREAMBLE: &str = "0061736d0d000100";
+
 const BOOL: ValueType = ValueType::Primitive(PrimitiveType::Bool);
 
-// A component with nothing in it: the eight bytes of the preamble alone.
-const EMPTY_COMPONENT: [u8; 8] = [0x00, 0x61, 0x73, 0x6d, 0x0d, 0x00, 0x01, 0x00];
-
-// What a package imports or exports.
+/// What a package imports or exports.
 #[derive(Clone, Copy)]
 pub enum Item {
     // A function without parameters and result.
@@ -41,7 +41,20 @@ pub enum Item {
     Using(&'static str, &'static str, &'static str),
 }
 
-// A call. A package or a node is meant by its place among those that were answered.
+/// How a graph is encoded.
+#[derive(Clone, Copy)]
+pub enum How {
+    // As a user does who asks for nothing.
+    Plain,
+    // Without a look at the names.
+    Unchecked,
+    // With the components of packages imported.
+    Imported,
+    // With a processor that is named.
+    Processed,
+}
+
+/// A call. A package or a node is meant by its place among those that were answered.
 #[derive(Clone, Copy)]
 pub enum Call<'a> {
     // A package of this name, with one import or none, and one export or none.
@@ -78,7 +91,22 @@ pub enum Call<'a> {
     Packages,
     // The arguments of the node of this number, each by its import's name.
     Arguments(usize),
+    // The bytes that are encoded, in hexadecimal, or the text of the refusal.
+    Encode(How),
+    // Nothing where the bytes that are encoded are the preamble and these sections.
+    Sections(&'a [&'a str]),
+    // What the refusal of `encode` names; nothing where bytes are answered.
+    Refusal,
+    // The imports that the graph asks for.
+    Asked,
+    // What a node is.
+    Described(usize),
+    // The name by which a node is imported.
+    Imported(usize),
 }
+
+/// Calls, each with what it answers.
+pub type Rows = &'static [(Call<'static>, &'static str)];
 
 impl Call<'_> {
     // Whether something is taken away.
@@ -87,7 +115,7 @@ impl Call<'_> {
     }
 }
 
-// A graph, and what it answered so far.
+/// A graph, and what it answered so far.
 pub struct Bench {
     alloc: Global,
     graph: CompositionGraph,
@@ -123,29 +151,6 @@ fn is_refused(answer: &str) -> bool {
     answer == "out of memory" || answer == "OutOfMemory" || answer == "memory allocation failed"
 }
 
-// A function type.
-fn function(
-    rt: &impl Abort,
-    alloc: Global,
-    graph: &mut CompositionGraph,
-    params: &[(&str, ValueType)],
-    returned: Option<ValueType>,
-) -> ItemKind {
-    let function = FuncType::new(alloc, params, returned, false).expect(rt, "a function type");
-    ItemKind::Func(graph.add_func_type(function).expect(rt, "its id"))
-}
-
-// An instance type.
-fn instance(
-    rt: &impl Abort,
-    alloc: Global,
-    graph: &mut CompositionGraph,
-    items: &[(&str, ItemKind)],
-) -> ItemKind {
-    let interface = Interface::new(alloc, None, items).expect(rt, "an interface");
-    ItemKind::Instance(graph.add_interface(interface).expect(rt, "its id"))
-}
-
 fn core_module(rt: &impl Abort, alloc: Global, graph: &mut CompositionGraph) -> ItemKind {
     let mut module = ModuleType::new(alloc);
     let function = CoreFuncType::new(alloc, &[], &[]).expect(rt, "a function type");
@@ -159,15 +164,13 @@ fn core_module(rt: &impl Abort, alloc: Global, graph: &mut CompositionGraph) -> 
         page_size_log2: None,
     };
     module.export(alloc, "e", memory).expect(rt, "an export");
-    ItemKind::Module(graph.add_module_type(module).expect(rt, "its id"))
+    parts::module(rt, graph, module)
 }
 
 fn enumeration(rt: &impl Abort, alloc: Global, graph: &mut CompositionGraph) -> ItemKind {
     let cases = Enum::new(alloc, &["a"]).expect(rt, "an enumeration");
-    let cases = graph
-        .add_defined_type(DefinedType::Enum(cases))
-        .expect(rt, "its id");
-    ItemKind::TypeItem(Type::Value(ValueType::Defined(cases)))
+    let value = parts::defined(rt, graph, DefinedType::Enum(cases));
+    ItemKind::TypeItem(Type::Value(value))
 }
 
 fn using_instance(
@@ -179,16 +182,50 @@ fn using_instance(
     used: &str,
 ) -> ItemKind {
     let item = enumeration(rt, alloc, graph);
-    let of = Interface::new(alloc, Some(used), &[(name, item)]).expect(rt, "an interface");
-    let of = graph.add_interface(of).expect(rt, "its id");
-    let interface = Interface::with_uses(alloc, Some(id), &[(name, of, None)], &[(name, item)]);
-    let interface = interface.expect(rt, "an interface");
-    ItemKind::Instance(graph.add_interface(interface).expect(rt, "its id"))
+    match instance(rt, alloc, graph, Some(used), &[], &[(name, item)]) {
+        ItemKind::Instance(of) => {
+            instance(
+                rt,
+                alloc,
+                graph,
+                Some(id),
+                &[(name, of, None)],
+                &[(name, item)],
+            )
+        }
+        _ => panic!(rt; "no instance"),
+    }
 }
 
-// An answer is this text.
-pub fn assert_text(rt: &impl Abort, answer: String, want: &str) {
-    assert_eq!(rt; answer.as_str(), want);
+fn options(how: How) -> EncodeOptions<'static> {
+    let plain = EncodeOptions::default();
+    match how {
+        How::Plain => plain,
+        How::Unchecked => EncodeOptions {
+            validate: false,
+            ..plain
+        },
+        How::Imported => EncodeOptions {
+            define_components: false,
+            ..plain
+        },
+        How::Processed => EncodeOptions {
+            processor: Some(Processor {
+                name: "x",
+                version: "1",
+            }),
+            ..plain
+        },
+    }
+}
+
+/// On a graph on which the first calls of a pair were made, the others are answered so.
+pub fn assert_tables(rt: &(impl Abort + AllocGlobal), tables: &[(Rows, Rows)]) {
+    for (made, asked) in tables {
+        let mut bench = Bench::new(rt.alloc());
+        bench.calls(rt, made);
+        bench.calls(rt, asked);
+    }
 }
 
 // Puts a row behind others.
@@ -198,6 +235,7 @@ fn add(rt: &impl Abort, rows: &mut String, row: Result<String, AllocError>) {
 }
 
 impl Bench {
+    /// An empty graph.
     pub fn new(alloc: Global) -> Bench {
         Bench {
             alloc,
@@ -205,13 +243,6 @@ impl Bench {
             packages: Vec::new(alloc),
             nodes: Vec::new(alloc),
         }
-    }
-
-    // A graph on which these calls were made.
-    pub fn called(rt: &(impl Abort + AllocGlobal), rows: &[(Call<'_>, &str)]) -> Bench {
-        let mut bench = Bench::new(rt.alloc());
-        bench.calls(rt, rows);
-        bench
     }
 
     fn kind(&mut self, rt: &impl Abort, item: Item) -> ItemKind {
@@ -222,13 +253,13 @@ impl Bench {
             Item::Telling => function(rt, alloc, graph, &[], Some(BOOL)),
             Item::Exporting(name) => {
                 let item = function(rt, alloc, graph, &[], None);
-                instance(rt, alloc, graph, &[(name, item)])
+                instance(rt, alloc, graph, None, &[], &[(name, item)])
             }
             Item::ExportingTelling(name) => {
                 let item = function(rt, alloc, graph, &[], Some(BOOL));
-                instance(rt, alloc, graph, &[(name, item)])
+                instance(rt, alloc, graph, None, &[], &[(name, item)])
             }
-            Item::Empty => instance(rt, alloc, graph, &[]),
+            Item::Empty => instance(rt, alloc, graph, None, &[], &[]),
             Item::Module => core_module(rt, alloc, graph),
             Item::Using(id, name, used) => using_instance(rt, alloc, graph, id, name, used),
         }
@@ -256,11 +287,8 @@ impl Bench {
     ) -> String {
         let imports = self.kinds(rt, imports);
         let exports = self.kinds(rt, exports);
-        let world = World::new(self.alloc, None, &imports, &exports).expect(rt, "a world");
-        let world = self.graph.add_world(world).expect(rt, "its id");
-        let bytes = Vec::from_array(self.alloc, EMPTY_COMPONENT).expect(rt, "bytes");
-        let package = self.graph.new_package(name, None, bytes, world);
-        match self.graph.register_package(package.expect(rt, "a package")) {
+        let (alloc, graph) = (self.alloc, &mut self.graph);
+        match parts::register(rt, alloc, graph, (name, None), &imports, &exports) {
             Ok(id) => {
                 self.packages.push(id).expect(rt, "room for a package");
                 String::new(self.alloc)
@@ -289,16 +317,6 @@ impl Bench {
         *self.packages.get(place).expect(rt, "a package")
     }
 
-    // The package at a place, which is registered.
-    fn package(&self, rt: &impl Abort, place: usize) -> PackageId
-        ensures { IsSome (package_at self.now.graph result) }
-    {
-        let package = self.package_id(rt, place);
-        let held = self.graph.has_package(package);
-        assert!(rt; held);
-        package
-    }
-
     // A node that was made is kept, and its number shown.
     fn made<E: Display + Drop>(&mut self, rt: &impl Abort, answer: Result<NodeId, E>) -> String {
         match answer {
@@ -311,8 +329,8 @@ impl Bench {
     }
 
     fn instantiate(&mut self, rt: &impl Abort, place: usize) -> String {
-        let id = self.package(rt, place);
-        let answer = self.graph.instantiate(id);
+        let id = self.package_id(rt, place);
+        let answer = parts::instantiate(rt, &mut self.graph, id);
         self.made(rt, answer)
     }
 
@@ -323,25 +341,21 @@ impl Bench {
     }
 
     fn set(&mut self, rt: &impl Abort, place: usize, name: &str, argument: usize) -> String {
-        let instantiation = self.node(rt, place);
-        let argument = self.node(rt, argument);
-        let answer = self
-            .graph
-            .set_instantiation_argument(instantiation, name, argument);
+        let instantiation = self.node_id(rt, place);
+        let argument = self.node_id(rt, argument);
+        let answer = parts::set(rt, &mut self.graph, instantiation, name, argument);
         answered(rt, self.alloc, answer)
     }
 
     fn export(&mut self, rt: &impl Abort, place: usize, name: &str) -> String {
-        let node = self.node(rt, place);
-        let answer = self.graph.export(node, name);
+        let node = self.node_id(rt, place);
+        let answer = parts::export(rt, &mut self.graph, node, name);
         answered(rt, self.alloc, answer)
     }
 
     fn import(&mut self, rt: &impl Abort, name: &str, item: Item) -> String {
         let kind = self.kind(rt, item);
-        let held = self.graph.types().contains(kind.ty());
-        assert!(rt; held);
-        let answer = self.graph.import(name, kind);
+        let answer = parts::import(rt, &mut self.graph, name, kind);
         self.made(rt, answer)
     }
 
@@ -355,8 +369,8 @@ impl Bench {
     }
 
     fn unexport(&mut self, rt: &impl Abort, place: usize) -> String {
-        let node = self.node(rt, place);
-        let answer = self.graph.unexport(node);
+        let node = self.node_id(rt, place);
+        let answer = parts::unexport(rt, &mut self.graph, node);
         answered(rt, self.alloc, answer)
     }
 
@@ -390,13 +404,15 @@ impl Bench {
     }
 
     fn remove(&mut self, rt: &impl Abort, place: usize) -> String {
-        let node = self.node(rt, place);
-        self.graph.remove_node(node);
+        let node = self.node_id(rt, place);
+        parts::remove(rt, &mut self.graph, node);
         String::new(self.alloc)
     }
 
     fn unregister(&mut self, rt: &impl Abort, place: usize) -> String {
-        let id = self.package(rt, place);
+        let id = self.package_id(rt, place);
+        let held = self.graph.has_package(id);
+        assert!(rt; held);
         self.graph.unregister_package(id);
         String::new(self.alloc)
     }
@@ -444,11 +460,17 @@ impl Bench {
             Call::Nodes => self.listed_nodes(rt),
             Call::Packages => self.listed_packages(rt),
             Call::Arguments(number) => self.listed_arguments(rt, NodeId(number)),
+            Call::Encode(how) => self.encoded(rt, options(how)),
+            Call::Sections(want) => self.sections(rt, want),
+            Call::Refusal => self.refused(rt),
+            Call::Asked => self.asked(rt),
+            Call::Described(place) => self.described(rt, place),
+            Call::Imported(place) => self.imported(rt, place),
         }
     }
 
-    // Makes the calls. One that is refused for want of memory changed nothing: made again it answers as if it had not
-    // been refused. What takes something away is never refused for that.
+    /// Makes the calls. One that is refused for want of memory changed nothing: made again it answers as if it had not
+    /// been refused. What takes something away is never refused for that.
     pub fn calls(&mut self, rt: &impl Abort, rows: &[(Call<'_>, &str)]) {
         for (call, want) in rows {
             let mut answer = self.call(rt, *call);
@@ -460,25 +482,22 @@ impl Bench {
         }
     }
 
-    // What `encode` answers once.
-    fn encoded_once(&self, options: EncodeOptions<'_>) -> Result<Vec<u8>, EncodeError> {
-        self.graph.encode(options)
-    }
-
-    // What `encode` answers; asked once more where memory was refused.
-    fn encode(&self, options: EncodeOptions<'_>) -> Result<Vec<u8>, EncodeError> {
-        match self.encoded_once(options) {
-            Err(EncodeError::OutOfMemory) => self.encoded_once(options),
-            answer => answer,
-        }
-    }
-
     // The bytes in hexadecimal, or the error's text.
-    pub fn encoded(&self, rt: &impl Abort, options: EncodeOptions<'_>) -> String {
-        match self.encode(options) {
+    fn encoded(&self, rt: &impl Abort, options: EncodeOptions<'_>) -> String {
+        match encode(&self.graph, options) {
             Ok(bytes) => hex::encode(self.alloc, &bytes).expect(rt, "a text"),
             Err(error) => shown(rt, self.alloc, error),
         }
+    }
+
+    // Nothing where the bytes are the preamble and these sections, and what is answered otherwise.
+    fn sections(&self, rt: &impl Abort, want: &[&str]) -> String {
+        let text = self.encoded(rt, EncodeOptions::default());
+        let want = want.concat(self.alloc).expect(rt, "a text");
+        if text.as_str().strip_prefix(PREAMBLE) == Some(want.as_str()) {
+            return String::new(self.alloc);
+        }
+        text
     }
 
     // The export in which two imports differ.
@@ -539,8 +558,8 @@ impl Bench {
     }
 
     // What the refusal names; nothing where bytes are answered.
-    pub fn refused(&self, rt: &impl Abort) -> String {
-        match self.encode(EncodeOptions::default()) {
+    fn refused(&self, rt: &impl Abort) -> String {
+        match encode(&self.graph, EncodeOptions::default()) {
             Ok(_) => String::new(self.alloc),
             Err(error) => self.cause(rt, &error),
         }
@@ -548,7 +567,7 @@ impl Bench {
 
     // What the node at a place is: its kind, its item, its package, and the names by which it is imported
     // and exported.
-    pub fn described(&self, rt: &impl Abort, place: usize) -> String {
+    fn described(&self, rt: &impl Abort, place: usize) -> String {
         let id = self.node(rt, place);
         let node = &self.graph[id];
         let kind = match node.kind() {
@@ -558,30 +577,20 @@ impl Bench {
             NodeKind::Alias => "alias",
         };
         let item = node.item_kind().desc(self.graph.types());
-        let package = self.package_name(rt, node.package());
+        let package = package_name(rt, &self.graph, node.package());
         let imported = node.import_name().unwrap_or("no name");
         let exported = node.export_name().unwrap_or("no name");
         let text = format!(in self.alloc; "{kind}, {item}, {package}, {imported}, {exported}");
         text.expect(rt, "a text")
     }
 
-    fn package_name<'a>(&'a self, rt: &impl Abort, id: Option<PackageId>) -> &'a str {
-        let Some(id) = id else {
-            return "no package";
-        };
-        let held = self.graph.has_package(id);
-        assert!(rt; held);
-        self.graph[id].name()
-    }
-
-    // Whether the node at a place is imported by a name.
-    pub fn imports(&self, rt: &impl Abort, place: usize, name: &str) -> bool {
+    fn imported(&self, rt: &impl Abort, place: usize) -> String {
         let node = self.node(rt, place);
-        self.graph.get_import_name(node) == Some(name)
+        self.copied(rt, self.graph.get_import_name(node).unwrap_or("no name"))
     }
 
     // The imports that the graph asks for, each with its name, what it is and, of an import node, the node.
-    pub fn asked(&self, rt: &impl Abort) -> String {
+    fn asked(&self, rt: &impl Abort) -> String {
         let mut rows = String::new(self.alloc);
         for (name, kind, node) in self.graph.imports() {
             let kind = kind.desc(self.graph.types());
@@ -594,7 +603,7 @@ impl Bench {
         rows
     }
 
-    // A clone of the graph, with what was answered so far.
+    /// A clone of the graph, with what was answered so far.
     pub fn cloned(&self, rt: &impl Abort) -> Bench {
         Bench {
             alloc: self.alloc,
@@ -605,7 +614,7 @@ impl Bench {
     }
 
     // The nodes, each with what it is, and their ids.
-    pub fn listed_nodes(&self, rt: &impl Abort) -> String {
+    fn listed_nodes(&self, rt: &impl Abort) -> String {
         let mut rows = String::new(self.alloc);
         for (id, node) in self.graph.nodes() {
             let item = node.item_kind().desc(self.graph.types());
@@ -635,13 +644,5 @@ impl Bench {
             add(rt, &mut rows, format!(in self.alloc; "{name}: {node}; "));
         }
         rows
-    }
-
-    // Whether the node at a place is exported by a name.
-    pub fn exports(&self, place: usize, name: &str) -> bool {
-        match self.nodes.get(place) {
-            Some(node) => self.graph.get_export(name) == Some(*node),
-            None => false,
-        }
     }
 }

@@ -1,14 +1,13 @@
 // Packages that are unregistered, and what goes with them.
 use super::bench::Call::{
-    Alias, Export, Exported, Has, Instantiate, Packages, Register, Registered, Satisfied, Set,
-    Unregister,
+    Alias, Asked, Encode, Export, Exported, Has, Instantiate, Packages, Register, Registered,
+    Satisfied, Set, Unregister,
 };
 use super::bench::Item::Plain;
-use super::bench::{Bench, Call, assert_text};
-use wac_nodes::EncodeOptions;
+use super::bench::{How, Rows, assert_tables};
 
 // The nodes of the package go, and their exports; its id is not valid any more, and its key is free.
-const PACKAGE: &[(Call<'static>, &str)] = &[
+const PACKAGE: Rows = &[
     (Register("test:pkg", &[("f", Plain)], &[("g", Plain)]), ""),
     (Instantiate(0), "0"),
     (Alias(0, "g"), "1"),
@@ -33,7 +32,7 @@ const PACKAGE: &[(Call<'static>, &str)] = &[
 ];
 
 // The third package takes the slot of the first.
-const SLOTS: &[(Call<'static>, &str)] = &[
+const SLOTS: Rows = &[
     (Register("my:first", &[], &[]), ""),
     (Register("my:second", &[], &[]), ""),
     (Unregister(0), ""),
@@ -45,7 +44,7 @@ const SLOTS: &[(Call<'static>, &str)] = &[
 ];
 
 // The slot that was freed last is used first.
-const LAST: &[(Call<'static>, &str)] = &[
+const LAST: Rows = &[
     (Register("my:first", &[], &[]), ""),
     (Register("my:second", &[], &[]), ""),
     (Unregister(1), ""),
@@ -60,7 +59,7 @@ const LAST: &[(Call<'static>, &str)] = &[
 ];
 
 // The exports of another package's nodes keep their order.
-const EXPORTS: &[(Call<'static>, &str)] = &[
+const EXPORTS: Rows = &[
     (Register("my:package1", &[], &[]), ""),
     (Register("my:package2", &[], &[]), ""),
     (Instantiate(0), "0"),
@@ -76,7 +75,7 @@ const EXPORTS: &[(Call<'static>, &str)] = &[
 ];
 
 // An alias of the package was an argument of another package's instance.
-const ARGUMENT: &[(Call<'static>, &str)] = &[
+const ARGUMENT: Rows = &[
     (Register("my:package1", &[], &[("a", Plain)]), ""),
     (Register("my:package2", &[("b", Plain)], &[]), ""),
     (Instantiate(0), "0"),
@@ -90,25 +89,22 @@ const ARGUMENT: &[(Call<'static>, &str)] = &[
 ];
 
 // The nodes and exports of a package go with it, and a freed slot is used again, that which was freed last first.
+const TABLES: &[(Rows, Rows)] = &[
+    (PACKAGE, &[]),
+    (SLOTS, &[]),
+    (LAST, &[]),
+    (
+        EXPORTS,
+        &[(
+            Encode(How::Plain),
+            "0061736d0d00010004080061736d0d0001000507020000000000000b0d02000162050000000164050100",
+        )],
+    ),
+    // An argument of the package is asked for.
+    (ARGUMENT, &[(Asked, "b: function; ")]),
+];
+
 #[test]
 fn packages_are_unregistered(rt: HostRuntime) {
-    for calls in [PACKAGE, SLOTS, LAST] {
-        Bench::new(rt.alloc()).calls(&rt, calls);
-    }
-}
-
-#[test]
-fn the_other_exports_keep_their_order(rt: HostRuntime) {
-    let answer = Bench::called(&rt, EXPORTS).encoded(&rt, EncodeOptions::default());
-    assert_text(
-        &rt,
-        answer,
-        "0061736d0d00010004080061736d0d0001000507020000000000000b0d02000162050000000164050100",
-    );
-}
-
-#[test]
-fn an_argument_of_the_package_is_asked_for(rt: HostRuntime) {
-    let asked = Bench::called(&rt, ARGUMENT).asked(&rt);
-    assert_text(&rt, asked, "b: function; ");
+    assert_tables(&rt, TABLES);
 }

@@ -1,5 +1,5 @@
 use Rattle.wac_entries.specs.Bindings.{AreHeld}
-use Rattle.wac_merge_tests.proofs.merging.finished.Given as goal
+use Rattle.wac_merge_tests.proofs.merging.aggregated.Given as goal
 
 abbrev pub invariant-loop-i : goal.invariant-loop-i
 invariant-loop-i g l = AreHeld l.types l.aggregator.entries

@@ -1,11 +1,12 @@
 // What `encode` answers, and what a graph asks for and holds, after calls.
 use super::bench::Call::{
-    Alias, Export, Exported, Import, Instantiate, Name, Named, Register, Set, Source, Unexport,
-    Unset,
+    Alias, Asked, Described, Encode, Export, Exported, Import, Imported, Instantiate, Name, Named,
+    Refusal, Register, Set, Source, Unexport, Unset,
 };
+use super::bench::How::{Plain as Usual, Processed};
 use super::bench::Item::{Empty, Exporting, ExportingTelling, Other, Plain, Telling, Using};
-use super::bench::{Bench, Call, assert_text};
-use wac_nodes::{EncodeOptions, Processor};
+use super::bench::{How, Rows, assert_tables};
+use wac_nodes::EncodeOptions;
 
 const NOT_YET: &str = "the graph holds something that is not written yet";
 
@@ -15,7 +16,7 @@ const IMPORT_CONFLICT: &str =
     "an instantiation of package `my:package` implicitly imports an item named `x`, but it conflicts with an explicit import of the same name";
 
 // The function `a` of an instance, exported as `x`.
-const EXPORTED: &[(Call<'static>, &str)] = &[
+const EXPORTED: Rows = &[
     (Register("my:package1", &[], &[("a", Plain)]), ""),
     (Instantiate(0), "0"),
     (Alias(0, "a"), "1"),
@@ -25,14 +26,14 @@ const EXPORTED: &[(Call<'static>, &str)] = &[
 ];
 
 // Two instances of one package.
-const TWICE: &[(Call<'static>, &str)] = &[
+const TWICE: Rows = &[
     (Register("my:package1", &[], &[("a", Plain)]), ""),
     (Instantiate(0), "0"),
     (Instantiate(0), "1"),
 ];
 
 // The function `a` of the instance `i` that an instance exports.
-const NESTED: &[(Call<'static>, &str)] = &[
+const NESTED: Rows = &[
     (Register("my:package", &[], &[("i", Exporting("a"))]), ""),
     (Instantiate(0), "0"),
     (Alias(0, "i"), "1"),
@@ -41,13 +42,13 @@ const NESTED: &[(Call<'static>, &str)] = &[
 ];
 
 // An argument that is not set.
-const UNSET: &[(Call<'static>, &str)] = &[
+const UNSET: Rows = &[
     (Register("my:package2", &[("b", Plain)], &[]), ""),
     (Instantiate(0), "0"),
 ];
 
 // A package whose own function is given to it.
-const CYCLE: &[(Call<'static>, &str)] = &[
+const CYCLE: Rows = &[
     (Register("my:package", &[("a", Plain)], &[("a", Plain)]), ""),
     (Instantiate(0), "0"),
     (Alias(0, "a"), "1"),
@@ -55,14 +56,14 @@ const CYCLE: &[(Call<'static>, &str)] = &[
 ];
 
 // An instance that is its own argument.
-const OWN_ARGUMENT: &[(Call<'static>, &str)] = &[
+const OWN_ARGUMENT: Rows = &[
     (Register("my:package", &[("i", Empty)], &[]), ""),
     (Instantiate(0), "0"),
     (Set(0, "i", 0), ""),
 ];
 
 // Two instances that are each other's arguments, and one that is given one of them.
-const RING: &[(Call<'static>, &str)] = &[
+const RING: Rows = &[
     (Register("my:package", &[("i", Empty)], &[]), ""),
     (Instantiate(0), "0"),
     (Instantiate(0), "1"),
@@ -73,14 +74,14 @@ const RING: &[(Call<'static>, &str)] = &[
 ];
 
 // An argument that is not set, under the name of an import.
-const CONFLICT: &[(Call<'static>, &str)] = &[
+const CONFLICT: Rows = &[
     (Import("x", Plain), "0"),
     (Register("my:package", &[("x", Plain)], &[]), ""),
     (Instantiate(0), "1"),
 ];
 
 // The same, and an instance that is its own argument.
-const CONFLICT_AND_CYCLE: &[(Call<'static>, &str)] = &[
+const CONFLICT_AND_CYCLE: Rows = &[
     (Import("x", Plain), "0"),
     (Register("my:package", &[("x", Plain)], &[]), ""),
     (Instantiate(0), "1"),
@@ -90,7 +91,7 @@ const CONFLICT_AND_CYCLE: &[(Call<'static>, &str)] = &[
 ];
 
 // Two packages that import functions of one name which differ.
-const IMPLICIT_MERGE: &[(Call<'static>, &str)] = &[
+const IMPLICIT_MERGE: Rows = &[
     (Register("my:package", &[("x", Plain)], &[]), ""),
     (Register("my:other", &[("x", Telling)], &[]), ""),
     (Instantiate(0), "0"),
@@ -98,7 +99,7 @@ const IMPLICIT_MERGE: &[(Call<'static>, &str)] = &[
 ];
 
 // Three packages that import versions of one interface, of which the last two have functions of one name which differ.
-const EXPORT_MERGE: &[(Call<'static>, &str)] = &[
+const EXPORT_MERGE: Rows = &[
     (
         Register("my:package1", &[("a:b/c@0.2.0", Exporting("f"))], &[]),
         "",
@@ -121,7 +122,7 @@ const EXPORT_MERGE: &[(Call<'static>, &str)] = &[
 ];
 
 // An import of a later version of what a package imports, with another function.
-const EXPLICIT_MERGE: &[(Call<'static>, &str)] = &[
+const EXPLICIT_MERGE: Rows = &[
     (
         Register("my:package", &[("a:b/c@0.2.0", Exporting("f"))], &[]),
         "",
@@ -132,7 +133,7 @@ const EXPLICIT_MERGE: &[(Call<'static>, &str)] = &[
 
 // Two packages, of which the first imports an interface that uses one of the second's, in another version, and the second
 // one that uses one of the first's.
-const IMPORT_CIRCLE: &[(Call<'static>, &str)] = &[
+const IMPORT_CIRCLE: Rows = &[
     (
         Register(
             "my:package",
@@ -154,7 +155,7 @@ const IMPORT_CIRCLE: &[(Call<'static>, &str)] = &[
 ];
 
 // A second package, whose instance is given the function `a` of an instance of the first, and what is refused it.
-const ARGUMENTS: &[(Call<'static>, &str)] = &[
+const ARGUMENTS: Rows = &[
     (Register("my:package1", &[], &[("a", Plain)]), ""),
     (
         Register(
@@ -184,7 +185,7 @@ const ARGUMENTS: &[(Call<'static>, &str)] = &[
 ];
 
 // What else is refused.
-const REFUSALS: &[(Call<'static>, &str)] = &[
+const REFUSALS: Rows = &[
     (Register("my:package1", &[], &[("a", Plain)]), ""),
     (
         Register("my:package1", &[], &[]),
@@ -200,7 +201,7 @@ const REFUSALS: &[(Call<'static>, &str)] = &[
 ];
 
 // Imports, and names that are refused.
-const NAMES: &[(Call<'static>, &str)] = &[
+const NAMES: Rows = &[
     (Import("x", Plain), "0"),
     (
         Import("x", Other),
@@ -218,7 +219,7 @@ const NAMES: &[(Call<'static>, &str)] = &[
 ];
 
 // An import, and two instances of one package, of which the first is given the import as its argument `a`.
-const ASKED: &[(Call<'static>, &str)] = &[
+const ASKED: Rows = &[
     (Import("x", Plain), "0"),
     (
         Register("my:package", &[("a", Plain), ("b", Exporting("a"))], &[]),
@@ -230,7 +231,7 @@ const ASKED: &[(Call<'static>, &str)] = &[
 ];
 
 // An argument that is set and taken away, twice; taken away once more changes nothing.
-const TAKEN: &[(Call<'static>, &str)] = &[
+const TAKEN: Rows = &[
     (Register("my:package1", &[], &[("a", Plain)]), ""),
     (Register("my:package2", &[("b", Plain)], &[]), ""),
     (Instantiate(0), "0"),
@@ -252,7 +253,7 @@ const TAKEN: &[(Call<'static>, &str)] = &[
 ];
 
 // The exports `a` and `c` of one node, `b` and `d` of two others, of which the first loses its names.
-const UNEXPORTED: &[(Call<'static>, &str)] = &[
+const UNEXPORTED: Rows = &[
     (Register("my:package", &[], &[("f", Plain)]), ""),
     (Instantiate(0), "0"),
     (Instantiate(0), "1"),
@@ -270,7 +271,7 @@ const UNEXPORTED: &[(Call<'static>, &str)] = &[
 ];
 
 // A node that is named, and named anew.
-const TITLED: &[(Call<'static>, &str)] = &[
+const TITLED: Rows = &[
     (Register("my:package1", &[], &[("a", Plain)]), ""),
     (Instantiate(0), "0"),
     (Named(0), "no name"),
@@ -280,7 +281,7 @@ const TITLED: &[(Call<'static>, &str)] = &[
 ];
 
 // Two instances and an alias that are named, the last one first and one by the empty text.
-const TITLES: &[(Call<'static>, &str)] = &[
+const TITLES: Rows = &[
     (Register("my:package1", &[], &[("a", Plain)]), ""),
     (Instantiate(0), "0"),
     (Alias(0, "a"), "1"),
@@ -291,170 +292,156 @@ const TITLES: &[(Call<'static>, &str)] = &[
     (Export(1, "x"), ""),
 ];
 
-// Calls, and the bytes that `encode` answers after them, or the text of its refusal.
-const ENCODED: &[(&[(Call<'static>, &str)], &str)] = &[
+// What is asked of a graph after calls: the bytes that `encode` answers, or the text of its refusal and what it names, what the
+// graph asks for, and what a node is.
+const TABLES: &[(Rows, Rows)] = &[
     (
         EXPORTED,
-        "0061736d0d00010004080061736d0d00010005040100000006060101000001610b0701000178010000",
+        &[
+            (
+                Encode(Usual),
+                "0061736d0d00010004080061736d0d00010005040100000006060101000001610b0701000178010000",
+            ),
+            (
+                Described(0),
+                "instantiation, instance, my:package1, no name, no name",
+            ),
+            (Described(1), "alias, function, my:package1, no name, x"),
+            (Exported("x"), "1"),
+            (Exported("a"), "none"),
+            (Encode(How::Imported), NOT_YET),
+        ],
     ),
     (
         TWICE,
-        "0061736d0d00010004080061736d0d000100050702000000000000",
+        &[(
+            Encode(Usual),
+            "0061736d0d00010004080061736d0d000100050702000000000000",
+        )],
     ),
     (
         NESTED,
-        "0061736d0d00010004080061736d0d000100050401000000060b0205000001690100010161",
+        &[(
+            Encode(Usual),
+            "0061736d0d00010004080061736d0d000100050401000000060b0205000001690100010161",
+        )],
     ),
     // Refused calls leave the graph.
     (
         REFUSALS,
-        "0061736d0d00010004080061736d0d0001000504010000000606010100000161",
+        &[(
+            Encode(Usual),
+            "0061736d0d00010004080061736d0d0001000504010000000606010100000161",
+        )],
     ),
     (
         UNSET,
-        "0061736d0d000100070501400001000a0601000162010004080061736d0d00010005080100000101620100",
+        &[
+            (
+                Encode(Usual),
+                "0061736d0d000100070501400001000a0601000162010004080061736d0d00010005080100000101620100",
+            ),
+            (Refusal, ""),
+        ],
     ),
-    (CYCLE, CONTAINS_CYCLE),
-    (OWN_ARGUMENT, CONTAINS_CYCLE),
-    (RING, CONTAINS_CYCLE),
-    (CONFLICT, IMPORT_CONFLICT),
+    (CYCLE, &[(Encode(Usual), CONTAINS_CYCLE), (Refusal, "0")]),
+    (
+        OWN_ARGUMENT,
+        &[(Encode(Usual), CONTAINS_CYCLE), (Refusal, "0")],
+    ),
+    (RING, &[(Encode(Usual), CONTAINS_CYCLE), (Refusal, "1")]),
+    (
+        CONFLICT,
+        &[
+            (Encode(Usual), IMPORT_CONFLICT),
+            (Refusal, "0, 1, my:package, x"),
+        ],
+    ),
     // A cycle is named before a conflict.
-    (CONFLICT_AND_CYCLE, CONTAINS_CYCLE),
+    (
+        CONFLICT_AND_CYCLE,
+        &[(Encode(Usual), CONTAINS_CYCLE), (Refusal, "2")],
+    ),
     (
         ARGUMENTS,
-        "0061736d0d000100070801400101707f01000a0601000163010004080061736d0d000100050401000000060601010000016104080061736d0d000100050c0100010201620101016301000606010100010164",
+        &[(
+            Encode(Usual),
+            "0061736d0d000100070801400101707f01000a0601000163010004080061736d0d000100050401000000060601010000016104080061736d0d000100050c0100010201620101016301000606010100010164",
+        )],
     ),
     // An instance is imported before a function.
     (
         NAMES,
-        "0061736d0d000100070e01420201400001000400016101000a17010012756e6c6f636b65642d6465703d3c613a623e0500070501400001000a060100017801010b0701000178010000",
+        &[
+            (
+                Encode(Usual),
+                "0061736d0d000100070e01420201400001000400016101000a17010012756e6c6f636b65642d6465703d3c613a623e0500070501400001000a060100017801010b0701000178010000",
+            ),
+            (Described(0), "import, function, no package, x, x"),
+            (Imported(0), "x"),
+            (Imported(1), "unlocked-dep=<a:b>"),
+        ],
     ),
     (
         UNEXPORTED,
-        "0061736d0d00010004080061736d0d000100050a030000000000000000000b0d02000163050100000164050200",
-    ),
-    (
-        TITLED,
-        "0061736d0d00010004080061736d0d00010005040100000000160e636f6d706f6e656e742d6e616d650105050100016e",
-    ),
-    // Nodes are named by sort and index.
-    (
-        TITLES,
-        "0061736d0d00010004080061736d0d00010005040100000006060101000001610504010000000b0701000178010000001f0e636f6d706f6e656e742d6e616d6501040101000001080502000161010162",
-    ),
-];
-
-// Calls, and the cause that the refusal of `encode` names after them; none where bytes are answered.
-const REFUSED: &[(&[(Call<'static>, &str)], &str)] = &[
-    (UNSET, ""),
-    (CYCLE, "0"),
-    (OWN_ARGUMENT, "0"),
-    (RING, "1"),
-    (CONFLICT, "0, 1, my:package, x"),
-    (CONFLICT_AND_CYCLE, "2"),
-    (IMPLICIT_MERGE, "x, 0, 1, Disagree ``"),
-    (EXPORT_MERGE, "a:b/c@0.2.2, 1, 2, Disagree `g`"),
-    (EXPLICIT_MERGE, "a:b/c@0.2.1, 1, 0"),
-    (IMPORT_CIRCLE, "a:b/y@1.1.0"),
-];
-
-// Calls, and the imports that the graph asks for after them, in order.
-const ASKS: &[(&[(Call<'static>, &str)], &str)] = &[
-    (TAKEN, "b: function; "),
-    (
-        ASKED,
-        "b: instance; a: function; b: instance; x: function, 0; ",
-    ),
-];
-
-// Calls, a node and what it is after them.
-const DESCRIBED: &[(&[(Call<'static>, &str)], usize, &str)] = &[
-    (
-        EXPORTED,
-        0,
-        "instantiation, instance, my:package1, no name, no name",
-    ),
-    (EXPORTED, 1, "alias, function, my:package1, no name, x"),
-    (NAMES, 0, "import, function, no package, x, x"),
-];
-
-#[test]
-fn graphs_are_encoded(rt: HostRuntime) {
-    for (calls, want) in ENCODED {
-        let answer = Bench::called(&rt, calls).encoded(&rt, EncodeOptions::default());
-        assert_text(&rt, answer, want);
-    }
-}
-
-#[test]
-fn refusals_name_their_cause(rt: HostRuntime) {
-    for (calls, want) in REFUSED {
-        assert_text(&rt, Bench::called(&rt, calls).refused(&rt), want);
-    }
-}
-
-#[test]
-fn imports_are_asked_for_in_order(rt: HostRuntime) {
-    for (calls, want) in ASKS {
-        assert_text(&rt, Bench::called(&rt, calls).asked(&rt), want);
-    }
-}
-
-#[test]
-fn ids_give_nodes_and_packages(rt: HostRuntime) {
-    for (calls, place, want) in DESCRIBED {
-        let described = Bench::called(&rt, calls).described(&rt, *place);
-        assert_text(&rt, described, want);
-    }
-}
-
-#[test]
-fn names_give_nodes(rt: HostRuntime) {
-    let bench = Bench::called(&rt, EXPORTED);
-    assert!(rt; bench.exports(1, "x"));
-    assert!(rt; !bench.exports(1, "a"));
-    let bench = Bench::called(&rt, NAMES);
-    assert!(rt; bench.imports(&rt, 0, "x"));
-    assert!(rt; bench.imports(&rt, 1, "unlocked-dep=<a:b>"));
-}
-
-#[test]
-fn options_that_are_not_served_yet(rt: HostRuntime) {
-    let plain = EncodeOptions::default();
-    assert!(rt; plain.define_components && plain.validate && plain.processor.is_none());
-    let imported = EncodeOptions {
-        define_components: false,
-        ..plain
-    };
-    let answer = Bench::called(&rt, EXPORTED).encoded(&rt, imported);
-    assert_text(&rt, answer, NOT_YET);
-}
-
-// Calls, and the bytes that `encode` answers after them where it is told a processor.
-const PROCESSED: &[(&[(Call<'static>, &str)], &str)] = &[
-    (
-        &[],
-        "0061736d0d000100001d0970726f647563657273010c70726f6365737365642d62790101780131",
+        &[(
+            Encode(Usual),
+            "0061736d0d00010004080061736d0d000100050a030000000000000000000b0d02000163050100000164050200",
+        )],
     ),
     // Names are written before the processor.
     (
         TITLED,
-        "0061736d0d00010004080061736d0d00010005040100000000160e636f6d706f6e656e742d6e616d650105050100016e001d0970726f647563657273010c70726f6365737365642d62790101780131",
+        &[
+            (
+                Encode(Usual),
+                "0061736d0d00010004080061736d0d00010005040100000000160e636f6d706f6e656e742d6e616d650105050100016e",
+            ),
+            (
+                Encode(Processed),
+                "0061736d0d00010004080061736d0d00010005040100000000160e636f6d706f6e656e742d6e616d650105050100016e001d0970726f647563657273010c70726f6365737365642d62790101780131",
+            ),
+        ],
+    ),
+    // Nodes are named by sort and index.
+    (
+        TITLES,
+        &[(
+            Encode(Usual),
+            "0061736d0d00010004080061736d0d00010005040100000006060101000001610504010000000b0701000178010000001f0e636f6d706f6e656e742d6e616d6501040101000001080502000161010162",
+        )],
+    ),
+    (IMPLICIT_MERGE, &[(Refusal, "x, 0, 1, Disagree ``")]),
+    (
+        EXPORT_MERGE,
+        &[(Refusal, "a:b/c@0.2.2, 1, 2, Disagree `g`")],
+    ),
+    (EXPLICIT_MERGE, &[(Refusal, "a:b/c@0.2.1, 1, 0")]),
+    (IMPORT_CIRCLE, &[(Refusal, "a:b/y@1.1.0")]),
+    (TAKEN, &[(Asked, "b: function; ")]),
+    (
+        ASKED,
+        &[(
+            Asked,
+            "b: instance; a: function; b: instance; x: function, 0; ",
+        )],
+    ),
+    (
+        &[],
+        &[(
+            Encode(Processed),
+            "0061736d0d000100001d0970726f647563657273010c70726f6365737365642d62790101780131",
+        )],
     ),
 ];
 
 #[test]
-fn a_processor_is_named_last(rt: HostRuntime) {
-    for (calls, want) in PROCESSED {
-        let processor = Some(Processor {
-            name: "x",
-            version: "1",
-        });
-        let options = EncodeOptions {
-            processor,
-            ..EncodeOptions::default()
-        };
-        let answer = Bench::called(&rt, calls).encoded(&rt, options);
-        assert_text(&rt, answer, want);
-    }
+fn graphs_are_encoded(rt: HostRuntime) {
+    assert_tables(&rt, TABLES);
+}
+
+#[test]
+fn options_that_are_usual(rt: HostRuntime) {
+    let usual = EncodeOptions::default();
+    assert!(rt; usual.define_components && usual.validate && usual.processor.is_none());
 }

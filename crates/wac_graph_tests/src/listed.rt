@@ -1,14 +1,13 @@
 // What a graph lists.
 use super::bench::Call::{
-    Alias, Arguments, Export, Import, Instantiate, Name, Named, Nodes, Packages, Register, Set,
-    Unset,
+    Alias, Arguments, Encode, Export, Import, Instantiate, Name, Named, Nodes, Packages, Register,
+    Set, Unset,
 };
 use super::bench::Item::Plain;
-use super::bench::{Bench, Call, assert_text};
-use wac_nodes::EncodeOptions;
+use super::bench::{Bench, How, Rows, assert_tables};
 
 // Two packages, the second instantiated first.
-const NUMBERED: &[(Call<'static>, &str)] = &[
+const NUMBERED: Rows = &[
     (Register("my:first", &[], &[("a", Plain)]), ""),
     (Register("my:second", &[], &[]), ""),
     (Import("i", Plain), "0"),
@@ -23,7 +22,7 @@ const NUMBERED: &[(Call<'static>, &str)] = &[
 ];
 
 // Arguments that are set in another order than that of the world, of which one import has none.
-const GIVEN: &[(Call<'static>, &str)] = &[
+const GIVEN: Rows = &[
     (
         Register(
             "my:package",
@@ -49,10 +48,10 @@ const GIVEN: &[(Call<'static>, &str)] = &[
 ];
 
 // An empty graph.
-const NOTHING: &[(Call<'static>, &str)] = &[(Nodes, ""), (Packages, ""), (Arguments(0), "")];
+const NOTHING: Rows = &[(Nodes, ""), (Packages, ""), (Arguments(0), "")];
 
 // The function of one package given to another, and exported.
-const CLONED: &[(Call<'static>, &str)] = &[
+const CLONED: Rows = &[
     (Register("my:first", &[], &[("a", Plain)]), ""),
     (Register("my:second", &[("b", Plain)], &[]), ""),
     (Instantiate(0), "0"),
@@ -62,8 +61,17 @@ const CLONED: &[(Call<'static>, &str)] = &[
     (Export(2, "x"), ""),
 ];
 
-// What is done to a clone of that.
-const CHANGED: &[(Call<'static>, &str)] = &[
+const BYTES: &str =
+    "0061736d0d00010004080061736d0d000100050401000000060601010000016104080061736d0d000100050801000101016201000b0701000178010000";
+
+// What the graph and a clone of it answer.
+const ALIKE: Rows = &[
+    (Encode(How::Plain), BYTES),
+    (Nodes, "0: instance; 1: instance; 2: function; 0; 1; 2; "),
+];
+
+// What is done to the clone.
+const CHANGED: Rows = &[
     (Export(2, "x"), "an export with the name `x` already exists"),
     (Register("my:third", &[], &[]), ""),
     (Instantiate(0), "3"),
@@ -74,33 +82,28 @@ const CHANGED: &[(Call<'static>, &str)] = &[
 ];
 
 // What the graph lists after that.
-const KEPT: &[(Call<'static>, &str)] = &[
+const KEPT: Rows = &[
+    (Encode(How::Plain), BYTES),
     (Arguments(1), "b: 2; "),
     (Packages, "0: my:first; 1: my:second; "),
 ];
 
+// What is there is listed in order.
+const TABLES: &[(Rows, Rows)] = &[(NUMBERED, &[]), (GIVEN, &[]), (NOTHING, &[])];
+
 #[test]
 fn what_is_there_is_listed_in_order(rt: HostRuntime) {
-    for calls in [NUMBERED, GIVEN, NOTHING] {
-        Bench::new(rt.alloc()).calls(&rt, calls);
-    }
+    assert_tables(&rt, TABLES);
 }
 
 // The clone has all that the graph has under the same ids, and what is done to it leaves the graph.
 #[test]
 fn a_clone_stands_on_its_own(rt: HostRuntime) {
-    let mut bench = Bench::called(&rt, CLONED);
-    let bytes = bench.encoded(&rt, EncodeOptions::default());
+    let mut bench = Bench::new(rt.alloc());
+    bench.calls(&rt, CLONED);
+    bench.calls(&rt, ALIKE);
     let mut copy = bench.cloned(&rt);
-    let copied = copy.encoded(&rt, EncodeOptions::default());
-    assert_text(&rt, copied, bytes.as_str());
-    assert_text(
-        &rt,
-        copy.listed_nodes(&rt),
-        bench.listed_nodes(&rt).as_str(),
-    );
+    copy.calls(&rt, ALIKE);
     copy.calls(&rt, CHANGED);
-    let kept = bench.encoded(&rt, EncodeOptions::default());
-    assert_text(&rt, kept, bytes.as_str());
     bench.calls(&rt, KEPT);
 }

@@ -1,14 +1,13 @@
 // Nodes that are removed, and what goes with them.
 use super::bench::Call::{
-    Alias, Export, Exported, Has, Import, Instantiate, Register, Remove, Satisfied, Set, Unexport,
-    Unset,
+    Alias, Asked, Encode, Export, Exported, Has, Import, Instantiate, Refusal, Register, Remove,
+    Satisfied, Set, Unexport, Unset,
 };
 use super::bench::Item::{Empty, Exporting, Plain};
-use super::bench::{Bench, Call, assert_text};
-use wac_nodes::EncodeOptions;
+use super::bench::{How, Rows, assert_tables};
 
 // The number of a node that was removed comes next.
-const NUMBERS: &[(Call<'static>, &str)] = &[
+const NUMBERS: Rows = &[
     (Register("my:package", &[], &[]), ""),
     (Instantiate(0), "0"),
     (Instantiate(0), "1"),
@@ -20,7 +19,7 @@ const NUMBERS: &[(Call<'static>, &str)] = &[
 ];
 
 // The exports `a` and `b` of a node go with it; the last export takes the freed place.
-const EXPORTS: &[(Call<'static>, &str)] = &[
+const EXPORTS: Rows = &[
     (Register("my:package", &[], &[]), ""),
     (Instantiate(0), "0"),
     (Instantiate(0), "1"),
@@ -35,7 +34,7 @@ const EXPORTS: &[(Call<'static>, &str)] = &[
 ];
 
 // A node that was an argument of two instances of one package.
-const ARGUMENT: &[(Call<'static>, &str)] = &[
+const ARGUMENT: Rows = &[
     (Register("my:package1", &[], &[("a", Plain)]), ""),
     (Register("my:package2", &[("b", Plain)], &[]), ""),
     (Instantiate(0), "0"),
@@ -52,7 +51,7 @@ const ARGUMENT: &[(Call<'static>, &str)] = &[
 ];
 
 // An instance goes with its aliases, and with theirs.
-const BEHIND: &[(Call<'static>, &str)] = &[
+const BEHIND: Rows = &[
     (Register("my:package1", &[], &[("i", Exporting("a"))]), ""),
     (Register("my:package2", &[("b", Plain)], &[]), ""),
     (Instantiate(0), "0"),
@@ -71,7 +70,7 @@ const BEHIND: &[(Call<'static>, &str)] = &[
 ];
 
 // The name of an import that was removed is free.
-const IMPORT: &[(Call<'static>, &str)] = &[
+const IMPORT: Rows = &[
     (Import("x", Plain), "0"),
     (Import("y", Plain), "1"),
     (
@@ -88,7 +87,7 @@ const IMPORT: &[(Call<'static>, &str)] = &[
 
 // Node 0 is given one of two instances that are each other's arguments; a node that was given one is removed, and its number
 // used again.
-const RING: &[(Call<'static>, &str)] = &[
+const RING: Rows = &[
     (Register("my:package", &[("i", Empty)], &[]), ""),
     (Instantiate(0), "0"),
     (Instantiate(0), "1"),
@@ -103,7 +102,7 @@ const RING: &[(Call<'static>, &str)] = &[
 ];
 
 // An argument, the exports of a node and a node with its aliases are taken away; none of these calls takes memory.
-const TAKEN: &[(Call<'static>, &str)] = &[
+const TAKEN: Rows = &[
     (Register("my:package1", &[], &[("a", Plain)]), ""),
     (Register("my:package2", &[("b", Plain)], &[]), ""),
     (Instantiate(0), "0"),
@@ -125,38 +124,25 @@ const TAKEN: &[(Call<'static>, &str)] = &[
     (Exported("z"), "2"),
 ];
 
-// The number of a removed node comes next, the name of a removed import is free, and what is taken away takes no memory.
-#[test]
-fn numbers_and_names_are_used_again(rt: HostRuntime) {
-    for calls in [NUMBERS, IMPORT, TAKEN] {
-        Bench::new(rt.alloc()).calls(&rt, calls);
-    }
-}
-
-#[test]
-fn exports_go_with_their_node(rt: HostRuntime) {
-    let answer = Bench::called(&rt, EXPORTS).encoded(&rt, EncodeOptions::default());
-    assert_text(
-        &rt,
-        answer,
-        "0061736d0d00010004080061736d0d0001000507020000000000000b0d02000164050100000163050000",
-    );
-}
-
-// Calls, and the imports that the graph asks for after them: an argument that is removed, or whose instance is.
-const ASKS: &[(&[(Call<'static>, &str)], &str)] = &[
-    (ARGUMENT, "b: function; b: function; "),
-    (BEHIND, "b: function; "),
+const TABLES: &[(Rows, Rows)] = &[
+    (NUMBERS, &[]),
+    (IMPORT, &[]),
+    (TAKEN, &[]),
+    (
+        EXPORTS,
+        &[(
+            Encode(How::Plain),
+            "0061736d0d00010004080061736d0d0001000507020000000000000b0d02000164050100000163050000",
+        )],
+    ),
+    // An argument that is removed, or whose instance is, is asked for.
+    (ARGUMENT, &[(Asked, "b: function; b: function; ")]),
+    (BEHIND, &[(Asked, "b: function; ")]),
+    // A cycle is named after a removal.
+    (RING, &[(Refusal, "1")]),
 ];
 
 #[test]
-fn arguments_that_are_removed_are_asked_for(rt: HostRuntime) {
-    for (calls, want) in ASKS {
-        assert_text(&rt, Bench::called(&rt, calls).asked(&rt), want);
-    }
-}
-
-#[test]
-fn a_cycle_is_named_after_a_removal(rt: HostRuntime) {
-    assert_text(&rt, Bench::called(&rt, RING).refused(&rt), "1");
+fn nodes_are_removed(rt: HostRuntime) {
+    assert_tables(&rt, TABLES);
 }
