@@ -3,14 +3,17 @@
 //! tuples that each hold the one before twice.
 
 use crate::graph::Graph;
-use crate::types::{BOOL, STRING, U32, function, tuples};
+use crate::types::{BOOL, STRING, U32, all_numbered, function, numbered, tuples};
 use anyhow::{Result, bail};
 use std::alloc::Global;
 use wac_nodes::{NodeId, PackageId};
-use wac_types::ItemKind;
+use wac_types::{ItemKind, ValueType};
 
 /// How many arguments each instance of a fan is given.
 const ARGUMENTS: u64 = 8;
+
+/// What the functions of many names are given.
+const PARAMS: &[(&str, ValueType)] = &[("x", U32), ("y", STRING)];
 
 /// Two packages of which a graph is made: one that exports, and one that imports what that exports.
 #[derive(Clone, Copy)]
@@ -27,15 +30,6 @@ pub fn refused<T>(made: Option<T>) -> Result<T> {
     }
 }
 
-/// A text with each number behind it.
-pub fn numbered(alloc: Global, text: &str, count: u64) -> Result<Vec<String>> {
-    let mut names = Vec::new(alloc);
-    for number in 0..count {
-        names.push(format!(in alloc; "{text}{number}")?)?;
-    }
-    Ok(names)
-}
-
 /// Adds a function type for each name.
 fn functions<'a, G: Graph>(
     alloc: Global,
@@ -44,7 +38,7 @@ fn functions<'a, G: Graph>(
 ) -> Result<Vec<(&'a str, ItemKind)>> {
     let mut items = Vec::new(alloc);
     for name in names {
-        let kind = function(alloc, graph, &[("x", U32), ("y", STRING)], Some(BOOL))?;
+        let kind = function(alloc, graph, PARAMS, Some(BOOL))?;
         items.push((name.as_str(), kind))?;
     }
     Ok(items)
@@ -52,7 +46,7 @@ fn functions<'a, G: Graph>(
 
 /// Registers the package of a number, with the import `b` and the export `a`.
 fn link<G: Graph>(alloc: Global, graph: &mut G, kind: ItemKind, number: u64) -> Result<PackageId> {
-    let name = format!(in alloc; "n:p{number}")?;
+    let name = numbered(alloc, "n:p", number)?;
     graph.register(alloc, name.as_str(), &[("b", kind)], &[("a", kind)])
 }
 
@@ -144,7 +138,7 @@ fn fanned<G: Graph>(
 
 /// An instance with eight exports, and so many that are given all of them.
 pub fn fan<G: Graph>(alloc: Global, graph: &mut G, count: u64) -> Result<()> {
-    let names = numbered(alloc, "f", ARGUMENTS)?;
+    let names = all_numbered(alloc, "f", ARGUMENTS)?;
     let parts = register_both(alloc, graph, ["n:provider", "n:consumer"], &names, &[])?;
     let arguments = arguments(alloc, graph, parts.giver, &names)?;
     refused(fanned(graph, parts.taker, count, &names, &arguments))

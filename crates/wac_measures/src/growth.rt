@@ -37,18 +37,13 @@ struct Size {
     least: [Duration; 3],
 }
 
-/// One graph of each count, or as many of each as have the same number of parts together; not timed yet.
-fn sizes(alloc: Global, counts: &[u32], in_equal_memory: bool) -> Result<Vec<Size>, AllocError> {
+/// One graph of each count, or as many of each as have so many parts together where those are more; not timed yet.
+fn sizes(alloc: Global, counts: &[u32], together: u32) -> Result<Vec<Size>, AllocError> {
     let mut sizes = Vec::new(alloc);
     for parts in counts {
-        let graphs = if in_equal_memory {
-            PARTS.checked_div(*parts).unwrap_or(1)
-        } else {
-            1
-        };
         sizes.push(Size {
             parts: *parts,
-            graphs,
+            graphs: together.checked_div(*parts).unwrap_or(1).max(1),
             least: [Duration::MAX; 3],
         })?;
     }
@@ -128,38 +123,28 @@ fn print(rt: &HostRuntime, what: &str, how: &str, sizes: &[Size]) -> Result<()> 
     Ok(())
 }
 
-/// Times one graph of each count, or as many of each as have the same number of parts together; each count in turn. Prints how the
-/// times grow.
+/// Times graphs of a sort, which are printed under this word, one of each count or as many of each as have so many parts together;
+/// each count in turn. Prints how the times grow.
 fn measure_sizes<G: Graph>(
     rt: &HostRuntime,
     what: &str,
+    how: &str,
     sort: Sort,
-    in_equal_memory: bool,
+    together: u32,
 ) -> Result<()> {
-    let mut sizes = sizes(rt.alloc(), sort.counts(), in_equal_memory)?;
+    let mut sizes = sizes(rt.alloc(), sort.counts(), together)?;
     for _ in 0..ROUNDS {
         for size in sizes.iter_mut() {
             timed_once::<G>(rt, sort, size)?;
         }
     }
-    let how = if in_equal_memory {
-        "in equal memory"
-    } else {
-        "alone"
-    };
     print(rt, what, how, &sizes)
 }
 
 /// Measures graphs of a sort, which are printed under this word, and prints how the times grow.
 pub fn measure<G: Graph>(rt: &HostRuntime, what: &str, sort: Sort) -> Result<()> {
-    measure_sizes::<G>(rt, what, sort, false)?;
-    measure_sizes::<G>(rt, what, sort, true)
-}
-
-/// How long one graph takes to make.
-fn made_once<G: Graph>(rt: &HostRuntime, plan: &Plan) -> Result<Duration> {
-    let mut stands: Vec<Stand<G>> = empty(rt.alloc(), 1)?;
-    timed(rt, &mut stands, plan, Step::Made)
+    measure_sizes::<G>(rt, what, "alone", sort, 0)?;
+    measure_sizes::<G>(rt, what, "in equal memory", sort, PARTS)
 }
 
 /// Makes one graph of so many parts some times, and prints how long that takes.
@@ -168,7 +153,8 @@ fn made<G: Graph>(rt: &HostRuntime, what: &str, sort: Sort, count: u32) -> Resul
     let plan = Plan::of(rt.alloc(), sort, count)?;
     let mut rounds = [Duration::ZERO; FEW_ROUNDS];
     for time in rounds.iter_mut() {
-        *time = made_once::<G>(rt, &plan)?;
+        let mut stands: Vec<Stand<G>> = empty(rt.alloc(), 1)?;
+        *time = timed(rt, &mut stands, &plan, Step::Made)?;
     }
     let times = Times::of(&mut rounds);
     print_times(rt, what, count, times)?;

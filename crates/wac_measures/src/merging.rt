@@ -1,12 +1,14 @@
 //! How long imports take to merge: instances of functions and instances over records, four versions on each track, a chain of
 //! instances of which each uses the resource of the one before, and what is nested.
 
-ghost use Rattle.std.specs.Prelude.{◌≡◌, IfOk, true};
+ghost use Rattle.std.specs.Prelude.{◌≡◌, IfOk, IfSome, true};
 ghost use Rattle.wac_entries.specs.Bindings.{AreHeld};
 
 use crate::nesting::{circle, nested};
-use crate::times::{Workload, measure as measure_work};
-use crate::types::{FUNCTIONS, STRING, export, function, instance, records, versioned};
+use crate::times::{Shown, Workload};
+use crate::types::{
+    FUNCTIONS, STRING, all_numbered, export, function, instance, records, versioned,
+};
 use anyhow::{Result, bail};
 use std::alloc::Global;
 use wac_merge::{MergeFault, TypeAggregator};
@@ -16,7 +18,7 @@ use wac_types::{
 
 /// What is asked for.
 #[derive(Clone, Copy)]
-enum Sort {
+pub enum Sort {
     /// Instances of functions, four versions on each track.
     Functions,
     /// Instances over records, four versions on each track.
@@ -32,7 +34,7 @@ enum Sort {
 }
 
 /// What is measured, by its words, at these counts.
-const MEASURED: &[(&str, Sort, &[u64])] = &[
+pub const MEASURED: &[(&str, Sort, &[u64])] = &[
     ("functions", Sort::Functions, &[1_250, 2_500, 5_000, 10_000]),
     ("records", Sort::Records, &[1_250, 2_500, 5_000, 10_000]),
     ("resources", Sort::Chain, &[100, 200, 400, 800]),
@@ -46,7 +48,7 @@ const MEASURED: &[(&str, Sort, &[u64])] = &[
 ];
 
 /// A few of each, and what is printed before and behind the name under which the first is imported.
-const SHOWN: &[(&str, Sort, u64, &str)] = &[
+pub const SHOWN: &[(&str, Sort, u64, &str)] = &[
     (
         "the first of 100 instances of functions is imported as ",
         Sort::Functions,
@@ -72,7 +74,7 @@ pub struct Owned {
 }
 
 /// Imports that are merged, and the collection that holds them.
-struct Asked {
+pub struct Asked {
     types: Types,
     imports: Vec<Import>,
 }
@@ -102,14 +104,10 @@ impl Workload for Sort {
 
     /// Answers the merge of what is not nested; that of what is, if there is one, is let go of at once.
     fn round(self, alloc: Global, asked: &Asked) -> Result<Option<TypeAggregator>> {
+        let merged = merged(alloc, &asked.types, &asked.imports)?;
         match self {
-            Sort::Functions | Sort::Records | Sort::Chain => {
-                Ok(Some(merged(alloc, &asked.types, &asked.imports)?))
-            }
-            Sort::Nested | Sort::Apart | Sort::Circle => {
-                try_merge(alloc, &asked.types, &asked.imports)?;
-                Ok(None)
-            }
+            Sort::Functions | Sort::Records | Sort::Chain => Ok(merged),
+            Sort::Nested | Sort::Apart | Sort::Circle => Ok(None),
         }
     }
 }
@@ -155,17 +153,6 @@ fn versions(
     Ok(())
 }
 
-/// Adds a resource.
-fn resource(alloc: Global, types: &mut Types, name: &str) -> Result<ResourceId> {
-    Ok(types.add_resource(Resource::new(alloc, name)?)?)
-}
-
-/// Adds an alias of a resource that an interface has.
-fn alias(alloc: Global, types: &mut Types, name: &str, of: Owned) -> Result<ResourceId> {
-    let alias = Resource::alias(alloc, name, Some(of.interface), of.resource)?;
-    Ok(types.add_resource(alias)?)
-}
-
 /// Adds an interface that uses these types and exports these items.
 fn interface<'a>(
     alloc: Global,
@@ -178,12 +165,22 @@ fn interface<'a>(
     Ok(types.add_interface(interface)?)
 }
 
+/// Adds a resource, and a function that makes one; answers these as exports.
+fn own<'a>(
+    alloc: Global,
+    types: &mut Types,
+    name: &'a str,
+) -> Result<(ResourceId, [(&'a str, ItemKind); 2])> {
+    let resource = types.add_resource(Resource::new(alloc, name)?)?;
+    let make = function(alloc, types, &[], Some(ValueType::Own(resource)))?;
+    let item = ItemKind::TypeItem(Type::Resource(resource));
+    Ok((resource, [(name, item), ("make", make)]))
+}
+
 /// Adds an interface with a resource of its own.
 pub fn first_owned(alloc: Global, types: &mut Types, id: &str, name: &str) -> Result<Owned> {
-    let resource = resource(alloc, types, name)?;
-    let give = function(alloc, types, &[], Some(ValueType::Own(resource)))?;
-    let own = ItemKind::TypeItem(Type::Resource(resource));
-    let interface = interface(alloc, types, id, &[], &[(name, own), ("make", give)])?;
+    let (resource, exports) = own(alloc, types, name)?;
+    let interface = interface(alloc, types, id, &[], &exports)?;
     Ok(Owned {
         interface,
         resource,
@@ -199,43 +196,22 @@ pub fn next_owned<'a>(
     before: Owned,
     there: &'a str,
 ) -> Result<Owned> {
-    let alias = alias(alloc, types, there, before)?;
-    let resource = resource(alloc, types, name)?;
-    let give = function(alloc, types, &[], Some(ValueType::Own(resource)))?;
+    let alias = Resource::alias(alloc, there, Some(before.interface), before.resource)?;
+    let alias = types.add_resource(alias)?;
+    let (resource, [own, make]) = own(alloc, types, name)?;
     let taken = [
         ("x", ValueType::Borrow(alias)),
         ("y", ValueType::Own(resource)),
     ];
     let take = function(alloc, types, &taken, None)?;
-    let exports = [
-        (there, ItemKind::TypeItem(Type::Resource(alias))),
-        (name, ItemKind::TypeItem(Type::Resource(resource))),
-        ("make", give),
-        ("take", take),
-    ];
+    let used = (there, ItemKind::TypeItem(Type::Resource(alias)));
     let uses = [(there, before.interface, None)];
+    let exports = [used, own, make, ("take", take)];
     let interface = interface(alloc, types, id, &uses, &exports)?;
     Ok(Owned {
         interface,
         resource,
     })
-}
-
-/// Adds the interface of a number in a chain, which uses the resource of the one before.
-fn link(
-    alloc: Global,
-    types: &mut Types,
-    id: &str,
-    number: u64,
-    before: Option<Owned>,
-) -> Result<Owned> {
-    let name = format!(in alloc; "r{number}")?;
-    let Some(before) = before else {
-        return first_owned(alloc, types, id, name.as_str());
-    };
-    let last = number.saturating_sub(1);
-    let there = format!(in alloc; "r{last}")?;
-    next_owned(alloc, types, id, name.as_str(), before, there.as_str())
 }
 
 /// Asks for a chain of so many interfaces of a version, each using the resource of the one before, and answers the last.
@@ -246,13 +222,26 @@ pub fn chain(
     count: u64,
     imports: &mut Vec<Import>,
 ) -> Result<Option<Owned>> {
+    let resources = all_numbered(alloc, "r", count)?;
     let mut last = None;
-    for number in 0..count {
+    let mut there = "";
+    for (number, resource) in resources.iter().enumerate() {
         let name = format!(in alloc; "a:b/i{number}{version}")?;
-        let next = link(alloc, types, name.as_str(), number, last)?;
+        let next = match last {
+            Some(before) => next_owned(
+                alloc,
+                types,
+                name.as_str(),
+                resource.as_str(),
+                before,
+                there,
+            )?,
+            None => first_owned(alloc, types, name.as_str(), resource.as_str())?,
+        };
         let kind = ItemKind::Instance(next.interface);
         imports.push(Import { name, kind })?;
         last = Some(next);
+        there = resource.as_str();
     }
     Ok(last)
 }
@@ -268,7 +257,10 @@ fn ask(
     match sort {
         Sort::Functions => versions(alloc, types, false, count, imports),
         Sort::Records => versions(alloc, types, true, count, imports),
-        Sort::Chain => chain(alloc, types, "", count, imports).map(|_| ()),
+        Sort::Chain => {
+            let _last = chain(alloc, types, "", count, imports)?;
+            Ok(())
+        }
         Sort::Nested => nested(alloc, types, true, count, imports),
         Sort::Apart => nested(alloc, types, false, count, imports),
         Sort::Circle => circle(alloc, types, count, imports),
@@ -289,46 +281,30 @@ pub fn aggregated(alloc: Global, types: &Types, imports: &[Import]) -> Result<Ty
     Ok(aggregator)
 }
 
-/// Asks for all imports, in order, and merges them.
-fn merged(alloc: Global, types: &Types, imports: &[Import]) -> Result<TypeAggregator>
-    ensures { IfOk result (λ a. a.is_finished ≡ true) }
+/// Asks for all imports, in order, and merges them, if they have a merge.
+fn merged(alloc: Global, types: &Types, imports: &[Import]) -> Result<Option<TypeAggregator>>
+    ensures { IfOk result (λ merged. IfSome merged (λ a. a.is_finished ≡ true)) }
 {
-    let aggregator = aggregated(alloc, types, imports)?;
-    Ok(aggregator.finish(types)?)
-}
-
-/// Merges all imports if they have a merge.
-fn try_merge(alloc: Global, types: &Types, imports: &[Import]) -> Result<()> {
     match aggregated(alloc, types, imports)?.finish(types) {
+        Ok(merged) => Ok(Some(merged)),
         Err(MergeFault::OutOfMemory) => bail!("there was no memory"),
-        Ok(_) | Err(_) => Ok(()),
+        Err(_) => Ok(None),
     }
 }
 
-/// The name under which the first of so many imports is imported once they are merged.
-fn first_name(alloc: Global, sort: Sort, count: u64) -> Result<String> {
-    let asked = sort.prepare(alloc, count)?;
-    let merged = merged(alloc, &asked.types, &asked.imports)?;
-    let name = match asked.imports.first() {
-        Some(import) => merged.canonical_import_name(import.name.as_str()),
-        None => "",
-    };
-    Ok(String::from_str(alloc, name)?)
-}
+impl Shown for Sort {
+    type Shown = String;
 
-/// Merges a few of each, and prints the name of the first import.
-pub fn show(rt: &HostRuntime) -> Result<()> {
-    for (before, sort, count, behind) in SHOWN {
-        let name = first_name(rt.alloc(), *sort, *count)?;
-        print!(rt; "{before}{name}{behind}")?;
+    /// The name under which the first of so many imports is imported once they are merged.
+    fn shown(self, alloc: Global, count: u64) -> Result<String> {
+        let asked = self.prepare(alloc, count)?;
+        let Some(merged) = merged(alloc, &asked.types, &asked.imports)? else {
+            bail!("the imports have no merge");
+        };
+        let name = match asked.imports.first() {
+            Some(first) => merged.canonical_import_name(first.name.as_str()),
+            None => "",
+        };
+        Ok(String::from_str(alloc, name)?)
     }
-    Ok(())
-}
-
-/// Merges each, and prints how the time grows.
-pub fn measure(rt: &HostRuntime) -> Result<()> {
-    for (what, sort, counts) in MEASURED {
-        measure_work(rt, what, what, *sort, counts)?;
-    }
-    Ok(())
 }

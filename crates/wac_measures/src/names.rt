@@ -1,18 +1,44 @@
 //! How long names take to read: labels, and interface names with a version.
 
-use crate::times::{Workload, measure as measure_work};
+use crate::times::{Shown, Workload};
 use anyhow::Result;
-use std::alloc::Global;
+use std::alloc::{AllocError, Global};
 use wac_names::ComponentName;
 
 /// At how many names the time is measured.
 const COUNTS: &[u64] = &[100_000, 800_000];
 
+/// What is measured.
+pub const MEASURED: &[(&str, Sort, &[u64])] = &[
+    ("labels", Sort::Label, COUNTS),
+    ("versioned names", Sort::Versioned, COUNTS),
+];
+
+/// A few of each, and what is printed before and behind how many of them are component names.
+pub const SHOWN: &[(&str, Sort, u64, &str)] = &[
+    ("", Sort::Label, 100, " labels and "),
+    ("", Sort::Versioned, 100, " versioned names\n"),
+];
+
 /// The names that are read.
 #[derive(Clone, Copy)]
-enum Sort {
+pub enum Sort {
     Label,
     Versioned,
+}
+
+impl Sort {
+    /// The name of a number.
+    fn name(self, alloc: Global, number: u64) -> Result<String, AllocError> {
+        let major = number % 3;
+        let minor = number % 100;
+        match self {
+            Sort::Label => format!(in alloc; "name-{number}-OF-many"),
+            Sort::Versioned => {
+                format!(in alloc; "names:many/interface-{number}@{major}.{minor}.0")
+            }
+        }
+    }
 }
 
 impl Workload for Sort {
@@ -23,15 +49,7 @@ impl Workload for Sort {
     fn prepare(self, alloc: Global, count: u64) -> Result<Vec<String>> {
         let mut names = Vec::new(alloc);
         for number in 0..count {
-            let major = number % 3;
-            let minor = number % 100;
-            let name = match self {
-                Sort::Label => format!(in alloc; "name-{number}-OF-many"),
-                Sort::Versioned => {
-                    format!(in alloc; "names:many/interface-{number}@{major}.{minor}.0")
-                }
-            };
-            names.push(name?)?;
+            names.push(self.name(alloc, number)?)?;
         }
         Ok(names)
     }
@@ -48,23 +66,10 @@ impl Workload for Sort {
     }
 }
 
-/// How many of a hundred names of a sort are component names.
-fn accepted(alloc: Global, sort: Sort) -> Result<usize> {
-    let names = sort.prepare(alloc, 100)?;
-    sort.round(alloc, &names)
-}
+impl Shown for Sort {
+    type Shown = usize;
 
-/// Reads a hundred names of each sort, and prints how many were accepted.
-pub fn show(rt: &HostRuntime) -> Result<()> {
-    let labels = accepted(rt.alloc(), Sort::Label)?;
-    let versioned = accepted(rt.alloc(), Sort::Versioned)?;
-    println!(rt; "{labels} labels and {versioned} versioned names")?;
-    Ok(())
-}
-
-/// Reads names of each sort, and prints how the times grow.
-pub fn measure(rt: &HostRuntime) -> Result<()> {
-    measure_work(rt, "labels", "labels", Sort::Label, COUNTS)?;
-    let what = "versioned names";
-    measure_work(rt, what, what, Sort::Versioned, COUNTS)
+    fn shown(self, alloc: Global, count: u64) -> Result<usize> {
+        self.round(alloc, &self.prepare(alloc, count)?)
+    }
 }

@@ -1,7 +1,7 @@
 //! Imports that are nested deep, that disagree at the bottom, and whose classes rest on each other in a circle.
 
 use crate::merging::{Import, ask_for, chain, first_owned, next_owned};
-use crate::types::{U32, function, instance};
+use crate::types::{U32, function, instance, numbered};
 use anyhow::{Result, bail};
 use std::alloc::Global;
 use wac_types::{ItemKind, Named, ResourceId, Types, ValueType};
@@ -39,18 +39,8 @@ fn nest(
     ask_for(alloc, imports, id, outer)
 }
 
-/// What two instances have at the bottom: the same, or two that do not agree.
-fn bottoms(alloc: Global, types: &mut Types, agree: bool) -> Result<[ItemKind; 2]> {
-    let plain = function(alloc, types, &[], None)?;
-    let other = function(alloc, types, &[("x", U32)], None)?;
-    Ok(if agree {
-        [plain, plain]
-    } else {
-        [plain, other]
-    })
-}
-
-/// Asks for two instances so many levels deep, on one track, and before them for the import whose resource they take.
+/// Asks for two instances so many levels deep, on one track, which have the same at the bottom or do not agree there, and before
+/// them for the import whose resource they take.
 pub fn nested(
     alloc: Global,
     types: &mut Types,
@@ -58,7 +48,12 @@ pub fn nested(
     count: u64,
     imports: &mut Vec<Import>,
 ) -> Result<()> {
-    let [first, second] = bottoms(alloc, types, agree)?;
+    let first = function(alloc, types, &[], None)?;
+    let second = if agree {
+        first
+    } else {
+        function(alloc, types, &[("x", U32)], None)?
+    };
     let outside = first_owned(alloc, types, "a:b/outside", "r")?;
     let resource = outside.resource;
     let outside = ItemKind::Instance(outside.interface);
@@ -86,7 +81,7 @@ pub fn circle(
         bail!("a circle has a first instance");
     };
     let number = count.saturating_sub(1);
-    let there = format!(in alloc; "r{number}")?;
+    let there = numbered(alloc, "r", number)?;
     let last = next_owned(alloc, types, "a:b/i0@1.1.0", "last", before, there.as_str())?;
     ask_for(
         alloc,

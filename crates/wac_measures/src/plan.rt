@@ -2,8 +2,9 @@
 
 use crate::churn::{self, Triple};
 use crate::graph::Graph;
-use crate::graphs::{Parts, aliases, chain, fan, numbered, plug_and_socket, refused, shared};
+use crate::graphs::{Parts, aliases, chain, fan, plug_and_socket, refused, shared};
 use crate::step::Step;
+use crate::types::all_numbered;
 use crate::wide;
 use anyhow::Result;
 use std::alloc::{AllocError, Global};
@@ -23,19 +24,26 @@ pub enum Sort {
     Wide,
 }
 
+/// The sorts by their words.
+const SORTS: &[(&str, Sort)] = &[
+    ("chain", Sort::Chain),
+    ("fan", Sort::Fan),
+    ("aliases", Sort::Aliases),
+    ("plug", Sort::Plug),
+    ("shared", Sort::Shared),
+    ("churn", Sort::Churn),
+    ("wide", Sort::Wide),
+];
+
 impl Sort {
     /// The sort of a word.
     pub fn of_word(word: &str) -> Option<Sort> {
-        match word {
-            "chain" => Some(Sort::Chain),
-            "fan" => Some(Sort::Fan),
-            "aliases" => Some(Sort::Aliases),
-            "plug" => Some(Sort::Plug),
-            "shared" => Some(Sort::Shared),
-            "churn" => Some(Sort::Churn),
-            "wide" => Some(Sort::Wide),
-            _ => None,
+        for (of, sort) in SORTS {
+            if *of == word {
+                return Some(*sort);
+            }
         }
+        None
     }
 
     /// The counts at which it is measured.
@@ -44,15 +52,6 @@ impl Sort {
             Sort::Chain | Sort::Fan | Sort::Shared | Sort::Churn => &[1_000, 10_000, 100_000],
             Sort::Aliases | Sort::Plug => &[1_000, 10_000],
             Sort::Wide => &[100, 1_000, 10_000],
-        }
-    }
-
-    /// The names of which it is made.
-    fn names(self, alloc: Global, count: u64) -> Result<Vec<String>> {
-        match self {
-            Sort::Chain | Sort::Fan | Sort::Shared | Sort::Wide => Ok(Vec::new(alloc)),
-            Sort::Aliases | Sort::Plug => numbered(alloc, "f", count),
-            Sort::Churn => numbered(alloc, "e", count),
         }
     }
 
@@ -85,8 +84,12 @@ impl Drop for Plan {
 
 impl Plan {
     /// So many parts of a graph of a sort.
-    pub fn of(alloc: Global, sort: Sort, count: u64) -> Result<Plan> {
-        let names = sort.names(alloc, count)?;
+    pub fn of(alloc: Global, sort: Sort, count: u64) -> Result<Plan, AllocError> {
+        let names = match sort {
+            Sort::Chain | Sort::Fan | Sort::Shared | Sort::Wide => Vec::new(alloc),
+            Sort::Aliases | Sort::Plug => all_numbered(alloc, "f", count)?,
+            Sort::Churn => all_numbered(alloc, "e", count)?,
+        };
         Ok(Plan { sort, count, names })
     }
 }
@@ -111,16 +114,6 @@ impl<G: Graph> Drop for Stand<G> {
 }
 
 impl<G: Graph> Stand<G> {
-    /// The empty graph.
-    fn new(alloc: Global) -> Stand<G> {
-        Stand {
-            graph: G::new(alloc),
-            parts: None,
-            triples: Vec::new(alloc),
-            written: Vec::new(alloc),
-        }
-    }
-
     /// Registers what is not timed: the packages of aliases, plugs and triples.
     fn prepare(&mut self, alloc: Global, plan: &Plan) -> Result<()> {
         self.parts = match plan.sort {
@@ -175,7 +168,12 @@ impl<G: Graph> Stand<G> {
 pub fn empty<G: Graph>(alloc: Global, count: u32) -> Result<Vec<Stand<G>>, AllocError> {
     let mut stands = Vec::new(alloc);
     for _ in 0..count {
-        stands.push(Stand::new(alloc))?;
+        stands.push(Stand {
+            graph: G::new(alloc),
+            parts: None,
+            triples: Vec::new(alloc),
+            written: Vec::new(alloc),
+        })?;
     }
     Ok(stands)
 }
@@ -198,11 +196,12 @@ pub fn do_all<G: Graph>(
 /// Makes one graph of a sort and of so many parts by these steps, and answers how many bytes it is encoded to.
 pub fn take<G: Graph>(alloc: Global, sort: Sort, count: u64, steps: &[Step]) -> Result<usize> {
     let plan = Plan::of(alloc, sort, count)?;
-    let mut stand: Stand<G> = Stand::new(alloc);
+    let mut stands: Vec<Stand<G>> = empty(alloc, 1)?;
     for step in steps {
-        for _ in 0..sort.times(*step) {
-            stand.step(alloc, &plan, *step)?;
-        }
+        do_all(alloc, &mut stands, &plan, *step)?;
     }
-    Ok(stand.written.len())
+    Ok(match stands.first() {
+        Some(stand) => stand.written.len(),
+        None => 0,
+    })
 }

@@ -3,7 +3,7 @@
 use crate::graph::Graph;
 use crate::plan::{Sort, take};
 use crate::step::Step;
-use crate::{comparing, growth, merging, names, writing};
+use crate::{comparing, growth, merging, names, times, writing};
 use anyhow::Result;
 
 /// The steps up to that in which a graph is encoded.
@@ -40,25 +40,26 @@ fn show_graphs<G: Graph>(rt: &HostRuntime) -> Result<()> {
 
 /// Does a little of each and prints what came of it.
 fn show<G: Graph>(rt: &HostRuntime) -> Result<()> {
-    names::show(rt)?;
-    comparing::show(rt)?;
-    merging::show(rt)?;
-    writing::show(rt)?;
+    times::show(rt, names::SHOWN)?;
+    times::show(rt, comparing::SHOWN)?;
+    times::show(rt, merging::SHOWN)?;
+    times::show(rt, writing::SHOWN)?;
     show_graphs::<G>(rt)
 }
 
 /// Measures what the word names. Answers whether it names a workload.
 fn measure<G: Graph>(rt: &HostRuntime, word: &str) -> Result<bool> {
-    match (word, Sort::of_word(word)) {
-        ("names", _) => names::measure(rt)?,
-        ("comparing", _) => comparing::measure(rt)?,
-        ("merging", _) => merging::measure(rt)?,
-        ("writing", _) => writing::measure(rt)?,
-        (_, Some(Sort::Wide)) => growth::measure_made::<G>(rt, word, Sort::Wide)?,
-        (_, Some(Sort::Churn)) => growth::measure::<G>(rt, "churn of triples", Sort::Churn)?,
-        (_, Some(sort)) => growth::measure::<G>(rt, word, sort)?,
+    let measured = match (word, Sort::of_word(word)) {
+        ("names", _) => times::measure(rt, names::MEASURED),
+        ("comparing", _) => comparing::measure(rt),
+        ("merging", _) => times::measure(rt, merging::MEASURED),
+        ("writing", _) => writing::measure(rt),
+        (_, Some(Sort::Wide)) => growth::measure_made::<G>(rt, word, Sort::Wide),
+        (_, Some(Sort::Churn)) => growth::measure::<G>(rt, "churn of triples", Sort::Churn),
+        (_, Some(sort)) => growth::measure::<G>(rt, word, sort),
         (_, None) => return Ok(false),
-    }
+    };
+    measured?;
     Ok(true)
 }
 

@@ -2,6 +2,7 @@
 
 use anyhow::Result;
 use std::alloc::Global;
+use std::fmt::Display;
 use std::time::{Duration, Instant};
 
 /// How often each is timed.
@@ -60,32 +61,60 @@ pub trait Workload: Copy {
     fn round(self, alloc: Global, work: &Self::Work) -> Result<Self::Made>;
 }
 
-/// How long a round takes, timed as often as there are places for the times.
+/// Work of which it is printed what comes of it.
+pub trait Shown: Copy {
+    /// What comes of it.
+    type Shown: Display + Drop;
+
+    /// What comes of so many.
+    fn shown(self, alloc: Global, count: u64) -> Result<Self::Shown>;
+}
+
+/// Does so many of each, and prints what comes of it between two texts.
+pub fn show<W: Shown>(rt: &HostRuntime, rows: &[(&str, W, u64, &str)]) -> Result<()> {
+    for (before, sort, count, behind) in rows {
+        let shown = sort.shown(rt.alloc(), *count)?;
+        print!(rt; "{before}{shown}{behind}")?;
+    }
+    Ok(())
+}
+
+/// How long a round takes.
+fn timed_once<W: Workload>(rt: &HostRuntime, sort: W, work: &W::Work) -> Result<Duration> {
+    let start = Instant::now(rt)?;
+    let _made = sort.round(rt.alloc(), work)?;
+    Ok(start.elapsed(rt)?)
+}
+
+/// How long a round of so many takes, timed as often as there are places for the times.
 pub fn timed<W: Workload>(
     rt: &HostRuntime,
     sort: W,
-    work: &W::Work,
+    count: u64,
     times: &mut [Duration],
 ) -> Result<Times> {
+    let work = sort.prepare(rt.alloc(), count)?;
     for time in times.iter_mut() {
-        let start = Instant::now(rt)?;
-        let _made = sort.round(rt.alloc(), work)?;
-        *time = start.elapsed(rt)?;
+        *time = timed_once(rt, sort, &work)?;
     }
     Ok(Times::of(times))
 }
 
-/// Does work of so many, and prints how long that takes.
-fn measured<W: Workload>(rt: &HostRuntime, what: &str, sort: W, count: u64) -> Result<Duration> {
-    let work = sort.prepare(rt.alloc(), count)?;
-    let times = timed(rt, sort, &work, &mut [Duration::ZERO; ROUNDS])?;
+/// Does work of so many, prints how long that takes, and answers the least time.
+pub fn measured<W: Workload>(
+    rt: &HostRuntime,
+    what: &str,
+    sort: W,
+    count: u64,
+) -> Result<Duration> {
+    let times = timed(rt, sort, count, &mut [Duration::ZERO; ROUNDS])?;
     print_times(rt, what, count, times)?;
     Ok(times.least)
 }
 
 /// Does work of these counts, of which the last is eight times the first, and prints how long each takes and how the time of the
 /// whole grows.
-pub fn measure<W: Workload>(
+pub fn grown<W: Workload>(
     rt: &HostRuntime,
     each: &str,
     whole: &str,
@@ -99,6 +128,14 @@ pub fn measure<W: Workload>(
         first = first.or(Some(last));
     }
     print_power(rt, whole, first.unwrap_or(last), last, OF_EIGHT)
+}
+
+/// Does each at its counts, and prints how the times grow.
+pub fn measure<W: Workload>(rt: &HostRuntime, measured: &[(&str, W, &[u64])]) -> Result<()> {
+    for (what, sort, counts) in measured {
+        grown(rt, what, what, *sort, counts)?;
+    }
+    Ok(())
 }
 
 /// Prints what was done so many times, and how long it took.

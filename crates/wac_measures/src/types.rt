@@ -1,7 +1,7 @@
 //! Types that workloads are made of.
 
 use anyhow::Result;
-use std::alloc::Global;
+use std::alloc::{AllocError, Global};
 use wac_types::{
     DefinedType, FuncType, Interface, ItemKind, Named, PrimitiveType, Record, Text, Type, Types,
     ValueType, Variant,
@@ -45,11 +45,20 @@ impl Collection for Types {
     }
 }
 
+/// Adds a tuple.
+pub fn tuple<T: Collection>(
+    alloc: Global,
+    types: &mut T,
+    members: &[ValueType],
+) -> Result<ValueType> {
+    types.defined(DefinedType::tuple(alloc, members)?)
+}
+
 /// Adds tuples, each of the one before twice, so many levels deep.
 pub fn tuples<T: Collection>(alloc: Global, types: &mut T, count: u64) -> Result<ValueType> {
     let mut value = BOOL;
     for _ in 0..count {
-        value = types.defined(DefinedType::tuple(alloc, &[value, value])?)?;
+        value = tuple(alloc, types, &[value, value])?;
     }
     Ok(value)
 }
@@ -126,7 +135,7 @@ pub fn export(
     number: u64,
     kind: ItemKind,
 ) -> Result<()> {
-    let name = format!(in alloc; "f{number}")?;
+    let name = numbered(alloc, "f", number)?;
     exports.insert(alloc, name.as_str(), kind)?;
     Ok(())
 }
@@ -150,8 +159,22 @@ pub fn instance<T: Collection>(
 }
 
 /// The name of a version on a track: four to each.
-pub fn versioned(alloc: Global, package: &str, number: u64) -> Result<String> {
+pub fn versioned(alloc: Global, package: &str, number: u64) -> Result<String, AllocError> {
     let track = number / 4;
     let minor = number % 4;
-    Ok(format!(in alloc; "{package}/i{track}@1.{minor}.0")?)
+    format!(in alloc; "{package}/i{track}@1.{minor}.0")
+}
+
+/// A text with a number behind it.
+pub fn numbered(alloc: Global, text: &str, number: u64) -> Result<String, AllocError> {
+    format!(in alloc; "{text}{number}")
+}
+
+/// A text with each number below this behind it.
+pub fn all_numbered(alloc: Global, text: &str, count: u64) -> Result<Vec<String>, AllocError> {
+    let mut names = Vec::new(alloc);
+    for number in 0..count {
+        names.push(numbered(alloc, text, number)?)?;
+    }
+    Ok(names)
 }

@@ -3,7 +3,7 @@
 
 use crate::graph::Graph;
 use crate::graphs::refused;
-use crate::types::{records, versioned};
+use crate::types::{numbered, records, versioned};
 use anyhow::Result;
 use std::alloc::Global;
 use wac_nodes::PackageId;
@@ -12,7 +12,7 @@ use wac_nodes::PackageId;
 fn register<G: Graph>(alloc: Global, graph: &mut G, number: u64) -> Result<PackageId> {
     let id = versioned(alloc, "n:w", number)?;
     let kind = records(alloc, graph, id.as_str())?;
-    let name = format!(in alloc; "n:c{number}")?;
+    let name = numbered(alloc, "n:c", number)?;
     graph.register(alloc, name.as_str(), &[(id.as_str(), kind)], &[])
 }
 

@@ -1,10 +1,10 @@
 //! How fast components are written, beside a plain copy of the same bytes: packages of 4 MiB, function imports, instance types
 //! beside each other in one, and instance types nested one in another.
 
-use crate::times::{Times, Workload, measure as measure_work, timed};
+use crate::times::{Shown, Times, Workload, grown, timed};
 use anyhow::Result;
 use std::alloc::Global;
-use std::time::{Duration, Instant};
+use std::time::Duration;
 use wac_builder::{BinaryFault, ComponentBuilder, Description, FuncType, InstanceType};
 
 /// How often each is written, so that the least and the median of the times say more than one does.
@@ -12,7 +12,7 @@ const ROUNDS: usize = 41;
 
 /// What is written.
 #[derive(Clone, Copy)]
-enum Sort {
+pub enum Sort {
     /// Packages of these bytes.
     Packages,
     /// Function imports.
@@ -31,7 +31,7 @@ const BESIDE_COPIES: &[(&str, Sort, u64)] = &[
 ];
 
 /// A few of each, and what is printed before and behind the number of their bytes.
-const SHOWN: &[(&str, Sort, u64, &str)] = &[
+pub const SHOWN: &[(&str, Sort, u64, &str)] = &[
     ("2 packages: ", Sort::Packages, 2, " bytes, "),
     ("100 imports: ", Sort::Imports, 100, " bytes, "),
     ("100 instance types: ", Sort::InstanceTypes, 100, " bytes, "),
@@ -41,8 +41,15 @@ const SHOWN: &[(&str, Sort, u64, &str)] = &[
 /// How deep instance types are nested.
 const DEPTHS: &[u64] = &[12_500, 25_000, 50_000, 100_000];
 
+/// A function type without parameters and without a result.
+const PLAIN: FuncType<'static> = FuncType {
+    is_async: false,
+    params: &[],
+    result: None,
+};
+
 impl Workload for Sort {
-    /// How many are written, and the bytes of which they are made.
+    /// How many are written, and the bytes of which packages are made.
     type Work = (u64, Vec<u8>);
 
     type Made = Vec<u8>;
@@ -61,12 +68,12 @@ impl Workload for Sort {
     }
 }
 
-/// A function type without parameters and without a result.
-fn plain() -> FuncType<'static> {
-    FuncType {
-        is_async: false,
-        params: &[],
-        result: None,
+impl Shown for Sort {
+    type Shown = usize;
+
+    /// Answers the number of their bytes, of packages of 16 bytes.
+    fn shown(self, alloc: Global, count: u64) -> Result<usize> {
+        Ok(written(alloc, self, count, &[0; 16])?.len())
     }
 }
 
@@ -80,7 +87,7 @@ fn packages(b: &mut ComponentBuilder, count: u64, package: &[u8]) -> Result<(), 
 
 /// Writes so many function imports.
 fn imports(b: &mut ComponentBuilder, count: u64) -> Result<(), BinaryFault> {
-    let f = b.func_type(&plain())?;
+    let f = b.func_type(&PLAIN)?;
     for _ in 0..count {
         let _i = b.import("wasi:cli/environment", Description::Func(f))?;
     }
@@ -90,81 +97,82 @@ fn imports(b: &mut ComponentBuilder, count: u64) -> Result<(), BinaryFault> {
 /// An instance type with a function under two names.
 fn instance_type(alloc: Global) -> Result<InstanceType, BinaryFault> {
     let mut t = InstanceType::new(alloc);
-    let f = t.func_type(&plain())?;
+    let f = t.func_type(&PLAIN)?;
     let _run = t.export("run", Description::Func(f))?;
     let _stop = t.export("stop", Description::Func(f))?;
     Ok(t)
 }
 
-/// One instance type in which so many are nested, each built by itself.
-fn beside(alloc: Global, count: u64) -> Result<InstanceType, BinaryFault> {
+/// Writes one instance type in which so many are nested, each built by itself.
+fn instance_types(b: &mut ComponentBuilder, alloc: Global, count: u64) -> Result<(), BinaryFault> {
     let mut outer = InstanceType::new(alloc);
     for _ in 0..count {
         let _t = outer.instance_type(&instance_type(alloc)?)?;
     }
-    Ok(outer)
+    let _t = b.instance_type(&outer)?;
+    Ok(())
 }
 
 /// An instance type with a function before an instance that it exports.
 fn around(alloc: Global, inner: InstanceType) -> Result<InstanceType, BinaryFault> {
     let mut outer = InstanceType::new(alloc);
-    let _f = outer.func_type(&plain())?;
+    let _f = outer.func_type(&PLAIN)?;
     let inner = outer.take_instance_type(inner)?;
     let _i = outer.export("inner", Description::Instance(inner))?;
     Ok(outer)
 }
 
-/// An instance type so many deep.
-fn nested(alloc: Global, depth: u64) -> Result<InstanceType, BinaryFault> {
+/// Writes an instance type so many deep.
+fn nested(b: &mut ComponentBuilder, alloc: Global, depth: u64) -> Result<(), BinaryFault> {
     let mut t = instance_type(alloc)?;
     for _ in 0..depth {
         t = around(alloc, t)?;
     }
-    Ok(t)
-}
-
-/// Writes so many of these into a component.
-fn write(
-    alloc: Global,
-    b: &mut ComponentBuilder,
-    sort: Sort,
-    count: u64,
-    bytes: &[u8],
-) -> Result<(), BinaryFault> {
-    match sort {
-        Sort::Packages => packages(b, count, bytes),
-        Sort::Imports => imports(b, count),
-        Sort::InstanceTypes => b.instance_type(&beside(alloc, count)?).map(|_| ()),
-        Sort::Nested => b.instance_type(&nested(alloc, count)?).map(|_| ()),
-    }
+    let _t = b.instance_type(&t)?;
+    Ok(())
 }
 
 /// A component of so many of these.
 fn written(alloc: Global, sort: Sort, count: u64, bytes: &[u8]) -> Result<Vec<u8>, BinaryFault> {
     let mut b = ComponentBuilder::new(alloc);
-    write(alloc, &mut b, sort, count, bytes)?;
+    let written = match sort {
+        Sort::Packages => packages(&mut b, count, bytes),
+        Sort::Imports => imports(&mut b, count),
+        Sort::InstanceTypes => instance_types(&mut b, alloc, count),
+        Sort::Nested => nested(&mut b, alloc, count),
+    };
+    written?;
     b.into_bytes()
 }
 
-/// How long bytes take to copy.
-fn copied(rt: &HostRuntime, bytes: &[u8]) -> Result<Times> {
-    let mut times = [Duration::ZERO; ROUNDS];
-    for time in times.iter_mut() {
-        let start = Instant::now(rt)?;
-        let mut copy = Vec::new(rt.alloc());
-        copy.extend_from_slice(bytes)?;
-        *time = start.elapsed(rt)?;
+/// The copying of what is written.
+#[derive(Clone, Copy)]
+struct Copying(Sort);
+
+impl Workload for Copying {
+    type Work = Vec<u8>;
+
+    type Made = Vec<u8>;
+
+    fn prepare(self, alloc: Global, count: u64) -> Result<Vec<u8>> {
+        self.0.round(alloc, &self.0.prepare(alloc, count)?)
     }
-    Ok(Times::of(&mut times))
+
+    fn round(self, alloc: Global, bytes: &Vec<u8>) -> Result<Vec<u8>> {
+        let mut copy = Vec::new(alloc);
+        copy.extend_from_slice(bytes)?;
+        Ok(copy)
+    }
 }
 
-/// Writes so many, copies their bytes, and prints how long each takes.
-fn measured(rt: &HostRuntime, what: &str, sort: Sort, count: u64) -> Result<()> {
-    let work = sort.prepare(rt.alloc(), count)?;
-    let writing = timed(rt, sort, &work, &mut [Duration::ZERO; ROUNDS])?;
-    let bytes = sort.round(rt.alloc(), &work)?;
-    let copying = copied(rt, &bytes)?;
-    let length = bytes.len();
+/// Prints how many bytes so many have, and how long the writing of them and a copy of them takes.
+fn print_times(
+    rt: &HostRuntime,
+    what: &str,
+    count: u64,
+    length: usize,
+    [writing, copying]: [Times; 2],
+) -> Result<()> {
     let (least, median) = (writing.least.as_nanos(), writing.middle.as_nanos());
     let (least_copy, median_copy) = (copying.least.as_nanos(), copying.middle.as_nanos());
     println!(rt;
@@ -173,13 +181,12 @@ fn measured(rt: &HostRuntime, what: &str, sort: Sort, count: u64) -> Result<()> 
     Ok(())
 }
 
-/// Writes a few of each, and prints how many bytes they have.
-pub fn show(rt: &HostRuntime) -> Result<()> {
-    for (before, sort, count, behind) in SHOWN {
-        let length = written(rt.alloc(), *sort, *count, &[0; 16])?.len();
-        print!(rt; "{before}{length}{behind}")?;
-    }
-    Ok(())
+/// Writes so many, copies their bytes, and prints how long each takes.
+fn measured(rt: &HostRuntime, what: &str, sort: Sort, count: u64) -> Result<()> {
+    let length = Copying(sort).prepare(rt.alloc(), count)?.len();
+    let writing = timed(rt, sort, count, &mut [Duration::ZERO; ROUNDS])?;
+    let copying = timed(rt, Copying(sort), count, &mut [Duration::ZERO; ROUNDS])?;
+    print_times(rt, what, count, length, [writing, copying])
 }
 
 /// Writes each beside a copy of its bytes, and instance types nested ever deeper.
@@ -188,5 +195,5 @@ pub fn measure(rt: &HostRuntime) -> Result<()> {
         measured(rt, what, *sort, *count)?;
     }
     let (each, whole) = ("instance types nested so deep:", "nested instance types");
-    measure_work(rt, each, whole, Sort::Nested, DEPTHS)
+    grown(rt, each, whole, Sort::Nested, DEPTHS)
 }
