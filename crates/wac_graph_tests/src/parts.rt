@@ -90,6 +90,8 @@ pub fn register(
     exports: &[(&str, ItemKind)],
 ) -> Result<PackageId, RegisterPackageError> {
     let world = world(rt, alloc, graph, None, imports, exports);
+    let held = graph.types().contains(Type::World(world));
+    assert!(rt; held);
     let bytes = Vec::from_array(alloc, EMPTY_COMPONENT).expect(rt, "bytes");
     let package = graph.new_package(key.0, key.1, bytes, world);
     graph.register_package(package.expect(rt, "a package"))
