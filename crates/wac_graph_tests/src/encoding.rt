@@ -294,7 +294,7 @@ const TITLES: Rows = &[
 
 // What is asked of a graph after calls: the bytes that `encode` answers, or the text of its refusal and what it names, what the
 // graph asks for, and what a node is.
-const TABLES: &[(Rows, Rows)] = &[
+const ENCODED: &[(Rows, Rows)] = &[
     (
         EXPORTED,
         &[
@@ -345,6 +345,10 @@ const TABLES: &[(Rows, Rows)] = &[
         ],
     ),
     (CYCLE, &[(Encode(Usual), CONTAINS_CYCLE), (Refusal, "0")]),
+];
+
+// The same of further graphs.
+const REFUSED: &[(Rows, Rows)] = &[
     (
         OWN_ARGUMENT,
         &[(Encode(Usual), CONTAINS_CYCLE), (Refusal, "0")],
@@ -382,6 +386,10 @@ const TABLES: &[(Rows, Rows)] = &[
             (Imported(1), "unlocked-dep=<a:b>"),
         ],
     ),
+];
+
+// The same of further graphs.
+const MERGED: &[(Rows, Rows)] = &[
     (
         UNEXPORTED,
         &[(
@@ -416,6 +424,10 @@ const TABLES: &[(Rows, Rows)] = &[
         EXPORT_MERGE,
         &[(Refusal, "a:b/c@0.2.2, 1, 2, Disagree `g`")],
     ),
+];
+
+// The same of further graphs.
+const ASKED_FOR: &[(Rows, Rows)] = &[
     (EXPLICIT_MERGE, &[(Refusal, "a:b/c@0.2.1, 1, 0")]),
     (IMPORT_CIRCLE, &[(Refusal, "a:b/y@1.1.0")]),
     (TAKEN, &[(Asked, "b: function; ")]),
@@ -437,7 +449,22 @@ const TABLES: &[(Rows, Rows)] = &[
 
 #[test]
 fn graphs_are_encoded(rt: HostRuntime) {
-    assert_tables(&rt, TABLES);
+    assert_tables(&rt, ENCODED);
+}
+
+#[test]
+fn refusals_name_their_cause(rt: HostRuntime) {
+    assert_tables(&rt, REFUSED);
+}
+
+#[test]
+fn imports_are_merged(rt: HostRuntime) {
+    assert_tables(&rt, MERGED);
+}
+
+#[test]
+fn imports_are_asked_for_in_order(rt: HostRuntime) {
+    assert_tables(&rt, ASKED_FOR);
 }
 
 #[test]
