@@ -275,6 +275,23 @@ impl Renamed {
         Ok(renamed)
     }
 
+    /// What a tuple of these becomes.
+    fn tuple(
+        &self,
+        merged: &Types,
+        renaming: &Renaming<'_>,
+        values: &[ValueType],
+    ) -> Result<DefinedType, AllocError>
+        requires held { AreHeldValues renaming.now.types.now values.now }
+        requires ready { AreReady self.now values.now }
+        requires known { CanRename merged.now renaming.now }
+        requires right { AreRenamed merged.now renaming.now self.now }
+        ensures { IfOk result (λ d. HaveOneShape (IsRenamedIn renaming.now merged.now self.now.made) (def.Tuple values.now) d) }
+    {
+        let parts = self.parts(merged, renaming, values)?;
+        DefinedType::tuple(renaming.alloc, parts.as_slice())
+    }
+
     /// What a definition becomes whose parts are renamed.
     fn definition(
         &self,
@@ -290,10 +307,7 @@ impl Renamed {
     {
         let alloc = renaming.alloc;
         let renamed = match definition {
-            DefinedType::Tuple(parts) => {
-                let parts = self.parts(merged, renaming, parts.as_slice())?;
-                DefinedType::tuple(alloc, parts.as_slice())?
-            }
+            DefinedType::Tuple(parts) => self.tuple(merged, renaming, parts.as_slice())?,
             DefinedType::List(value) => DefinedType::List(self.part(merged, renaming, *value)),
             DefinedType::FixedSizeList(value, length) => {
                 DefinedType::FixedSizeList(self.part(merged, renaming, *value), *length)
@@ -304,23 +318,17 @@ impl Renamed {
                 let err = self.optional(merged, renaming, *err);
                 DefinedType::Result { ok, err }
             }
-            DefinedType::Variant(variant) => {
-                let cases = self.cases(merged, renaming, &variant.cases)?;
-                DefinedType::Variant(Variant { cases })
-            }
-            DefinedType::Record(record) => {
-                let fields = self.fields(merged, renaming, &record.fields)?;
-                DefinedType::Record(Record { fields })
-            }
+            DefinedType::Variant(variant) => DefinedType::Variant(Variant {
+                cases: self.cases(merged, renaming, &variant.cases)?,
+            }),
+            DefinedType::Record(record) => DefinedType::Record(Record {
+                fields: self.fields(merged, renaming, &record.fields)?,
+            }),
             DefinedType::Flags(flags) => DefinedType::Flags(Flags(copied(alloc, &flags.0)?)),
             DefinedType::Enum(cases) => DefinedType::Enum(Enum(copied(alloc, &cases.0)?)),
             DefinedType::Alias(value) => DefinedType::Alias(self.part(merged, renaming, *value)),
-            DefinedType::Stream(value) => DefinedType::Stream(self.optional(
-                merged, renaming, *value,
-            )),
-            DefinedType::Future(value) => DefinedType::Future(self.optional(
-                merged, renaming, *value,
-            )),
+            DefinedType::Stream(of) => DefinedType::Stream(self.optional(merged, renaming, *of)),
+            DefinedType::Future(of) => DefinedType::Future(self.optional(merged, renaming, *of)),
         };
         Ok(renamed)
     }

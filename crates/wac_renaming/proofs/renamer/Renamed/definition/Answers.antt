@@ -1,18 +1,17 @@
-use Rattle.std.proofs.Common.{List, sym, ◌∙◌, subst}
-use Rattle.std.specs.List.{AllZip}
-use Rattle.wac_shapes.specs.declared.component.ValueType.{ValueType}
-use Rattle.wac_renaming.specs.RenamingSteps.{IsRenamedIn, aliases, enums, fixed_lists, flags, futures, lists, options, records, results, streams, tuples, variants}
+use Rattle.std.proofs.Common.{ap, sym, ◌∙◌, subst}
+use Rattle.wac_shapes.specs.declared.component.DefinedType.{DefinedType}
+use Rattle.wac_shapes.specs.declared.component.DefinedType.TheVariants as def
+use Rattle.wac_renaming.specs.RenamingSteps.{HaveOneShape, IsRenamedIn, aliases, enums, fixed_lists, flags, futures, lists, options, records, results, streams, variants}
 use Rattle.wac_renaming.proofs.renamer.Renamed.definition.Goals as goal
-use Rattle.wac_renaming.proofs.renamer.Renamed.definition.Goals.{in-Tuple+in_ok-parts-in-Tuple+in_ok-renamed-in-Tuple, in-List, in-FixedSizeList, in-Option, in-Result, in-Variant+in_ok-cases-in-Variant, in-Record+in_ok-fields-in-Record, in-Flags+in_ok-copied-in-Flags, in-Enum+in_ok-copied-in-Enum, in-Alias, in-Stream, in-Future}
+use Rattle.wac_renaming.proofs.renamer.Renamed.definition.Goals.{in-Tuple+in_ok-renamed-in-Tuple, in-List, in-FixedSizeList, in-Option, in-Result, in-Variant+in_ok-cases-in-Variant, in-Record+in_ok-fields-in-Record, in-Flags+in_ok-copied-in-Flags, in-Enum+in_ok-copied-in-Enum, in-Alias, in-Stream, in-Future}
 
 pub returns : goal.returns
 returns c =
     let R = IsRenamedIn c.args.renaming.now c.args.merged.now c.args.self.now.made in
     elim c.match-definition.branch [
-      | in-Tuple+in_ok-parts-in-Tuple+in_ok-renamed-in-Tuple w ↦
-          let slice = w.as_slice-in-Tuple in
-          tuples w.in-Tuple.parts slice.result.now w.in-Tuple.is (w.renamed-is ∙ w.in_ok-renamed-in-Tuple.ensures)
-          (subst (λ (vs : List ValueType). AllZip R vs slice.result.now) w.as_slice.ensures (subst (λ (ws : List ValueType). AllZip R w.as_slice.result.now ws) (sym slice.ensures.value) w.in_ok-parts-in-Tuple.ensures))
+      | in-Tuple+in_ok-renamed-in-Tuple w ↦
+          subst (λ (e : DefinedType). HaveOneShape R c.args.definition.now e) (sym w.renamed-is)
+          (subst (λ (d : DefinedType). HaveOneShape R d w.in_ok-renamed-in-Tuple.renamed) (ap def.Tuple w.as_slice.ensures ∙ sym w.in-Tuple.is) w.in_ok-renamed-in-Tuple.ensures)
       | in-List w ↦ lists w.in-List.value w.part.result w.in-List.is w.renamed-is w.part.ensures
       | in-FixedSizeList w ↦ fixed_lists w.in-FixedSizeList.value w.part-in-FixedSizeList.result w.in-FixedSizeList.length w.in-FixedSizeList.is w.renamed-is w.part-in-FixedSizeList.ensures
       | in-Option w ↦ options w.in-Option.value w.part-in-Option.result w.in-Option.is w.renamed-is w.part-in-Option.ensures
@@ -22,6 +21,6 @@ returns c =
       | in-Flags+in_ok-copied-in-Flags w ↦ flags w.in-Flags.flags _ w.in-Flags.is w.renamed-is w.in_ok-copied-in-Flags.ensures
       | in-Enum+in_ok-copied-in-Enum w ↦ enums w.in-Enum.cases _ w.in-Enum.is w.renamed-is w.in_ok-copied-in-Enum.ensures
       | in-Alias w ↦ aliases w.in-Alias.value w.part-in-Alias.result w.in-Alias.is w.renamed-is w.part-in-Alias.ensures
-      | in-Stream w ↦ streams w.in-Stream.value w.optional.result w.in-Stream.is w.renamed-is w.optional.ensures
-      | in-Future w ↦ futures w.in-Future.value w.optional-in-Future.result w.in-Future.is w.renamed-is w.optional-in-Future.ensures
+      | in-Stream w ↦ streams w.in-Stream.of w.optional.result w.in-Stream.is w.renamed-is w.optional.ensures
+      | in-Future w ↦ futures w.in-Future.of w.optional-in-Future.result w.in-Future.is w.renamed-is w.optional-in-Future.ensures
     ]
