@@ -7,7 +7,7 @@ use Rattle.wac_primitives.specs.Tree.{TypeTree, absent, instance, instance_item}
 use Rattle.wac_collection.specs.Collection.{Collection}
 use Rattle.wac_subtyping.specs.Called.{Called}
 use Rattle.wac_entries.specs.Agreement.{Agree, compared}
-use Rattle.wac_agreement.specs.Apart.{AllAgree}
+use Rattle.wac_agreeing.specs.Apart.{AllAgree}
 use Rattle.wac_entries.specs.Classes.{AreClasses, Entry, by_names, same_class}
 use Rattle.wac_agreement.specs.Compared.{AreCompared}
 use Rattle.wac_entries.specs.Nodes.{Item, Node, tree_at}

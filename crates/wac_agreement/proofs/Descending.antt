@@ -24,16 +24,15 @@ use Rattle.wac_entries.specs.declared.nodes.Item.{Item as AnItem}
 use Rattle.wac_entries.specs.NodeViews.{item_view}
 use Rattle.wac_entries.specs.declared.scopes.Opener.TheVariants as opener
 use Rattle.wac_entries.proofs.Opening.{lists}
-use Rattle.wac_agreement.specs.Apart.{ItemsAgree}
+use Rattle.wac_agreeing.specs.Apart.{ItemsAgree}
 use Rattle.wac_agreement.specs.Levels.{AreLevels, HasPassed, IsAbove, IsApartBelow, IsFurther, IsLevel, at_root, left_at, left_in, looks_by, looks_of, looks_to, name_of, under}
 use Rattle.wac_agreement.specs.Shapes.{AgreeUnder, IsNextListed}
-use Rattle.wac_agreement.specs.Slots.{IsOpen}
+use Rattle.wac_agreeing.specs.Fitting.{IsOpen}
 use Rattle.wac_agreement.specs.declared.apart.Level.{Level}
 use Rattle.wac_terms.proofs.Found.{no_some, some_same}
-use Rattle.wac_agreement.proofs.Comparing.{agree_closed, open_agree, open_tree}
-use Rattle.wac_agreement.proofs.Disagreeing.{is_none}
-use Rattle.wac_agreement.proofs.Leading.{all_agree, all_before, leads_on, map_pushed, split_at}
-use Rattle.wac_agreement.proofs.Meeting.{taken}
+use Rattle.wac_agreeing.proofs.Comparing.{agree_closed, open_agree, open_tree}
+use Rattle.wac_agreement.proofs.Leading.{all_agree, all_before, leads_on, map_pushed, split_at, is_none}
+use Rattle.wac_agreeing.proofs.Tables.{taken}
 
 -- ---- lists
 never_nil : {A : Type 0} (xs : List A) (x : A) → [] ≡ xs ++ x ∷ [] → ⊥

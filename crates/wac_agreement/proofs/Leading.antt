@@ -14,11 +14,11 @@ use Rattle.wac_shapes.proofs.Names.{take_at, same_name-from}
 use Rattle.std.proofs.lemmas.Bool.{cases_Bool}
 use Rattle.wac_entries.specs.Agreement.{LeadsApart, below, AgreesAt}
 use Rattle.wac_entries.specs.Nodes.{Node, Item, item_tree, listed_tree, tree_at, IsTable}
-use Rattle.wac_agreement.specs.Slots.{exports_of}
-use Rattle.wac_agreement.specs.Apart.{ItemsAgree}
+use Rattle.wac_agreeing.specs.Fitting.{exports_of}
+use Rattle.wac_agreeing.specs.Apart.{ItemsAgree}
 use Rattle.wac_agreement.specs.Shapes.{IsShaped, IsOfKind, AgreeUnder, IsNextListed}
 use Rattle.wac_terms.proofs.Found.{some_same, no_some, find_at}
-use Rattle.wac_agreement.proofs.Comparing.{all_at, listed_find, item_there, open_tree, agree_open}
+use Rattle.wac_agreeing.proofs.Comparing.{all_at, listed_find, item_there, open_tree, agree_open}
 use Rattle.wac_terms.proofs.Alike.{agree_at}
 
 -- ---- listings
@@ -138,6 +138,10 @@ match_some Q P (Some y) x h e = subst P (some_same y x e) h
 pub match_none : {A : Type 0} (Q : Type 0) (P : A → Type 0) (o : Option A) → MatchOption o Q P → ((x : A) → o ≡ Some x → ⊥) → Q
 match_none Q P None h never = h
 match_none Q P (Some y) h never = absurd (never y refl)
+
+pub is_none : {A : Type 0} (o : Option A) → ((x : A) → o ≡ Some x → ⊥) → o ≡ None
+is_none None never = refl
+is_none (Some x) never = absurd (never x refl)
 
 pub match_on : {A : Type 0} (Q R : Type 0) (P S : A → Type 0) (o : Option A) → (Q → R) → ((x : A) → P x → S x) → MatchOption o Q P → MatchOption o R S
 match_on Q R P S None f g h = f h

@@ -1,10 +1,3 @@
-pub mod Comparing
-pub mod SlotWalks
-pub mod SlotKeys
-pub mod Meeting
-pub mod Stepping
-pub mod Sizes
-pub mod Disagreeing
 pub mod Searching
 pub mod Leading
 pub mod Descending
@@ -24,4 +17,3 @@ pub mod OrderLaws
 pub mod OrderSteps
 pub mod OrderPlaces
 pub mod Agreeing
-pub mod Picking

@@ -6,7 +6,7 @@ use Rattle.wac_primitives.specs.Name.{Name}
 use Rattle.wac_collection.specs.Collection.{Collection, IsWellFormed}
 use Rattle.wac_shapes.specs.declared.component.ItemKind.{ItemKind}
 use Rattle.wac_entries.specs.Agreement.{compared, IsDisagreement, IsFirstDisagreement, LeadsApart, joined}
-use Rattle.wac_agreement.specs.Apart.{ItemsAgree, AreApart, AllAgree, IsFirstApart}
+use Rattle.wac_agreeing.specs.Apart.{ItemsAgree, AreApart, AllAgree, IsFirstApart}
 use Rattle.wac_entries.specs.Bindings.{AreHeld}
 use Rattle.wac_entries.specs.Classes.{Entry, by_names, same_class, AreClasses}
 use Rattle.wac_agreement.specs.Compared.{AreCompared}
@@ -20,13 +20,9 @@ use Rattle.wac_terms.proofs.Alike.{agree_at}
 use Rattle.wac_terms.proofs.Found.{one_some}
 use Rattle.wac_agreement.proofs.Kinded.{compared_of_kind}
 use Rattle.wac_agreement.proofs.Leading.{of_kind_shaped}
+use Rattle.wac_agreeing.proofs.Comparing.{all_from}
 use Rattle.wac_entries.proofs.Lists.{some-at}
 use Rattle.wac_terms.proofs.Found.{get_map, mapped_length}
-
--- what holds at each position holds of all
-pub all_from : {A : Type 0} (P : A → Type 0) (xs : List A) → ((k : ℕ) (x : A) → slice_get xs k ≡ Some x → P x) → AllByRecursion P xs
-all_from P [] h = tt
-all_from P (x ∷ xs) h = (h 0 x refl, all_from P xs (λ k y at. h (suc k) y at))
 
 module _ (c : Collection) (ns : List Node) (es : List Entry) (items : List Item) (counted : length items ≡ length es) (are : AreCompared ns c es items) where
   -- the entry of an item

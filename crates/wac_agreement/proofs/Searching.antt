@@ -10,7 +10,7 @@ use Rattle.wac_entries.specs.Nodes.{Sorted}
 use Rattle.wac_agreement.specs.Shapes.{compare, AreBefore, AreBehind}
 use Rattle.wac_terms.proofs.Found.{less_cases}
 use Rattle.wac_terms.proofs.Found.{some_same, one_some, no_some, find_at}
-use Rattle.wac_agreement.proofs.Comparing.{at_find, all_at, never_less}
+use Rattle.wac_agreeing.proofs.Comparing.{at_find, all_at, never_less}
 
 module _ {V : Type 0} where
   sorted_pair : (es : List (Name × V)) (k l : ℕ) (e f : Name × V) → Sorted es → k < l → slice_get es k ≡ Some e → slice_get es l ≡ Some f → compare e.0 f.0 ≡ Less

@@ -11,8 +11,8 @@ use Rattle.wac_entries.specs.Agreement.{AreInstances}
 use Rattle.wac_entries.specs.Nodes.{Node, Item, type_of, item_tree, tree_at}
 use Rattle.wac_entries.specs.NodeViews.{item_view}
 use Rattle.wac_entries.specs.declared.nodes.Item.{Item as AnItem}
-use Rattle.wac_agreement.specs.Slots.{exports_of}
-use Rattle.wac_agreement.specs.Apart.{ItemsAgree}
+use Rattle.wac_agreeing.specs.Fitting.{exports_of}
+use Rattle.wac_agreeing.specs.Apart.{ItemsAgree}
 use Rattle.wac_agreement.specs.Shapes.{AgreeUnder, IsOfKind, IsShaped}
 use Rattle.wac_agreement.specs.declared.apart.Level.{Level}
 use Rattle.wac_agreement.specs.declared.apart.Look.{Look}

@@ -1,5 +1,3 @@
-pub mod Slots
-pub mod Apart
 pub mod Shapes
 pub mod Levels
 pub mod Reach
@@ -7,4 +5,3 @@ pub mod ReachSteps
 pub mod Compared
 pub mod Resting
 pub mod Order
-pub mod Picked

@@ -12,7 +12,7 @@ use Rattle.wac_collection.specs.Collection.{Collection, HasInterface, interface_
 use Rattle.wac_shapes.specs.declared.component.ItemKind.{ItemKind}
 use Rattle.wac_shapes.specs.declared.component.ItemKind.TheVariants as kind
 use Rattle.wac_entries.specs.Nodes.{Node, Item}
-use Rattle.wac_agreement.specs.Apart.{ItemsAgree}
+use Rattle.wac_agreeing.specs.Apart.{ItemsAgree}
 
 -- each instance, at each depth, is told by what it exports
 abbrev pub IsShaped : TypeTree Called → Type 0

@@ -9,15 +9,15 @@ ghost use Rattle.wac_primitives.specs.Name.{find_name, option_case};
 ghost use Rattle.wac_entries.specs.Agreement.{AreInstances, LeadsApart};
 ghost use Rattle.wac_entries.specs.Nodes.{Sorted, type_of, item_tree, tree_at};
 ghost use Rattle.wac_entries.specs.NodeViews.{item_view, listed};
-ghost use Rattle.wac_agreement.specs.Apart.{ItemsAgree};
+ghost use Rattle.wac_agreeing.specs.Apart.{ItemsAgree};
 ghost use Rattle.wac_agreement.specs.Levels.{HasPassed, IsLevel, IsStart, Looks, name_of};
 ghost use Rattle.wac_agreement.specs.Shapes.{IsOfKind, IsShaped};
-ghost use Rattle.wac_agreement.specs.Slots.{exports_of};
+ghost use Rattle.wac_agreeing.specs.Fitting.{exports_of};
 ghost use Rattle.wac_collection.specs.Collection.{Collection};
 
-use crate::slots::exports;
 use std::alloc::{AllocError, Global};
 use std::cmp::Ordering;
+use wac_agreeing::fitting::exports;
 use wac_collection::{InterfaceId, ItemKind, Types};
 use wac_entries::nodes::{Item, Nodes};
 

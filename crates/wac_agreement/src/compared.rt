@@ -14,9 +14,9 @@ ghost use Rattle.wac_terms.specs.Faults.{Disagrees};
 ghost use Rattle.wac_terms.specs.NoDisagreement.{HasNoDisagreement};
 ghost use Rattle.wac_entries.specs.NodeViews.{item_view};
 
-use crate::agreement::first_disagreement;
 use crate::apart::path_apart;
 use std::alloc::{AllocError, Global};
+use wac_agreeing::agreement::first_disagreement;
 use wac_coding::calls::Calls;
 use wac_coding::coder::Source;
 use wac_coding::listing::scope_instance;

@@ -3,11 +3,8 @@
 //! The middle layer of `wac_merge`, whose crate is the door.
 #![tactic(auto)]
 
-pub mod agreement;
 pub mod apart;
 pub mod compared;
 pub mod order;
-pub mod picked;
 pub mod reach;
 pub mod rests;
-pub mod slots;

@@ -119,7 +119,7 @@ no_type_item e = not (is_type e.1)
 abbrev pub rest_of : List (Name × ItemKind) → List (Name × ItemKind)
 rest_of es = filter other_type_item es ++ filter no_type_item es
 
-zip-push : {A B : Type 0} (R : A → B → Type 0) (xs : List A) (ys : List B) (x : A) (y : B) → AllZip R xs ys → R x y → AllZip R (xs ++ x ∷ []) (ys ++ y ∷ [])
+pub zip-push : {A B : Type 0} (R : A → B → Type 0) (xs : List A) (ys : List B) (x : A) (y : B) → AllZip R xs ys → R x y → AllZip R (xs ++ x ∷ []) (ys ++ y ∷ [])
 zip-push R [] [] x y zip r = (r, tt)
 zip-push R (a ∷ xs) (b ∷ ys) x y zip r = (zip.0, zip-push R xs ys x y zip.1 r)
 zip-push R [] (b ∷ ys) x y zip r = absurd zip
@@ -275,6 +275,10 @@ taken-all c es all left (p ∷ ps) (x ∷ xs) takes zip =
     IsPermutation-trans (selected left es) (x ∷ selected (λ q. left q && not (q == p)) es) (x ∷ xs) (take-out left p takes.0.here es x zip.0)
     (IsPermutation-cons x (selected (λ q. left q && not (q == p)) es) xs (taken-all c es all (λ q. left q && not (q == p)) ps xs takes.1 zip.1))
 
+-- so the type items of value types, in order, are those that are listed
+pub types-ordered : (c : Collection) (es : List (Name × ItemKind)) (ps : List ℕ) (xs : List (Name × ItemKind)) → AreOrdered c es ps → AllZip (Stand es) ps xs → IsPermutation (filter value_item es) xs
+types-ordered c es ps xs ordered at = subst (λ (ys : List (Name × ItemKind)). IsPermutation ys xs) (types-selected es) (taken-all c es es (is_value_type_at es) ps xs ordered at)
+
 pub is-order : (c : Collection) (es : List (Name × ItemKind)) (ps : List ℕ) (xs order : List (Name × ItemKind)) → AreOrdered c es ps → AllZip (Stand es) ps xs → order ≡ xs ++ rest_of es → IsOrder c es order
 is-order c es ps xs order ordered at is = record {
   positions = ps;
@@ -284,7 +288,7 @@ is-order c es ps xs order ordered at is = record {
   is = is;
   permutation = subst (λ (ys : List (Name × ItemKind)). IsPermutation es ys) (sym is) (IsPermutation-trans es (filter value_item es ++ filter no_value_item es) (xs ++ rest_of es)
       (IsPermutation-filter_both value_item no_value_item (λ e. refl) es)
-      (IsPermutation-append (filter value_item es) xs (filter no_value_item es) (rest_of es) (subst (λ (ys : List (Name × ItemKind)). IsPermutation ys xs) (types-selected es) (taken-all c es es (is_value_type_at es) ps xs ordered at)) (rest-grouped es)));
+      (IsPermutation-append (filter value_item es) xs (filter no_value_item es) (rest_of es) (types-ordered c es ps xs ordered at) (rest-grouped es)));
 }
 
 -- each position that is taken is one of the list
@@ -298,13 +302,13 @@ taken-within c es left (q ∷ ps) takes few (suc i) p at = taken-within c es (λ
     first false b h = cc
 
 -- the items of the interface, ordered: behind the type items of value types the one group, then the other
-pub order-of : (c : Collection) (i : InterfaceId) (it : Interface) (ps : List ℕ) (xs ys order : List (Name × ItemKind)) → item_at c.interfaces i.0 ≡ Some it → ((x : Interface) → item_at c.interfaces i.0 ≡ Some x → AreOrdered c x.exports ps)
+pub order-of : (c : Collection) (i : InterfaceId) (it : Interface) (ps : List ℕ) (xs ys order : List (Name × ItemKind)) → item_at c.interfaces i.0 ≡ Some it → AreOrdered c it.exports ps
     → AllZip (Stand it.exports) ps xs → ys ≡ xs ++ filter other_type_item it.exports → order ≡ ys ++ filter no_type_item it.exports → (x : Interface) → item_at c.interfaces i.0 ≡ Some x → IsOrder c x.exports order
 order-of c i it ps xs ys order found ordered at types is x also =
     let both : Some it ≡ Some x = sym found ∙ also in
     let same : it ≡ x = cc in
     let whole : order ≡ xs ++ rest_of it.exports = is ∙ ap (λ (zs : List (Name × ItemKind)). zs ++ filter no_type_item it.exports) types ∙ append_assoc xs (filter other_type_item it.exports) (filter no_type_item it.exports) in
-    subst (λ (y : Interface). IsOrder c y.exports order) same (is-order c it.exports ps xs order (ordered it found) at whole)
+    subst (λ (y : Interface). IsOrder c y.exports order) same (is-order c it.exports ps xs order ordered at whole)
 
 pub type-within : (es : List (Name × ItemKind)) (p : ℕ) → is_value_type_at es p ≡ true → p < length es
 type-within [] p h = cc

@@ -211,8 +211,9 @@ impl<'a> TypeEncoder<'a> {
         requires { HasInterface self.now.types.now interface }
         ensures { IfOk result (λ order. (it : AnInterface) → item_at self.now.types.now.interfaces interface.0 ≡ Some it → IsOrder self.now.types.now it.exports (named_pairs order.items)) }
     {
+        self.types.law();
         let items = &self.types[interface].exports;
-        let positions = type_order(self.types, interface)?;
+        let positions = type_order(self.types, items)?;
         let mut order = items_at(self.types.allocator(), items, positions.as_slice())?;
         add_other_types(items, &mut order)?;
         add_others(items, &mut order)?;

@@ -4,7 +4,9 @@ ghost use Rattle.wac_collection.specs.Collection.{HasWorld};
 ghost use Rattle.wac_scopes.specs.Contents.{IsRoot};
 ghost use Rattle.wac_scopes.specs.Rooted.{IsRightRoot};
 
-use crate::rows::Row::{Component, Enumeration, Func, Instance, Resource, TypeOf};
+use crate::rows::Row::{
+    Component, Enumeration, Func, Instance, List, Optional, Pair, Resource, TypeOf,
+};
 use crate::rows::{Items, Row, assert_row, component};
 use std::alloc::Global;
 use std::process::Abort;
@@ -48,6 +50,44 @@ const FUNCTION_TYPE: &[u8] = &[
     0x03, 0x00, 0x01, 0x74, 0x03, 0x00, 0x00, // `t` is imported
     0x01, 0x40, 0x01, 0x01, 0x78, 0x01, 0x01, 0x00, // a function type over `t`
     0x03, 0x00, 0x01, 0x67, 0x03, 0x00, 0x02, // `g` is that type
+];
+
+const IMPORTED_IN_ORDER: &[u8] = &[
+    0x00, 0x61, 0x73, 0x6d, 0x0d, 0x00, 0x01, 0x00, // the preamble
+    0x07, 0x19, 0x01, 0x41, 0x04, // a component type of four declarations
+    0x01, 0x6d, 0x01, 0x01, 0x78, // the enum
+    0x03, 0x00, 0x01, 0x62, 0x03, 0x00, 0x00, // `b` is imported
+    0x01, 0x70, 0x01, // a list of `b`
+    0x03, 0x00, 0x01, 0x61, 0x03, 0x00, 0x02, // `a` is imported
+];
+
+const EXPORTED_IN_ORDER: &[u8] = &[
+    0x00, 0x61, 0x73, 0x6d, 0x0d, 0x00, 0x01, 0x00, // the preamble
+    0x07, 0x19, 0x01, 0x41, 0x04, // a component type of four declarations
+    0x01, 0x6d, 0x01, 0x01, 0x78, // the enum
+    0x04, 0x00, 0x01, 0x62, 0x03, 0x00, 0x00, // `b` is exported
+    0x01, 0x70, 0x01, // a list of `b`
+    0x04, 0x00, 0x01, 0x61, 0x03, 0x00, 0x02, // `a` is exported
+];
+
+const IN_ORDER: &[u8] = &[
+    0x00, 0x61, 0x73, 0x6d, 0x0d, 0x00, 0x01, 0x00, // the preamble
+    0x07, 0x58, 0x01, 0x41, 0x0d, // a component type of thirteen declarations
+    0x01, 0x42, 0x02, // an instance type of two declarations
+    0x01, 0x6d, 0x01, 0x01, 0x79, // an enum
+    0x04, 0x00, 0x01, 0x74, 0x03, 0x00, 0x00, // its type item `t`
+    0x03, 0x00, 0x01, 0x69, 0x05, 0x00, // `i` is imported
+    0x01, 0x6d, 0x01, 0x01, 0x78, // the other enum
+    0x03, 0x00, 0x01, 0x62, 0x03, 0x00, 0x01, // `b` is imported
+    0x02, 0x03, 0x00, 0x00, 0x01, 0x74, // `t` of `i` is aliased
+    0x01, 0x6f, 0x02, 0x02, 0x03, // a tuple of `b` and `t`
+    0x03, 0x00, 0x01, 0x63, 0x03, 0x00, 0x04, // `c` is imported
+    0x01, 0x40, 0x01, 0x01, 0x70, 0x05, 0x01, 0x00, // a function type over `c`
+    0x03, 0x00, 0x01, 0x66, 0x01, 0x06, // `f` is imported
+    0x01, 0x70, 0x02, // a list of `b`
+    0x04, 0x00, 0x01, 0x6c, 0x03, 0x00, 0x07, // `l` is exported
+    0x01, 0x6b, 0x08, // an optional `l`
+    0x04, 0x00, 0x01, 0x6b, 0x03, 0x00, 0x09, // `k` is exported
 ];
 
 const IMPORTED: &[u8] = &[
@@ -166,6 +206,24 @@ const LISTING: &[Row] = &[
     Component(None, &[("g", 4), ("t", 0)], &[]),
 ];
 
+// A list of an enumeration, listed before that by worlds on either side, and a world that also lists an instance and a function.
+const UNORDERED: &[Row] = &[
+    Enumeration("x"),
+    List(0),
+    Component(None, &[("a", 1), ("b", 0)], &[]),
+    Component(None, &[], &[("a", 1), ("b", 0)]),
+    Enumeration("y"),
+    Instance(None, &[("t", 4)]),
+    Pair(0, 4),
+    Func(&[("p", 6)], None),
+    Optional(1),
+    Component(
+        None,
+        &[("f", 7), ("c", 6), ("b", 0), ("i", 5)],
+        &[("k", 8), ("l", 1)],
+    ),
+];
+
 // A world that imports a function, without an id and with one.
 const FUNCTION: &[Row] = &[
     Func(&[], None),
@@ -197,6 +255,30 @@ const WORLDS: &[WorldRow] = &[
         way: Typed,
         answer: Ok(true),
         want: FUNCTION_TYPE,
+    },
+    WorldRow {
+        name: "an imported type item stands behind that which it mentions, and names it, also where it is listed first",
+        rows: UNORDERED,
+        place: 2,
+        way: Typed,
+        answer: Ok(true),
+        want: IMPORTED_IN_ORDER,
+    },
+    WorldRow {
+        name: "so does an exported one",
+        rows: UNORDERED,
+        place: 3,
+        way: Typed,
+        answer: Ok(true),
+        want: EXPORTED_IN_ORDER,
+    },
+    WorldRow {
+        name: "each side has an order of its own, behind its instances and before its functions, and type items name what the instances and the other side list",
+        rows: UNORDERED,
+        place: 9,
+        way: Typed,
+        answer: Ok(true),
+        want: IN_ORDER,
     },
     WorldRow {
         name: "a world that lists nothing is a component type without declarations",

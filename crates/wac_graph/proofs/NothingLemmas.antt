@@ -1,7 +1,6 @@
 -- No entries have a merge, whatever types there are, and it is the same over all of them.
-use Rattle.std.proofs.Common.{◌≡◌, ◌==◌, ℕ, suc, List, [], ◌∷◌, length, map, true, false, Some, ap, sym, refl, subst, ◌∙◌, arith}
+use Rattle.std.proofs.Common.{◌≡◌, ℕ, List, [], map, Some, ap, sym, refl, subst, ◌∙◌}
 use Rattle.std.specs.Prelude.{slice_get}
-use Rattle.std.proofs.lemmas.Bool.{false≢true}
 use Rattle.wac_cycles.specs.Cycles.{Path, step, further}
 use Rattle.wac_primitives.specs.Name.{Name}
 use Rattle.wac_shapes.specs.declared.component.InterfaceId.{InterfaceId}
@@ -12,7 +11,7 @@ use Rattle.wac_terms.specs.Merge.{Merged, IsMerge, names_behind}
 use Rattle.wac_uses.specs.United.{listed_by}
 use Rattle.wac_terms.specs.NoDisagreement.{HasNoDisagreement}
 use Rattle.wac_merge.specs.Listed.{AreListedInOrder, Unites, as_import, inside, united_interfaces}
-use Rattle.wac_terms.specs.Faults.{Fault, disagree, use_each_other, HasFault, HasNoCircle}
+use Rattle.wac_terms.specs.Faults.{HasNoCircle}
 use Rattle.wac_agreement.proofs.OrderLaws.{arranges_alike}
 use Rattle.wac_nodes.specs.Graph.{Graph}
 use Rattle.wac_nodes.specs.Entries.{asked_entries, to_merge}
@@ -37,10 +36,6 @@ no_circle c a p = no_path c a a p
 
 pub no_disagreement : (c : Collection) → HasNoDisagreement by_names c []
 no_disagreement c i j d = let at = d.at_first in cc
-
-pub no_fault : (c : Collection) (f : Fault) → HasFault by_names c [] f → ⊥
-no_fault c (disagree first second export) h = no_disagreement c first second h.is_first.disagree
-no_fault c (use_each_other import) h = no_class (h.1).number (h.1).class (h.1).numbered
 
 -- a merge of no entries over some types is one over others
 pub nothing_merges : (c d : Collection) (m : Merged) → IsMerge by_names d [] m → IsMerge by_names c [] m
@@ -73,10 +68,6 @@ nothing_listed c d m h w is it united at =
     h w is it other at ∙ ap (λ js. names_behind [] (map (interface_exports d) js)) none ∙ sym (ap (λ js. names_behind [] (map (interface_exports c) js)) none)
 
 -- a graph that asks for nothing
-pub none_asked : {A B : Type 0} (f : A → B) (xs : List A) (ys : List B) → (length xs == 0) ≡ true → map f xs ≡ ys → ys ≡ []
-none_asked f [] ys empty same = sym same
-none_asked f (x ∷ xs) ys empty same = let one : (suc (length xs) == 0) ≡ false = grind arith in absurd (false≢true (sym one ∙ empty))
-
 pub has_merge : (g : Graph) → asked_entries g ≡ [] → HasMerge g
 has_merge g none =
     let same : to_merge (asked_entries g) ≡ [] = ap to_merge none in (

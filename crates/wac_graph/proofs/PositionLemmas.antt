@@ -16,7 +16,6 @@ use Rattle.wac_subtyping.specs.Subtype.{IsSubtype}
 use Rattle.wac_edges.specs.declared.node.NodeId.{NodeId}
 use Rattle.wac_edges.specs.Edge.{argument_edge}
 use Rattle.wac_nodes.specs.declared.node.Node.{Node}
-use Rattle.wac_nodes.specs.declared.errors.InstantiationArgumentError.TheVariants.{OutOfMemory}
 use Rattle.wac_nodes.specs.Graph as graph
 use Rattle.wac_nodes.specs.Graph.{Graph, GraphNode, node_at, interface_of, imports_of, IsArgumentOf, IsUnsatisfied}
 use Rattle.wac_nodes.specs.Nodes.{node_of}
@@ -103,10 +102,6 @@ module _ (g : Graph) (id argument : NodeId) (name : Name) (position : ℕ) (kind
       let named : import_named g n name ≡ Some (position, kind) = (subst (λ o. IsSomeAnd o (λ n. (n.kind ≡ graph.instantiation) × (import_named g n name ≡ Some (position, kind)))) at import).1 in
       let fit = subst (λ o. IfSome o (λ given. IfSome (import_named g n name) (λ e. IsSubtype g.types given.item_kind g.types e.1))) there (subst (λ o. IfSome o (λ n. IfSome (node_at g argument) (λ given. IfSome (import_named g n name) (λ e. IsSubtype g.types given.item_kind g.types e.1)))) at fits) in
       inr (unset, subst (λ o. IfSome o (λ e. IsSubtype g.types given.item_kind g.types e.1)) named fit, is))
-
--- where memory ran out nothing has changed
-pub set_nothing : (g : Graph) (id argument : NodeId) (name : Name) (new : Graph) → new ≡ g → SetsArgument g id name argument (Err OutOfMemory) new
-set_nothing g id argument name new same = if_some (node_at g id) (λ n. IfSome (node_at g argument) (λ given. SetsOn g id n name argument given (Err OutOfMemory) new)) (λ n _. if_some (node_at g argument) (λ given. SetsOn g id n name argument given (Err OutOfMemory) new) (λ given _. same))
 
 -- what holds of an answer holds of it as something weaker
 pub if_ok : {A E : Type 0} (r : Result A E) (P Q : A → Type 0) → ((a : A) → P a → Q a) → IfOk r P → IfOk r Q

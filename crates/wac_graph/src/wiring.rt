@@ -4,6 +4,7 @@ ghost use Rattle.wac_collection.specs.Collection.{holds_type, world_exports};
 ghost use Rattle.wac_shapes.specs.Named.{NoNameTwice, names_of};
 ghost use Rattle.wac_shapes.specs.declared.component.«Type».TheVariants.{World as world_type};
 ghost use Rattle.wac_nodes.specs.Graph.{node_at, package_at};
+ghost use Rattle.wac_nodes.specs.Steps.{Instantiates};
 ghost use Rattle.wac_plugging.specs.Fitting.{AllFit, IsPair, node_imports};
 ghost use Rattle.wac_plugging.specs.Matching.{Match, exports_of_package};
 ghost use Rattle.wac_plugging.specs.Pairs.{matches_at, AreWithin};
@@ -11,9 +12,34 @@ ghost use Rattle.wac_plugging.specs.Plugging.{InOrder, Wires, PlugsIn, PassesOn,
 
 use crate::graph::CompositionGraph;
 use crate::positions::{alias_export_at, set_argument_at};
+use std::alloc::AllocError;
 use wac_nodes::{NodeId, PackageId};
 use wac_plugging::{Pair, PlugError};
 use wac_types::WorldId;
+
+impl CompositionGraph {
+    /// Makes room for so many more nodes and edges, so that the tables of both grow at once. Nothing that can be seen changes, also
+    /// where memory runs out.
+    fn reserve(&mut self, nodes: usize, edges: usize) -> Result<(), AllocError>
+        ensures { self.new ≡ self.old }
+    {
+        self.nodes.reserve(nodes)?;
+        self.edges.reserve(edges)
+    }
+}
+
+/// Instantiates a plug, with room for so many aliases of its exports that become arguments: a node and two edges each.
+fn instantiate_plug(
+    graph: &mut CompositionGraph,
+    plug: PackageId,
+    aliases: usize,
+) -> Result<NodeId, AllocError>
+    requires { IsSome (package_at graph.old plug) }
+    ensures { Instantiates graph.old plug result graph.new }
+{
+    graph.reserve(aliases.saturating_add(1), aliases.saturating_mul(2))?;
+    graph.instantiate(plug)
+}
 
 /// Gives the export of a plug's node to the socket's node, whose import it is known to fit: its alias becomes the argument.
 fn wire(
@@ -54,7 +80,7 @@ pub fn plug_in(
         return Ok(());
     }
     graph.law();
-    let node = graph.instantiate(plug)?;
+    let node = instantiate_plug(graph, plug, pairs.len())?;
     for i in 0..pairs.len() {
         wire(graph, node, socket, pairs[i])?;
     }

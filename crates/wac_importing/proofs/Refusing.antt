@@ -30,9 +30,8 @@ use Rattle.wac_encode.proofs.Ordered.{stands-there}
 use Rattle.wac_encode.proofs.Inside.{all-plain}
 use Rattle.wac_encode.proofs.Plain.{each-plain}
 use Rattle.wac_meaning.specs.Importable.{IsPlainItem}
-use Rattle.wac_worlds.specs.Declaring.{is_declarable, are_declarable, declared_order, IsItemFault, IsStopped}
+use Rattle.wac_worlds.specs.Declaring.{is_declarable, are_declarable, IsItemFault, IsSideStopped}
 use Rattle.wac_worlds.specs.Worlds.{is_plain_world, IsStoppedBehind, IsWorldRefused}
-use Rattle.wac_worlds.proofs.Ordered.{in-order}
 use Rattle.wac_worlds.proofs.Whole.{plain-of, held-imports, held-exports}
 use Rattle.wac_importing.specs.Looked.{IsOfValues, IsPlainAlone, ArePlainInside, IsPlainDeep, ArePlainDeep, HasPlainItems, ListsPlain}
 use Rattle.wac_importing.proofs.Handles.{plain_free, value_needs_none, func_needs_none}
@@ -158,16 +157,17 @@ module _ (c : Collection) (wf : IsWellFormed c) where
   deep_fault (kind.Module m) held plain s f h = absurd plain
   deep_fault (kind.Value v) held plain s f h = absurd plain
 
-  none_stops : (side : Side) (start : Scope) (es : List (Name × ItemKind)) (f : WriteFault) → ((k : ℕ) (e : Name × ItemKind) → slice_get es k ≡ Some e → holds_type c (kind_type e.1) ≡ true) → ArePlainDeep c es → IsStopped c side start (declared_order es) (fault.Write f) → ⊥
+  none_stops : (side : Side) (start : Scope) (es : List (Name × ItemKind)) (f : WriteFault) → ((k : ℕ) (e : Name × ItemKind) → slice_get es k ≡ Some e → holds_type c (kind_type e.1) ≡ true) → ArePlainDeep c es → IsSideStopped c side start es (fault.Write f) → ⊥
   none_stops side start es f held plain h =
-      let e : Name × ItemKind = (h.name, h.item) in
-      let (k, at) = in_split h.before e h.after in
-      let (j, there) = stands-there (declared_order es) es (IsPermutation-sym es (declared_order es) (in-order es)) k e (ap (λ xs. slice_get xs k) h.split ∙ at) in
-      deep_fault h.item (held j e there) (plain j e there) h.scope f h.refused
+      let at_item = h.stopped in
+      let e : Name × ItemKind = (at_item.name, at_item.item) in
+      let (k, at) = in_split at_item.before e at_item.after in
+      let (j, there) = stands-there h.order es (IsPermutation-sym es h.order h.ordered.permutation) k e (ap (λ xs. slice_get xs k) at_item.split ∙ at) in
+      deep_fault at_item.item (held j e there) (plain j e there) at_item.scope f at_item.refused
 
   pub world_no_fault : (A : Type 0) (w : WorldId) → HasPlainItems c w → (f : WriteFault) → IsWorldRefused {A = A} c w (Err (fault.Write f)) → ⊥
   world_no_fault A w all f h = by h.stopped where
-    by : IsStopped c imported h.start (declared_order h.world.imports) (fault.Write f) ⊎ IsStoppedBehind c h.start h.world (fault.Write f) → ⊥
+    by : IsSideStopped c imported h.start h.world.imports (fault.Write f) ⊎ IsStoppedBehind c h.start h.world (fault.Write f) → ⊥
     by (inl s) = none_stops imported h.start h.world.imports f (held-imports c wf w h.world h.found) (subst (ArePlainDeep c) (imports_are c w h.world h.found) all.0) s
     by (inr b) = none_stops exported b.between h.world.exports f (held-exports c wf w h.world h.found) (subst (ArePlainDeep c) (world_exports_are c w h.world h.found) all.1) b.stopped
 

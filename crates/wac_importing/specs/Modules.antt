@@ -18,7 +18,7 @@ use Rattle.wac_scopes.specs.declared.fault.EncodeFault.TheVariants as fault
 use Rattle.wac_scopes.specs.declared.scope.Scope.{Scope}
 use Rattle.wac_scopes.specs.Contents.{and_core_module, and_import, count, ContentFits}
 use Rattle.wac_root.specs.Importing.{WritesImport, ImportedDoesNotFit}
-use Rattle.wac_components.specs.Imports.{ImportsWorld, IsWorldNotImported}
+use Rattle.wac_components.specs.Imports.{ImportsWorld, WorldDoesNotFit}
 
 -- what is written with a core module type, and an import of a core module of that type behind it
 abbrev pub and_module_import : Encodable → ModuleType → Name → ℕ → Encodable
@@ -58,6 +58,6 @@ WritesOne c old new n item k = WritesImport c old new n item k
 
 abbrev pub OneDoesNotFit : Collection → Name → ItemKind → Scope → Type 0
 OneDoesNotFit c n (kind.Module id) s = ModuleDoesNotFit c n id s
-OneDoesNotFit c n (kind.Component w) s = IsWorldNotImported {A = Unit {0}} c n e.Component w s (Err fault.TooLarge)
-OneDoesNotFit c n (kind.TypeItem (ty.World w)) s = IsWorldNotImported {A = Unit {0}} c n e.Equal w s (Err fault.TooLarge)
+OneDoesNotFit c n (kind.Component w) s = WorldDoesNotFit c n e.Component w s
+OneDoesNotFit c n (kind.TypeItem (ty.World w)) s = WorldDoesNotFit c n e.Equal w s
 OneDoesNotFit c n item s = ImportedDoesNotFit c n item s

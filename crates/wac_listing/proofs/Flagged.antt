@@ -6,13 +6,11 @@ use Rattle.std.proofs.lemmas.List.{length-replicate, get_or-replicate, map-appen
 use Rattle.wac_primitives.specs.Name.{Name, option_case}
 use Rattle.wac_shapes.proofs.Names.{take_at}
 use Rattle.wac_shapes.specs.declared.component.DefinedTypeId.{DefinedTypeId}
-use Rattle.wac_shapes.specs.declared.component.Interface.{Interface}
-use Rattle.wac_shapes.specs.declared.component.InterfaceId.{InterfaceId}
 use Rattle.wac_shapes.specs.declared.component.ItemKind.{ItemKind}
 use Rattle.wac_shapes.specs.declared.component.ItemKind.TheVariants as kind
 use Rattle.wac_shapes.specs.declared.component.«Type».TheVariants as ty
 use Rattle.wac_shapes.specs.declared.component.«Type».{«Type» as AnyType}
-use Rattle.wac_collection.specs.Collection.{Collection, IsWellFormed, item_at}
+use Rattle.wac_collection.specs.Collection.{Collection, IsWellFormed}
 use Rattle.wac_edges.specs.declared.node.NodeId.{NodeId}
 use Rattle.wac_edges.specs.Edge.{node_number, is_left}
 use Rattle.wac_edges.specs.Order.{Edges, Writes}
@@ -33,12 +31,6 @@ none-of (Some x) is h = cc
 pub some-of : {A : Type 0} (P : A → Type 0) (o : Option A) (x : A) → o ≡ Some x → IfSome o P → P x
 some-of P None x is h = cc
 some-of P (Some y) x is h = let same : y ≡ x = cc in subst P same h
-
--- what is answered of the interface's items
-pub of-interface : {E : Type 0} (c : Collection) (i : InterfaceId) (it : Interface) (r : Result (Vec ℕ Global) E) → item_at c.interfaces i.0 ≡ Some it → IfOk r (λ v. AreOrdered c it.exports v.items)
-    → IfOk r (λ v. (other : Interface) → item_at c.interfaces i.0 ≡ Some other → AreOrdered c other.exports v.items)
-of-interface c i it (Ok v) found h = λ other also. let both : Some it ≡ Some other = sym found ∙ also in let same : it ≡ other = cc in subst (λ (x : Interface). AreOrdered c x.exports v.items) same h
-of-interface c i it (Err e) found h = tt
 
 -- one more flag
 pub flags-more : (n : ℕ) (es : List (Name × ItemKind)) (i : ℕ) (k : ItemKind) (old new : List Bool) (b : Bool) → option_map (λ e. e.1) (slice_get es i) ≡ Some k → b ≡ is_value_type k → old ≡ replicate n true ++ map (λ e. is_value_type e.1) (take i es) → new ≡ old ++ b ∷ []

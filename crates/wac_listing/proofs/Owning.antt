@@ -1,15 +1,12 @@
 -- Items that are no instances.
-use Rattle.std.specs.Prelude.{slice_get, Result, Ok, Err, IfOk}
-use Rattle.std.specs.List.{filter, IsDistinct}
-use Rattle.std.proofs.Common.{ℕ, zero, suc, ◌≡◌, ◌∙◌, Bool, true, false, if◌then◌else◌, List, [], ◌∷◌, drop, ◌+◌, Option, Some, None, refl, ap, sym, subst}
+use Rattle.std.specs.Prelude.{slice_get}
+use Rattle.std.proofs.Common.{ℕ, zero, suc, ◌≡◌, ◌∙◌, Bool, true, false, if◌then◌else◌, List, [], ◌∷◌, Some, None, refl, ap, sym, subst}
 use Rattle.wac_primitives.specs.Name.{Name}
 use Rattle.wac_shapes.specs.declared.component.DefinedTypeId.{DefinedTypeId}
-use Rattle.wac_shapes.specs.declared.component.DefinedType.{DefinedType}
 use Rattle.wac_shapes.specs.declared.component.Interface.{Interface}
 use Rattle.wac_shapes.specs.declared.component.InterfaceId.{InterfaceId}
 use Rattle.wac_shapes.specs.declared.component.ItemKind.{ItemKind}
 use Rattle.wac_shapes.specs.declared.component.ItemKind.TheVariants as kind
-use Rattle.wac_shapes.specs.declared.component.ValueType.{ValueType}
 use Rattle.wac_shapes.specs.declared.component.ValueType.TheVariants as val
 use Rattle.wac_shapes.specs.declared.component.«Type».{«Type» as AnyType}
 use Rattle.wac_shapes.specs.declared.component.«Type».TheVariants as ty
@@ -18,10 +15,10 @@ use Rattle.wac_collection.specs.Aliases.{value_resolved}
 use Rattle.wac_reach.specs.Reach.{IsIn}
 use Rattle.wac_reach.proofs.Lists.{in_at, at_in}
 use Rattle.wac_listing.specs.Made.{MadeOf, itself, part, IsItemIn, listed, is_own, own_items, OneItemIsMadeOf, AreMadeOf}
-use Rattle.wac_listing.specs.Order.{definition, listed as listed_by, Lists}
-use Rattle.wac_listing.specs.Before.{IsAt, HasPartAt, AreReached}
+use Rattle.wac_listing.specs.Order.{listed as listed_by}
+use Rattle.wac_listing.specs.Before.{IsAt, AreReached}
 use Rattle.wac_listing.specs.Found.{items_ends, item_ends, definitions_in}
-use Rattle.wac_listing.proofs.Making.{AreHeld, AreFound, definition-at, at-definition}
+use Rattle.wac_listing.proofs.Making.{AreHeld, definition-at, at-definition}
 use Rattle.wac_listing.proofs.Taking.{definition-is}
 
 -- an own item stands among the items
@@ -59,15 +56,12 @@ own-more c f es old new own put =
 pub own-passed : (c : Collection) (f : Name × ItemKind) (es : List (Name × ItemKind)) (old : List AnyType) → is_own f.1 ≡ false → items_ends c old (own_items es) ≡ items_ends c old (own_items (f ∷ es))
 own-passed c f es old other = sym (ap (λ (b : Bool). items_ends c old (if b then f ∷ own_items es else own_items es)) other)
 
--- of an interface
-abbrev pub OwnFoundOf : Collection → InterfaceId → List AnyType → ℕ → Type 0
-OwnFoundOf c i ts next = (it : Interface) → item_at c.interfaces i.0 ≡ Some it → AreFound c (own_items it.exports) ts next
-
-pub own-of-one : (c : Collection) (i : InterfaceId) (it : Interface) (ts : List AnyType) (next : ℕ) → item_at c.interfaces i.0 ≡ Some it → AreFound c (own_items it.exports) ts next → OwnFoundOf c i ts next
-own-of-one c i it ts next found f other at =
+-- of the interface that is there
+pub own-of-interface : (c : Collection) (i : InterfaceId) (it : Interface) (ds : List DefinedTypeId) → item_at c.interfaces i.0 ≡ Some it → AreMadeOf c (own_items it.exports) ds → (other : Interface) → item_at c.interfaces i.0 ≡ Some other → AreMadeOf c (own_items other.exports) ds
+own-of-interface c i it ds found made other at =
     let both : Some it ≡ Some other = sym found ∙ at in
     let same : it ≡ other = cc in
-    subst (λ (x : Interface). AreFound c (own_items x.exports) ts next) same f
+    subst (λ (x : Interface). AreMadeOf c (own_items x.exports) ds) same made
 
 -- an item that lists a definition is no instance
 listed-own : (c : Collection) (k : ItemKind) (d : DefinedTypeId) → listed_by c k ≡ Some d → is_own k ≡ true
@@ -109,7 +103,3 @@ own-reached c es ts held made = record {
         let at = (made d).1 h in
         let there = at_in (ty.Value (val.Defined d)) ts (at-definition ts at.0 d at.1) in
         (there.0, there.2)
-
--- of an interface that is there
-pub own-reached-of : (c : Collection) (i : InterfaceId) (it : Interface) (ts : List AnyType) → item_at c.interfaces i.0 ≡ Some it → ((d : DefinedTypeId) → IsIn (ty.Value (val.Defined d)) ts → HasDefined c d) → ((x : Interface) → item_at c.interfaces i.0 ≡ Some x → AreMadeOf c (own_items x.exports) (definitions_in ts)) → AreReached c it.exports ts
-own-reached-of c i it ts found held made = own-reached c it.exports ts held (made it found)

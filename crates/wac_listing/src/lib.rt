@@ -1,4 +1,4 @@
-//! The order in which the type items of an interface are written.
+//! The order in which the type items of an interface, and of a side of a world, are written.
 #![tactic(auto)]
 
 mod made;

@@ -206,16 +206,18 @@ pub fn definitions_of(
     definitions_among(alloc, found.as_slice())
 }
 
-/// The definitions that the items of an interface are made of that are no instances, among types of which each stands once. Linear,
-/// without recursion.
-pub(crate) fn own_found(types: &Types, interface: InterfaceId) -> Result<IndexSet<Type>, AllocError>
-    requires { HasInterface types.now interface }
+/// The definitions that the items that are no instances are made of, among types of which each stands once. Linear, without recursion.
+pub(crate) fn own_found(
+    types: &Types,
+    items: &Named<ItemKind>,
+) -> Result<IndexSet<Type>, AllocError>
+    requires { (k : ℕ) (e : List ℕ × AnyItem) → slice_get items.now k ≡ Some e → holds_type types.now (kind_type e.1) ≡ true }
     ensures held { IfOk result (λ found. (d : AnId) → IsIn (ty.Value (val.Defined d)) found.keys → HasDefined types.now d) }
-    ensures made { IfOk result (λ found. (it : AnInterface) → item_at types.now.interfaces interface.0 ≡ Some it → AreMadeOf types.now (own_items it.exports) (definitions_in found.keys)) }
+    ensures made { IfOk result (λ found. AreMadeOf types.now (own_items items.now) (definitions_in found.keys)) }
 {
     types.law();
     let mut found = IndexSet::new(types.allocator());
-    put_own_items(types, &mut found, &types[interface].exports)?;
+    put_own_items(types, &mut found, items)?;
     let mut place = 0;
     while place < found.len() {
         let ty = found.as_slice()[place];
@@ -237,6 +239,7 @@ pub fn own_definitions_of(
     ensures held { IfOk result (λ ds. (k : ℕ) (d : AnId) → slice_get ds.items k ≡ Some d → HasDefined types.now d) }
     ensures made { IfOk result (λ ds. (it : AnInterface) → item_at types.now.interfaces interface.0 ≡ Some it → AreMadeOf types.now (own_items it.exports) ds.items) }
 {
-    let found = own_found(types, interface)?;
+    types.law();
+    let found = own_found(types, &types[interface].exports)?;
     definitions_among(types.allocator(), found.as_slice())
 }

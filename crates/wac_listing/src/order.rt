@@ -1,33 +1,33 @@
 //! Type items of value types, each behind those that it mentions.
 
-ghost use Rattle.std.specs.Prelude.{◌≡◌, ◌+◌, ◌<◌, ◌^◌, Some, IfOk, length};
-ghost use Rattle.wac_shapes.specs.declared.component.Interface.{Interface as AnInterface};
-ghost use Rattle.wac_collection.specs.Collection.{HasInterface, item_at};
+ghost use Rattle.std.specs.Prelude.{◌≡◌, ◌+◌, ◌<◌, ◌^◌, ℕ, List, Some, true, IfOk, length, slice_get};
+ghost use Rattle.wac_shapes.specs.declared.component.ItemKind.{ItemKind as AnyItem};
+ghost use Rattle.wac_shapes.specs.Kinds.{kind_type};
+ghost use Rattle.wac_collection.specs.Collection.{holds_type};
 ghost use Rattle.wac_listing.specs.Order.{AreOrdered};
 ghost use Rattle.wac_listing.specs.Before.{AreReached, items_of};
 
 use crate::made::own_found;
 use crate::places::Places;
 use std::alloc::{AllocError, Global};
-use wac_collection::{InterfaceId, Types};
+use wac_collection::{ItemKind, Named, Types};
 use wac_edges::edges::Edges;
 use wac_edges::node::NodeId;
 use wac_edges::order::order;
 use wac_reach::Reached;
 
-/// The positions of an interface's type items of value types in the order in which they are written: the next is always the first listed one of
-/// those left that mentions none of those left. An item mentions another where its definition is made of that which the other names,
-/// being the first that lists it. This takes as many steps as the definitions that its items are made of have parts, those of instances left out, but for a logarithm.
+/// The positions of the type items of value types among these items in the order in which they are written: the next is always the first
+/// listed one of those left that mentions none of those left. An item mentions another where its definition is made of that which the
+/// other names, being the first that lists it. This takes as many steps as the definitions that the items are made of have parts, those
+/// of instances left out, but for a logarithm.
 ///
 /// Answers `AllocError` where memory ran out.
 #[tactic(none)]
-pub fn type_order(types: &Types, interface: InterfaceId) -> Result<Vec<usize>, AllocError>
-    requires { HasInterface types.now interface }
-    ensures { IfOk result (λ order. (it : AnInterface) → item_at types.now.interfaces interface.0 ≡ Some it → AreOrdered types.now it.exports order.items) }
+pub fn type_order(types: &Types, items: &Named<ItemKind>) -> Result<Vec<usize>, AllocError>
+    requires { (k : ℕ) (e : List ℕ × AnyItem) → slice_get items.now k ≡ Some e → holds_type types.now (kind_type e.1) ≡ true }
+    ensures { IfOk result (λ order. AreOrdered types.now items.now order.items) }
 {
-    types.law();
-    let items = &types[interface].exports;
-    let found = own_found(types, interface)?;
+    let found = own_found(types, items)?;
     let reached = Reached::of(found);
     let places = Places {
         types,

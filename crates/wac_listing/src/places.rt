@@ -1,4 +1,4 @@
-//! What comes before what among the definitions and the items of an interface.
+//! What comes before what among items and the definitions that they are made of.
 
 ghost use Rattle.std.specs.Prelude.{◌≡◌, ◌≢◌, ◌+◌, ◌<◌, ◌^◌, ◌⊎◌, ℕ, Option, Some, IfSome, IfNone, IfOk, OnOk, length, slice_get};
 ghost use Rattle.std.specs.Option.{unwrap_or};
@@ -20,8 +20,8 @@ use wac_edges::edges::{Edge, Edges, Label};
 use wac_edges::node::NodeId;
 use wac_reach::Reached;
 
-/// The definitions and the items of an interface, as nodes: each definition by its position among the types that the interface
-/// reaches, and each item by its own, behind these.
+/// Items and the definitions that they are made of, as nodes: each definition by its position among the types that are reached, and
+/// each item by its own, behind these.
 #[derive(Clone, Copy)]
 pub(crate) struct Places<'a> {
     pub(crate) types: &'a Types,

@@ -57,18 +57,23 @@ pub fn make<G: Graph>(
     Ok(())
 }
 
-/// Removes every other triple, and makes each again; none where a call is refused.
-pub fn turn<G: Graph>(
-    graph: &mut G,
-    parts: Parts,
-    names: &[String],
-    triples: &mut [Triple],
-) -> Option<()> {
+/// Removes every other triple; none where a call is refused.
+pub fn remove<G: Graph>(graph: &mut G, triples: &[Triple]) -> Option<()> {
     for (number, triple) in triples.iter().enumerate() {
         if number % 2 == 1 {
             unmake(graph, *triple)?;
         }
     }
+    Some(())
+}
+
+/// Makes every other triple again; none where a call is refused.
+pub fn make_again<G: Graph>(
+    graph: &mut G,
+    parts: Parts,
+    names: &[String],
+    triples: &mut [Triple],
+) -> Option<()> {
     for (number, (slot, name)) in triples.iter_mut().zip(names).enumerate() {
         if number % 2 == 1 {
             *slot = make_triple(graph, parts, name.as_str())?;

@@ -4,7 +4,7 @@
 ghost use Rattle.std.specs.Prelude.{◌≡◌, IfOk, IfSome, true};
 ghost use Rattle.wac_entries.specs.Bindings.{AreHeld};
 
-use crate::nesting::{circle, nested};
+use crate::nesting::{circle, doubled, nested};
 use crate::times::{Shown, Workload};
 use crate::types::{
     FUNCTIONS, STRING, all_numbered, export, function, instance, records, versioned,
@@ -29,6 +29,8 @@ pub enum Sort {
     Nested,
     /// Two that do not agree at the bottom.
     Apart,
+    /// Two instances on one track, so many levels deep, each of which lists the one inside it twice, with other functions at the bottom.
+    Doubled,
     /// So many instances, each of which uses the one before, and a later version of the first that uses the last.
     Circle,
 }
@@ -43,6 +45,11 @@ pub const MEASURED: &[(&str, Sort, &[u64])] = &[
         "apart at the bottom",
         Sort::Apart,
         &[250, 500, 1_000, 2_000],
+    ),
+    (
+        "listed twice at each level",
+        Sort::Doubled,
+        &[25, 50, 100, 200],
     ),
     ("a circle", Sort::Circle, &[250, 500, 1_000, 2_000]),
 ];
@@ -107,7 +114,7 @@ impl Workload for Sort {
         let merged = merged(alloc, &asked.types, &asked.imports)?;
         match self {
             Sort::Functions | Sort::Records | Sort::Chain => Ok(merged),
-            Sort::Nested | Sort::Apart | Sort::Circle => Ok(None),
+            Sort::Nested | Sort::Apart | Sort::Doubled | Sort::Circle => Ok(None),
         }
     }
 }
@@ -263,6 +270,7 @@ fn ask(
         }
         Sort::Nested => nested(alloc, types, true, count, imports),
         Sort::Apart => nested(alloc, types, false, count, imports),
+        Sort::Doubled => doubled(alloc, types, count, imports),
         Sort::Circle => circle(alloc, types, count, imports),
     }
 }

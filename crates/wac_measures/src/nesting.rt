@@ -1,4 +1,5 @@
-//! Imports that are nested deep, that disagree at the bottom, and whose classes rest on each other in a circle.
+//! Imports that are nested deep, that disagree at the bottom, that list what is inside them twice, and whose classes rest on each
+//! other in a circle.
 
 use crate::merging::{Import, ask_for, chain, first_owned, next_owned};
 use crate::types::{U32, function, instance, numbered};
@@ -68,6 +69,48 @@ pub fn nested(
         second,
         count,
     )
+}
+
+/// Adds an instance that lists this twice.
+fn twice(alloc: Global, types: &mut Types, id: Option<&str>, inside: ItemKind) -> Result<ItemKind> {
+    let mut exports = Named::new(alloc);
+    exports.insert(alloc, "a", inside)?;
+    exports.insert(alloc, "b", inside)?;
+    instance(alloc, types, id, exports)
+}
+
+/// Asks for an instance so many levels deep, each of which lists the one inside it twice, with this at the bottom.
+fn double(
+    alloc: Global,
+    types: &mut Types,
+    imports: &mut Vec<Import>,
+    id: &str,
+    bottom: ItemKind,
+    count: u64,
+) -> Result<()> {
+    let mut inside = bottom;
+    for _ in 1..count {
+        inside = twice(alloc, types, None, inside)?;
+    }
+    let outer = twice(alloc, types, Some(id), inside)?;
+    ask_for(alloc, imports, id, outer)
+}
+
+/// Asks for two instances so many levels deep, on one track, that have other functions at the bottom.
+pub fn doubled(
+    alloc: Global,
+    types: &mut Types,
+    count: u64,
+    imports: &mut Vec<Import>,
+) -> Result<()> {
+    let plain = function(alloc, types, &[], None)?;
+    for (id, name) in [("a:b/i@1.0.0", "f"), ("a:b/i@1.1.0", "g")] {
+        let mut exports = Named::new(alloc);
+        exports.insert(alloc, name, plain)?;
+        let bottom = instance(alloc, types, None, exports)?;
+        double(alloc, types, imports, id, bottom, count)?;
+    }
+    Ok(())
 }
 
 /// Asks for so many instances in a circle.

@@ -3,7 +3,7 @@
 use crate::churn::{self, Triple};
 use crate::graph::Graph;
 use crate::graphs::{Parts, aliases, chain, fan, plug_and_socket, refused, shared};
-use crate::step::Step;
+use crate::step::{Pass, Step};
 use crate::types::all_numbered;
 use crate::wide;
 use anyhow::Result;
@@ -144,19 +144,20 @@ impl<G: Graph> Stand<G> {
         }
     }
 
-    /// Removes every other triple and makes it again.
-    fn turn(&mut self, plan: &Plan) -> Result<()> {
+    /// Makes every other triple again.
+    fn make_again(&mut self, plan: &Plan) -> Result<()> {
         let parts = refused(self.parts)?;
-        refused(churn::turn(&mut self.graph, parts, &plan.names, &mut self.triples))
+        refused(churn::make_again(&mut self.graph, parts, &plan.names, &mut self.triples))
     }
 
-    /// Does a step once.
-    fn step(&mut self, alloc: Global, plan: &Plan, step: Step) -> Result<()> {
-        match step {
-            Step::Prepared => self.prepare(alloc, plan),
-            Step::Made => self.make(alloc, plan),
-            Step::Turned => self.turn(plan),
-            Step::Encoded => {
+    /// Does a part of a step once.
+    fn pass(&mut self, alloc: Global, plan: &Plan, pass: Pass) -> Result<()> {
+        match pass {
+            Pass::Prepare => self.prepare(alloc, plan),
+            Pass::Make => self.make(alloc, plan),
+            Pass::Remove => refused(churn::remove(&mut self.graph, &self.triples)),
+            Pass::MakeAgain => self.make_again(plan),
+            Pass::Encode => {
                 self.written = self.graph.encode()?;
                 Ok(())
             }
@@ -178,7 +179,20 @@ pub fn empty<G: Graph>(alloc: Global, count: u32) -> Result<Vec<Stand<G>>, Alloc
     Ok(stands)
 }
 
-/// Does a step in each of these graphs, as often as it is done in one.
+/// Does a part of a step once in each of these graphs.
+fn pass_all<G: Graph>(
+    alloc: Global,
+    stands: &mut [Stand<G>],
+    plan: &Plan,
+    pass: Pass,
+) -> Result<()> {
+    for stand in stands.iter_mut() {
+        stand.pass(alloc, plan, pass)?;
+    }
+    Ok(())
+}
+
+/// Does a step in each of these graphs, as often as it is done in one; each part of it in all graphs before the next.
 pub fn do_all<G: Graph>(
     alloc: Global,
     stands: &mut [Stand<G>],
@@ -186,8 +200,8 @@ pub fn do_all<G: Graph>(
     step: Step,
 ) -> Result<()> {
     for _ in 0..plan.sort.times(step) {
-        for stand in stands.iter_mut() {
-            stand.step(alloc, plan, step)?;
+        for pass in step.passes() {
+            pass_all(alloc, stands, plan, *pass)?;
         }
     }
     Ok(())

@@ -2,8 +2,10 @@
 
 use crate::merged::Check::Lists;
 use crate::merged::{Case, assert_merged, interface_of};
+use crate::merging::finished;
 use crate::rows::Row::{Instance, Plain, TypeOf};
 use crate::rows::{Items, Row};
+use std::alloc::Global;
 use std::process::Abort;
 use wac_types::{Interface, InterfaceId, ItemKind, Type, Types};
 use wac_uniting::unions::Unions;
@@ -116,22 +118,33 @@ const BASE: &[Row] = &[
         &[("t", 2, None)],
         &[("t", 1), ("r", 3), ("f", 5), ("g", 6)],
     ),
+    Row::Plain,
+    Row::Instance(None, &[], &[("h", 8)]),
 ];
 
-// A merge of two imports that list one interface twice at each of so many levels ends.
-#[test]
-fn many_levels_are_merged(rt: HostRuntime) {
-    let alloc = rt.alloc();
-    let mut items = Items::new(&rt, alloc, BASE);
-    let used = items.kind(&rt, 2);
-    let base = items.kind(&rt, 7);
-    let first = above(&rt, &mut items.types, base, 40);
-    let second = above(&rt, &mut items.types, base, 40);
+// A merge of two imports that list an interface twice at each of so many levels ends, with these at the bottom.
+fn assert_levels_are_merged(rt: &impl Abort, alloc: Global, first: usize, second: usize) {
+    let mut items = Items::new(rt, alloc, BASE);
+    let used = items.kind(rt, 2);
+    let first = items.kind(rt, first);
+    let second = items.kind(rt, second);
+    let first = above(rt, &mut items.types, first, 40);
+    let second = above(rt, &mut items.types, second, 40);
     let asked = [
         ("n:p/i@1.0.0", first),
         ("n:p/i@1.1.0", second),
         ("n:p/j", used),
     ];
-    let merged = crate::merging::finished(alloc, &rt, &items.types, asked.as_slice());
+    let merged = finished(alloc, rt, &items.types, asked.as_slice());
     assert!(rt; merged.is_ok());
+}
+
+#[test]
+fn many_levels_are_merged(rt: HostRuntime) {
+    assert_levels_are_merged(&rt, rt.alloc(), 7, 7);
+}
+
+#[test]
+fn many_levels_over_others_are_merged(rt: HostRuntime) {
+    assert_levels_are_merged(&rt, rt.alloc(), 7, 9);
 }

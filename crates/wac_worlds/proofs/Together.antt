@@ -18,10 +18,9 @@ use Rattle.wac_stacks.specs.Listed.{IsUnder, AreListed, on_side, ListsOneMore, L
 use Rattle.wac_scopes.specs.Scoped.{opened}
 use Rattle.wac_encode.proofs.Listed.{all-of}
 use Rattle.wac_encode.proofs.Ordered.{once-ordered, same-under, stands-there}
-use Rattle.wac_worlds.specs.Declaring.{declared_order, DeclaresItem, DeclaresItems, IsItemRefused, IsStopped, AreRefused}
+use Rattle.wac_worlds.specs.Declaring.{IsDeclaredOrder, DeclaresItem, DeclaresItems, IsItemRefused, IsStopped, AreRefused, IsSideRefused}
 use Rattle.wac_worlds.specs.Steps.{DeclaresHeld, DeclaresAll, CanDeclare}
 use Rattle.wac_worlds.proofs.Declared.{item-open}
-use Rattle.wac_worlds.proofs.Ordered.{in-order}
 
 -- one more item
 
@@ -91,25 +90,23 @@ stops-at c side start now order i n k fault.OutOfMemory at so_far refused = tt
 stops-at c side start now order i n k fault.TooLarge at so_far refused = stopped c side start now order i n k fault.TooLarge at so_far refused
 stops-at c side start now order i n k (fault.Write f) at so_far refused = stopped c side start now order i n k (fault.Write f) at so_far refused
 
--- in the order in which they are listed
+-- in the order in which they are declared
 
-pub ordered-once : (es order : List (Name × ItemKind)) → order ≡ declared_order es → NoNameTwice es → NoNameTwice order
-ordered-once es order is once = subst NoNameTwice (sym is) (once-ordered es (declared_order es) (in-order es) once)
+pub ordered-once : (c : Collection) (es order : List (Name × ItemKind)) → IsDeclaredOrder c es order → NoNameTwice es → NoNameTwice order
+ordered-once c es order ordered once = once-ordered es order ordered.permutation once
 
-pub ordered-can : (c : Collection) (es order : List (Name × ItemKind)) → order ≡ declared_order es → ((k : ℕ) (e : Name × ItemKind) → slice_get es k ≡ Some e → CanDeclare c e.1) → (k : ℕ) (e : Name × ItemKind) → slice_get order k ≡ Some e → CanDeclare c e.1
-ordered-can c es order is can k e at =
-    let there = stands-there (declared_order es) es (IsPermutation-sym es (declared_order es) (in-order es)) k e (subst (λ (fs : List (Name × ItemKind)). slice_get fs k ≡ Some e) is at) in
-    can there.0 e there.1
+pub ordered-can : (c : Collection) (es order : List (Name × ItemKind)) → IsDeclaredOrder c es order → ((k : ℕ) (e : Name × ItemKind) → slice_get es k ≡ Some e → CanDeclare c e.1) → (k : ℕ) (e : Name × ItemKind) → slice_get order k ≡ Some e → CanDeclare c e.1
+ordered-can c es order ordered can k e at = let there = stands-there order es (IsPermutation-sym es order ordered.permutation) k e at in can there.0 e there.1
 
-pub as-listed : (c : Collection) → ListsInAnyOrder → (side : Side) (old new : Scope) (es order : List (Name × ItemKind)) → order ≡ declared_order es → NoNameTwice es → DeclaresAll c side old new order → DeclaresAll c side old new es
-as-listed c any side old new es order is once all m ms o os g nothing =
+pub as-listed : (c : Collection) → ListsInAnyOrder → (side : Side) (old new : Scope) (es order : List (Name × ItemKind)) → IsDeclaredOrder c es order → NoNameTwice es → DeclaresAll c side old new order → DeclaresAll c side old new es
+as-listed c any side old new es order ordered once all m ms o os g nothing =
     let h = all m ms o os g nothing in record {
       good = h.good;
-      this = any c m side order es (on_side side (env (opened new o) (envs os))) h.this (λ n. sym (ap (λ (fs : List (Name × ItemKind)). find_name fs n) is ∙ same-under es (declared_order es) (in-order es) once n));
+      this = any c m side order es (on_side side (env (opened new o) (envs os))) h.this (λ n. sym (same-under es order ordered.permutation once n));
       that = h.that;
     }
 
-pub refused-as : (A B : Type 0) (c : Collection) (side : Side) (start : Scope) (es order : List (Name × ItemKind)) (e : EncodeFault) → order ≡ declared_order es → AreRefused {A = A} c side start order (Err e) → AreRefused {A = B} c side start (declared_order es) (Err e)
-refused-as A B c side start es order (fault.Write f) is h = subst (λ (fs : List (Name × ItemKind)). IsStopped c side start fs (fault.Write f)) is h
-refused-as A B c side start es order fault.TooLarge is h = subst (λ (fs : List (Name × ItemKind)). IsStopped c side start fs fault.TooLarge) is h
-refused-as A B c side start es order fault.OutOfMemory is h = tt
+pub refused-as : (A B : Type 0) (c : Collection) (side : Side) (start : Scope) (es order : List (Name × ItemKind)) (e : EncodeFault) → IsDeclaredOrder c es order → AreRefused {A = A} c side start order (Err e) → IsSideRefused {A = B} c side start es (Err e)
+refused-as A B c side start es order (fault.Write f) ordered h = record { order = order; ordered = ordered; stopped = h }
+refused-as A B c side start es order fault.TooLarge ordered h = record { order = order; ordered = ordered; stopped = h }
+refused-as A B c side start es order fault.OutOfMemory ordered h = tt

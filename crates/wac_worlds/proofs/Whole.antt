@@ -28,7 +28,7 @@ use Rattle.wac_stacks.specs.Listed.{AreListed, declaring, OpensWorld, TurnsToExp
 use Rattle.wac_scopes.specs.Rooted.{unbound}
 use Rattle.wac_scopes.specs.Scoped.{recorded_type, opened, place}
 use Rattle.wac_stacks.proofs.Moved.{ap2}
-use Rattle.wac_worlds.specs.Declaring.{is_declarable, are_declarable, declared_order, DeclaresItems, AreRefused}
+use Rattle.wac_worlds.specs.Declaring.{is_declarable, are_declarable, DeclaresSide, IsSideRefused}
 use Rattle.wac_worlds.specs.Steps.{DeclaresNothing, DeclaresAll, CanDeclare}
 use Rattle.wac_encode.specs.Instances.{IsBare}
 use Rattle.wac_worlds.specs.Worlds.{is_plain, is_plain_world, SaysWorld, WritesWorld, IsWorldRefused}
@@ -142,7 +142,7 @@ says-world c wf opens turns holds closes w x start between s ds found bare impor
     let all_exports : AreListed c me exported x.exports exported_items = subst (λ (items : Name → Tree). AreListed c me exported x.exports items) (ap (λ (p : Open). (env p []).exports) content) ex.this in
     (component imported_items exported_items, holds c wf m w x imported_items exported_items found all_imports all_exports, tt, closes c me m ms ds around o os good g)
 
-pub writes-world : (c : Collection) (w : WorldId) (x : World) (start between s : Scope) (ds : List Decl) → item_at c.worlds w.0 ≡ Some x → IsBare start → DeclaresItems c imported start (declared_order x.imports) between → DeclaresItems c exported between (declared_order x.exports) s → s.content ≡ Component ds → WritesWorld c w ds
+pub writes-world : (c : Collection) (w : WorldId) (x : World) (start between s : Scope) (ds : List Decl) → item_at c.worlds w.0 ≡ Some x → IsBare start → DeclaresSide c imported start x.imports between → DeclaresSide c exported between x.exports s → s.content ≡ Component ds → WritesWorld c w ds
 writes-world c w x start between s ds found bare imports exports is = record {
   world = x;
   found = found;
@@ -157,12 +157,12 @@ writes-world c w x start between s ds found bare imports exports is = record {
 
 -- refusals
 
-pub imports-refused : (A B : Type 0) (c : Collection) (w : WorldId) (x : World) (start : Scope) (e : EncodeFault) → item_at c.worlds w.0 ≡ Some x → IsBare start → AreRefused {A = A} c imported start (declared_order x.imports) (Err e) → IsWorldRefused {A = B} c w (Err e)
+pub imports-refused : (A B : Type 0) (c : Collection) (w : WorldId) (x : World) (start : Scope) (e : EncodeFault) → item_at c.worlds w.0 ≡ Some x → IsBare start → IsSideRefused {A = A} c imported start x.imports (Err e) → IsWorldRefused {A = B} c w (Err e)
 imports-refused A B c w x start (fault.Write f) found bare h = record { world = x; found = found; start = start; bare = bare; stopped = inl h }
 imports-refused A B c w x start fault.TooLarge found bare h = record { world = x; found = found; start = start; bare = bare; stopped = inl h }
 imports-refused A B c w x start fault.OutOfMemory found bare h = tt
 
-pub exports-refused : (A B : Type 0) (c : Collection) (w : WorldId) (x : World) (start between : Scope) (e : EncodeFault) → item_at c.worlds w.0 ≡ Some x → IsBare start → DeclaresItems c imported start (declared_order x.imports) between → AreRefused {A = A} c exported between (declared_order x.exports) (Err e) → IsWorldRefused {A = B} c w (Err e)
+pub exports-refused : (A B : Type 0) (c : Collection) (w : WorldId) (x : World) (start between : Scope) (e : EncodeFault) → item_at c.worlds w.0 ≡ Some x → IsBare start → DeclaresSide c imported start x.imports between → IsSideRefused {A = A} c exported between x.exports (Err e) → IsWorldRefused {A = B} c w (Err e)
 exports-refused A B c w x start between (fault.Write f) found bare written h = record { world = x; found = found; start = start; bare = bare; stopped = inr (record { between = between; imports = written; stopped = h }) }
 exports-refused A B c w x start between fault.TooLarge found bare written h = record { world = x; found = found; start = start; bare = bare; stopped = inr (record { between = between; imports = written; stopped = h }) }
 exports-refused A B c w x start between fault.OutOfMemory found bare written h = tt

@@ -1,6 +1,6 @@
 -- What the writer of worlds declares in a component type, item by item.
-use Rattle.std.specs.Prelude.{ℕ, ◌≡◌, ◌⊎◌, Bool, true, false, List, [], ◌∷◌, ◌++◌, Option, Some, None, Result, Ok, Err}
-use Rattle.std.specs.List.{filter, list_all}
+use Rattle.std.specs.Prelude.{ℕ, ◌≡◌, ◌⊎◌, Bool, true, false, List, [], ◌∷◌, ◌++◌, Option, Some, None, Result, Ok, Err, slice_get, IsPermutation}
+use Rattle.std.specs.List.{AllZip, filter, list_all}
 use Rattle.wac_primitives.specs.Name.{Name}
 use Rattle.wac_shapes.specs.declared.component.DefinedTypeId.{DefinedTypeId}
 use Rattle.wac_shapes.specs.declared.component.ItemKind.{ItemKind}
@@ -22,11 +22,12 @@ use Rattle.wac_scopes.specs.declared.fault.WriteFault.TheVariants as write
 use Rattle.wac_scopes.specs.Contents.{count, ContentFits}
 use Rattle.wac_scopes.specs.Sides.{and_declared}
 use Rattle.wac_scopes.specs.Scoped.{value_index, named_at, HasToo, AlsoLists}
+use Rattle.wac_listing.specs.Order.{AreOrdered}
 use Rattle.wac_encode.specs.Written.{PartOf, WritesFor, HasHandle, IsOfFunc}
 use Rattle.wac_encode.specs.Listing.{lists_plain, NeededBy, own_types, IsDescribed, SameRecords, TypeDoesNotFit}
 use Rattle.wac_encode.specs.Instances.{IsInterfaceAt, listed_definitions, InterfaceDoesNotFit, IsInstanceRefused}
 use Rattle.wac_worlds.specs.declared.order.Group.{Group}
-use Rattle.wac_worlds.specs.declared.order.Group.TheVariants.{Instances, ValueTypes, OtherTypes, Others}
+use Rattle.wac_worlds.specs.declared.order.Group.TheVariants.{Instances, OtherTypes, Others}
 
 -- whether an item is of a sort that is written so far, or that no component type can list
 abbrev pub is_declarable : Collection → ItemKind → Bool
@@ -43,7 +44,6 @@ are_declarable c es = list_all (λ e. is_declarable c e.1) es
 -- which items belong to a group
 abbrev pub is_in : Group → ItemKind → Bool
 is_in Instances (kind.Instance i) = true
-is_in ValueTypes (kind.TypeItem (ty.Value v)) = true
 is_in OtherTypes (kind.TypeItem (ty.Value v)) = false
 is_in OtherTypes (kind.TypeItem t) = true
 is_in Others (kind.Func f) = true
@@ -55,9 +55,16 @@ is_in g k = false
 abbrev pub group : Group → List (Name × ItemKind) → List (Name × ItemKind)
 group g es = filter (λ e. is_in g e.1) es
 
--- items in the order in which they are declared: instances, then type items of value types, then the other type items, then the others, each group as it is listed
-abbrev pub declared_order : List (Name × ItemKind) → List (Name × ItemKind)
-declared_order es = group Instances es ++ (group ValueTypes es ++ (group OtherTypes es ++ group Others es))
+-- Items in the order in which they are declared: instances, as they are listed; then the type items of value types, each the first listed one
+-- of those left that mentions none of those left; then the other type items, then the others, as they are listed.
+pub record IsDeclaredOrder (c : Collection) (es order : List (Name × ItemKind)) : Type 0 where
+  pub positions : List ℕ
+  pub ordered : AreOrdered c es positions
+  pub types : List (Name × ItemKind)
+  pub at : AllZip (λ p e. slice_get es p ≡ Some e) positions types
+  pub is : order ≡ group Instances es ++ (types ++ (group OtherTypes es ++ group Others es))
+  -- so they are the same items
+  pub permutation : IsPermutation es order
 
 -- what an item is described by, where its types were written since old
 abbrev pub IsDeclaredAs : Collection → Scope → Scope → ItemKind → Description → Type 0
@@ -92,6 +99,12 @@ pub record DeclaresItem (c : Collection) (side : Side) (old new : Scope) (n : Na
 abbrev pub DeclaresItems : Collection → Side → Scope → List (Name × ItemKind) → Scope → Type 0
 DeclaresItems c side old [] new = new ≡ old
 DeclaresItems c side old (e ∷ es) new = (now : Scope) × DeclaresItem c side old now e.0 e.1 × DeclaresItems c side now es new
+
+-- the items of a side, in the order in which they are declared
+pub record DeclaresSide (c : Collection) (side : Side) (old : Scope) (es : List (Name × ItemKind)) (new : Scope) : Type 0 where
+  pub order : List (Name × ItemKind)
+  pub ordered : IsDeclaredOrder c es order
+  pub items : DeclaresItems c side old order new
 
 -- which of an item's types does not fit behind what is written
 abbrev pub DeclaredTypeDoesNotFit : Collection → ItemKind → Scope → Type 0
@@ -142,3 +155,14 @@ abbrev pub AreRefused : {A : Type 0} → Collection → Side → Scope → List 
 AreRefused c side start order (Ok x) = Unit {0}
 AreRefused c side start order (Err fault.OutOfMemory) = Unit {0}
 AreRefused c side start order (Err e) = IsStopped c side start order e
+
+-- of a side
+pub record IsSideStopped (c : Collection) (side : Side) (start : Scope) (es : List (Name × ItemKind)) (e : EncodeFault) : Type 0 where
+  pub order : List (Name × ItemKind)
+  pub ordered : IsDeclaredOrder c es order
+  pub stopped : IsStopped c side start order e
+
+abbrev pub IsSideRefused : {A : Type 0} → Collection → Side → Scope → List (Name × ItemKind) → Result A EncodeFault → Type 0
+IsSideRefused c side start es (Ok x) = Unit {0}
+IsSideRefused c side start es (Err fault.OutOfMemory) = Unit {0}
+IsSideRefused c side start es (Err e) = IsSideStopped c side start es e

@@ -1,5 +1,6 @@
 -- What each item of a world adds to a scope, under what is held. Private functions alone cite this.
-use Rattle.std.specs.Prelude.{◌≡◌, true, List, ◌∷◌}
+use Rattle.std.specs.Prelude.{ℕ, ◌≡◌, true, List, ◌∷◌, ◌++◌, Some, slice_get}
+use Rattle.std.specs.List.{AllZip}
 use Rattle.wac_primitives.specs.Name.{Name}
 use Rattle.wac_shapes.specs.Kinds.{kind_type}
 use Rattle.wac_shapes.specs.declared.component.ItemKind.{ItemKind}
@@ -35,3 +36,9 @@ DeclaresAll c side old new es = (m : Bindings) (ms : List Bindings) (o : Open) (
 -- an item can be declared
 abbrev pub CanDeclare : Collection → ItemKind → Type 0
 CanDeclare c k = (holds_type c (kind_type k) ≡ true) × (is_declarable c k ≡ true)
+
+-- behind the old ones stand the items at these positions
+pub record PutsAt (es : List (Name × ItemKind)) (ps : List ℕ) (old new : List (Name × ItemKind)) : Type 0 where
+  pub items : List (Name × ItemKind)
+  pub at : AllZip (λ p e. slice_get es p ≡ Some e) ps items
+  pub is : new ≡ old ++ items

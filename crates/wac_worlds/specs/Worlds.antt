@@ -17,7 +17,7 @@ use Rattle.wac_stacks.specs.Scopes.{Open, Stack, next_type, with_def}
 use Rattle.wac_stacks.specs.Good.{IsHeld, Good}
 use Rattle.wac_stacks.specs.Laws.{Adds}
 use Rattle.wac_encode.specs.Instances.{IsBare}
-use Rattle.wac_worlds.specs.Declaring.{are_declarable, declared_order, DeclaresItems, IsStopped}
+use Rattle.wac_worlds.specs.Declaring.{are_declarable, DeclaresSide, IsSideStopped}
 
 -- whether a world is one that is written so far: its items are of sorts that are written, or that no component type can list
 abbrev pub is_plain : Collection → World → Bool
@@ -38,9 +38,9 @@ pub record WritesWorld (c : Collection) (w : WorldId) (ds : List Decl) : Type 0 
   pub start : Scope
   pub bare : IsBare start
   pub between : Scope
-  pub imports : DeclaresItems c imported start (declared_order world.imports) between
+  pub imports : DeclaresSide c imported start world.imports between
   pub scope : Scope
-  pub exports : DeclaresItems c exported between (declared_order world.exports) scope
+  pub exports : DeclaresSide c exported between world.exports scope
   pub is : scope.content ≡ Component ds
 
 -- and so where there are declarations
@@ -55,8 +55,8 @@ WritesIfThere c w (Some ds) = WritesWorld c w ds
 -- an export is refused behind the imports
 pub record IsStoppedBehind (c : Collection) (start : Scope) (world : World) (e : EncodeFault) : Type 0 where
   pub between : Scope
-  pub imports : DeclaresItems c imported start (declared_order world.imports) between
-  pub stopped : IsStopped c exported between (declared_order world.exports) e
+  pub imports : DeclaresSide c imported start world.imports between
+  pub stopped : IsSideStopped c exported between world.exports e
 
 -- the first of its items that is refused, in order
 pub record HasRefusedItem (c : Collection) (w : WorldId) (e : EncodeFault) : Type 0 where
@@ -64,7 +64,7 @@ pub record HasRefusedItem (c : Collection) (w : WorldId) (e : EncodeFault) : Typ
   pub found : item_at c.worlds w.0 ≡ Some world
   pub start : Scope
   pub bare : IsBare start
-  pub stopped : IsStopped c imported start (declared_order world.imports) e ⊎ IsStoppedBehind c start world e
+  pub stopped : IsSideStopped c imported start world.imports e ⊎ IsStoppedBehind c start world e
 
 -- what stands where a world is refused: such an item; or memory was refused
 abbrev pub IsWorldRefused : {A : Type 0} → Collection → WorldId → Result A EncodeFault → Type 0

@@ -11,7 +11,7 @@ ghost use Rattle.wac_collection.specs.Aliases.{value_resolved};
 ghost use Rattle.wac_scopes.specs.Scoped.{value_index};
 ghost use Rattle.wac_scopes.specs.Sides.{side_of, IsOpenComponent};
 ghost use Rattle.wac_encode.specs.Listing.{lists_plain};
-ghost use Rattle.wac_worlds.specs.Declaring.{declared_order, DeclaresItem, DeclaresItems, IsItemRefused, AreRefused};
+ghost use Rattle.wac_worlds.specs.Declaring.{DeclaresItem, DeclaresItems, DeclaresSide, IsItemRefused, AreRefused, IsSideRefused};
 ghost use Rattle.wac_worlds.specs.Steps.{DeclaresHeld, DeclaresAll, CanDeclare};
 
 use crate::order::in_order;
@@ -247,7 +247,8 @@ impl<'a> WorldEncoder<'a> {
         Ok(())
     }
 
-    /// Declares what a world lists on one side: instances, then type items of value types, then the other type items, then the others.
+    /// Declares what a world lists on one side: instances, then type items of value types, each behind those that it mentions, then the
+    /// other type items, then the others.
     pub(crate) fn declare(
         &self,
         scope: &mut Scope,
@@ -257,13 +258,13 @@ impl<'a> WorldEncoder<'a> {
         requires plain { (k : ℕ) (e : List ℕ × AnyItem) → slice_get items.now k ≡ Some e → CanDeclare self.now.types.now e.1 }
         requires open { IsOpenComponent scope.old.content }
         ensures listed { OnOk result (DeclaresAll self.now.types.now (side_of side) scope.old scope.new items.now) }
-        ensures wrote { OnOk result (DeclaresItems self.now.types.now (side_of side) scope.old (declared_order items.now) scope.new) }
+        ensures wrote { OnOk result (DeclaresSide self.now.types.now (side_of side) scope.old items.now scope.new) }
         ensures open { OnOk result (IsOpenComponent scope.new.content) }
-        ensures fault { AreRefused self.now.types.now (side_of side) scope.old (declared_order items.now) result }
+        ensures fault { IsSideRefused self.now.types.now (side_of side) scope.old items.now result }
     {
         items.law();
         listing_law();
-        let order = in_order(self.types.allocator(), items)?;
+        let order = in_order(self.types, items)?;
         self.items(scope, side, order.as_slice())?;
         Ok(())
     }

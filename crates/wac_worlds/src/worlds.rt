@@ -141,9 +141,10 @@ impl<'a> WorldEncoder<'a> {
     }
 
     /// Writes a held world as a component type: what it imports, then what it exports; each as instances, then type items of value
-    /// types, then those of function types, then functions, in listed order. What an item is made of is written just before it, once, and the instance type of an interface once;
-    /// what an instance lists is aliased from it from then on, and a definition that a type item lists is written by the first such
-    /// item's index.
+    /// types, of which the next is always the first listed one of those left that mentions none of those left, then type items of
+    /// function types, then functions, these as they are listed. What an item is made of is written just before it, once, and the instance
+    /// type of an interface once; what an instance lists is aliased from it from then on, and a definition that a type item lists is
+    /// written by the index of the first such item that is written.
     ///
     /// It is not asked what the world uses: a type that it uses of an instance that it lists is aliased from there, as any other is.
     ///

@@ -9,7 +9,7 @@ use Rattle.wac_entries.specs.Agreement.{AreInstances, LeadsApart, here}
 use Rattle.wac_entries.specs.Nodes.{Item, item_tree, tree_at}
 use Rattle.wac_entries.specs.NodeViews.{item_view}
 use Rattle.wac_entries.specs.declared.nodes.Item.{Item as AnItem}
-use Rattle.wac_agreement.specs.Apart.{ItemsAgree}
+use Rattle.wac_agreeing.specs.Apart.{ItemsAgree}
 use Rattle.wac_agreement.specs.Levels.{AreLevels, HasPassed, IsStart, at_root, name_of, under}
 use Rattle.wac_agreement.specs.declared.apart.Level.{Level}
 use Rattle.wac_agreement.proofs.Descending.{back_at, last_level, less_agree, less_done, less_inside, no_level, way_found}

@@ -1,7 +1,7 @@
 use Rattle.std.proofs.Common.{◌≡◌, ◌∙◌, refl, sym, ap, subst, List, ℕ, Some, length, slice_index_or, map, string_bytes, arith}
 use Rattle.std.specs.Prelude.{slice_get}
 use Rattle.std.proofs.lemmas.Option.{slice_get_read}
-use Rattle.wac_agreement.specs.Apart.{AllAgree, IsFirstApart}
+use Rattle.wac_agreeing.specs.Apart.{AllAgree, IsFirstApart}
 use Rattle.wac_entries.specs.Agreement.{joined}
 use Rattle.wac_entries.specs.Classes.{AreClasses, by_names}
 use Rattle.wac_entries.specs.NodeViews.{item_view}
@@ -9,8 +9,8 @@ use Rattle.wac_entries.specs.Nodes.{item_tree, tree_at}
 use Rattle.wac_agreement.specs.Shapes.{IsOfKind}
 use Rattle.wac_entries.specs.declared.nodes.Item.TheVariants as item
 use Rattle.wac_shapes.specs.declared.component.ItemKind.{ItemKind}
-use Rattle.wac_agreement.proofs.Leading.{match_some, match_none}
 use Rattle.wac_terms.proofs.Found.{mapped_length}
+use Rattle.wac_agreement.proofs.Leading.{match_some, match_none}
 use Rattle.wac_agreement.proofs.Agreeing.{members_agree}
 use Rattle.wac_agreement.proofs.Pairs.{all_low, low_at, of_kind_at, shaped_at, none_disagrees, first_disagrees, first_within, second_within, apart_at, read_map}
 use Rattle.wac_agreement.proofs.compared.first_pair.Goals as goal

@@ -17,11 +17,11 @@ returns-then-is_empty-clause-step c =
 
 pub wire-requires-clause-plug : goal.wire-requires-clause-plug
 wire-requires-clause-plug c =
-    c.loop-i.invariant.kept.nodes c.in_ok-node.node (instance-keeps c.args.graph.now c.instantiate.new.self c.args.plug c.in_ok-node.node c.requires.plug c.in_ok-node.ensures).1
+    c.loop-i.invariant.kept.nodes c.in_ok-node.node (instance-keeps c.args.graph.now c.instantiate_plug.new.graph c.args.plug c.in_ok-node.node c.requires.plug c.in_ok-node.ensures).1
 
 pub wire-requires-clause-socket : goal.wire-requires-clause-socket
 wire-requires-clause-socket c =
-    c.loop-i.invariant.kept.nodes c.args.socket ((instance-keeps c.args.graph.now c.instantiate.new.self c.args.plug c.in_ok-node.node c.requires.plug c.in_ok-node.ensures).0.nodes c.args.socket c.requires.socket)
+    c.loop-i.invariant.kept.nodes c.args.socket ((instance-keeps c.args.graph.now c.instantiate_plug.new.graph c.args.plug c.in_ok-node.node c.requires.plug c.in_ok-node.ensures).0.nodes c.args.socket c.requires.socket)
 
 pub wire-requires-clause-pair : goal.wire-requires-clause-pair
 wire-requires-clause-pair c =
@@ -32,7 +32,7 @@ wire-requires-clause-pair c =
     let i = c.loop-i.i in
     let p : Pair = get_or ps i (record { export = 0; import = 0 }) in
     let pair : slice_get ps i ≡ Some p = slice_get-get_or ps i (record { export = 0; import = 0 }) c.loop-i-test.true in
-    let stands = pair-at g c.instantiate.new.self c.args.plug c.in_ok-node.node c.law.ensures c.requires.plug c.in_ok-node.ensures c.loop-i.graph c.args.socket ps i p c.requires.socket c.loop-i.invariant.kept c.requires.named c.requires.asked c.requires.within c.requires.fit pair in
+    let stands = pair-at g c.instantiate_plug.new.graph c.args.plug c.in_ok-node.node c.law.ensures c.requires.plug c.in_ok-node.ensures c.loop-i.graph c.args.socket ps i p c.requires.socket c.loop-i.invariant.kept c.requires.named c.requires.asked c.requires.within c.requires.fit pair in
     (match_at exports imports p, stands)
 
 pub returns-in_err-wire-clause-step : goal.returns-in_err-wire-clause-step
@@ -45,11 +45,11 @@ returns-in_err-wire-clause-step c =
     let i = c.loop-i.i in
     let p : Pair = get_or ps i (record { export = 0; import = 0 }) in
     let pair : slice_get ps i ≡ Some p = slice_get-get_or ps i (record { export = 0; import = 0 }) c.loop-i-test.true in
-    let stands = pair-at g c.instantiate.new.self c.args.plug c.in_ok-node.node c.law.ensures c.requires.plug c.in_ok-node.ensures c.loop-i.graph c.args.socket ps i p c.requires.socket c.loop-i.invariant.kept c.requires.named c.requires.asked c.requires.within c.requires.fit pair in
+    let stands = pair-at g c.instantiate_plug.new.graph c.args.plug c.in_ok-node.node c.law.ensures c.requires.plug c.in_ok-node.ensures c.loop-i.graph c.args.socket ps i p c.requires.socket c.loop-i.invariant.kept c.requires.named c.requires.asked c.requires.within c.requires.fit pair in
     let m = match_at exports imports p in
     let e = (c.in_err-wire.field-0).0 in
     subst (λ (r : Answer). PlugsIn c.args.plug c.args.socket g ms r c.wire.new.graph) (sym (exit-is c.from_residual-in_err-wire.result e c.from_residual-in_err-wire.ensures.1))
-    (plugs-in-some c.args.plug c.args.socket c.in_ok-node.node g c.instantiate.new.self c.wire.new.graph ms (Err e) (not-none exports imports ps (sym c.is_empty.ensures ∙ c.if-is_empty.false)) c.in_ok-node.ensures
+    (plugs-in-some c.args.plug c.args.socket c.in_ok-node.node g c.instantiate_plug.new.graph c.wire.new.graph ms (Err e) (not-none exports imports ps (sym c.is_empty.ensures ∙ c.if-is_empty.false)) c.in_ok-node.ensures
     (c.loop-i.invariant.wired (Err e) c.wire.new.graph (refused-at (Wires c.in_ok-node.node c.args.socket) ms i m c.loop-i.graph (match-there exports imports ps i p pair) e c.wire.new.graph (c.in_err-wire.ensures.step m stands))))
 
 pub loop-i-preserved : goal.loop-i-preserved
@@ -62,10 +62,10 @@ loop-i-preserved c =
     let i = c.loop-i.i in
     let p : Pair = get_or ps i (record { export = 0; import = 0 }) in
     let pair : slice_get ps i ≡ Some p = slice_get-get_or ps i (record { export = 0; import = 0 }) c.loop-i-test.true in
-    let stands = pair-at g c.instantiate.new.self c.args.plug c.in_ok-node.node c.law.ensures c.requires.plug c.in_ok-node.ensures c.loop-i.graph c.args.socket ps i p c.requires.socket c.loop-i.invariant.kept c.requires.named c.requires.asked c.requires.within c.requires.fit pair in
+    let stands = pair-at g c.instantiate_plug.new.graph c.args.plug c.in_ok-node.node c.law.ensures c.requires.plug c.in_ok-node.ensures c.loop-i.graph c.args.socket ps i p c.requires.socket c.loop-i.invariant.kept c.requires.named c.requires.asked c.requires.within c.requires.fit pair in
     let m = match_at exports imports p in
     record {
-      kept = keeps-trans c.instantiate.new.self c.loop-i.graph c.wire.new.graph c.loop-i.invariant.kept c.in_ok-wire.ensures.kept;
+      kept = keeps-trans c.instantiate_plug.new.graph c.loop-i.graph c.wire.new.graph c.loop-i.invariant.kept c.in_ok-wire.ensures.kept;
       wired = λ answer new h. c.loop-i.invariant.wired answer new (one-more (Wires c.in_ok-node.node c.args.socket) ms i m c.loop-i.graph (match-there exports imports ps i p pair) c.wire.new.graph (c.in_ok-wire.ensures.step m stands) answer new h);
     }
 
@@ -77,9 +77,9 @@ returns-clause-step c =
     let ps = c.args.pairs.now in
     let ms = matches_at exports imports ps in
     let i = c.loop-i.i in
-    plugs-in-some c.args.plug c.args.socket c.in_ok-node.node g c.instantiate.new.self c.loop-i.graph ms (Ok tt) (not-none exports imports ps (sym c.is_empty.ensures ∙ c.if-is_empty.false)) c.in_ok-node.ensures
+    plugs-in-some c.args.plug c.args.socket c.in_ok-node.node g c.instantiate_plug.new.graph c.loop-i.graph ms (Ok tt) (not-none exports imports ps (sym c.is_empty.ensures ∙ c.if-is_empty.false)) c.in_ok-node.ensures
     (c.loop-i.invariant.wired (Ok tt) c.loop-i.graph (all-made (Wires c.in_ok-node.node c.args.socket) ms i c.loop-i.graph (past exports imports ps i c.loop-i-test.false)))
 
 pub returns-clause-kept : goal.returns-clause-kept
 returns-clause-kept c =
-    keeps-trans c.args.graph.now c.instantiate.new.self c.loop-i.graph (instance-keeps c.args.graph.now c.instantiate.new.self c.args.plug c.in_ok-node.node c.requires.plug c.in_ok-node.ensures).0 c.loop-i.invariant.kept
+    keeps-trans c.args.graph.now c.instantiate_plug.new.graph c.loop-i.graph (instance-keeps c.args.graph.now c.instantiate_plug.new.graph c.args.plug c.in_ok-node.node c.requires.plug c.in_ok-node.ensures).0 c.loop-i.invariant.kept

@@ -14,11 +14,11 @@ use Rattle.wac_entries.specs.declared.nodes.Item.{Item}
 use Rattle.wac_terms.proofs.Found.{some_same}
 use Rattle.wac_agreement.specs.Levels.{IsAbove, IsStart}
 use Rattle.wac_agreement.specs.Shapes.{IsOfKind}
-use Rattle.wac_agreement.specs.Slots.{exports_of}
+use Rattle.wac_agreeing.specs.Fitting.{exports_of}
 use Rattle.wac_agreement.specs.declared.apart.Level.{Level}
-use Rattle.wac_agreement.proofs.Comparing.{agree_same, child_lower}
+use Rattle.wac_agreeing.proofs.Comparing.{agree_same, child_lower}
 use Rattle.wac_agreement.proofs.Descending.{above, all_looked_at, apart_closed, found_in, further, none_in}
-use Rattle.wac_agreement.proofs.Leading.{match_some, of_kind_under, shaped_under}
+use Rattle.wac_agreement.proofs.Leading.{of_kind_under, shaped_under, match_some}
 use Rattle.wac_agreement.proofs.apart.Level.look.Goals as goal
 
 pub returns-then-position-len : goal.returns-then-position-len

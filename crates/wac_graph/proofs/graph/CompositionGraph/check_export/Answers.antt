@@ -1,4 +1,4 @@
-use Rattle.std.proofs.Common.{refl, sym, subst, ◌∙◌, MatchOption}
+use Rattle.std.proofs.Common.{refl, sym, subst, MatchOption}
 use Rattle.wac_nodes.specs.ExternName.{IsExportName, HasExportFault}
 use Rattle.wac_nodes.proofs.NodeLemmas.{lookup_text}
 use Rattle.wac_graph.proofs.graph.CompositionGraph.check_export.Goals as goal

@@ -1,0 +1,133 @@
+-- What is known while groups of instances are compared. Private functions alone cite this.
+use Rattle.std.specs.Prelude.{ℕ, zero, suc, ◌+◌, ◌≡◌, ◌<◌, ◌≤◌, ◌⊎◌, List, [], ◌∷◌, ◌++◌, length, Option, Some, slice_get}
+use Rattle.std.specs.List.{AllByRecursion}
+use Rattle.wac_primitives.specs.Name.{Name, find_name, option_case}
+use Rattle.wac_entries.specs.Nodes.{Item, Node, type_of}
+use Rattle.wac_agreeing.specs.Fitting.{exports_of, Fits, IsOpen}
+use Rattle.wac_agreeing.specs.Rows.{groups_view, Row, Spot, Table}
+use Rattle.wac_agreeing.specs.Apart.{AreApart, ItemsAgree}
+use Rattle.wac_agreeing.specs.declared.agreement.Walk.{Walk}
+
+-- some have the spot, and their items are in the table of nodes
+abbrev pub IsFull : List Node → List Row → Type 0
+IsFull ns rows = (0 < length rows) × AllByRecursion (λ r. type_of r.1 < length ns) rows
+
+abbrev pub AreFull : List Node → Table → Type 0
+AreFull ns t = AllByRecursion (λ g. IsFull ns g.1) t
+
+-- a pair of entries is no later than another, by the second and then by the first
+abbrev pub IsNoLater : ℕ × ℕ → ℕ × ℕ → Type 0
+IsNoLater p q = (p.1 < q.1) ⊎ ((p.1 ≡ q.1) × (p.0 ≤ q.0))
+
+-- the least of the pairs that disagree, and one more
+pub record IsLeast (old : Option (ℕ × ℕ)) (pair : ℕ × ℕ) (new : Option (ℕ × ℕ)) : Type 0 where
+  pub least : ℕ × ℕ
+  pub is : new ≡ Some least
+  pub below : IsNoLater least pair
+  pub below_old : (b : ℕ × ℕ) → old ≡ Some b → IsNoLater least b
+  pub one_of : (least ≡ pair) ⊎ (old ≡ Some least)
+
+-- items at a spot, beside that of the first: each is the same, or an instance beside it, or apart from it
+pub data Splits (ns : List Node) (holder : ℕ) (held : Item) (old : Option (ℕ × ℕ)) : List Row → List Row → Option (ℕ × ℕ) → Type 0 where
+  alone : Splits ns holder held old ((holder, held) ∷ []) ((holder, held) ∷ []) old
+  same : (rows group : List Row) (first : Option (ℕ × ℕ)) (e : ℕ) → Splits ns holder held old rows group first → Splits ns holder held old (rows ++ (e, held) ∷ []) group first
+  beside : (rows group : List Row) (first : Option (ℕ × ℕ)) (e : ℕ) (x : Item) → Splits ns holder held old rows group first → IsOpen ns held → IsOpen ns x
+      → Splits ns holder held old (rows ++ (e, x) ∷ []) (group ++ (e, x) ∷ []) first
+  apart : (rows group : List Row) (first new : Option (ℕ × ℕ)) (e : ℕ) (x : Item) → Splits ns holder held old rows group first → (Fits ns held x → ⊥) → IsLeast first (holder, e) new
+      → Splits ns holder held old (rows ++ (e, x) ∷ []) group new
+
+-- the group is there, where it has several
+abbrev pub IsGrouped : List (List Row) → List Row → List (List Row) → Type 0
+IsGrouped old g new = ((length g ≤ 1) × (new ≡ old)) ⊎ ((1 < length g) × ((k : ℕ) × (slice_get new k ≡ Some g)) × ((new ≡ old) ⊎ (new ≡ old ++ g ∷ [])))
+
+-- what entries have at one spot was compared
+pub record Compares (ns : List Node) (old : Walk) (rows : List Row) (new : Walk) : Type 0 where
+  pub holder : ℕ
+  pub held : Item
+  pub group : List Row
+  pub at : slice_get rows 0 ≡ Some (holder, held)
+  pub splits : Splits ns holder held old.first rows group new.first
+  pub grouped : IsGrouped (groups_view old.groups.keys) group (groups_view new.groups.keys)
+
+-- so was what they have at each spot
+pub data ComparesAll (ns : List Node) (old : Walk) : Table → Walk → Type 0 where
+  none : ComparesAll ns old [] old
+  more : (t : Table) (s : Spot) (rows : List Row) (mid new : Walk) → ComparesAll ns old t mid → Compares ns mid rows new → ComparesAll ns old (t ++ (s, rows) ∷ []) new
+
+-- entries of one class, of which what they have agrees where they do
+pub record AreTogether (ns : List Node) (items : List Item) (classes : List ℕ) (r q : Row) : Type 0 where
+  pub class : ℕ
+  pub first : Item
+  pub second : Item
+  pub at_first : slice_get items r.0 ≡ Some first
+  pub at_second : slice_get items q.0 ≡ Some second
+  pub class_of_first : slice_get classes r.0 ≡ Some class
+  pub class_of_second : slice_get classes q.0 ≡ Some class
+  pub agree : ItemsAgree ns first second → ItemsAgree ns r.1 q.1
+
+-- no entry is before one that stands before it
+abbrev pub AreOrdered : List Row → Type 0
+AreOrdered [] = Unit {0}
+AreOrdered (r ∷ rs) = AllByRecursion (λ q. r.0 ≤ q.0) rs × AreOrdered rs
+
+-- what entries of one class have at one spot
+pub record AreRows (ns : List Node) (items : List Item) (classes : List ℕ) (rows : List Row) : Type 0 where
+  pub full : IsFull ns rows
+  pub ordered : AreOrdered rows
+  pub together : (k l : ℕ) (r q : Row) → slice_get rows k ≡ Some r → slice_get rows l ≡ Some q → AreTogether ns items classes r q
+
+-- several instances among them
+abbrev pub IsGroup : List Node → List Item → List ℕ → List Row → Type 0
+IsGroup ns items classes g = AreRows ns items classes g × AllByRecursion (λ r. IsOpen ns r.1) g
+
+-- an entry that is no later has the item
+pub record HasBy (rows : List Row) (entry : ℕ) (x : Item) : Type 0 where
+  pub position : ℕ
+  pub earliest : ℕ
+  pub at : slice_get rows position ≡ Some (earliest, x)
+  pub before : earliest ≤ entry
+
+-- items of two entries are equal, or in one group; or a pair no later is told
+abbrev pub IsHandled : List (List Row) → Option (ℕ × ℕ) → ℕ × ℕ → Item → Item → Type 0
+IsHandled groups first pair x y =
+    (x ≡ y) ⊎ (((b : ℕ × ℕ) × (first ≡ Some b) × IsNoLater b pair) ⊎ ((k : ℕ) × (g : List Row) × (slice_get groups k ≡ Some g) × HasBy g pair.0 x × HasBy g pair.1 y))
+
+-- so is what the instances of a group export
+abbrev pub IsLooked : List Node → List (List Row) → Option (ℕ × ℕ) → List Row → Type 0
+IsLooked ns groups first g =
+    (i j : ℕ) (x y : Item) (n : Name) (es fs : List (Name × Item)) (a b : Item) → i < j → HasBy g i x → HasBy g j y → exports_of ns x ≡ Some es → exports_of ns y ≡ Some fs → find_name es n ≡ Some a → find_name fs n ≡ Some b
+    → IsHandled groups first (i, j) a b
+
+-- the groups are such, and the two that are told disagree
+pub record IsKnown (ns : List Node) (items : List Item) (classes : List ℕ) (w : Walk) : Type 0 where
+  pub groups : (k : ℕ) (g : List Row) → slice_get (groups_view w.groups.keys) k ≡ Some g → IsGroup ns items classes g
+  pub first : (b : ℕ × ℕ) → w.first ≡ Some b → AreApart ns items classes b.0 b.1
+
+-- members of each class were compared, and so was what the first groups export
+pub record IsGoing (ns : List Node) (items : List Item) (classes : List ℕ) (w : Walk) (k : ℕ) : Type 0 where
+  pub known : IsKnown ns items classes w
+  pub roots : (i j c : ℕ) (x y : Item) → i < j → slice_get items i ≡ Some x → slice_get items j ≡ Some y → slice_get classes i ≡ Some c → slice_get classes j ≡ Some c → IsHandled (groups_view w.groups.keys) w.first (i, j) x y
+  pub looked : (l : ℕ) (g : List Row) → l < k → slice_get (groups_view w.groups.keys) l ≡ Some g → IsLooked ns (groups_view w.groups.keys) w.first g
+
+-- how many items are below an item, and in several
+abbrev pub sizes_by : (Item → ℕ) → List (Name × Item) → ℕ
+sizes_by f [] = 0
+sizes_by f (e ∷ es) = f e.1 + sizes_by f es
+
+abbrev pub size_to : ℕ → List Node → Item → ℕ
+size_to zero ns x = 1
+size_to (suc k) ns x = option_case (exports_of ns x) 1 (λ es. suc (sizes_by (size_to k ns) es))
+
+abbrev pub size_of : List Node → Item → ℕ
+size_of ns x = size_to (length ns) ns x
+
+-- how many items are below those of several entries
+abbrev pub sizes_of : List Node → List Row → ℕ
+sizes_of ns [] = 0
+sizes_of ns (r ∷ rs) = size_of ns r.1 + sizes_of ns rs
+
+-- how many are below those of the groups, from the k-th on
+abbrev pub left : List Node → ℕ → List (List Row) → ℕ
+left ns k [] = 0
+left ns zero (g ∷ gs) = sizes_of ns g + left ns 0 gs
+left ns (suc k) (g ∷ gs) = left ns k gs

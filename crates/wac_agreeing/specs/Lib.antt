@@ -1,0 +1,4 @@
+pub mod Fitting
+pub mod Apart
+pub mod Rows
+pub mod Groups

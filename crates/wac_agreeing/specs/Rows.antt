@@ -1,0 +1,68 @@
+-- What entries have at each spot. Private functions alone cite this.
+use Rattle.std.specs.Prelude.{ℕ, suc, ◌≡◌, ◌⊎◌, List, [], ◌∷◌, ◌++◌, map, Vec, string_bytes}
+use Rattle.std.specs.List.{AllByRecursion}
+use Rattle.wac_primitives.specs.Name.{Name, option_case}
+use Rattle.wac_entries.specs.Nodes.{Item, Node}
+use Rattle.wac_entries.specs.NodeViews.{item_view}
+use Rattle.wac_entries.specs.declared.nodes.Item.{Item as AnItem}
+use Rattle.wac_agreeing.specs.Fitting.{exports_of}
+use Rattle.wac_agreeing.specs.declared.rows.Spot.{Spot as ASpot}
+use Rattle.wac_agreeing.specs.declared.rows.Spot.TheVariants as spot
+
+-- where items are compared: as members of a class, or under a name that instances export
+pub data Spot : Type 0 where
+  of_class : ℕ → Spot
+  export : Name → Spot
+
+-- an entry, and its item at a spot
+abbrev pub Row : Type 0
+Row = ℕ × Item
+
+-- the entries that have each spot, in order
+abbrev pub Table : Type 0
+Table = List (Spot × List Row)
+
+abbrev pub spot_view : ASpot → Spot
+spot_view (spot.Class k) = of_class k
+spot_view (spot.Export n) = export (string_bytes n)
+
+abbrev pub row_view : ℕ × AnItem → Row
+row_view r = (r.0, item_view r.1)
+
+abbrev pub table_view : {A : Type 0} → List (ASpot × Vec (ℕ × AnItem) A) → Table
+table_view es = map (λ e. (spot_view e.0, map row_view e.1.items)) es
+
+abbrev pub groups_view : {A : Type 0} → List (Vec (ℕ × AnItem) A) → List (List Row)
+groups_view gs = map (λ g. map row_view g.items) gs
+
+-- no entry has the spot
+abbrev pub IsFree : Table → Spot → Type 0
+IsFree t s = AllByRecursion (λ g. g.0 ≡ s → ⊥) t
+
+-- one more is behind those that have the spot
+pub data IsLonger (s : Spot) (r : Row) : Table → Table → Type 0 where
+  here : (rows : List Row) (t : Table) → IsLonger s r ((s, rows) ∷ t) ((s, rows ++ r ∷ []) ∷ t)
+  there : (g : Spot × List Row) (t u : Table) → IsLonger s r t u → IsLonger s r (g ∷ t) (g ∷ u)
+
+-- one more has the spot: it is behind others there, or the first
+abbrev pub IsPut : Table → Spot → Row → Table → Type 0
+IsPut old s r new = IsLonger s r old new ⊎ (IsFree old s × (new ≡ old ++ (s, r ∷ []) ∷ []))
+
+-- these were put in turn
+abbrev pub ArePut : Table → List (Spot × Row) → Table → Type 0
+ArePut old [] new = new ≡ old
+ArePut old (p ∷ ps) new = (mid : Table) × IsPut old p.0 p.1 mid × ArePut mid ps new
+
+-- the members of classes, from an entry on
+abbrev pub members_put : ℕ → List Item → List ℕ → List (Spot × Row)
+members_put i [] cs = []
+members_put i (x ∷ xs) [] = []
+members_put i (x ∷ xs) (c ∷ cs) = (of_class c, (i, x)) ∷ members_put (suc i) xs cs
+
+-- what an instance of an entry exports, and what those of several do
+abbrev pub exports_put : ℕ → List (Name × Item) → List (Spot × Row)
+exports_put e es = map (λ x. (export x.0, (e, x.1))) es
+
+abbrev pub all_put : List Node → List Row → List (Spot × Row)
+all_put ns [] = []
+all_put ns (r ∷ rs) = option_case (exports_of ns r.1) [] (exports_put r.0) ++ all_put ns rs

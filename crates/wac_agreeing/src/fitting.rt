@@ -1,0 +1,31 @@
+//! What instances export, and which items fit.
+ghost use Rattle.std.specs.Prelude.{◌≡◌, ◌<◌, length, ◌↔◌, IsTrue};
+ghost use Rattle.std.specs.Option.{option_map};
+ghost use Rattle.wac_entries.specs.Nodes.{type_of};
+ghost use Rattle.wac_entries.specs.NodeViews.{item_view, listed};
+ghost use Rattle.wac_agreeing.specs.Fitting.{Fits, exports_of};
+
+use wac_entries::nodes::{Item, Node, Nodes};
+
+/// What an item exports, where it is an instance.
+pub fn exports(nodes: &Nodes, item: Item) -> Option<&[(String, Item)]>
+    requires { type_of (item_view item) < length nodes.now }
+    ensures { option_map (λ es. listed es.now) result ≡ exports_of nodes.now (item_view item) }
+{
+    let Item::Instance(number) = item else {
+        return None;
+    };
+    match nodes.node(number) {
+        Node::Instance(exports) => Some(exports.as_slice()),
+        _ => None,
+    }
+}
+
+/// Whether items are equal, or both instances, whose exports are compared one by one.
+pub fn fits(nodes: &Nodes, first: Item, second: Item) -> bool
+    requires first { type_of (item_view first) < length nodes.now }
+    requires second { type_of (item_view second) < length nodes.now }
+    ensures { IsTrue result ↔ Fits nodes.now (item_view first) (item_view second) }
+{
+    first == second || (exports(nodes, first).is_some() && exports(nodes, second).is_some())
+}

@@ -1,0 +1,89 @@
+//! What entries have at each spot: as members of a class, or under a name that their instances export.
+ghost use Rattle.std.specs.Prelude.{◌≡◌, ◌<◌, [], length, map, IfOk, OnOk};
+ghost use Rattle.std.specs.List.{AllByRecursion};
+ghost use Rattle.wac_entries.specs.Nodes.{type_of};
+ghost use Rattle.wac_entries.specs.NodeViews.{item_view, listed};
+ghost use Rattle.wac_agreeing.specs.Rows.{ArePut, IsPut, all_put, exports_put, members_put, row_view, spot_view, table_view};
+
+use crate::fitting::exports;
+use indexmap::IndexMap;
+use std::alloc::{AllocError, Global};
+use wac_entries::nodes::{Item, Nodes};
+
+/// Where items are compared.
+#[derive(PartialEq, Eq, Hash, Drop)]
+pub enum Spot {
+    /// As members of the class of this number.
+    Class(usize),
+    /// Under a name that instances of several entries export.
+    Export(String),
+}
+
+/// The entries that have each spot, with their items there.
+pub type Rows = IndexMap<Spot, Vec<(usize, Item)>>;
+
+/// Puts what an entry has at a spot behind what others have there.
+fn put(
+    alloc: Global,
+    rows: &mut Rows,
+    spot: Spot,
+    entry: usize,
+    item: Item,
+) -> Result<(), AllocError>
+    ensures { OnOk result (IsPut (table_view rows.old.entries) (spot_view spot) (entry, item_view item) (table_view rows.new.entries)) }
+{
+    if let Some((position, _, _)) = rows.get_full(&spot) {
+        let there = rows.get_index_mut(position).unwrap();
+        there.push((entry, item))?;
+        return Ok(());
+    }
+    let mut there = Vec::new(alloc);
+    there.push((entry, item))?;
+    match rows.insert(spot, there) {
+        Ok(_) => Ok(()),
+        Err(_) => Err(AllocError),
+    }
+}
+
+/// The members of each class.
+pub fn members(alloc: Global, items: &[Item], classes: &[usize]) -> Result<Rows, AllocError>
+    requires counted { length classes.now ≡ length items.now }
+    ensures { IfOk result (λ rows. ArePut [] (members_put 0 (map item_view items.now) classes.now) (table_view rows.entries)) }
+{
+    let mut rows = IndexMap::new(alloc);
+    for i in 0..items.len() {
+        put(alloc, &mut rows, Spot::Class(classes[i]), i, items[i])?;
+    }
+    Ok(rows)
+}
+
+/// Puts what an instance of an entry exports.
+fn put_exports(
+    alloc: Global,
+    rows: &mut Rows,
+    entry: usize,
+    exports: &[(String, Item)],
+) -> Result<(), AllocError>
+    ensures { OnOk result (ArePut (table_view rows.old.entries) (exports_put entry (listed exports.now)) (table_view rows.new.entries)) }
+{
+    for i in 0..exports.len() {
+        let (name, item) = &exports[i];
+        put(alloc, rows, Spot::Export(name.clone()?), entry, *item)?;
+    }
+    Ok(())
+}
+
+/// What instances of entries export, by name.
+pub fn exported(alloc: Global, nodes: &Nodes, group: &[(usize, Item)]) -> Result<Rows, AllocError>
+    requires { AllByRecursion (λ r. type_of r.1 < length nodes.now) (map row_view group.now) }
+    ensures { IfOk result (λ rows. ArePut [] (all_put nodes.now (map row_view group.now)) (table_view rows.entries)) }
+{
+    let mut rows = IndexMap::new(alloc);
+    for i in 0..group.len() {
+        let (entry, item) = group[i];
+        if let Some(exports) = exports(nodes, item) {
+            put_exports(alloc, &mut rows, entry, exports)?;
+        }
+    }
+    Ok(rows)
+}
