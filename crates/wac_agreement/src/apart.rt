@@ -181,12 +181,7 @@ pub fn path_apart(
                 levels.push(level)?;
                 level = inner;
             }
-            Look::Done => {
-                let Some(outer) = levels.pop() else {
-                    unreachable!()
-                };
-                level = outer;
-            }
+            Look::Done => level = levels.pop().unwrap(),
             Look::Apart => {
                 levels.push(level)?;
                 return names(alloc, types, levels.as_slice());

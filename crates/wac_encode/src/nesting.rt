@@ -3,16 +3,20 @@
 //! An interface whose instance type is needed inside another is written before the item that needs it, while the levels around it wait in
 //! a list, so that no chain of instances in instances is too long.
 
-ghost use Rattle.std.specs.Prelude.{◌≡◌, ◌<◌, ◌⊎◌, ℕ, List, Some, true, false, None, IfOk, OnOk, IsSome, Ok as Answers, Err as Refused, length, slice_get};
+ghost use Rattle.std.specs.Prelude.{◌≡◌, ◌<◌, ◌+◌, ◌⊎◌, ℕ, List, Some, true, false, None, IfOk, OnOk, IsSome, Ok as Answers, Err as Refused, length, slice_get};
+ghost use Rattle.wac_shapes.specs.declared.component.InterfaceId.{InterfaceId as AnInterface};
+ghost use Rattle.wac_shapes.specs.declared.component.ItemKind.{ItemKind as AnyItem};
 ghost use Rattle.wac_shapes.specs.declared.component.ItemKind.TheVariants as kind;
 ghost use Rattle.wac_shapes.specs.declared.component.«Type».TheVariants as ty;
 ghost use Rattle.wac_shapes.specs.Named.{named_pairs};
 ghost use Rattle.wac_shapes.specs.declared.component.DefinedTypeId.{DefinedTypeId as AnId};
 ghost use Rattle.wac_collection.specs.Collection.{HasInterface, interface_exports};
 ghost use Rattle.wac_scopes.specs.declared.fault.EncodeFault.TheVariants.{OutOfMemory};
+ghost use Rattle.wac_scopes.specs.declared.encodable.Encodable.TheVariants.{Instance};
 ghost use Rattle.wac_scopes.specs.Contents.{IsOpenType};
 ghost use Rattle.wac_scopes.specs.Scoped.{listed_at, type_index};
-ghost use Rattle.wac_encode.specs.Listing.{AliasesFor, AllAliased, IsAliasRefused, SaysInterface, SaysIfThere, WritesInterface, WritesIfThere, lists_plain, IsInterfaceRefused};
+ghost use Rattle.wac_encode.specs.Items.{ListsHeld, CanClose, CanList, nothing_inside, none_refused};
+ghost use Rattle.wac_encode.specs.Listing.{WritesItem, IsItemRefused, AliasesFor, AllAliased, IsAliasRefused, SaysInterface, SaysIfThere, WritesInterface, WritesIfThere, lists_plain, IsInterfaceRefused};
 ghost use Rattle.wac_planning.specs.Plans.{IsOneOf, Takes, HasName, ArePlanned, places_of};
 ghost use Rattle.wac_encode.specs.Plans.{IsAtPlace};
 ghost use Rattle.wac_encode.specs.Levels.{IsBegun, IsNextOf, PutsInstance, InstanceNotPut};
@@ -102,6 +106,44 @@ impl<'a> TypeEncoder<'a> {
         Ok(())
     }
 
+    /// Lists the next item of a level, an instance of an interface that is written into it before.
+    fn put_nested(
+        &self,
+        level: &mut Level<'a>,
+        inside: InterfaceId,
+        declarations: InstanceType,
+    ) -> Result<(), EncodeFault>
+        requires here { level.old.next < length level.old.order.items }
+        requires held { HasInterface self.now.types.now inside }
+        requires open { IsOpenType level.old.scope.content }
+        requires unwritten { type_index level.old.scope (ty.Interface inside) ≡ None }
+        requires says { SaysInterface self.now.types.now level.old.scope inside declarations }
+        ensures kept { OnOk result (level.new ≡ record level.old { scope = level.new.scope; next = level.old.next + 1 }) }
+        ensures put { OnOk result ((e : List ℕ × AnyItem) → slice_get (named_pairs level.old.order.items) level.old.next ≡ Some e → PutsInstance self.now.types.now level.old.scope level.new.scope e.0 inside declarations) }
+        ensures fault { (e : List ℕ × AnyItem) → slice_get (named_pairs level.old.order.items) level.old.next ≡ Some e → InstanceNotPut self.now.types.now level.old.scope e.0 inside declarations result }
+    {
+        let (name, _) = entry_of(level.order.as_slice(), level.next);
+        self.put_instance(&mut level.scope, name, inside, declarations)?;
+        level.next += 1;
+        Ok(())
+    }
+
+    /// Lists the next item of a level, behind what it is made of.
+    fn put_item(&self, level: &mut Level<'a>, name: &str, item: ItemKind) -> Result<(), EncodeFault>
+        requires here { slice_get (named_pairs level.old.order.items) level.old.next ≡ Some (name.now, item) }
+        requires held { CanList self.now.types.now item }
+        requires inside { (i : AnInterface) → item ≡ kind.Instance i → IsSome (type_index level.old.scope (ty.Interface i)) }
+        requires open { IsOpenType level.old.scope.content }
+        ensures kept { OnOk result (level.new ≡ record level.old { scope = level.new.scope; next = level.old.next + 1 }) }
+        ensures listed { OnOk result (ListsHeld self.now.types.now level.old.scope level.new.scope name.now item) }
+        ensures wrote { OnOk result (WritesItem nothing_inside self.now.types.now level.old.scope level.new.scope name.now item) }
+        ensures fault { IsItemRefused nothing_inside none_refused self.now.types.now name.now item level.old.scope result }
+    {
+        self.item(&mut level.scope, name, item)?;
+        level.next += 1;
+        Ok(())
+    }
+
     /// Writes an interface whose items are of sorts that are written.
     fn nested_type(
         &self,
@@ -124,31 +166,19 @@ impl<'a> TypeEncoder<'a> {
         let mut level = self.level(around, interface, 0, plan.taken(0))?;
         'nesting: loop {
             match next_of(&level) {
-                Next::Item(name, item) => {
-                    self.item(&mut level.scope, name, item)?;
-                    level.next += 1;
-                }
+                Next::Item(name, item) => self.put_item(&mut level, name, item)?,
                 Next::Inside(inside) => {
                     let inner = self.open_inside(&mut level, &plan, inside)?;
                     levels.push(level)?;
                     level = inner;
                 }
                 Next::End => {
-                    let Level {
-                        scope,
-                        place: _,
-                        interface: inside,
-                        order: _,
-                        next: _,
-                    } = level;
-                    let declarations = instance_type(scope.into_content());
+                    let (inside, declarations) = closed(level);
                     let Some(outer) = levels.pop() else {
                         return Ok(declarations);
                     };
                     level = outer;
-                    let (name, _) = entry_of(level.order.as_slice(), level.next);
-                    self.put_instance(&mut level.scope, name, inside, declarations)?;
-                    level.next += 1;
+                    self.put_nested(&mut level, inside, declarations)?;
                 }
             }
         }
@@ -182,6 +212,22 @@ impl<'a> TypeEncoder<'a> {
         let declarations = self.nested_type(around, interface)?;
         Ok(Some(declarations))
     }
+}
+
+/// The interface of a level whose items are all listed, and its declarations.
+fn closed(level: Level<'_>) -> (InterfaceId, InstanceType)
+    requires { CanClose level.scope.content }
+    ensures interface { result.0 ≡ level.entry.interface }
+    ensures declarations { level.entry.scope.content ≡ Instance result.1 }
+{
+    let Level {
+        scope,
+        place: _,
+        interface,
+        order: _,
+        next: _,
+    } = level;
+    (interface, instance_type(scope.into_content()))
 }
 
 /// What is done next at a level.

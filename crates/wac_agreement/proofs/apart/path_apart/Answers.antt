@@ -1,6 +1,6 @@
-use Rattle.std.proofs.Common.{◌≡◌, ◌-◌, List, [], ◌++◌, map, take, ap, sym, ◌∙◌, subst, string_bytes}
+use Rattle.std.proofs.Common.{◌≡◌, ◌-◌, ℕ, List, [], ◌++◌, Option, Some, None, IsSome, map, take, refl, ap, sym, ◌∙◌, subst, string_bytes}
 use Rattle.std.specs.List.{AllByRecursion}
-use Rattle.std.specs.Option.{MatchOption}
+use Rattle.std.specs.Option.{MatchOption, option_to_list}
 use Rattle.std.proofs.lemmas.List.{append-nil}
 use Rattle.wac_primitives.specs.Name.{Name}
 use Rattle.wac_shapes.specs.declared.component.ItemKind.{ItemKind}
@@ -67,28 +67,32 @@ loop-inner-preserved-in-Inside c =
       level = found.1.1.0;
     }
 
-pub unreachable-requires : goal.unreachable-requires
-unreachable-requires c =
+-- where levels are left, the last is taken
+last-there : (o : Option Level) (n m : ℕ) (ls new : List Level) (P : Level → Type 0) → ls ≡ new ++ option_to_list o → new ≡ take (n - 1) ls → MatchOption o ((n ≡ 0) × (m ≡ 0)) P → (ls ≡ [] → ⊥) → IsSome o
+last-there (Some l) n m ls new P is rest cases some = refl
+last-there None n m ls new P is rest cases some = absurd (some (is ∙ ap (λ (ks : List Level). ks ++ []) (rest ∙ ap (λ (k : ℕ). take (k - 1) ls) cases.0)))
+
+pub unwrap-level-requires : goal.unwrap-level-requires
+unwrap-level-requires c =
     let ns = c.args.nodes.now in
     let x = item_view c.args.first in
     let y = item_view c.args.second in
     let l = c.loop-inner.level in
-    let rest : c.pop.new.self.items ≡ [] = c.in_default-pop.ensures.rest ∙ ap (λ k. take (k - 1) c.loop-inner.levels.items) c.in_default-pop.ensures.cases.0 in
-    let none : c.loop-inner.levels.items ≡ [] = c.in_default-pop.ensures.items ∙ ap (λ (ls : List Level). ls ++ []) rest in
+    last-there c.pop.result _ _ c.loop-inner.levels.items c.pop.new.self.items _ c.pop.ensures.items c.pop.ensures.rest c.pop.ensures.cases (λ none.
     let (p, q) = no_level c.args.types.now ns c.table_law.ensures x y c.args.kind c.loop-inner.levels.items (item_view l.first) (item_view l.second) (kind.Instance l.interface) c.loop-inner.invariant.levels none in
-    c.requires.apart (subst (λ (z : Item). ItemsAgree ns z y) p (subst (λ (z : Item). ItemsAgree ns (item_view l.first) z) q c.in-Done.ensures))
+    c.requires.apart (subst (λ (z : Item). ItemsAgree ns z y) p (subst (λ (z : Item). ItemsAgree ns (item_view l.first) z) q c.in-Done.ensures)))
 
 pub loop-inner-smaller : goal.loop-inner-smaller
-loop-inner-smaller c = less_done c.args.types.now c.pop.new.self.items c.loop-inner.levels.items c.in-Some-pop.outer c.loop-inner.level c.in-Some-pop.ensures.items
+loop-inner-smaller c = less_done c.args.types.now c.pop.new.self.items c.loop-inner.levels.items c.unwrap-level.result c.loop-inner.level (c.pop.ensures.items ∙ ap (λ (o : Option Level). c.pop.new.self.items ++ option_to_list o) c.unwrap-level.ensures)
 
 pub loop-inner-preserved : goal.loop-inner-preserved
 loop-inner-preserved c =
     let types = c.args.types.now in
     let ns = c.args.nodes.now in
     let l = c.loop-inner.level in
-    let outer = c.in-Some-pop.outer in
+    let outer = c.unwrap-level.result in
     let (rest, over) = last_level types ns c.table_law.ensures (item_view c.args.first) (item_view c.args.second) c.args.kind c.loop-inner.levels.items c.pop.new.self.items outer (item_view l.first) (item_view l.second) (kind.Instance l.interface)
-    c.loop-inner.invariant.levels c.in-Some-pop.ensures.items in
+    c.loop-inner.invariant.levels (c.pop.ensures.items ∙ ap (λ (o : Option Level). c.pop.new.self.items ++ option_to_list o) c.unwrap-level.ensures) in
     record { levels = rest; level = back_at types ns c.table_law.ensures outer (item_view l.first) (item_view l.second) (kind.Instance l.interface) over c.in-Done.ensures }
 
 pub names-requires : goal.names-requires

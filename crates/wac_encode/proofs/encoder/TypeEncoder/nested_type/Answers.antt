@@ -1,17 +1,20 @@
-use Rattle.std.specs.Prelude.{◌≡◌, ◌-◌, ◌++◌, ◌<◌, ◌+◌, true, [], List, Some, slice_get, length, take}
-use Rattle.std.proofs.Common.{refl, ap, sym, subst, ◌∙◌, arith, nat_lt}
+use Rattle.std.specs.Prelude.{◌≡◌, ◌-◌, ◌++◌, ◌<◌, true, [], List, None, Err, slice_get, length, take}
+use Rattle.std.proofs.Common.{ap, sym, subst, ◌∙◌, arith, nat_lt}
 use Rattle.std.proofs.lemmas.Option.{slice_get_within}
 use Rattle.std.proofs.lemmas.Result.{err_from_is_err_and}
 use Rattle.wac_shapes.specs.Named.{named_pairs}
 use Rattle.wac_shapes.specs.declared.component.ItemKind.TheVariants as kind
-use Rattle.wac_shapes.proofs.Names.{named_pairs-at}
-use Rattle.wac_collection.specs.Collection.{size}
+use Rattle.wac_shapes.specs.declared.component.InterfaceId.{InterfaceId}
+use Rattle.wac_shapes.specs.declared.component.«Type».TheVariants as ty
+use Rattle.wac_collection.specs.Collection.{HasInterface, size}
+use Rattle.wac_scopes.specs.Scoped.{type_index}
+use Rattle.wac_encode.specs.Listing.{SaysInterface}
 use Rattle.wac_binary.specs.Items.{Decl}
 use Rattle.wac_encode.specs.declared.level.Level.{Level}
-use Rattle.wac_encode.specs.Items.{CanClose, nothing_inside}
+use Rattle.wac_encode.specs.Items.{nothing_inside}
 use Rattle.wac_planning.specs.Plans.{IsOneOf, Takes, HasName, places_of}
 use Rattle.wac_encode.specs.Plans.{AreAtPlaces}
-use Rattle.wac_encode.specs.Levels.{IsChain}
+use Rattle.wac_encode.specs.Levels.{IsChain, PutsInstance, InstanceNotPut}
 use Rattle.wac_encode.proofs.Ordered.{pairs-length}
 use Rattle.wac_encode.proofs.Remaining.{weight, less-by-item, less-by-opening, less-by-closing}
 use Rattle.wac_encode.proofs.Chains.{begins-chain, chain-can-list, chain-listed, chain-open, chain-can-close, chain-inside-held, chain-item, chain-item-refused, chain-inside, chain-alias-refused, chain-says, chain-writes, closed-at, closed-held, closed-open, closed-unwritten, closed-says, chain-put, chain-put-refused}
@@ -36,35 +39,31 @@ nesting-init c =
           (λ d some. subst (IsOneOf d) (c.taken.ensures first.place first.at) (c.in_ok-level.ensures.taken d some)),
     )
 
-pub item-requires-clause-held : goal.item-requires-clause-held
-item-requires-clause-held c = chain-can-list c.args.self.now.types.now c.law.ensures c.args.around.now c.args.interface c.nesting.levels.items c.nesting.level c.in-Item.name.now c.in-Item.item c.in-Item.ensures.0 c.nesting.invariant.0
+pub put_item-requires-clause-held : goal.put_item-requires-clause-held
+put_item-requires-clause-held c = chain-can-list c.args.self.now.types.now c.law.ensures c.args.around.now c.args.interface c.nesting.levels.items c.nesting.level c.in-Item.name.now c.in-Item.item c.in-Item.ensures.0 c.nesting.invariant.0
 
-pub item-requires-clause-open : goal.item-requires-clause-open
-item-requires-clause-open c = chain-open c.args.self.now.types.now c.law.ensures c.args.around.now c.args.interface c.nesting.levels.items c.nesting.level c.nesting.invariant.0
+pub put_item-requires-clause-open : goal.put_item-requires-clause-open
+put_item-requires-clause-open c = chain-open c.args.self.now.types.now c.law.ensures c.args.around.now c.args.interface c.nesting.levels.items c.nesting.level c.nesting.invariant.0
 
-pub returns-in_err-item-in-Item-clause-fault : goal.returns-in_err-item-in-Item-clause-fault
-returns-in_err-item-in-Item-clause-fault c =
-    let p = err_from_is_err_and c.from_residual-in_err-item-in-Item.result c.from_residual-in_err-item-in-Item.ensures.1 in
-    rw (p.1, p.2) (chain-item-refused c.args.self.now.types.now c.law.ensures c.args.around.now c.args.interface c.nesting.levels.items c.nesting.level (Unit {0}) (List Decl) c.in-Item.name.now c.in-Item.item c.in_err-item-in-Item.field-0.0 c.in-Item.ensures.0 c.in_err-item-in-Item.ensures.fault c.nesting.invariant.0)
+pub returns-in_err-put_item-in-Item-clause-fault : goal.returns-in_err-put_item-in-Item-clause-fault
+returns-in_err-put_item-in-Item-clause-fault c =
+    let p = err_from_is_err_and c.from_residual-in_err-put_item-in-Item.result c.from_residual-in_err-put_item-in-Item.ensures.1 in
+    rw (p.1, p.2) (chain-item-refused c.args.self.now.types.now c.law.ensures c.args.around.now c.args.interface c.nesting.levels.items c.nesting.level (Unit {0}) (List Decl) c.in-Item.name.now c.in-Item.item c.in_err-put_item-in-Item.field-0.0 c.in-Item.ensures.0 c.in_err-put_item-in-Item.ensures.fault c.nesting.invariant.0)
 
-pub overflow_add-level : goal.overflow_add-level
-overflow_add-level c =
-    let less = slice_get_within (named_pairs c.nesting.level.order.items) c.nesting.level.next _ c.in-Item.ensures.0 in
-    let long = pairs-length c.nesting.level.order.items in
-    let small = c.nesting.level.order.small in
-    omega (arith, less, long, small)
+pub nesting-smaller-in-Continue-branch-3 : goal.nesting-smaller-in-Continue-branch-3
+nesting-smaller-in-Continue-branch-3 c =
+    let made = c.in_ok-put_item-in-Item.ensures.kept in
+    less-by-item c.args.self.now.types.now c.nesting.levels.items c.nesting.level c.put_item.new.level (c.in-Item.name.now, c.in-Item.item) (ap (λ (l : Level). l.order) made) (ap (λ (l : Level). l.next) made) c.in-Item.ensures.0 (size c.args.self.now.types.now) c.args.around.now c.args.interface c.nesting.invariant.0
 
-pub nesting-smaller-in-Item : goal.nesting-smaller-in-Item
-nesting-smaller-in-Item c = less-by-item c.args.self.now.types.now c.nesting.levels.items c.nesting.level _ (c.in-Item.name.now, c.in-Item.item) refl refl c.in-Item.ensures.0 (size c.args.self.now.types.now) c.args.around.now c.args.interface c.nesting.invariant.0
-
-pub nesting-preserved-in-Item : goal.nesting-preserved-in-Item
-nesting-preserved-in-Item c =
+pub nesting-preserved-in-Continue-branch-3 : goal.nesting-preserved-in-Continue-branch-3
+nesting-preserved-in-Continue-branch-3 c =
+    let made = c.in_ok-put_item-in-Item.ensures.kept in
     let t = c.args.self.now.types.now in
     let ps = (places_of c.in_ok-plan.plan) in
     let there = chain-listed t c.law.ensures c.args.around.now c.args.interface c.nesting.levels.items c.nesting.level c.in-Item.name.now c.in-Item.item c.in-Item.ensures.0 c.nesting.invariant.0 in (
-      chain-item t c.law.ensures c.args.around.now c.args.interface c.nesting.levels.items c.nesting.level c.listing_law.ensures.lists_one_more _ c.in-Item.name.now c.in-Item.item refl refl refl c.in-Item.ensures.0 c.in_ok-item-in-Item.ensures.listed c.in_ok-item-in-Item.ensures.wrote c.nesting.invariant.0,
+      chain-item t c.law.ensures c.args.around.now c.args.interface c.nesting.levels.items c.nesting.level c.listing_law.ensures.lists_one_more c.put_item.new.level c.in-Item.name.now c.in-Item.item (ap (λ (l : Level). l.interface) made) (ap (λ (l : Level). l.order) made) (ap (λ (l : Level). l.next) made) c.in-Item.ensures.0 c.in_ok-put_item-in-Item.ensures.listed c.in_ok-put_item-in-Item.ensures.wrote c.nesting.invariant.0,
       c.nesting.invariant.1,
-      placed-item nothing_inside t ps c.nesting.level _ c.in-Item.name.now c.in-Item.item refl refl there.0 there.1 c.in_ok-item-in-Item.ensures.wrote c.nesting.invariant.2,
+      placed-item nothing_inside t ps c.nesting.level c.put_item.new.level c.in-Item.name.now c.in-Item.item (ap (λ (l : Level). l.place) made) (ap (λ (l : Level). l.interface) made) there.0 there.1 c.in_ok-put_item-in-Item.ensures.wrote c.nesting.invariant.2,
     )
 
 pub open_inside-requires-clause-held : goal.open_inside-requires-clause-held
@@ -104,94 +103,93 @@ open_inside-requires-clause-listed c =
     let at = chain-listed c.args.self.now.types.now c.law.ensures c.args.around.now c.args.interface c.nesting.levels.items c.nesting.level c.in-Inside.ensures.0 (kind.Instance c.in-Inside.inside) c.in-Inside.ensures.1 c.nesting.invariant.0 in
     (at.0, c.in-Inside.ensures.0, at.1)
 
-pub instance_type-declarations-requires : goal.instance_type-declarations-requires
-instance_type-declarations-requires c = subst CanClose (sym c.into_content.ensures) (chain-can-close c.args.self.now.types.now c.law.ensures c.args.around.now c.args.interface c.nesting.levels.items c.nesting.level c.nesting.invariant.0)
+pub closed-declarations-requires : goal.closed-declarations-requires
+closed-declarations-requires c = chain-can-close c.args.self.now.types.now c.law.ensures c.args.around.now c.args.interface c.nesting.levels.items c.nesting.level c.nesting.invariant.0
 
 pub returns-in_default-clause-says : goal.returns-in_default-clause-says
 returns-in_default-clause-says c =
     let t = c.args.self.now.types.now in
     let rest : c.pop.new.self.items ≡ [] = c.in_default.ensures.rest ∙ ap (λ k. take (k - 1) c.nesting.levels.items) c.in_default.ensures.cases.0 in
     let none : c.nesting.levels.items ≡ [] = c.in_default.ensures.items ∙ ap (λ (ks : List Level). ks ++ []) rest in
-    chain-says t c.law.ensures c.closing_law.ensures.opens_over c.closing_law.ensures.holds_interface c.closing_law.ensures.closes_instance c.listing_law.ensures.lists_in_any_order (size t) c.args.around.now c.args.interface c.nesting.levels.items c.nesting.level c.instance_type-declarations.result none c.in-End.ensures (sym c.into_content.ensures ∙ c.instance_type-declarations.ensures) c.nesting.invariant.0
+    chain-says t c.law.ensures c.closing_law.ensures.opens_over c.closing_law.ensures.holds_interface c.closing_law.ensures.closes_instance c.listing_law.ensures.lists_in_any_order (size t) c.args.around.now c.args.interface c.nesting.levels.items c.nesting.level c.closed-declarations.result.1 none c.in-End.ensures c.closed-declarations.ensures.declarations c.nesting.invariant.0
 
 pub returns-in_default-clause-written : goal.returns-in_default-clause-written
 returns-in_default-clause-written c =
     let t = c.args.self.now.types.now in
     let rest : c.pop.new.self.items ≡ [] = c.in_default.ensures.rest ∙ ap (λ k. take (k - 1) c.nesting.levels.items) c.in_default.ensures.cases.0 in
     let none : c.nesting.levels.items ≡ [] = c.in_default.ensures.items ∙ ap (λ (ks : List Level). ks ++ []) rest in
-    chain-writes t (size t) c.args.around.now c.args.interface c.nesting.levels.items c.nesting.level c.instance_type-declarations.result none c.in-End.ensures (sym c.into_content.ensures ∙ c.instance_type-declarations.ensures) c.nesting.invariant.0
+    chain-writes t (size t) c.args.around.now c.args.interface c.nesting.levels.items c.nesting.level c.closed-declarations.result.1 none c.in-End.ensures c.closed-declarations.ensures.declarations c.nesting.invariant.0
 
-pub entry_of-requires : goal.entry_of-requires
-entry_of-requires c =
+pub put_nested-requires-clause-here : goal.put_nested-requires-clause-here
+put_nested-requires-clause-here c =
     let t = c.args.self.now.types.now in
     let chain = subst (λ (ks : List Level). IsChain (size t) t c.args.around.now c.args.interface ks c.nesting.level) c.in-Some.ensures.items c.nesting.invariant.0 in
-    let at = closed-at t c.law.ensures c.args.around.now c.args.interface c.pop.new.self.items c.in-Some.outer c.nesting.level c.instance_type-declarations.result c.in-End.ensures (sym c.into_content.ensures ∙ c.instance_type-declarations.ensures) chain in
+    let at = closed-at t c.law.ensures c.args.around.now c.args.interface c.pop.new.self.items c.in-Some.outer c.nesting.level c.closed-declarations.result.1 c.in-End.ensures c.closed-declarations.ensures.declarations chain in
     let less = slice_get_within (named_pairs c.in-Some.outer.order.items) c.in-Some.outer.next _ at.1 in
     let long = pairs-length c.in-Some.outer.order.items in
-    let shown = ap length c.as_slice.ensures.value in
-    omega (arith, less, long, shown)
+    omega (arith, less, long)
 
-pub put_instance-requires-clause-held : goal.put_instance-requires-clause-held
-put_instance-requires-clause-held c =
+pub put_nested-requires-clause-held : goal.put_nested-requires-clause-held
+put_nested-requires-clause-held c =
     let t = c.args.self.now.types.now in
-    let chain = subst (λ (ks : List Level). IsChain (size t) t c.args.around.now c.args.interface ks c.nesting.level) c.in-Some.ensures.items c.nesting.invariant.0 in
-    let held : nat_lt c.nesting.level.interface.0 (length t.interfaces) ≡ true = closed-held t c.law.ensures c.args.around.now c.args.interface c.pop.new.self.items c.in-Some.outer c.nesting.level c.instance_type-declarations.result c.in-End.ensures (sym c.into_content.ensures ∙ c.instance_type-declarations.ensures) chain in
-    grind (arith, held)
-
-pub put_instance-requires-clause-open : goal.put_instance-requires-clause-open
-put_instance-requires-clause-open c =
-    let t = c.args.self.now.types.now in
-    let chain = subst (λ (ks : List Level). IsChain (size t) t c.args.around.now c.args.interface ks c.nesting.level) c.in-Some.ensures.items c.nesting.invariant.0 in
-    closed-open t c.law.ensures c.args.around.now c.args.interface c.pop.new.self.items c.in-Some.outer c.nesting.level c.instance_type-declarations.result c.in-End.ensures (sym c.into_content.ensures ∙ c.instance_type-declarations.ensures) chain
-
-pub put_instance-requires-clause-unwritten : goal.put_instance-requires-clause-unwritten
-put_instance-requires-clause-unwritten c =
-    let t = c.args.self.now.types.now in
-    let chain = subst (λ (ks : List Level). IsChain (size t) t c.args.around.now c.args.interface ks c.nesting.level) c.in-Some.ensures.items c.nesting.invariant.0 in
-    closed-unwritten t c.law.ensures c.args.around.now c.args.interface c.pop.new.self.items c.in-Some.outer c.nesting.level c.instance_type-declarations.result c.in-End.ensures (sym c.into_content.ensures ∙ c.instance_type-declarations.ensures) chain
-
-pub put_instance-requires-clause-says : goal.put_instance-requires-clause-says
-put_instance-requires-clause-says c =
-    let t = c.args.self.now.types.now in
-    let chain = subst (λ (ks : List Level). IsChain (size t) t c.args.around.now c.args.interface ks c.nesting.level) c.in-Some.ensures.items c.nesting.invariant.0 in
-    closed-says t c.law.ensures c.args.around.now c.args.interface c.pop.new.self.items c.in-Some.outer c.nesting.level c.instance_type-declarations.result c.in-End.ensures (sym c.into_content.ensures ∙ c.instance_type-declarations.ensures) c.closing_law.ensures.opens_over c.closing_law.ensures.holds_interface c.closing_law.ensures.closes_instance c.listing_law.ensures.lists_in_any_order chain
-
-pub returns-in_err-put_instance-in-End-clause-fault : goal.returns-in_err-put_instance-in-End-clause-fault
-returns-in_err-put_instance-in-End-clause-fault c =
-    let t = c.args.self.now.types.now in
-    let p = err_from_is_err_and c.from_residual-in_err-put_instance-in-End.result c.from_residual-in_err-put_instance-in-End.ensures.1 in
     let outer = c.in-Some.outer in
-    let is = sym c.into_content.ensures ∙ c.instance_type-declarations.ensures in
     let chain = subst (λ (ks : List Level). IsChain (size t) t c.args.around.now c.args.interface ks c.nesting.level) c.in-Some.ensures.items c.nesting.invariant.0 in
-    let at = named_pairs-at outer.order.items outer.next c.entry_of.result.0 c.entry_of.result.1 (subst (λ xs. slice_get xs outer.next ≡ Some c.entry_of.result) c.as_slice.ensures.value c.entry_of.ensures) in
-    let says = closed-says t c.law.ensures c.args.around.now c.args.interface c.pop.new.self.items outer c.nesting.level c.instance_type-declarations.result c.in-End.ensures is c.closing_law.ensures.opens_over c.closing_law.ensures.holds_interface c.closing_law.ensures.closes_instance c.listing_law.ensures.lists_in_any_order chain in
-    rw (p.1, p.2) (chain-put-refused t c.law.ensures c.args.around.now c.args.interface c.pop.new.self.items outer c.nesting.level c.instance_type-declarations.result c.in-End.ensures is (Unit {0}) (List Decl) c.step_law.ensures.follows c.still_law.ensures c.entry_of.result.0.now c.entry_of.result.1 c.in_err-put_instance-in-End.field-0.0 at c.in_err-put_instance-in-End.ensures.fault says chain)
+    let held : nat_lt c.nesting.level.interface.0 (length t.interfaces) ≡ true = closed-held t c.law.ensures c.args.around.now c.args.interface c.pop.new.self.items outer c.nesting.level c.closed-declarations.result.1 c.in-End.ensures c.closed-declarations.ensures.declarations chain in
+    let there : HasInterface t c.nesting.level.interface = grind (arith, held) in
+    subst (HasInterface t) (sym c.closed-declarations.ensures.interface) there
 
-pub overflow_add-level-in-End : goal.overflow_add-level-in-End
-overflow_add-level-in-End c =
+pub put_nested-requires-clause-open : goal.put_nested-requires-clause-open
+put_nested-requires-clause-open c =
     let t = c.args.self.now.types.now in
     let chain = subst (λ (ks : List Level). IsChain (size t) t c.args.around.now c.args.interface ks c.nesting.level) c.in-Some.ensures.items c.nesting.invariant.0 in
-    let at = closed-at t c.law.ensures c.args.around.now c.args.interface c.pop.new.self.items c.in-Some.outer c.nesting.level c.instance_type-declarations.result c.in-End.ensures (sym c.into_content.ensures ∙ c.instance_type-declarations.ensures) chain in
-    let less = slice_get_within (named_pairs c.in-Some.outer.order.items) c.in-Some.outer.next _ at.1 in
-    let long = pairs-length c.in-Some.outer.order.items in
-    let small = c.in-Some.outer.order.small in
-    omega (arith, less, long, small)
+    closed-open t c.law.ensures c.args.around.now c.args.interface c.pop.new.self.items c.in-Some.outer c.nesting.level c.closed-declarations.result.1 c.in-End.ensures c.closed-declarations.ensures.declarations chain
+
+pub put_nested-requires-clause-unwritten : goal.put_nested-requires-clause-unwritten
+put_nested-requires-clause-unwritten c =
+    let t = c.args.self.now.types.now in
+    let outer = c.in-Some.outer in
+    let chain = subst (λ (ks : List Level). IsChain (size t) t c.args.around.now c.args.interface ks c.nesting.level) c.in-Some.ensures.items c.nesting.invariant.0 in
+    subst (λ (j : InterfaceId). type_index outer.scope (ty.Interface j) ≡ None) (sym c.closed-declarations.ensures.interface) (closed-unwritten t c.law.ensures c.args.around.now c.args.interface c.pop.new.self.items outer c.nesting.level c.closed-declarations.result.1 c.in-End.ensures c.closed-declarations.ensures.declarations chain)
+
+pub put_nested-requires-clause-says : goal.put_nested-requires-clause-says
+put_nested-requires-clause-says c =
+    let t = c.args.self.now.types.now in
+    let outer = c.in-Some.outer in
+    let chain = subst (λ (ks : List Level). IsChain (size t) t c.args.around.now c.args.interface ks c.nesting.level) c.in-Some.ensures.items c.nesting.invariant.0 in
+    subst (λ (j : InterfaceId). SaysInterface t outer.scope j c.closed-declarations.result.1) (sym c.closed-declarations.ensures.interface) (closed-says t c.law.ensures c.args.around.now c.args.interface c.pop.new.self.items outer c.nesting.level c.closed-declarations.result.1 c.in-End.ensures c.closed-declarations.ensures.declarations c.closing_law.ensures.opens_over c.closing_law.ensures.holds_interface c.closing_law.ensures.closes_instance c.listing_law.ensures.lists_in_any_order chain)
+
+pub returns-in_err-put_nested-in-End-clause-fault : goal.returns-in_err-put_nested-in-End-clause-fault
+returns-in_err-put_nested-in-End-clause-fault c =
+    let p = err_from_is_err_and c.from_residual-in_err-put_nested-in-End.result c.from_residual-in_err-put_nested-in-End.ensures.1 in
+    let t = c.args.self.now.types.now in
+    let outer = c.in-Some.outer in
+    let chain = subst (λ (ks : List Level). IsChain (size t) t c.args.around.now c.args.interface ks c.nesting.level) c.in-Some.ensures.items c.nesting.invariant.0 in
+    let at = closed-at t c.law.ensures c.args.around.now c.args.interface c.pop.new.self.items outer c.nesting.level c.closed-declarations.result.1 c.in-End.ensures c.closed-declarations.ensures.declarations chain in
+    let says = closed-says t c.law.ensures c.args.around.now c.args.interface c.pop.new.self.items outer c.nesting.level c.closed-declarations.result.1 c.in-End.ensures c.closed-declarations.ensures.declarations c.closing_law.ensures.opens_over c.closing_law.ensures.holds_interface c.closing_law.ensures.closes_instance c.listing_law.ensures.lists_in_any_order chain in
+    let refused = subst (λ (j : InterfaceId). InstanceNotPut {A = Unit {0}} t outer.scope at.0 j c.closed-declarations.result.1 (Err c.in_err-put_nested-in-End.field-0.0)) c.closed-declarations.ensures.interface (c.in_err-put_nested-in-End.ensures.fault (at.0, kind.Instance c.nesting.level.interface) at.1) in
+    rw (p.1, p.2) (chain-put-refused t c.law.ensures c.args.around.now c.args.interface c.pop.new.self.items outer c.nesting.level c.closed-declarations.result.1 c.in-End.ensures c.closed-declarations.ensures.declarations (Unit {0}) (List Decl) c.step_law.ensures.follows c.still_law.ensures at.0 (kind.Instance c.nesting.level.interface) c.in_err-put_nested-in-End.field-0.0 at.1 refused says chain)
 
 pub nesting-smaller : goal.nesting-smaller
 nesting-smaller c =
     let t = c.args.self.now.types.now in
+    let outer = c.in-Some.outer in
     let chain = subst (λ (ks : List Level). IsChain (size t) t c.args.around.now c.args.interface ks c.nesting.level) c.in-Some.ensures.items c.nesting.invariant.0 in
-    subst (λ (ks : List Level). weight (size t) t c.pop.new.self.items (record { scope = c.put_instance.new.scope; place = c.in-Some.outer.place; interface = c.in-Some.outer.interface; order = c.in-Some.outer.order; next = c.in-Some.outer.next + 1 }) < weight (size t) t ks c.nesting.level) (sym c.in-Some.ensures.items)
-    (less-by-closing t c.pop.new.self.items c.in-Some.outer c.nesting.level _ refl refl (size t) c.args.around.now c.args.interface chain)
+    let made = c.in_ok-put_nested-in-End.ensures.kept in
+    subst (λ (ks : List Level). weight (size t) t c.pop.new.self.items c.put_nested.new.level < weight (size t) t ks c.nesting.level) (sym c.in-Some.ensures.items)
+    (less-by-closing t c.pop.new.self.items outer c.nesting.level c.put_nested.new.level (ap (λ (l : Level). l.order) made) (ap (λ (l : Level). l.next) made) (size t) c.args.around.now c.args.interface chain)
 
 pub nesting-preserved : goal.nesting-preserved
 nesting-preserved c =
     let t = c.args.self.now.types.now in
-    let ps = (places_of c.in_ok-plan.plan) in
     let outer = c.in-Some.outer in
-    let is = sym c.into_content.ensures ∙ c.instance_type-declarations.ensures in
     let chain = subst (λ (ks : List Level). IsChain (size t) t c.args.around.now c.args.interface ks c.nesting.level) c.in-Some.ensures.items c.nesting.invariant.0 in
-    let at = named_pairs-at outer.order.items outer.next c.entry_of.result.0 c.entry_of.result.1 (subst (λ xs. slice_get xs outer.next ≡ Some c.entry_of.result) c.as_slice.ensures.value c.entry_of.ensures) in
-    let says = closed-says t c.law.ensures c.args.around.now c.args.interface c.pop.new.self.items outer c.nesting.level c.instance_type-declarations.result c.in-End.ensures is c.closing_law.ensures.opens_over c.closing_law.ensures.holds_interface c.closing_law.ensures.closes_instance c.listing_law.ensures.lists_in_any_order chain in
-    let waiting = first-wait t ps c.pop.new.self.items outer (subst (AreAtPlaces t ps) c.in-Some.ensures.items c.nesting.invariant.1) in
-    (chain-put t c.law.ensures c.args.around.now c.args.interface c.pop.new.self.items outer c.nesting.level c.instance_type-declarations.result c.in-End.ensures is c.step_law.ensures.follows c.still_law.ensures c.listing_law.ensures.lists_one_more _ c.entry_of.result.0.now c.entry_of.result.1 refl refl refl at c.in_ok-put_instance-in-End.ensures.put says chain, waiting.0, placed-put t ps outer _ c.entry_of.result.0.now c.nesting.level.interface c.instance_type-declarations.result refl refl c.in_ok-put_instance-in-End.ensures.put waiting.1)
+    let ps = places_of c.in_ok-plan.plan in
+    let made = c.in_ok-put_nested-in-End.ensures.kept in
+    let at = closed-at t c.law.ensures c.args.around.now c.args.interface c.pop.new.self.items outer c.nesting.level c.closed-declarations.result.1 c.in-End.ensures c.closed-declarations.ensures.declarations chain in
+    let says = closed-says t c.law.ensures c.args.around.now c.args.interface c.pop.new.self.items outer c.nesting.level c.closed-declarations.result.1 c.in-End.ensures c.closed-declarations.ensures.declarations c.closing_law.ensures.opens_over c.closing_law.ensures.holds_interface c.closing_law.ensures.closes_instance c.listing_law.ensures.lists_in_any_order chain in
+    let put = subst (λ (j : InterfaceId). PutsInstance t outer.scope c.put_nested.new.level.scope at.0 j c.closed-declarations.result.1) c.closed-declarations.ensures.interface (c.in_ok-put_nested-in-End.ensures.put (at.0, kind.Instance c.nesting.level.interface) at.1) in
+    let waiting = first-wait t ps c.pop.new.self.items outer (subst (AreAtPlaces t ps) c.in-Some.ensures.items c.nesting.invariant.1) in (
+      chain-put t c.law.ensures c.args.around.now c.args.interface c.pop.new.self.items outer c.nesting.level c.closed-declarations.result.1 c.in-End.ensures c.closed-declarations.ensures.declarations c.step_law.ensures.follows c.still_law.ensures c.listing_law.ensures.lists_one_more c.put_nested.new.level at.0 (kind.Instance c.nesting.level.interface) (ap (λ (l : Level). l.interface) made) (ap (λ (l : Level). l.order) made) (ap (λ (l : Level). l.next) made) at.1 put says chain,
+      waiting.0,
+      placed-put t ps outer c.put_nested.new.level at.0 c.nesting.level.interface c.closed-declarations.result.1 (ap (λ (l : Level). l.place) made) (ap (λ (l : Level). l.interface) made) put waiting.1,
+    )
