@@ -64,9 +64,9 @@ pub enum EncodeError {
     OutOfMemory,
     /// What is asked for has an item that is not imported so far, a definition is of a type that is not defined so far, or the options ask
     /// for imported components. Imported so far are functions and type items of value types and function types that are made of no
-    /// resource, instances of such, to any depth, and their types, and core modules; defined so far are value types and function types
-    /// that are made of no resource, and interfaces and worlds of such items that have an id and use no interface, where instances that a
-    /// world lists use none either.
+    /// resource, instances of such, to any depth, components that import and export such, the types of both, and core modules; defined so
+    /// far are value types and function types that are made of no resource, and interfaces and worlds of such items that have an id and
+    /// use no interface, where instances that a world lists use none either.
     #[error("the graph holds something that is not written yet")]
     NotYet,
     /// Validation is asked for, and the outer names may not stand together: their first fault.

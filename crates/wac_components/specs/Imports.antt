@@ -12,7 +12,7 @@ use Rattle.wac_scopes.specs.declared.fault.EncodeFault.{EncodeFault}
 use Rattle.wac_scopes.specs.declared.fault.EncodeFault.TheVariants as fault
 use Rattle.wac_scopes.specs.declared.scope.Scope.{Scope}
 use Rattle.wac_scopes.specs.Contents.{and_type, and_import, count, ContentFits}
-use Rattle.wac_worlds.specs.Worlds.{WritesWorld, IsWorldRefused}
+use Rattle.wac_worlds.specs.Worlds.{WritesWorld, HasRefusedItem, IsWorldRefused}
 
 -- the component type of these declarations behind what is written
 abbrev pub and_component_type : Encodable → List Decl → Encodable
@@ -39,10 +39,14 @@ ImportsWorldIfThere c old new n described w None = new ≡ old
 ImportsWorldIfThere c old new n described w (Some k) = ImportsWorld c old new n described w k
 
 -- behind what is written, the component type of the world does not fit, or the import behind it does not
+abbrev pub ComponentTypeDoesNotFit : Collection → Name → (ℕ → Description) → WorldId → Scope → Type 0
+ComponentTypeDoesNotFit c n described w s = (ds : List Decl) × WritesWorld c w ds × ((ContentFits (and_component_type s.content ds) → ⊥) ⊎ (ContentFits (and_world_import s.content ds n described) → ⊥))
+
+-- what is written of an item of the world does not fit, or that type does not
 abbrev pub WorldDoesNotFit : Collection → Name → (ℕ → Description) → WorldId → Scope → Type 0
-WorldDoesNotFit c n described w s = (ds : List Decl) × WritesWorld c w ds × ((ContentFits (and_component_type s.content ds) → ⊥) ⊎ (ContentFits (and_world_import s.content ds n described) → ⊥))
+WorldDoesNotFit c n described w s = HasRefusedItem c w fault.TooLarge ⊎ ComponentTypeDoesNotFit c n described w s
 
 -- what stands where an import of a world is refused: what stands where the world is, or what does not fit
 abbrev pub IsWorldNotImported : {A : Type 0} → Collection → Name → (ℕ → Description) → WorldId → Scope → Result A EncodeFault → Type 0
-IsWorldNotImported c n described w s (Err fault.TooLarge) = IsWorldRefused {A = Unit {0}} c w (Err fault.TooLarge) ⊎ WorldDoesNotFit c n described w s
+IsWorldNotImported c n described w s (Err fault.TooLarge) = WorldDoesNotFit c n described w s
 IsWorldNotImported c n described w s r = IsWorldRefused c w r

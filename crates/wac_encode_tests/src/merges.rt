@@ -4,7 +4,9 @@ ghost use Rattle.std.specs.Prelude.{◌≡◌, true, IfOk};
 ghost use Rattle.wac_entries.specs.Bindings.{AreHeld};
 
 use crate::modules::Extern;
-use crate::rows::Row::{Enumeration, Func, Instance, List, Module, Own, Primitive, Resource};
+use crate::rows::Row::{
+    Component, Enumeration, Func, Instance, List, Module, Own, Primitive, Resource, TypeOf,
+};
 use crate::rows::{Item, Items, Row, assert_row};
 use std::alloc::Global;
 use std::process::Abort;
@@ -63,6 +65,17 @@ const HANDLES: &[Row] = &[
     List(1),
     Func(&[("p", 2)], None),
     Instance(Some("n:p/i"), &[("f", 3)]),
+    Component(None, &[], &[("f", 3)]),
+    TypeOf(5),
+];
+
+// Two components that import `f` and export `g`, of functions without parameters and result, the first of a world with an id; and its type.
+const SIDES: &[Row] = &[
+    Func(&[], None),
+    Component(Some("n:p/w"), &[("f", 0)], &[("g", 0)]),
+    Func(&[], None),
+    Component(None, &[("f", 2)], &[("g", 2)]),
+    TypeOf(1),
 ];
 
 const MERGES: &[Merge] = &[
@@ -104,6 +117,39 @@ const MERGES: &[Merge] = &[
         ]),
     },
     Merge {
+        name: "a component stands behind its component type, one for all that ask for its name",
+        rows: SIDES,
+        asked: &[("k", 1), ("k", 3)],
+        places: Some(&[(Sort::Component, 0)]),
+        bytes: Some(&[
+            0x07, 0x14, 0x01, 0x41, 0x03, // a component type of three declarations
+            0x01, 0x40, 0x00, 0x01, 0x00, // a function type
+            0x03, 0x00, 0x01, 0x66, 0x01, 0x00, // `f` is imported
+            0x04, 0x00, 0x01, 0x67, 0x01, 0x00, // `g` is exported
+            0x0a, 0x06, 0x01, 0x00, 0x01, 0x6b, 0x04, 0x00, // the component `k`
+        ]),
+    },
+    Merge {
+        name: "the type of a world stands behind it too, and is that type",
+        rows: SIDES,
+        asked: &[("t", 4)],
+        places: Some(&[(Sort::Type, 1)]),
+        bytes: Some(&[
+            0x07, 0x14, 0x01, 0x41, 0x03, // a component type of three declarations
+            0x01, 0x40, 0x00, 0x01, 0x00, // a function type
+            0x03, 0x00, 0x01, 0x66, 0x01, 0x00, // `f` is imported
+            0x04, 0x00, 0x01, 0x67, 0x01, 0x00, // `g` is exported
+            0x0a, 0x07, 0x01, 0x00, 0x01, 0x74, 0x03, 0x00, 0x00, // the type `t`
+        ]),
+    },
+    Merge {
+        name: "each stands at an index of its sort, behind a component type of its own",
+        rows: SIDES,
+        asked: &[("k", 1), ("l", 3), ("t", 4)],
+        places: Some(&[(Sort::Type, 1), (Sort::Component, 0), (Sort::Component, 1)]),
+        bytes: None,
+    },
+    Merge {
         name: "a handle is not written yet",
         rows: HANDLES,
         asked: &[("f", 3)],
@@ -114,6 +160,20 @@ const MERGES: &[Merge] = &[
         name: "nor is one in an instance",
         rows: HANDLES,
         asked: &[("n:p/i", 4)],
+        places: None,
+        bytes: None,
+    },
+    Merge {
+        name: "nor is one in a component",
+        rows: HANDLES,
+        asked: &[("k", 5)],
+        places: None,
+        bytes: None,
+    },
+    Merge {
+        name: "nor is one in the type of a world",
+        rows: HANDLES,
+        asked: &[("t", 6)],
         places: None,
         bytes: None,
     },

@@ -69,6 +69,12 @@ instance_of n = kind.Instance (record { 0 = n })
 abbrev interface_at : ℕ → ItemKind
 interface_at n = kind.TypeItem (ty.Interface (record { 0 = n }))
 
+abbrev component_of : ℕ → ItemKind
+component_of n = kind.Component (record { 0 = n })
+
+abbrev world_at : ℕ → ItemKind
+world_at n = kind.TypeItem (ty.World (record { 0 = n }))
+
 given_back : {A : Type 0} (x y : A) → Some x ≡ Some y → x ≡ y
 given_back x y is = ap (λ o. option_case o x (λ z. z)) is
 
@@ -159,6 +165,32 @@ pub handle_in_a_nested_interface_type_is_not : IsImportableKind types (interface
 unfolding type_tree
 handle_in_a_nested_interface_type_is_not h = (h (codes "i") (codes "f")).0 0
 
+-- a component is imported that imports a function of numbers and exports an instance, and so is its type; and one that imports an instance of an interface
+-- that uses another; one that exports a function of a handle is not, nor is its type, nor one that exports a component
+pub component_is_imported : IsImportableKind types (component_of 0)
+unfolding type_tree
+component_is_imported = (one_function, one_instance)
+
+pub world_type_is_imported : IsImportableKind types (world_at 0)
+unfolding type_tree
+world_type_is_imported = (one_function, one_instance)
+
+pub component_with_a_user_is_imported : IsImportableKind types (component_of 2)
+unfolding type_tree
+component_with_a_user_is_imported = (one_instance, λ n. tt)
+
+pub component_of_a_handle_is_not : IsImportableKind types (component_of 1) → ⊥
+unfolding type_tree
+component_of_a_handle_is_not h = (h.1 (codes "f")).0 0
+
+pub world_type_of_a_handle_is_not : IsImportableKind types (world_at 1) → ⊥
+unfolding type_tree
+world_type_of_a_handle_is_not h = (h.1 (codes "f")).0 0
+
+pub component_in_a_component_is_not : IsImportableKind types (component_of 3) → ⊥
+unfolding type_tree
+component_in_a_component_is_not h = h.1 (codes "c")
+
 -- an interface with an id and a function of numbers is defined, and so is one with an instance of it inside; one without an id is not, nor one with a use,
 -- nor one with a function of a handle in the instance inside
 plain_function_to : (d k : ℕ) (e : Name × ItemKind) → slice_get ((codes "f", plain_function) ∷ []) k ≡ Some e → IsPlainTo d types e.1
@@ -213,9 +245,6 @@ handle_in_a_nested_interface_is_not h = let (d, inside) = h.plain 0 (codes "i", 
 
 -- a world with an id is defined that imports a function of numbers and exports an instance; one with a function of a handle is not, nor one with an
 -- instance of an interface that uses another, nor one with a component
-abbrev world_at : ℕ → ItemKind
-world_at n = kind.TypeItem (ty.World (record { 0 = n }))
-
 pub world_is_defined : IsDefinableKind types (world_at 0)
 unfolding type_tree
 world_is_defined = record { world = (world_of ((codes "f", plain_function) ∷ []) ((codes "i", instance_of 0) ∷ [])).item; found = refl; id = refl; uses = refl; imports = ins; exports = outs } where

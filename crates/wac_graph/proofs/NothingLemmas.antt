@@ -47,6 +47,7 @@ nothing_merges c d m h = record {
   items = λ p k class e ordered named there. absurd (no_class k class named);
   listed = λ p k class e ordered named there. absurd (no_class k class named);
   subtypes = λ p k class e ordered named there. absurd (no_class k class named);
+  equal = λ p k class e ordered named there apart. absurd (no_class k class named);
 }
 
 -- its interfaces unite none, over whatever types

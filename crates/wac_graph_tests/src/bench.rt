@@ -12,7 +12,7 @@ use wac_merge::MergeFault;
 use wac_nodes::{EncodeOptions, NodeId, NodeKind, PackageId, Processor};
 use wac_types::{
     CoreExtern, CoreFuncType, DefinedType, Enum, ItemKind, ModuleType, PrimitiveType, Type,
-    ValueType,
+    ValueType, WorldId,
 };
 use wac_validation::ValidationFault;
 
@@ -37,6 +37,10 @@ pub enum Item {
     Empty,
     // A core module that imports the function `f` of `m` and exports the memory `e`.
     Module,
+    // A component that imports a function `f` and exports a function `g`, both without parameters and result.
+    Component,
+    // The type of a world of an id that imports and exports these.
+    World,
     // An instance of an interface of this name, which uses the type of this name of the interface of that name.
     Using(&'static str, &'static str, &'static str),
 }
@@ -167,6 +171,17 @@ fn core_module(rt: &impl Abort, alloc: Global, graph: &mut CompositionGraph) -> 
     parts::module(rt, graph, module)
 }
 
+// A world of this id that imports a function `f` and exports a function `g`.
+fn sides(
+    rt: &impl Abort,
+    alloc: Global,
+    graph: &mut CompositionGraph,
+    id: Option<&str>,
+) -> WorldId {
+    let item = function(rt, alloc, graph, &[], None);
+    parts::world(rt, alloc, graph, id, &[("f", item)], &[("g", item)])
+}
+
 fn enumeration(rt: &impl Abort, alloc: Global, graph: &mut CompositionGraph) -> ItemKind {
     let cases = Enum::new(alloc, &["a"]).expect(rt, "an enumeration");
     let value = parts::defined(rt, graph, DefinedType::Enum(cases));
@@ -261,6 +276,8 @@ impl Bench {
             }
             Item::Empty => instance(rt, alloc, graph, None, &[], &[]),
             Item::Module => core_module(rt, alloc, graph),
+            Item::Component => ItemKind::Component(sides(rt, alloc, graph, None)),
+            Item::World => ItemKind::TypeItem(Type::World(sides(rt, alloc, graph, Some("n:p/w")))),
             Item::Using(id, name, used) => using_instance(rt, alloc, graph, id, name, used),
         }
     }

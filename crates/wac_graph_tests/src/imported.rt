@@ -2,7 +2,7 @@
 use super::bench::Call::{
     Encode, Export, Import, Instantiate, Name, Refusal, Register, Sections, Set, Unset,
 };
-use super::bench::Item::{Empty, Exporting, Module, Plain, Using};
+use super::bench::Item::{Component, Empty, Exporting, Module, Plain, Using, World};
 use super::bench::{How, Rows, assert_tables};
 
 // A package's component, which has no items.
@@ -78,6 +78,26 @@ const GIVEN_MODULE: Rows = &[
     (Instantiate(0), "1"),
     (Set(1, "k", 0), ""),
 ];
+
+// A component that is imported, and the type of a world.
+const SIDES: Rows = &[(Import("k", Component), "0"), (Import("t", World), "1")];
+
+// Two packages ask for one component and for one type of a world.
+const ASKED_SIDES: Rows = &[
+    (
+        Register("my:first", &[("k", Component), ("t", World)], &[]),
+        "",
+    ),
+    (
+        Register("my:second", &[("k", Component), ("t", World)], &[]),
+        "",
+    ),
+    (Instantiate(0), "0"),
+    (Instantiate(1), "1"),
+];
+
+// The component type of both: a function type, the import `f` and the export `g` of it.
+const SIDES_TYPE: &str = "07140141030140000100030001660100040001670100";
 
 // The type of that core module.
 const MODULE_TYPE: &str = "03140150030160000000016d01660000030165020001";
@@ -168,6 +188,35 @@ const TABLES: &[(Rows, Rows)] = &[
                 "0a0701000178001100",
                 COMPONENT,
                 "050901000001016b001100",
+            ]),
+            "",
+        )],
+    ),
+    // Type items come first, and each of the two stands behind a component type of its own.
+    (
+        SIDES,
+        &[(
+            Sections(&[
+                SIDES_TYPE,
+                "0a0701000174030000",
+                SIDES_TYPE,
+                "0a060100016b0402",
+            ]),
+            "",
+        )],
+    ),
+    (
+        ASKED_SIDES,
+        &[(
+            Sections(&[
+                SIDES_TYPE,
+                "0a0701000174030000",
+                SIDES_TYPE,
+                "0a060100016b0402",
+                COMPONENT,
+                "050c01000102016b040001740301",
+                COMPONENT,
+                "050c01000202016b040001740301",
             ]),
             "",
         )],

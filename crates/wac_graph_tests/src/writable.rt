@@ -49,11 +49,19 @@ pub const DEPENDENCIES: &[Case] = &[
         steps: &[Import("c", 3)],
         want: UNLISTED,
     },
-    // It is, under its id.
+    // It is, under its id: both are of one enumeration, which is aliased from the first.
     Case {
         rows: WORLDS,
         steps: &[Import("c", 4)],
-        want: NOT_YET,
+        want: Parts(&[
+            "073b014105", // a component type of five declarations
+            "014202016d01016104000174030000", // an instance type that lists the enumeration
+            "0300056e3a702f690500", // `n:p/i` is imported
+            "020300000174", // its enumeration
+            "014202020302010104000174030000", // an instance type that lists that
+            "0300056e3a702f6a0502", // `n:p/j` is imported
+            "0a06010001630400", // the component `c`
+        ]),
     },
     // It is exported alone.
     Case {
@@ -65,7 +73,15 @@ pub const DEPENDENCIES: &[Case] = &[
     Case {
         rows: WORLDS,
         steps: &[Import("c", 6)],
-        want: NOT_YET,
+        want: Parts(&[
+            "073b014105", // a component type of five declarations
+            "014202016d01016104000174030000", // an instance type that lists the enumeration
+            "0400056e3a702f690500", // `n:p/i` is exported
+            "020300000174", // its enumeration
+            "014202020302010104000174030000", // an instance type that lists that
+            "0400056e3a702f6a0502", // `n:p/j` is exported
+            "0a06010001630400", // the component `c`
+        ]),
     },
     // It is imported under another name.
     Case {

@@ -18,7 +18,7 @@ use Rattle.wac_subtyping.proofs.Unfolding.{type_before}
 use Rattle.wac_subtyping.specs.Subtype.{Sub, IsPlain, IsSubtype, type_tree, kind_tree, listed_in}
 use Rattle.wac_subtyping.proofs.Relation.{plain_sub}
 use Rattle.wac_entries.specs.Bindings.{AreHeld}
-use Rattle.wac_entries.specs.Classes.{Entry, by_names, same_class, members, names_of_classes, class_names, ClassLaws}
+use Rattle.wac_entries.specs.Classes.{Entry, by_names, is_instance as is_instance_kind, same_class, members, names_of_classes, class_names, ClassLaws}
 use Rattle.wac_terms.specs.Merge.{Merged, IsMerge, with_names, names_behind, export_list, export_lists}
 use Rattle.wac_meaning.specs.Importable.{HasNoHandle, IsPlainItem, IsPlainWhereThere, IsImportable, IsImportableKind}
 use Rattle.wac_meaning.proofs.AskedMembers.{IsIn, in_filter}
@@ -116,56 +116,6 @@ module _ {L : Type 0} where
   sub_below a b (Sub.instance_items x y s) = inside x y s
   sub_below a b (Sub.component_items x y s) = tt
   sub_below a b (Sub.module_items x y s) = tt
-
-  -- a core module
-  module_below : (a b : TypeTree L) → Sub a b → IsImportable (module_item b) → IsImportable (module_item a)
-  module_below a b (Sub.same _ q) h = h
-  module_below a b (Sub.modules xi yi xe ye f g) h = tt
-  module_below a b (Sub.type_items x y s t) h = absurd h
-  module_below a b (Sub.instances xs ys f) h = absurd h
-  module_below a b (Sub.components xi xe yi ye f g) h = absurd h
-  module_below a b (Sub.instance_items x y s) h = absurd h
-  module_below a b (Sub.component_items x y s) h = absurd h
-  module_below a b (Sub.module_items x y s) h = absurd h
-
-  -- a type item, which is one both ways
-  above : (a b : TypeTree L) → Sub a b → b ≢ absent → IsPlainWhereThere a → IsPlainItem b
-  above a b (Sub.same _ q) n h = where_plain a n h
-  above a b (Sub.type_items x y s t) n h = let P : TypeTree L → Type 0 = λ z. IsPlainItem (type_equal z) in subst P (plain_sub x y (plain_tree x (plain_free x h)) s) h
-  above a b (Sub.instances xs ys f) n h = absurd h
-  above a b (Sub.components xi xe yi ye f g) n h = absurd h
-  above a b (Sub.modules xi yi xe ye f g) n h = absurd h
-  above a b (Sub.instance_items _ _ (Sub.same _ q)) n h = h
-  above a b (Sub.instance_items _ _ (Sub.instances xs ys f)) n h = λ m. plain_where (ys m) (λ there. above (xs m) (ys m) (f m there) there (h m))
-  above a b (Sub.instance_items _ _ (Sub.components xi xe yi ye f g)) n h = absurd h
-  above a b (Sub.instance_items _ _ (Sub.modules xi yi xe ye f g)) n h = absurd h
-  above a b (Sub.instance_items _ _ (Sub.type_items x y r s)) n h = absurd h
-  above a b (Sub.instance_items _ _ (Sub.instance_items x y s)) n h = absurd h
-  above a b (Sub.instance_items _ _ (Sub.component_items x y s)) n h = absurd h
-  above a b (Sub.instance_items _ _ (Sub.module_items x y s)) n h = absurd h
-  above a b (Sub.component_items x y s) n h = absurd h
-  above a b (Sub.module_items x y s) n h = absurd h
-
-  type_above : (a b : TypeTree L) → Sub a b → IsImportable (type_equal a) → IsImportable (type_equal b)
-  type_above a b (Sub.same _ q) h = h
-  type_above a b (Sub.instances xs ys f) h = λ n. plain_where (ys n) (λ there. above (xs n) (ys n) (f n there) there (h n))
-  type_above a b (Sub.components xi xe yi ye f g) h = absurd h
-  type_above a b (Sub.modules xi yi xe ye f g) h = absurd h
-  type_above a b (Sub.type_items x y s t) h = absurd h
-  type_above a b (Sub.instance_items x y s) h = absurd h
-  type_above a b (Sub.component_items x y s) h = absurd h
-  type_above a b (Sub.module_items x y s) h = absurd h
-
-  -- what is no instance
-  other_below : (a b : TypeTree L) → Sub a b → ((x : TypeTree L) → a ≡ instance_item x → ⊥) → IsImportable b → IsImportable a
-  other_below a b (Sub.same _ q) n h = h
-  other_below a b (Sub.type_items x y s t) n h = type_above y x t h
-  other_below a b (Sub.instance_items x y s) n h = absurd (n x refl)
-  other_below a b (Sub.instances xs ys f) n h = absurd h
-  other_below a b (Sub.components xi xe yi ye f g) n h = absurd h
-  other_below a b (Sub.modules xi yi xe ye f g) n h = absurd h
-  other_below a b (Sub.component_items x y s) n h = absurd h
-  other_below a b (Sub.module_items x y s) n h = module_below x y s h
 
 -- ---- names
 kind_there : (c : Collection) (k : ItemKind) → kind_tree c k ≢ absent
@@ -492,13 +442,13 @@ module _ (c : Collection) (wf : IsWellFormed c) (es : List Entry) (held : AreHel
             subst (λ (z : ItemKind). IsImportableKind c z) (sym j_is) (all o y y_at),
           )
 
-  not_instance : (k : ItemKind) → ((i : InterfaceId) → k ≡ kind.Instance i → ⊥) → (x : TypeTree Name) → kind_tree m.types k ≡ instance_item x → ⊥
-  not_instance (kind.Instance i) other x e = other i refl
-  not_instance (kind.TypeItem a) other x e = cc
-  not_instance (kind.Func f) other x e = cc
-  not_instance (kind.Component w) other x e = cc
-  not_instance (kind.Module n) other x e = cc
-  not_instance (kind.Value v) other x e = cc
+  other_kind : (k : ItemKind) → ((i : InterfaceId) → k ≡ kind.Instance i → ⊥) → is_instance_kind k ≡ false
+  other_kind (kind.Instance i) other = absurd (other i refl)
+  other_kind (kind.TypeItem a) other = refl
+  other_kind (kind.Func f) other = refl
+  other_kind (kind.Component w) other = refl
+  other_kind (kind.Module n) other = refl
+  other_kind (kind.Value v) other = refl
 
   -- each import is, where all that is asked for is
   pub merge_importable : ClassLaws → AreListedInOrder by_names c es m → OrderHasClasses → AllAsked → AllImportable m
@@ -507,8 +457,9 @@ module _ (c : Collection) (wf : IsWellFormed c) (es : List Entry) (held : AreHel
       let (class, of_class) = the_one (class_names by_names es) k ((has_classes c es merge.order merge.written k).0 (p, slice_get_within merge.order p k placed, get_or_from_slice_get merge.order p k k placed)) in
       let (x, within, named) = class_named es es class k of_class in
       let member : IsIn (members by_names es class) x = in_filter (λ z. same_class by_names es class z.name) es x within (subst (λ n. same_class by_names es class n ≡ true) (sym named) (laws.reflexive es class)) in
-      let sub : IsSubtype m.types e.kind c x.kind = each (λ z. IsSubtype m.types e.kind c z.kind) (members by_names es class) x (merge.subtypes p k class e placed of_class at) member in
-      by k class placed of_class (is_instance e.kind) (λ other. other_below (kind_tree m.types e.kind) (kind_tree c x.kind) sub (not_instance e.kind other) (all within.0 x within.1))
+      by k class placed of_class (is_instance e.kind) (λ other.
+      let same : kind_tree m.types e.kind ≡ kind_tree c x.kind = each (λ z. kind_tree m.types e.kind ≡ kind_tree c z.kind) (members by_names es class) x (merge.equal p k class e placed of_class at (other_kind e.kind other)) member in
+      subst (λ (t : TypeTree Name). IsImportable t) (sym same) (all within.0 x within.1))
     where
       by : (k : ℕ) (class : Name) → slice_get merge.order p ≡ Some k → slice_get (class_names by_names es) k ≡ Some class → ((i : InterfaceId) × (e.kind ≡ kind.Instance i)) ⊎ ((i : InterfaceId) → e.kind ≡ kind.Instance i → ⊥)
           → (((i : InterfaceId) → e.kind ≡ kind.Instance i → ⊥) → IsImportableKind m.types e.kind) → IsImportableKind m.types e.kind

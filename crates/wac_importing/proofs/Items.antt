@@ -18,9 +18,9 @@ use Rattle.wac_shapes.specs.declared.component.WorldId.{WorldId}
 use Rattle.wac_shapes.specs.declared.component.«Type».{«Type» as AnyType}
 use Rattle.wac_shapes.specs.declared.component.«Type».TheVariants as ty
 use Rattle.wac_collection.specs.declared.collection.Held.{Held}
-use Rattle.wac_primitives.specs.Tree.{TypeTree, absent, resource, instance, type_equal, instance_item, module_item}
+use Rattle.wac_primitives.specs.Tree.{TypeTree, absent, resource, instance, component, type_equal, instance_item, component_item, module_item}
 use Rattle.wac_collection.specs.Collection.{Collection, IsWellFormed, AddedBefore, size, holds_type, item_at, item_of, interface_exports, world_imports, world_exports}
-use Rattle.wac_collection.specs.Held.{resolved, func_tree, interface_tree, module_tree, of_held, unfolded}
+use Rattle.wac_collection.specs.Held.{resolved, func_tree, interface_tree, world_tree, module_tree, of_held, unfolded}
 use Rattle.wac_subtyping.specs.Subtype.{IsPlain, by_name, resource_names, type_tree, kind_tree, listed_in}
 use Rattle.wac_subtyping.proofs.Unfolding.{type_before, unfolded_step, type_step, held_item}
 use Rattle.wac_comparison.proofs.Subtyping.{func_plain}
@@ -105,6 +105,30 @@ world_there c wf w held = by (slice_get c.worlds w.0) refl (type_before c wf (ty
   by None is b = absurd b
   by (Some h) is b = (h.item, ap item_of is)
 
+-- a world is its imports and exports under their names
+pub world_is : (c : Collection) → IsWellFormed c → (w : WorldId) (x : World) → holds_type c (ty.World w) ≡ true → item_at c.worlds w.0 ≡ Some x → type_tree c (ty.World w) ≡ component (listed_in c x.imports) (listed_in c x.exports)
+unfolding type_tree
+world_is c wf w x held at =
+    let (h, is, same) = held_item (slice_get c.worlds w.0) x at in
+    unfolded_step by_name c wf (resource_names c) (ty.World w) held
+    ∙ ap (of_held (world_tree by_name c (unfolded by_name c) (resource_names c))) is ∙ ap (λ (y : World). component (listed_in c y.imports) (listed_in c y.exports)) same
+
+pub component_importable : (c : Collection) → IsWellFormed c → (w : WorldId) (x : World) → holds_type c (ty.World w) ≡ true → item_at c.worlds w.0 ≡ Some x → ArePlain c x.imports → ArePlain c x.exports → IsImportableKind c (kind.Component w)
+component_importable c wf w x held at ins outs = subst (λ t. IsImportable (component_item t)) (sym (world_is c wf w x held at)) (all_there c x.imports ins, all_there c x.exports outs)
+
+pub world_type_importable : (c : Collection) → IsWellFormed c → (w : WorldId) (x : World) → holds_type c (ty.World w) ≡ true → item_at c.worlds w.0 ≡ Some x → ArePlain c x.imports → ArePlain c x.exports → IsImportableKind c (kind.TypeItem (ty.World w))
+world_type_importable c wf w x held at ins outs = subst (λ t. IsImportable (type_equal t)) (sym (world_is c wf w x held at)) (all_there c x.imports ins, all_there c x.exports outs)
+
+pub importable_component : (c : Collection) → IsWellFormed c → (w : WorldId) (x : World) → holds_type c (ty.World w) ≡ true → item_at c.worlds w.0 ≡ Some x → NoNameTwice x.imports → NoNameTwice x.exports → IsImportableKind c (kind.Component w) → ArePlain c x.imports × ArePlain c x.exports
+importable_component c wf w x held at once twice h =
+    let so = subst (λ t. IsImportable (component_item t)) (world_is c wf w x held at) h in
+    (there_all c x.imports once so.0, there_all c x.exports twice so.1)
+
+pub importable_world_type : (c : Collection) → IsWellFormed c → (w : WorldId) (x : World) → holds_type c (ty.World w) ≡ true → item_at c.worlds w.0 ≡ Some x → NoNameTwice x.imports → NoNameTwice x.exports → IsImportableKind c (kind.TypeItem (ty.World w)) → ArePlain c x.imports × ArePlain c x.exports
+importable_world_type c wf w x held at once twice h =
+    let so = subst (λ t. IsImportable (type_equal t)) (world_is c wf w x held at) h in
+    (there_all c x.imports once so.0, there_all c x.exports twice so.1)
+
 -- a core module
 pub module_importable : (c : Collection) → IsWellFormed c → (m : ModuleTypeId) → holds_type c (ty.Module m) ≡ true → IsImportableKind c (kind.Module m)
 module_importable c wf m held = subst (λ (t : TypeTree Name). IsImportable (module_item t)) (sym (type_step c wf (ty.Module m) held)) (by (slice_get c.modules m.0) (type_before c wf (ty.Module m) held)) where
@@ -116,6 +140,7 @@ module_importable c wf m held = subst (λ (t : TypeTree Name). IsImportable (mod
 pub plain_importable : {L : Type 0} (t : TypeTree L) → IsPlainItem (type_equal t) → IsImportable (type_equal t)
 plain_importable absent h = absurd h
 plain_importable (instance items) h = absurd h
+plain_importable (component imports exports) h = absurd h
 plain_importable t h = h
 
 pub func_importable : (c : Collection) → IsWellFormed c → (f : FuncTypeId) → holds_type c (ty.Func f) ≡ true → HasNoHandle (type_tree c (ty.Func f)) → IsImportableKind c (kind.TypeItem (ty.Func f))
@@ -166,14 +191,14 @@ type_not_plain c wf (ty.Interface i) held other h = held_none TypePlain (λ h. h
 type_not_plain c wf (ty.World w) held other h = held_none TypePlain (λ h. h) _ (λ x h. h) (slice_get c.worlds w.0) (subst TypePlain (type_step c wf (ty.World w) held) h)
 type_not_plain c wf (ty.Module m) held other h = held_none TypePlain (λ h. h) _ (λ x h. h) (slice_get c.modules m.0) (subst TypePlain (type_step c wf (ty.Module m) held) h)
 
--- nor is one of another sort imported so far, interfaces aside
-pub type_not_importable : (c : Collection) → IsWellFormed c → (a : AnyType) → holds_type c a ≡ true → (IsOfValues a → ⊥) → ((i : InterfaceId) → a ≡ ty.Interface i → ⊥) → IsImportableKind c (kind.TypeItem a) → ⊥
-type_not_importable c wf (ty.Value v) held other apart h = other tt
-type_not_importable c wf (ty.Resource r) held other apart h = named_none TypeImportable (λ h. h) (λ n h. h) (resource_names c (resolved c r)) (subst TypeImportable (type_step c wf (ty.Resource r) held) h)
-type_not_importable c wf (ty.Func f) held other apart h = other tt
-type_not_importable c wf (ty.Interface i) held other apart h = apart i refl
-type_not_importable c wf (ty.World w) held other apart h = held_none TypeImportable (λ h. h) _ (λ x h. h) (slice_get c.worlds w.0) (subst TypeImportable (type_step c wf (ty.World w) held) h)
-type_not_importable c wf (ty.Module m) held other apart h = held_none TypeImportable (λ h. h) _ (λ x h. h) (slice_get c.modules m.0) (subst TypeImportable (type_step c wf (ty.Module m) held) h)
+-- nor is one of another sort imported so far, interfaces and worlds aside
+pub type_not_importable : (c : Collection) → IsWellFormed c → (a : AnyType) → holds_type c a ≡ true → (IsOfValues a → ⊥) → ((i : InterfaceId) → a ≡ ty.Interface i → ⊥) → ((w : WorldId) → a ≡ ty.World w → ⊥) → IsImportableKind c (kind.TypeItem a) → ⊥
+type_not_importable c wf (ty.Value v) held other apart away h = other tt
+type_not_importable c wf (ty.Resource r) held other apart away h = named_none TypeImportable (λ h. h) (λ n h. h) (resource_names c (resolved c r)) (subst TypeImportable (type_step c wf (ty.Resource r) held) h)
+type_not_importable c wf (ty.Func f) held other apart away h = other tt
+type_not_importable c wf (ty.Interface i) held other apart away h = apart i refl
+type_not_importable c wf (ty.World w) held other apart away h = away w refl
+type_not_importable c wf (ty.Module m) held other apart away h = held_none TypeImportable (λ h. h) _ (λ x h. h) (slice_get c.modules m.0) (subst TypeImportable (type_step c wf (ty.Module m) held) h)
 
 -- nor is one of another sort defined so far, interfaces and worlds aside
 pub type_not_definable : (c : Collection) → IsWellFormed c → (a : AnyType) → holds_type c a ≡ true → (IsOfValues a → ⊥) → ((i : InterfaceId) → a ≡ ty.Interface i → ⊥) → ((w : WorldId) → a ≡ ty.World w → ⊥) → IsDefinableKind c (kind.TypeItem a) → ⊥
@@ -249,6 +274,7 @@ free_lists c wf a of held free = absurd of
 importable_free : {L : Type 0} (t : TypeTree L) → IsPlain t → IsImportable (type_equal t) → HasNoHandle t
 importable_free absent p h = absurd h
 importable_free (instance items) p h = absurd p
+importable_free (component imports exports) p h = absurd p
 importable_free t p h = h
 
 pub values_importable : (c : Collection) (a : AnyType) → IsOfValues a → IsImportableKind c (kind.TypeItem a) → HasNoHandle (type_tree c a)

@@ -11,6 +11,7 @@ use Rattle.wac_shapes.proofs.Names.{same_name-true, found_at}
 use Rattle.wac_shapes.specs.declared.component.ItemKind.{ItemKind}
 use Rattle.wac_shapes.specs.declared.component.ItemKind.TheVariants as kind
 use Rattle.wac_shapes.specs.declared.core_types.ModuleType.{ModuleType}
+use Rattle.wac_shapes.specs.declared.component.WorldId.{WorldId}
 use Rattle.wac_shapes.specs.declared.component.«Type».{«Type» as AnyType}
 use Rattle.wac_shapes.specs.declared.component.«Type».TheVariants as ty
 use Rattle.wac_primitives.specs.Tree.{imported, position, Tree}
@@ -24,7 +25,7 @@ use Rattle.wac_binary.specs.declared.sorts.Sort.TheVariants as sort
 use Rattle.wac_modules.specs.Declarations.{declarations_of}
 use Rattle.wac_binary.specs.declared.sorts.Description.{Description}
 use Rattle.wac_binary.specs.declared.sorts.Description.TheVariants as e
-use Rattle.wac_binary.specs.Items.{Item, core_type, import_item}
+use Rattle.wac_binary.specs.Items.{component_def, Decl, decls, Item, core_type, type_item, import_item}
 use Rattle.wac_binary.specs.Indexes.{space, described_sort, indexes}
 use Rattle.wac_binary.specs.Meaning.{meaning}
 use Rattle.wac_binary.specs.HasMeaning.{HasMeaning, IsNew}
@@ -45,6 +46,7 @@ use Rattle.wac_meaning.proofs.WrittenLemmas.{slice_get-push}
 use Rattle.wac_meaning.proofs.MeaningLemmas.{Laws, indexes-push}
 use Rattle.wac_meaning.proofs.QuietLemmas.{IsQuiet}
 use Rattle.wac_meaning.proofs.BeginLemmas.{nothing_begins, begins_next}
+use Rattle.wac_components.specs.Imports.{and_component_type, next_index, and_world_import, ImportsWorld}
 use Rattle.wac_importing.specs.Modules.{WritesOne, and_module_import}
 use Rattle.wac_meaning.proofs.MergeLemmas.{imports_next}
 
@@ -167,6 +169,26 @@ module_index (Builder items) x is = let more = indexes-push (space sort.CoreModu
 module_index (Instance ds) x is = absurd is
 module_index (Component ds) x is = absurd is
 
+-- of a world its component type, and the import behind that
+world_items : (old new : Encodable) (ds : List Decl) (n : Name) (described : ℕ → Description) → IsRoot old → new ≡ and_world_import old ds n described → new ≡ Builder ((items_of old ++ type_item (component_def (decls ds)) ∷ []) ++ import_item n (described (next_index old)) ∷ [])
+world_items (Builder items) new ds n described is a = a
+world_items (Instance xs) new ds n described is a = absurd is
+world_items (Component xs) new ds n described is a = absurd is
+
+world_index : (k : ℕ) (old : Encodable) (ds : List Decl) → IsRoot old → indexes k (items_of old ++ type_item (component_def (decls ds)) ∷ []) ≡ count k (and_component_type old ds)
+world_index k (Builder items) ds is = refl
+world_index k (Instance xs) ds is = absurd is
+world_index k (Component xs) ds is = absurd is
+
+by_world : (c : Collection) (old new : Scope) (n : Name) (item : ItemKind) (described : ℕ → Description) (w : WorldId) (k : ℕ) → IsRoot old.content → described_sort (described (next_index old.content)) ≡ sort_of_kind item → ImportsWorld c old new n described w k → Brings old new n item k
+by_world c old new n item described w k is_root sorted x = record {
+  more = type_item (component_def (decls x.declarations)) ∷ [];
+  quiet = (tt, tt);
+  description = described (next_index old.content);
+  content = world_items old.content new.content x.declarations n described is_root (ap (λ (s : Scope). s.content) x.imported);
+  place = (λ j. (sorted j, (world_index (space (described_sort (described (next_index old.content)))) old.content x.declarations is_root ∙ sym x.index) j));
+}
+
 brings : (c : Collection) (old new : Scope) (n : Name) (item : ItemKind) (k : ℕ) → IsRoot old.content → WritesOne c old new n item k → Brings old new n item k
 brings c old new n (kind.Module id) k is_root w = record {
   more = core_type (declarations_of w.held) ∷ [];
@@ -175,10 +197,15 @@ brings c old new n (kind.Module id) k is_root w = record {
   content = module_items old.content new.content w.held n w.type is_root w.appended;
   place = (λ j. (sort.CoreModule, (module_index old.content w.held is_root ∙ sym w.index) j));
 }
-brings c old new n (kind.TypeItem t) k is_root w = by_types c old new n (kind.TypeItem t) k is_root w
+brings c old new n (kind.TypeItem (ty.Value v)) k is_root w = by_types c old new n (kind.TypeItem (ty.Value v)) k is_root w
+brings c old new n (kind.TypeItem (ty.Resource r)) k is_root w = by_types c old new n (kind.TypeItem (ty.Resource r)) k is_root w
+brings c old new n (kind.TypeItem (ty.Func f)) k is_root w = by_types c old new n (kind.TypeItem (ty.Func f)) k is_root w
+brings c old new n (kind.TypeItem (ty.Interface i)) k is_root w = by_types c old new n (kind.TypeItem (ty.Interface i)) k is_root w
+brings c old new n (kind.TypeItem (ty.World v)) k is_root w = by_world c old new n (kind.TypeItem (ty.World v)) e.Equal v k is_root refl w
+brings c old new n (kind.TypeItem (ty.Module m)) k is_root w = by_types c old new n (kind.TypeItem (ty.Module m)) k is_root w
 brings c old new n (kind.Func f) k is_root w = by_types c old new n (kind.Func f) k is_root w
 brings c old new n (kind.Instance i) k is_root w = by_types c old new n (kind.Instance i) k is_root w
-brings c old new n (kind.Component v) k is_root w = by_types c old new n (kind.Component v) k is_root w
+brings c old new n (kind.Component v) k is_root w = by_world c old new n (kind.Component v) e.Component v k is_root refl w
 brings c old new n (kind.Value v) k is_root w = by_types c old new n (kind.Value v) k is_root w
 
 pub one_more : Laws → (m : Merged) (es : List (Name × ItemKind)) → m.imports ≡ import_entries es → NoNameTwice es → (i : ℕ) (x : Name × ItemKind) → slice_get es i ≡ Some x

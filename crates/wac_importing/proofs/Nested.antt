@@ -22,7 +22,7 @@ use Rattle.wac_encode.proofs.Inside.{inside-further, inside-held}
 use Rattle.wac_planning.proofs.Listing.{held-items, listed-before}
 use Rattle.wac_meaning.specs.Importable.{IsPlainItem, IsPlainTo, IsImportableKind}
 use Rattle.wac_importing.specs.Looked.{IsPlainAlone, ArePlain, ListsPlainAlone, ListPlainAlone, ArePlainInside, IsPlainDeep, HasPlainItems, ListsPlain}
-use Rattle.wac_importing.proofs.Items.{interface_there, exports_are, instance_importable, interface_importable, importable_instance, importable_interface, module_importable, plain_importable, func_importable, imports_are, world_exports_are}
+use Rattle.wac_importing.proofs.Items.{interface_there, exports_are, instance_importable, interface_importable, importable_instance, importable_interface, module_importable, plain_importable, func_importable, component_importable, world_type_importable, imports_are, world_exports_are, world_there}
 use Rattle.wac_worlds.proofs.Whole.{held-imports, held-exports}
 
 -- an item, where what is inside of it is plain too
@@ -218,8 +218,15 @@ lists_importable c wf (kind.TypeItem (ty.Interface i)) held all =
     let (it, at) = interface_there c wf i held in
     interface_importable c wf i it held at (subst (ArePlain c) (exports_are c i it at) (inside_plain c wf i held all))
 lists_importable c wf (kind.TypeItem (ty.Func f)) held h = func_importable c wf f held h
+lists_importable c wf (kind.TypeItem (ty.World w)) held h =
+    let (x, at) = world_there c wf w held in
+    let plain = sides_plain c wf w x held at h in
+    world_type_importable c wf w x held at plain.0 plain.1
 lists_importable c wf (kind.TypeItem a) held h = plain_importable (type_tree c a) h
 lists_importable c wf (kind.Func f) held h = h
-lists_importable c wf (kind.Component w) held h = h
+lists_importable c wf (kind.Component w) held h =
+    let (x, at) = world_there c wf w held in
+    let plain = sides_plain c wf w x held at h in
+    component_importable c wf w x held at plain.0 plain.1
 lists_importable c wf (kind.Module m) held h = module_importable c wf m held
 lists_importable c wf (kind.Value v) held h = h

@@ -10,7 +10,6 @@ use Rattle.wac_shapes.specs.declared.component.InterfaceId.{InterfaceId}
 use Rattle.wac_shapes.specs.declared.component.ItemKind.{ItemKind}
 use Rattle.wac_shapes.specs.declared.component.ItemKind.TheVariants as kind
 use Rattle.wac_shapes.specs.declared.component.ModuleTypeId.{ModuleTypeId}
-use Rattle.wac_shapes.specs.declared.component.UsedType.{UsedType}
 use Rattle.wac_shapes.specs.declared.component.World.{World}
 use Rattle.wac_shapes.specs.declared.component.WorldId.{WorldId}
 use Rattle.wac_shapes.specs.declared.component.«Type».{«Type» as AnyType}
@@ -32,11 +31,11 @@ use Rattle.wac_encode.proofs.Inside.{all-plain}
 use Rattle.wac_encode.proofs.Plain.{each-plain}
 use Rattle.wac_meaning.specs.Importable.{IsPlainItem}
 use Rattle.wac_worlds.specs.Declaring.{is_declarable, are_declarable, IsItemFault, IsSideStopped}
-use Rattle.wac_worlds.specs.Worlds.{uses_nothing, is_plain_world, IsStoppedBehind, IsWorldRefused}
+use Rattle.wac_worlds.specs.Worlds.{is_plain_world, IsStoppedBehind, IsWorldRefused}
 use Rattle.wac_worlds.proofs.Whole.{plain-of, held-imports, held-exports}
 use Rattle.wac_importing.specs.Looked.{IsOfValues, IsPlainAlone, ArePlainInside, IsPlainDeep, ArePlainDeep, HasPlainItems, ListsPlain}
 use Rattle.wac_importing.proofs.Handles.{plain_free, value_needs_none, func_needs_none}
-use Rattle.wac_importing.proofs.Items.{type_not_plain, imports_are, world_exports_are}
+use Rattle.wac_importing.proofs.Items.{type_not_plain, imports_are, world_exports_are, world_there}
 use Rattle.wac_importing.proofs.Nested.{listed_held, inside_of}
 
 module _ (c : Collection) (wf : IsWellFormed c) where
@@ -92,18 +91,18 @@ module _ (c : Collection) (wf : IsWellFormed c) where
   pub lists : (i : InterfaceId) → holds_type c (ty.Interface i) ≡ true → ArePlainInside c i → lists_plain c i ≡ true
   lists i held all = all-plain c wf i (λ j h. each-plain (λ n. true) (interface_exports c j) (λ k e at. plain_is e.1 (listed_held c wf j k e at) (all j h k e at))) held
 
-  pub is_written : (k : ItemKind) → holds_type c (kind_type k) ≡ true → ListsPlain c k → ((m : ModuleTypeId) → k ≡ kind.Module m → ⊥) → is_importable c k ≡ true
-  is_written (kind.Instance i) held plain other = lists i held plain
-  is_written (kind.TypeItem (ty.Value v)) held plain other = refl
-  is_written (kind.TypeItem (ty.Resource r)) held plain other = of_value (ty.Resource r) _ held plain (λ of. of)
-  is_written (kind.TypeItem (ty.Func f)) held plain other = refl
-  is_written (kind.TypeItem (ty.Interface i)) held plain other = lists i held plain
-  is_written (kind.TypeItem (ty.World w)) held plain other = of_value (ty.World w) _ held plain (λ of. of)
-  is_written (kind.TypeItem (ty.Module m)) held plain other = refl
-  is_written (kind.Func f) held plain other = refl
-  is_written (kind.Component w) held plain other = absurd plain
-  is_written (kind.Module m) held plain other = absurd (other m refl)
-  is_written (kind.Value v) held plain other = refl
+  pub is_written : (k : ItemKind) → holds_type c (kind_type k) ≡ true → ListsPlain c k → ((m : ModuleTypeId) → k ≡ kind.Module m → ⊥) → ((w : WorldId) → k ≡ kind.Component w → ⊥) → ((w : WorldId) → k ≡ kind.TypeItem (ty.World w) → ⊥) → is_importable c k ≡ true
+  is_written (kind.Instance i) held plain other away apart = lists i held plain
+  is_written (kind.TypeItem (ty.Value v)) held plain other away apart = refl
+  is_written (kind.TypeItem (ty.Resource r)) held plain other away apart = of_value (ty.Resource r) _ held plain (λ of. of)
+  is_written (kind.TypeItem (ty.Func f)) held plain other away apart = refl
+  is_written (kind.TypeItem (ty.Interface i)) held plain other away apart = lists i held plain
+  is_written (kind.TypeItem (ty.World w)) held plain other away apart = absurd (apart w refl)
+  is_written (kind.TypeItem (ty.Module m)) held plain other away apart = refl
+  is_written (kind.Func f) held plain other away apart = refl
+  is_written (kind.Component w) held plain other away apart = absurd (away w refl)
+  is_written (kind.Module m) held plain other away apart = absurd (other m refl)
+  is_written (kind.Value v) held plain other away apart = refl
 
   in_split : {A : Type 0} (xs : List A) (x : A) (ys : List A) → (k : ℕ) × (slice_get (xs ++ x ∷ ys) k ≡ Some x)
   in_split [] x ys = (0, refl)
@@ -138,11 +137,12 @@ module _ (c : Collection) (wf : IsWellFormed c) where
   all_declarable [] each = refl
   all_declarable (x ∷ es) each = ap (λ (b : Bool). b && are_declarable c es) (each 0 x refl) ∙ all_declarable es (λ k e at. each (suc k) e at)
 
-  pub world_written : (w : WorldId) (x : World) → item_at c.worlds w.0 ≡ Some x → x.uses ≡ [] → HasPlainItems c w → is_plain_world c w ≡ true
-  world_written w x at none all =
+  pub world_written : (w : WorldId) → holds_type c (ty.World w) ≡ true → HasPlainItems c w → is_plain_world c w ≡ true
+  world_written w held all =
+      let (x, at) = world_there c wf w held in
       let ins = all_declarable x.imports (λ k e here. item_declarable e.1 (held-imports c wf w x at k e here) (all.0 k e (ap (λ (es : List (Name × ItemKind)). slice_get es k) (imports_are c w x at) ∙ here))) in
       let outs = all_declarable x.exports (λ k e here. item_declarable e.1 (held-exports c wf w x at k e here) (all.1 k e (ap (λ (es : List (Name × ItemKind)). slice_get es k) (world_exports_are c w x at) ∙ here))) in
-      plain-of c w x at ∙ (ap (λ (us : List (Name × UsedType)). uses_nothing us && (are_declarable c x.imports && are_declarable c x.exports)) none ∙ (ap (λ (b : Bool). b && are_declarable c x.exports) ins ∙ outs))
+      plain-of c w x at ∙ (ap (λ (b : Bool). b && are_declarable c x.exports) ins ∙ outs)
 
   deep_fault : (k : ItemKind) → holds_type c (kind_type k) ≡ true → IsPlainDeep c k → (s : Scope) (f : WriteFault) → IsItemFault c k s f → ⊥
   deep_fault (kind.Instance i) held plain s f h = instance_fault i plain h.0 f h.2.0 h.2.1
@@ -180,5 +180,5 @@ module _ (c : Collection) (wf : IsWellFormed c) where
   no_fault (kind.TypeItem (ty.Module m)) held plain f h = of_value (ty.Module m) _ held plain (λ of. of)
   no_fault (kind.Value v) held plain f h = absurd plain
   no_fault (kind.TypeItem a) held plain f h = absurd h
-  no_fault (kind.Component w) held plain f h = absurd plain
+  no_fault (kind.Component w) held plain f h = absurd h
   no_fault (kind.Module m) held plain f h = absurd h

@@ -76,7 +76,7 @@ module _ (c : Collection) (wf : IsWellFormed c) (w : WorldId) where
   named (Some id) h = (id, refl)
 
   pub world_definable : holds_type c (ty.World w) ≡ true → IsDefinableKind c (kind.TypeItem (ty.World w)) → IsDefinableWorld c w
-  world_definable held so = let (id, is) = named so.world.id so.id in ((id, (so.world, so.found, is)), world_written c wf w so.world so.found so.uses (plain_items so))
+  world_definable held so = let (id, is) = named so.world.id so.id in ((id, (so.world, so.found, is)), world_written c wf w held (plain_items so))
 
   -- of a world that is held
   same_world : (x : World) → item_at c.worlds w.0 ≡ Some x → (so : IsDefinableKind c (kind.TypeItem (ty.World w))) → so.world ≡ x

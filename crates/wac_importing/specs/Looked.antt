@@ -64,11 +64,13 @@ HasPlainItems c w = ArePlainDeep c (world_imports c w) × ArePlainDeep c (world_
 abbrev pub UseNothing : Collection → List (Name × ItemKind) → Type 0
 UseNothing c es = (i : ℕ) (e : Name × ItemKind) → slice_get es i ≡ Some e → UsesNothing c e.1
 
--- an item is plain, an instance that lists plain ones to any depth or its type, the type of a function without a resource in it, or a core module
+-- an item is plain, an instance or a component that lists plain ones to any depth or its type, the type of a function without a resource in it, or a core module
 abbrev pub ListsPlain : Collection → ItemKind → Type 0
 ListsPlain c (kind.Instance i) = ArePlainInside c i
 ListsPlain c (kind.TypeItem (ty.Interface i)) = ArePlainInside c i
 ListsPlain c (kind.TypeItem (ty.Func f)) = HasNoHandle (type_tree c (ty.Func f))
+ListsPlain c (kind.TypeItem (ty.World w)) = HasPlainItems c w
+ListsPlain c (kind.Component w) = HasPlainItems c w
 ListsPlain c (kind.Module m) = Unit {0}
 ListsPlain c k = IsPlainItem (kind_tree c k)
 

@@ -4,6 +4,7 @@ use Rattle.wac_primitives.specs.Name.{Name}
 use Rattle.wac_shapes.specs.declared.component.ItemKind.{ItemKind}
 use Rattle.wac_shapes.specs.declared.component.ItemKind.TheVariants as kind
 use Rattle.wac_shapes.specs.declared.component.ModuleTypeId.{ModuleTypeId}
+use Rattle.wac_shapes.specs.declared.component.«Type».TheVariants as ty
 use Rattle.wac_shapes.specs.declared.core_types.ModuleType.{ModuleType}
 use Rattle.wac_collection.specs.Collection.{Collection, item_at}
 use Rattle.wac_binary.specs.declared.sorts.Description.TheVariants as e
@@ -17,6 +18,7 @@ use Rattle.wac_scopes.specs.declared.fault.EncodeFault.TheVariants as fault
 use Rattle.wac_scopes.specs.declared.scope.Scope.{Scope}
 use Rattle.wac_scopes.specs.Contents.{and_core_module, and_import, count, ContentFits}
 use Rattle.wac_root.specs.Importing.{WritesImport, ImportedDoesNotFit}
+use Rattle.wac_components.specs.Imports.{ImportsWorld, WorldDoesNotFit}
 
 -- what is written with a core module type, and an import of a core module of that type behind it
 abbrev pub and_module_import : Encodable → ModuleType → Name → ℕ → Encodable
@@ -50,8 +52,12 @@ IsModuleNotImported c n id s (Err fault.OutOfMemory) = Unit {0}
 -- what is written of an import, and which does not fit
 abbrev pub WritesOne : Collection → Scope → Scope → Name → ItemKind → ℕ → Type 0
 WritesOne c old new n (kind.Module id) k = WritesModule c old new n id k
+WritesOne c old new n (kind.Component w) k = ImportsWorld c old new n e.Component w k
+WritesOne c old new n (kind.TypeItem (ty.World w)) k = ImportsWorld c old new n e.Equal w k
 WritesOne c old new n item k = WritesImport c old new n item k
 
 abbrev pub OneDoesNotFit : Collection → Name → ItemKind → Scope → Type 0
 OneDoesNotFit c n (kind.Module id) s = ModuleDoesNotFit c n id s
+OneDoesNotFit c n (kind.Component w) s = WorldDoesNotFit c n e.Component w s
+OneDoesNotFit c n (kind.TypeItem (ty.World w)) s = WorldDoesNotFit c n e.Equal w s
 OneDoesNotFit c n item s = ImportedDoesNotFit c n item s

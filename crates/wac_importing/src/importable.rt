@@ -160,22 +160,26 @@ fn are_plain_deep(types: &Types, items: &Named<ItemKind>) -> Result<bool, AllocE
     Ok(true)
 }
 
-/// Whether a held world lists plain items alone, to any depth.
+/// Whether a held world lists plain items alone, to any depth, so that a component of it and its type are imported so far.
 fn has_plain_sides(types: &Types, world: WorldId) -> Result<bool, AllocError>
     requires { holds_type types.now (ty.World world) ≡ true }
     ensures plain { result ≡ Answers true → HasPlainItems types.now world }
     ensures not { result ≡ Answers false → HasPlainItems types.now world → ⊥ }
+    ensures not_component { result ≡ Answers false → IsImportableKind types.now (kind.Component world) → ⊥ }
+    ensures not_type { result ≡ Answers false → IsImportableKind types.now (kind.TypeItem (ty.World world)) → ⊥ }
 {
     types.law();
     let held = &types[world];
+    held.imports.law();
+    held.exports.law();
     if !are_plain_deep(types, &held.imports)? {
         return Ok(false);
     }
     are_plain_deep(types, &held.exports)
 }
 
-/// Whether a held type as an item lists plain ones: a value type or a function type that is made of no handle, or an interface that lists
-/// plain items alone.
+/// Whether a held type as an item lists plain ones: a value type or a function type that is made of no handle, or an interface or a world
+/// that lists plain items alone.
 fn is_importable_type(types: &Types, ty: Type) -> Result<bool, AllocError>
     requires { holds_type types.now ty ≡ true }
     ensures plain { result ≡ Answers true → ListsPlain types.now (kind.TypeItem ty) }
@@ -185,12 +189,13 @@ fn is_importable_type(types: &Types, ty: Type) -> Result<bool, AllocError>
     match ty {
         Type::Value(_) | Type::Func(_) => has_no_handle(types, ty),
         Type::Interface(interface) => has_plain_items(types, interface),
+        Type::World(world) => has_plain_sides(types, world),
         _ => Ok(false),
     }
 }
 
-/// Whether a held item is plain, an instance that lists plain ones or its type, the type of a function that is made of no handle, or a core
-/// module.
+/// Whether a held item is plain, an instance or a component that lists plain ones or its type, the type of a function that is made of no
+/// handle, or a core module.
 fn lists_plain(types: &Types, item: ItemKind) -> Result<bool, AllocError>
     requires { holds_type types.now (kind_type item) ≡ true }
     ensures plain { result ≡ Answers true → ListsPlain types.now item }
@@ -200,6 +205,7 @@ fn lists_plain(types: &Types, item: ItemKind) -> Result<bool, AllocError>
     match item {
         ItemKind::Instance(id) => has_plain_items(types, id),
         ItemKind::TypeItem(ty) => is_importable_type(types, ty),
+        ItemKind::Component(world) => has_plain_sides(types, world),
         ItemKind::Module(_) => Ok(true),
         ItemKind::Func(func) => has_no_handle(types, Type::Func(func)),
         _ => Ok(false),
@@ -207,8 +213,8 @@ fn lists_plain(types: &Types, item: ItemKind) -> Result<bool, AllocError>
 }
 
 /// Whether a held item is imported so far: it is a core module, or it is a function, a type item of a value type or of a function type, an
-/// instance of functions, type items of such types and such instances, or the type of such an instance, and made of no handle. Answers
-/// `AllocError` where memory ran out. Linear in what each of its items reaches.
+/// instance or a component of functions, type items of such types and such instances, or the type of such a one, and made of no handle.
+/// Answers `AllocError` where memory ran out. Linear in what each of its items reaches.
 pub fn is_importable(types: &Types, item: ItemKind) -> Result<bool, AllocError>
     requires { holds_type types.now (kind_type item) ≡ true }
     ensures importable { result ≡ Answers true → IsImportableKind types.now item }

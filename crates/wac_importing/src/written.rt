@@ -5,6 +5,8 @@ ghost use Rattle.wac_shapes.specs.Kinds.{kind_type};
 ghost use Rattle.wac_shapes.specs.declared.component.ItemKind.{ItemKind as AnyItem};
 ghost use Rattle.wac_shapes.specs.declared.component.ItemKind.TheVariants as kind;
 ghost use Rattle.wac_shapes.specs.declared.component.ModuleTypeId.{ModuleTypeId as AnyModule};
+ghost use Rattle.wac_shapes.specs.declared.component.WorldId.{WorldId as AnyWorld};
+ghost use Rattle.wac_shapes.specs.declared.component.«Type».TheVariants as ty;
 ghost use Rattle.wac_collection.specs.Collection.{IsWellFormed, holds_type};
 ghost use Rattle.wac_entries.specs.Bindings.{AreHeld};
 ghost use Rattle.wac_binary.specs.declared.fault.BinaryFault.TheVariants.{OutOfMemory};
@@ -15,14 +17,15 @@ ghost use Rattle.wac_meaning.specs.Beginning.{Begins};
 ghost use Rattle.wac_meaning.specs.Means.{sort_of_kind};
 ghost use Rattle.wac_meaning.specs.MergedImports.{merged_imports, AreOfSorts};
 ghost use Rattle.wac_importing.specs.Written.{AllImportable, HasUnimportable, AreRefused, merge_of, IsTooLarge, IsNotWritten};
-ghost use Rattle.wac_importing.specs.Looked.{ListsPlain, AreImportable};
+ghost use Rattle.wac_importing.specs.Looked.{HasPlainItems, ListsPlain, AreImportable};
 ghost use Rattle.wac_importing.specs.Modules.{WritesOne};
 
 use crate::importable::are_importable;
 use crate::modules::import_module;
 use std::alloc::Global;
 use wac_builder::{BinaryFault, ComponentBuilder, Sort};
-use wac_collection::{ItemKind, Named, Types};
+use wac_collection::{ItemKind, Named, Type, Types, WorldId};
+use wac_components::ComponentEncoder;
 use wac_merge::TypeAggregator;
 use wac_root::RootEncoder;
 use wac_scopes::{Encodable, EncodeFault, Scope, root_law};
@@ -38,12 +41,12 @@ pub struct WrittenImports {
 }
 
 /// Writes the imports of a finished merge, in order, each under its name, behind the types that it is made of, each of which is
-/// written once.
+/// written once; but the type of a core module, and the component type of a world, are written for each import of one.
 ///
 /// Answers none exactly where an import is not importable so far: it is no core module, no function, no type item of a value type, a
-/// function type or an interface, and no instance, or one of an interface that lists other items than functions, type
-/// items of value types and function types and instances of such, or it is made of a handle; memory may be refused before that is known. Answers `TooLarge` where an import does not
-/// fit behind those before it; `OutOfMemory` where memory was refused.
+/// function type, an interface or a world, and no instance or component, or one of an interface or a world that lists other items than
+/// functions, type items of value types and function types and instances of such, or it is made of a handle; memory may be refused before
+/// that is known. Answers `TooLarge` where an import does not fit behind those before it; `OutOfMemory` where memory was refused.
 pub fn write_imports(
     alloc: Global,
     merge: &TypeAggregator,
@@ -119,11 +122,63 @@ fn write_one(
             Err(EncodeFault::TooLarge) => Err(BinaryFault::TooLarge),
             Err(EncodeFault::OutOfMemory) => Err(BinaryFault::OutOfMemory),
         },
+        ItemKind::Component(world) => write_component(types, root, name, world),
+        ItemKind::TypeItem(Type::World(world)) => write_world_type(types, root, name, world),
         _ => write_item(types, root, name, item),
     }
 }
 
-/// Writes an import that is imported so far and no core module, and answers its index.
+/// Writes an import of a component of a held world that is imported so far, and answers its index.
+fn write_component(
+    types: &Types,
+    root: &mut Scope,
+    name: &str,
+    world: WorldId,
+) -> Result<u32, BinaryFault>
+    requires held { holds_type types.now (ty.World world) ≡ true }
+    requires ordered { IsWellFormed types.now }
+    requires plain { HasPlainItems types.now world }
+    requires root { IsRoot root.old.content }
+    ensures imports { IfOk result (ImportsHeld types.now root.old root.new name.now (kind.Component world)) }
+    ensures written { IfOk result (WritesOne types.now root.old root.new name.now (kind.Component world)) }
+    ensures fault { IfErr result (IsNotWritten types.now root.old name.now (kind.Component world)) }
+    ensures root { IsRoot root.new.content }
+{
+    match ComponentEncoder::new(types).import_component(root, name, world) {
+        Ok(Some(index)) => Ok(index),
+        Ok(None) => unreachable!(),
+        Err(EncodeFault::Write(_)) => unreachable!(),
+        Err(EncodeFault::TooLarge) => Err(BinaryFault::TooLarge),
+        Err(EncodeFault::OutOfMemory) => Err(BinaryFault::OutOfMemory),
+    }
+}
+
+/// Writes a type item of a held world that is imported so far, and answers its index.
+fn write_world_type(
+    types: &Types,
+    root: &mut Scope,
+    name: &str,
+    world: WorldId,
+) -> Result<u32, BinaryFault>
+    requires held { holds_type types.now (ty.World world) ≡ true }
+    requires ordered { IsWellFormed types.now }
+    requires plain { HasPlainItems types.now world }
+    requires root { IsRoot root.old.content }
+    ensures imports { IfOk result (ImportsHeld types.now root.old root.new name.now (kind.TypeItem (ty.World world))) }
+    ensures written { IfOk result (WritesOne types.now root.old root.new name.now (kind.TypeItem (ty.World world))) }
+    ensures fault { IfErr result (IsNotWritten types.now root.old name.now (kind.TypeItem (ty.World world))) }
+    ensures root { IsRoot root.new.content }
+{
+    match ComponentEncoder::new(types).import_world_type(root, name, world) {
+        Ok(Some(index)) => Ok(index),
+        Ok(None) => unreachable!(),
+        Err(EncodeFault::Write(_)) => unreachable!(),
+        Err(EncodeFault::TooLarge) => Err(BinaryFault::TooLarge),
+        Err(EncodeFault::OutOfMemory) => Err(BinaryFault::OutOfMemory),
+    }
+}
+
+/// Writes an import that is imported so far and no core module, component or type item of a world, and answers its index.
 fn write_item(
     types: &Types,
     root: &mut Scope,
@@ -134,6 +189,8 @@ fn write_item(
     requires ordered { IsWellFormed types.now }
     requires importable { ListsPlain types.now item }
     requires other { (id : AnyModule) → item ≡ kind.Module id → ⊥ }
+    requires no_component { (w : AnyWorld) → item ≡ kind.Component w → ⊥ }
+    requires no_world { (w : AnyWorld) → item ≡ kind.TypeItem (ty.World w) → ⊥ }
     requires root { IsRoot root.old.content }
     ensures imports { IfOk result (ImportsHeld types.now root.old root.new name.now item) }
     ensures written { IfOk result (WritesOne types.now root.old root.new name.now item) }

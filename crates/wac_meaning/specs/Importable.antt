@@ -8,7 +8,7 @@ use Rattle.wac_shapes.specs.declared.component.ItemKind.TheVariants as kind
 use Rattle.wac_shapes.specs.declared.component.World.{World}
 use Rattle.wac_shapes.specs.declared.component.WorldId.{WorldId}
 use Rattle.wac_shapes.specs.declared.component.«Type».TheVariants as ty
-use Rattle.wac_primitives.specs.Tree.{TypeTree, absent, resource, primitive, record_of, variant_of, list_of, fixed_list_of, tuple_of, flags_of, enum_of, option_of, result_of, stream_of, future_of, function, instance, module_of, type_equal, function_item, instance_item, module_item}
+use Rattle.wac_primitives.specs.Tree.{TypeTree, absent, resource, primitive, record_of, variant_of, list_of, fixed_list_of, tuple_of, flags_of, enum_of, option_of, result_of, stream_of, future_of, function, instance, component, module_of, type_equal, function_item, instance_item, component_item, module_item}
 use Rattle.wac_collection.specs.Collection.{Collection, interface_exports, item_at}
 use Rattle.wac_subtyping.specs.Subtype.{kind_tree}
 use Rattle.wac_meaning.specs.Definition.{uses_of}
@@ -46,9 +46,16 @@ abbrev pub IsPlainItem : {L : Type 0} → TypeTree L → Type 0
 IsPlainItem absent = ⊥
 IsPlainItem t = IsPlainWhereThere t
 
--- an item that is imported so far: a plain one, the type of an instance of such, or a core module
+-- a component whose imports and exports are plain, each where it is there
+abbrev pub HasPlainSides : {L : Type 0} → TypeTree L → Type 0
+HasPlainSides (component imports exports) = ((n : Name) → IsPlainWhereThere (imports n)) × ((n : Name) → IsPlainWhereThere (exports n))
+HasPlainSides _ = ⊥
+
+-- an item that is imported so far: a plain one, the type of an instance of such, a component of such or its type, or a core module
 abbrev pub IsImportable : {L : Type 0} → TypeTree L → Type 0
 IsImportable (type_equal (instance items)) = (n : Name) → IsPlainWhereThere (items n)
+IsImportable (type_equal (component imports exports)) = HasPlainSides (component imports exports)
+IsImportable (component_item t) = HasPlainSides t
 IsImportable (module_item (module_of imports exports)) = Unit {0}
 IsImportable t = IsPlainItem t
 

@@ -18,8 +18,8 @@ use Rattle.wac_shapes.specs.declared.component.ItemKind.TheVariants as kind
 use Rattle.wac_shapes.specs.declared.component.ValueType.{ValueType}
 use Rattle.wac_shapes.specs.declared.component.ValueType.TheVariants as val
 use Rattle.wac_shapes.specs.declared.component.«Type».TheVariants as ty
-use Rattle.wac_subtyping.specs.Subtype.{Sub, same, instances, instance_items, IsSubtype, type_tree}
-use Rattle.wac_entries.specs.Classes.{Entry, NameRules, class_names, canonical, members}
+use Rattle.wac_subtyping.specs.Subtype.{Sub, same, instances, instance_items, IsSubtype, type_tree, kind_tree}
+use Rattle.wac_entries.specs.Classes.{Entry, NameRules, is_instance, class_names, canonical, members}
 use Rattle.wac_entries.specs.Binding.{binding_class, class_binds, root_bindings}
 use Rattle.wac_terms.specs.Union.{union, merged}
 use Rattle.wac_entries.specs.Agreement.{compared}
@@ -377,6 +377,7 @@ two_are_merged = record {
       ≡ merged simple two_versions two_asked (root_bindings simple two_versions two_asked (position_in (0 ∷ []))) p class) two_items;
   listed = of_import (λ p k class e. IsListed simple two_versions two_asked class two_finished.types e.kind) (refl, (_, refl, refl));
   subtypes = of_import (λ p k class e. AllByRecursion (λ member. IsSubtype two_finished.types e.kind two_versions member.kind) (members simple two_asked class)) two_subtypes;
+  equal = of_import (λ p k class e. is_instance e.kind ≡ false → AllByRecursion (λ member. kind_tree two_finished.types e.kind ≡ kind_tree two_versions member.kind) (members simple two_asked class)) (λ apart. let both : true ≡ false = apart in cc);
 }
 
 -- two interfaces with a resource `r` each, and one that uses them as `r` and `s`: three imports, and each mention means its own

@@ -8,8 +8,9 @@ use Rattle.wac_primitives.specs.Tree.{Tree, TypeTree, function_item, instance_it
 use Rattle.wac_collection.specs.Collection.{Collection}
 use Rattle.wac_shapes.specs.declared.component.ItemKind.{ItemKind}
 use Rattle.wac_shapes.specs.declared.component.ItemKind.TheVariants as kind
-use Rattle.wac_subtyping.specs.Subtype.{Sub, kind_tree, IsSubtype}
-use Rattle.wac_entries.specs.Classes.{Entry, by_names, same_class, canonical, class_names, imported_as, ClassLaws}
+use Rattle.wac_shapes.specs.declared.component.«Type».TheVariants as ty
+use Rattle.wac_subtyping.specs.Subtype.{Sub, type_tree, kind_tree, IsSubtype}
+use Rattle.wac_entries.specs.Classes.{Entry, by_names, is_instance, same_class, canonical, class_names, imported_as, ClassLaws}
 use Rattle.wac_merge.specs.Aggregate.{Aggregate}
 use Rattle.wac_binary.specs.declared.sorts.Sort.{Sort}
 use Rattle.wac_binary.specs.declared.sorts.Sort.TheVariants as sort
@@ -19,7 +20,7 @@ use Rattle.wac_nodes.specs.OuterImports.{outer_entries, AreOuterImports, outer_i
 use Rattle.wac_causes.specs.NotYet.{AllImportable, AllDefinable, IsNotYet, unwritten, undefined_type, undefined_components}
 use Rattle.wac_meaning.specs.Means.{sort_of_kind}
 use Rattle.wac_meaning.specs.Beginning.{Places}
-use Rattle.wac_meaning.specs.Importable.{IsImportableKind}
+use Rattle.wac_meaning.specs.Importable.{IsImportable, IsImportableKind}
 use Rattle.wac_writing.proofs.ImportableLemmas.{importable_super}
 use Rattle.wac_meaning.specs.MergedImports.{IsFoundAt}
 use Rattle.wac_meaning.proofs.AskedMembers.{IsIn, in_filter}
@@ -121,4 +122,14 @@ asked_importable laws has_classes g a merged all q x at =
     let (k, class, placed, of_class, same) = place_of_name g a.merge merge laws has_classes p e there x.name named in
     let sub : IsSubtype (a.merge).types e.kind g.types x.kind =
     passed (λ y. same_class by_names (outer_entries g) class y.name) (λ member. IsSubtype (a.merge).types e.kind g.types member.kind) (outer_entries g) x (merge.subtypes p k class e placed of_class there) (q, at) same in
-    importable_super (kind_tree (a.merge).types e.kind) (kind_tree g.types x.kind) sub (all p e there)
+    by_kind (a.merge).types g.types e.kind x.kind sub
+    (λ other. passed (λ y. same_class by_names (outer_entries g) class y.name) (λ member. kind_tree (a.merge).types e.kind ≡ kind_tree g.types member.kind) (outer_entries g) x (merge.equal p k class e placed of_class there other) (q, at) same) (all p e there)
+  where
+    -- an instance is of a supertype, and all else has one tree
+    by_kind : (m c : Collection) (k j : ItemKind) → IsSubtype m k c j → (is_instance k ≡ false → kind_tree m k ≡ kind_tree c j) → IsImportableKind m k → IsImportableKind c j
+    by_kind m c (kind.Instance i) j sub equal h = importable_super (type_tree m (ty.Interface i)) (kind_tree c j) sub h
+    by_kind m c (kind.TypeItem t) j sub equal h = subst IsImportable (equal refl) h
+    by_kind m c (kind.Func f) j sub equal h = subst IsImportable (equal refl) h
+    by_kind m c (kind.Component w) j sub equal h = subst IsImportable (equal refl) h
+    by_kind m c (kind.Module n) j sub equal h = subst IsImportable (equal refl) h
+    by_kind m c (kind.Value v) j sub equal h = subst IsImportable (equal refl) h

@@ -1,5 +1,5 @@
 //! What is looked up of a graph's instantiations, imports and definitions.
-ghost use Rattle.std.specs.Prelude.{◌≡◌, ◌<◌, IsSome, IsSomeAnd, IfSome, Some, ◌∷◌, [], MatchOption, slice_get, true, false};
+ghost use Rattle.std.specs.Prelude.{◌≡◌, ◌<◌, ◌↔◌, IsSome, IsSomeAnd, IfSome, Some, ◌∷◌, [], MatchOption, slice_get, true, false};
 ghost use Rattle.wac_collection.specs.Collection.{holds_type};
 ghost use Rattle.wac_edges.specs.Edge.{node_number};
 ghost use Rattle.wac_nodes.specs.Graph.{node_at, package_at, imports_of, instantiation, package_in, definition, IsImportOf};
@@ -77,7 +77,7 @@ impl<'a> GraphReader<'a> {
 
     /// Whether no node is an import. Each stands under its name among the imports, so these tell it.
     pub fn imports_nothing(&self) -> bool
-        ensures { result ≡ true → (name : AName) (n : AnId) → IsImportOf self.now name n → ⊥ }
+        ensures { (result ≡ true) ↔ ((name : AName) (n : AnId) → IsImportOf self.now name n → ⊥) }
     {
         self.imports.is_empty()
     }

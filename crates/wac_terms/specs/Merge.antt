@@ -11,8 +11,8 @@ use Rattle.wac_shapes.specs.declared.component.ResourceId.{ResourceId}
 use Rattle.wac_shapes.specs.declared.component.ItemKind.{ItemKind}
 use Rattle.wac_shapes.specs.declared.component.ItemKind.TheVariants as kind
 use Rattle.wac_shapes.specs.declared.component.«Type».TheVariants as ty
-use Rattle.wac_subtyping.specs.Subtype.{IsSubtype}
-use Rattle.wac_entries.specs.Classes.{Entry, NameRules, same_track, members, class_names, canonical}
+use Rattle.wac_subtyping.specs.Subtype.{IsSubtype, kind_tree}
+use Rattle.wac_entries.specs.Classes.{Entry, NameRules, same_track, is_instance, members, class_names, canonical}
 use Rattle.wac_entries.specs.Binding.{root_bindings}
 use Rattle.wac_terms.specs.Union.{merged}
 use Rattle.wac_terms.specs.ClassOrder.{IsWrittenOrder}
@@ -92,6 +92,9 @@ pub record IsMerge (rules : NameRules) (c : Collection) (es : List Entry) (m : M
       → IsListed rules c es class m.types e.kind
   pub subtypes : (p k : ℕ) (class : Name) (e : Entry) → slice_get order p ≡ Some k → slice_get (class_names rules es) k ≡ Some class → slice_get m.imports p ≡ Some e
       → AllByRecursion (λ member. IsSubtype m.types e.kind c member.kind) (members rules es class)
+  -- and equal to each, resources by their names, where it is no instance
+  pub equal : (p k : ℕ) (class : Name) (e : Entry) → slice_get order p ≡ Some k → slice_get (class_names rules es) k ≡ Some class → slice_get m.imports p ≡ Some e
+      → is_instance e.kind ≡ false → AllByRecursion (λ member. kind_tree m.types e.kind ≡ kind_tree c member.kind) (members rules es class)
 
 -- the item that is imported under a name
 abbrev pub import_under : List Entry → Name → Option ItemKind

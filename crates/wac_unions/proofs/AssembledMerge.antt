@@ -32,7 +32,7 @@ use Rattle.wac_unions.proofs.Assembled.{AreAssembled, AreDeep}
 use Rattle.wac_unions.proofs.AssembledItems.{imports-are}
 use Rattle.wac_unions.proofs.AssembledKinds.{merged-kinds, none-disagrees}
 use Rattle.wac_unions.proofs.AssembledLists.{count, listed, names}
-use Rattle.wac_unions.proofs.AssembledSubtypes.{subtypes}
+use Rattle.wac_unions.proofs.AssembledSubtypes.{subtypes, equal}
 use Rattle.wac_fitting.proofs.BecameEnds.{became-ends}
 use Rattle.wac_entries.proofs.ClassFacts.{class-refl}
 use Rattle.wac_uses.proofs.ClassFolds.{mapped_at}
@@ -152,4 +152,5 @@ merge-is c m es roots us ps bs f ids ws order imports all deep agreed = record {
   items = imports-are c m es roots us ps bs f ids ws order imports all deep (merged-kinds c m es roots us ps bs f ids ws order imports all);
   listed = listed c m es roots us ps bs f ids ws order imports all;
   subtypes = subtypes c m es roots us ps bs f ids ws order imports all deep agreed;
+  equal = equal c m es roots us ps bs f ids ws order imports all deep agreed;
 }

@@ -218,14 +218,25 @@ module _ (c m : Collection) (es : List Entry) (roots : List (List InterfaceId)) 
 
     -- ---- a class of other items
 
-    plain-below : (x : ItemKind) (i : ℕ) (e : Entry) → slice_get es i ≡ Some e → same_class by_names es class e.name ≡ true → is_instance e.kind ≡ false → kind_tree m x ≡ kind_tree c e.kind → AllBelow x
-    plain-below x i e at inside plain same = all_each (λ member. IsSubtype m x c member.kind) (members by_names es class) (λ j y there.
+    -- a member that is no instance has the tree of the item
+    abbrev IsLikeOne : ItemKind → Type 0
+    IsLikeOne x = (i : ℕ) × (e : Entry) × (slice_get es i ≡ Some e) × (same_class by_names es class e.name ≡ true) × (is_instance e.kind ≡ false) × (kind_tree m x ≡ kind_tree c e.kind)
+
+    -- so it is a subtype of each, and has the tree of each
+    plain-below : (x : ItemKind) → IsLikeOne x → AllBelow x
+    plain-below x o = all_each (λ member. IsSubtype m x c member.kind) (members by_names es class) (λ j y there.
         let z = among j y there in
-        member_subtype c es agreed all.merged.source m x class i z.1 e y at z.2 inside z.0 (not-instance e.kind plain) (all.held i e at) (all.held z.1 y z.2) same)
+        member_subtype c es agreed all.merged.source m x class o.0 z.1 o.1 y o.2 z.2 o.3 z.0 (not-instance (o.1).kind o.4) (all.held o.0 o.1 o.2) (all.held z.1 y z.2) o.5)
+
+    plain-equal : (x : ItemKind) → IsLikeOne x → AllByRecursion (λ member. kind_tree m x ≡ kind_tree c member.kind) (members by_names es class)
+    plain-equal x o = all_each (λ member. kind_tree m x ≡ kind_tree c member.kind) (members by_names es class) (λ j y there.
+        let z = among j y there in
+        o.5 ∙ members_equal by_names c all.merged.source es class (o.1).kind y.kind (not-instance (o.1).kind o.4) (all.held o.0 o.1 o.2) (all.held z.1 y z.2)
+        (agreed class o.0 z.1 o.1 y o.2 z.2 o.3 z.0))
 
     -- the new resource that a class is
-    whole-below : (q : ResourceId) → whole_in f k ≡ Some q → AllBelow (kind.TypeItem (ty.Resource q))
-    whole-below q is =
+    whole-like : (q : ResourceId) → whole_in f k ≡ Some q → IsLikeOne (kind.TypeItem (ty.Resource q))
+    whole-like q is =
         let new = all.merged.fresh.whole k q is in
         let r = new.0 in
         let b = first-class c es bs all.merged.bindings r k [] new.1 in
@@ -234,7 +245,7 @@ module _ (c m : Collection) (es : List Entry) (roots : List (List InterfaceId)) 
         let w = whole-entry c es none class r binds in
         let low : HasResource c r = tested_low r.0 (length c.resources) (ap (λ (k : ItemKind). holds_type c (kind_type k)) (sym (w.3).is) ∙ all.held w.0 w.1 w.2) in
         let end : resolved c r ≡ r = no-source c (length c.resources) r (no-value (source_of (slice_get c.resources r.0)) (w.3).plain) in
-        plain-below (kind.TypeItem (ty.Resource q)) w.0 w.1 w.2 (w.3).inside (ap is_instance (w.3).is) (whole_tree c m q r low end new.2 ∙ ap (kind_tree c) (sym (w.3).is))
+        (w.0, w.1, w.2, (w.3).inside, ap is_instance (w.3).is, whole_tree c m q r low end new.2 ∙ ap (kind_tree c) (sym (w.3).is))
 
     -- what became of a type item of an interface has its tree
     interface-equal : ArePlain (members by_names es class) → (j : ℕ) (e : Entry) → slice_get (members by_names es class) j ≡ Some e → (i w : InterfaceId) → e.kind ≡ kind.TypeItem (ty.Interface i) → slice_get ws k ≡ Some w
@@ -254,23 +265,45 @@ module _ (c m : Collection) (es : List Entry) (roots : List (List InterfaceId)) 
         ∙ equal-within (type_tree c (ty.Interface one.interface)) (type_tree c (ty.Interface i)) (sym (ap (kind_tree c) one.is) ∙ same ∙ ap (kind_tree c) is)
 
     -- another item
-    other-below : (x : ItemKind) → AreNoInstances (members by_names es class) → whole_in f k ≡ None → (i : ℕ) (e : Entry) → slice_get es i ≡ Some e → same_class by_names es class e.name ≡ true → IsClassKind c m ps bs f ws k e x → AllBelow x
-    other-below x no-instances is i e at inside h =
+    other-like : (x : ItemKind) → AreNoInstances (members by_names es class) → whole_in f k ≡ None → (i : ℕ) (e : Entry) → slice_get es i ≡ Some e → same_class by_names es class e.name ≡ true → IsClassKind c m ps bs f ws k e x → IsLikeOne x
+    other-like x no-instances is i e at inside h =
         let j = filter-has (λ (y : Entry). same_class by_names es class y.name) es i e at inside in
         let plain : ArePlain (members by_names es class) = λ l a on. no-instances a (contains_at (members by_names es class) l a on) in
-        let w : IsWrittenAs c m (became c ps bs f None) (slice_get ws k) e.name e.kind x = MatchOption-at_none _ _ is h in
-        plain-below x i e at inside (plain j.0 e j.1)
-        (written_tree c m all.merged.target all.extended (became c ps bs f None) (ends None) (slice_get ws k) e.name e.kind x (all.held i e at)
-        (λ i w one given. interface-equal plain j.0 e j.1 i w one given) (not-instance e.kind (plain j.0 e j.1)) w)
+        let w : IsWrittenAs c m (became c ps bs f None) (slice_get ws k) e.name e.kind x = MatchOption-at_none _ _ is h in (
+          i,
+          e,
+          at,
+          inside,
+          plain j.0 e j.1,
+          written_tree c m all.merged.target all.extended (became c ps bs f None) (ends None) (slice_get ws k) e.name e.kind x (all.held i e at)
+              (λ i w one given. interface-equal plain j.0 e j.1 i w one given) (not-instance e.kind (plain j.0 e j.1)) w,
+        )
+
+  -- the entry of a class of which its import is made
+  made-of : (p k : ℕ) (class : Name) (e : Entry) → slice_get order p ≡ Some k → slice_get (class_names by_names es) k ≡ Some class → slice_get imports p ≡ Some e
+      → (i : ℕ) × (a : Entry) × (slice_get es i ≡ Some a) × (same_class by_names es class a.name ≡ true) × (a.name ≡ canonical by_names es class) × (e.name ≡ a.name) × IsClassKind c m ps bs f ws k a e.kind
+  made-of p k class e ordered at there = all.imported.each p k class e ordered at there
 
   -- what a class is imported as is a subtype of each member
   pub subtypes : (p k : ℕ) (class : Name) (e : Entry) → slice_get order p ≡ Some k → slice_get (class_names by_names es) k ≡ Some class → slice_get imports p ≡ Some e
       → AllByRecursion (λ member. IsSubtype m e.kind c member.kind) (members by_names es class)
-  subtypes p k class e ordered at there = by e.kind ((merged-kinds c m es roots us ps bs f ids ws order imports all).kinds p k class e ordered at there) w.6 where
+  subtypes p k class e ordered at there = by e.kind ((merged-kinds c m es roots us ps bs f ids ws order imports all).kinds p k class e ordered at there) (made-of p k class e ordered at there).6 where
     w : (i : ℕ) × (a : Entry) × (slice_get es i ≡ Some a) × (same_class by_names es class a.name ≡ true) × (a.name ≡ canonical by_names es class) × (e.name ≡ a.name) × IsClassKind c m ps bs f ws k a e.kind
-    w = all.imported.each p k class e ordered at there
+    w = made-of p k class e ordered at there
 
     by : (x : ItemKind) → IsMergedKind es roots f m ws k class x → IsClassKind c m ps bs f ws k w.1 x → AllByRecursion (λ member. IsSubtype m x c member.kind) (members by_names es class)
     by x (as_instance i is rooted instances given) h = instance-below k class at i is rooted instances given
-    by x (as_resource q plain is) h = whole-below k class at q is
-    by x (as_other y plain is other itself) h = other-below k class at y plain is w.0 w.1 w.2 w.3 h
+    by x (as_resource q plain is) h = plain-below k class at (kind.TypeItem (ty.Resource q)) (whole-like k class at q is)
+    by x (as_other y plain is other itself) h = plain-below k class at y (other-like k class at y plain is w.0 w.1 w.2 w.3 h)
+
+  -- and has the tree of each where it is no instance
+  pub equal : (p k : ℕ) (class : Name) (e : Entry) → slice_get order p ≡ Some k → slice_get (class_names by_names es) k ≡ Some class → slice_get imports p ≡ Some e → is_instance e.kind ≡ false
+      → AllByRecursion (λ member. kind_tree m e.kind ≡ kind_tree c member.kind) (members by_names es class)
+  equal p k class e ordered at there = by e.kind ((merged-kinds c m es roots us ps bs f ids ws order imports all).kinds p k class e ordered at there) (made-of p k class e ordered at there).6 where
+    w : (i : ℕ) × (a : Entry) × (slice_get es i ≡ Some a) × (same_class by_names es class a.name ≡ true) × (a.name ≡ canonical by_names es class) × (e.name ≡ a.name) × IsClassKind c m ps bs f ws k a e.kind
+    w = made-of p k class e ordered at there
+
+    by : (x : ItemKind) → IsMergedKind es roots f m ws k class x → IsClassKind c m ps bs f ws k w.1 x → is_instance x ≡ false → AllByRecursion (λ member. kind_tree m x ≡ kind_tree c member.kind) (members by_names es class)
+    by x (as_instance i is rooted instances given) h apart = absurd (false≢true (sym apart))
+    by x (as_resource q plain is) h apart = plain-equal k class at (kind.TypeItem (ty.Resource q)) (whole-like k class at q is)
+    by x (as_other y plain is other itself) h apart = plain-equal k class at y (other-like k class at y plain is w.0 w.1 w.2 w.3 h)

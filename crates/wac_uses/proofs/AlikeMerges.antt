@@ -148,6 +148,10 @@ module _ (c : Collection) (es : List Entry) (m : Collection) (bare imports : Lis
         let a = bare-at p e at in
         subst (λ t. AllByRecursion (λ member. Sub t (kind_tree c member.kind)) (members by_names es class)) (sym (alike-named c m (uses-at p) (users-of a.0) (a.0).kind e.kind (are.kinds p a.0 e a.1 at)))
         (g.subtypes p k class a.0 in_order known a.1);
+    equal = λ p k class e in_order known at apart.
+        let a = bare-at p e at in
+        subst (λ t. AllByRecursion (λ member. t ≡ kind_tree c member.kind) (members by_names es class)) (sym (alike-named c m (uses-at p) (users-of a.0) (a.0).kind e.kind (are.kinds p a.0 e a.1 at)))
+        (g.equal p k class a.0 in_order known a.1 (sym (alike-instance c m (uses-at p) (users-of a.0) (a.0).kind e.kind (are.kinds p a.0 e a.1 at)) ∙ apart));
   }
 
   pub using-keeps : KeepsUses by_names c es (record { types = m; imports = imports })

@@ -1,7 +1,7 @@
 -- A world is written as a component type.
-use Rattle.std.specs.Prelude.{ℕ, zero, suc, ◌+◌, ◌≡◌, ◌==◌, ◌&&◌, Bool, true, false, List, [], ◌∷◌, ◌++◌, length, Option, Some, None, slice_get, Err}
+use Rattle.std.specs.Prelude.{ℕ, zero, suc, ◌+◌, ◌≡◌, ◌&&◌, Bool, true, false, List, [], ◌∷◌, ◌++◌, Option, Some, None, slice_get, Err}
 use Rattle.std.specs.List.{AllByRecursion}
-use Rattle.std.proofs.Common.{refl, ap, ◌∙◌, sym, subst, take, add-one, inl, inr, arith}
+use Rattle.std.proofs.Common.{refl, ap, ◌∙◌, sym, subst, take, add-one, inl, inr}
 use Rattle.std.proofs.Math.Path.{fun_ext}
 use Rattle.wac_primitives.specs.Name.{Name, option_case}
 use Rattle.wac_shapes.specs.Kinds.{kind_type}
@@ -31,7 +31,7 @@ use Rattle.wac_stacks.proofs.Moved.{ap2}
 use Rattle.wac_worlds.specs.Declaring.{is_declarable, are_declarable, DeclaresSide, IsSideRefused}
 use Rattle.wac_worlds.specs.Steps.{DeclaresNothing, DeclaresAll, CanDeclare}
 use Rattle.wac_encode.specs.Instances.{IsBare}
-use Rattle.wac_worlds.specs.Worlds.{uses_nothing, is_plain, is_plain_world, SaysWorld, WritesWorld, IsWorldRefused}
+use Rattle.wac_worlds.specs.Worlds.{is_plain, is_plain_world, SaysWorld, WritesWorld, IsWorldRefused}
 
 -- whether all items can be declared
 
@@ -63,12 +63,8 @@ declarable-further c es i e at before here = ap (λ (j : ℕ). are_declarable c 
 pub plain-of : (c : Collection) (w : WorldId) (x : World) → item_at c.worlds w.0 ≡ Some x → is_plain_world c w ≡ is_plain c x
 plain-of c w x at = ap (λ (o : Option World). option_case o true (λ y. is_plain c y)) at
 
-pub no-use : (us : List (Name × UsedType)) → (length us == 0) ≡ uses_nothing us
-no-use [] = grind arith
-no-use (u ∷ us) = grind arith
-
 pub plain-parts : (c : Collection) (x : World) → is_plain c x ≡ true → (are_declarable c x.imports ≡ true) × (are_declarable c x.exports ≡ true)
-plain-parts c x plain = both-true (are_declarable c x.imports) (are_declarable c x.exports) (both-true (uses_nothing x.uses) (are_declarable c x.imports && are_declarable c x.exports) plain).1
+plain-parts c x plain = both-true (are_declarable c x.imports) (are_declarable c x.exports) plain
 
 -- what a world lists is held
 

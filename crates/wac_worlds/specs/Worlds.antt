@@ -1,7 +1,6 @@
 -- A world as a component type: its imports, then its exports.
-use Rattle.std.specs.Prelude.{◌≡◌, ◌⊎◌, ◌&&◌, Bool, true, false, List, [], ◌∷◌, Option, Some, None, Result, Ok, Err}
-use Rattle.wac_primitives.specs.Name.{Name, option_case}
-use Rattle.wac_shapes.specs.declared.component.UsedType.{UsedType}
+use Rattle.std.specs.Prelude.{◌≡◌, ◌⊎◌, ◌&&◌, Bool, true, List, ◌∷◌, Option, Some, None, Result, Ok, Err}
+use Rattle.wac_primitives.specs.Name.{option_case}
 use Rattle.wac_shapes.specs.declared.component.World.{World}
 use Rattle.wac_shapes.specs.declared.component.WorldId.{WorldId}
 use Rattle.wac_shapes.specs.declared.component.«Type».TheVariants as ty
@@ -20,14 +19,9 @@ use Rattle.wac_stacks.specs.Laws.{Adds}
 use Rattle.wac_encode.specs.Instances.{IsBare}
 use Rattle.wac_worlds.specs.Declaring.{are_declarable, DeclaresSide, IsSideStopped}
 
--- whether a world uses no types of interfaces
-abbrev pub uses_nothing : List (Name × UsedType) → Bool
-uses_nothing [] = true
-uses_nothing (u ∷ us) = false
-
--- whether a world is one that is written so far: it uses no types, and its items are of sorts that are written, or that no component type can list
+-- whether a world is one that is written so far: its items are of sorts that are written, or that no component type can list
 abbrev pub is_plain : Collection → World → Bool
-is_plain c x = uses_nothing x.uses && (are_declarable c x.imports && are_declarable c x.exports)
+is_plain c x = are_declarable c x.imports && are_declarable c x.exports
 
 abbrev pub is_plain_world : Collection → WorldId → Bool
 is_plain_world c w = option_case (item_at c.worlds w.0) true (λ x. is_plain c x)

@@ -125,8 +125,7 @@ impl<'a> WorldEncoder<'a> {
         Ok(true)
     }
 
-    /// Whether a world is written so far: it uses no types of interfaces, and its items are of sorts that are written, or that no
-    /// component type can list.
+    /// Whether a world is written so far: its items are of sorts that are written, or that no component type can list.
     ///
     /// Answers `AllocError` where memory ran out.
     pub fn is_plain(&self, world: WorldId) -> Result<bool, AllocError>
@@ -135,9 +134,6 @@ impl<'a> WorldEncoder<'a> {
     {
         self.types.law();
         let held = &self.types[world];
-        if held.uses.len() > 0 {
-            return Ok(false);
-        }
         if !self.are_declarable(&held.imports)? {
             return Ok(false);
         }
@@ -150,11 +146,13 @@ impl<'a> WorldEncoder<'a> {
     /// type of an interface once; what an instance lists is aliased from it from then on, and a definition that a type item lists is
     /// written by the index of the first such item that is written.
     ///
-    /// Answers none exactly where the world uses types of interfaces, or an item is of a sort that is not written: a type item of a
-    /// resource, an interface or a world, or an instance of an interface that `interface_type` does not write; memory
-    /// may be refused before that is known. Answers `UnboundResource` for an item that is made of a handle, `ModuleAsType` and
-    /// `NestedItem` for one that no component type can list, what `interface_type` answers where it refuses an interface, and `TooLarge`
-    /// where what is written next does not fit, the first in order; `OutOfMemory` where memory was refused.
+    /// It is not asked what the world uses: a type that it uses of an instance that it lists is aliased from there, as any other is.
+    ///
+    /// Answers none exactly where an item is of a sort that is not written: a type item of a resource, an interface or a world, or an
+    /// instance of an interface that `interface_type` does not write; memory may be refused before that is known. Answers
+    /// `UnboundResource` for an item that is made of a handle, `ModuleAsType` and `NestedItem` for one that no component type can list,
+    /// what `interface_type` answers where it refuses an interface, and `TooLarge` where what is written next does not fit, the first in
+    /// order; `OutOfMemory` where memory was refused.
     pub fn world_type(&self, world: WorldId) -> Result<Option<ComponentType>, EncodeFault>
         requires { HasWorld self.now.types.now world }
         ensures none { result ≡ Answers None → is_plain_world self.now.types.now world ≡ false }

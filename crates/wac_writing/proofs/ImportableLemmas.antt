@@ -1,7 +1,7 @@
 -- What is importable stays so where it offers less.
 use Rattle.std.proofs.Common.{◌≡◌, ◌≢◌, Bool, true, false, refl, ap, sym, subst}
 use Rattle.wac_primitives.specs.Name.{Name}
-use Rattle.wac_primitives.specs.Tree.{TypeTree, absent, type_equal, instance_item, module_item}
+use Rattle.wac_primitives.specs.Tree.{TypeTree, absent, type_equal, instance_item}
 use Rattle.wac_subtyping.specs.Subtype.{Sub}
 use Rattle.wac_meaning.specs.Importable.{IsPlainItem, IsPlainWhereThere, IsImportable}
 
@@ -66,34 +66,7 @@ plain_instance a b (Sub.instance_items _ _ s) h = absurd h
 plain_instance a b (Sub.component_items _ _ s) h = absurd h
 plain_instance a b (Sub.module_items _ _ s) h = absurd h
 
--- a type item
-type_super : {L : Type 0} (a b : TypeTree L) → Sub a b → IsImportable (type_equal a) → IsImportable (type_equal b)
-type_super a b (Sub.same _ p) h = h
-type_super a b (Sub.instances xs ys f) h = exports_less xs ys f h
-type_super a b (Sub.components _ _ _ _ f g) h = absurd h
-type_super a b (Sub.modules _ _ _ _ f g) h = absurd h
-type_super a b (Sub.type_items _ _ s t) h = absurd h
-type_super a b (Sub.instance_items _ _ s) h = absurd h
-type_super a b (Sub.component_items _ _ s) h = absurd h
-type_super a b (Sub.module_items _ _ s) h = absurd h
-
--- a core module that is a supertype
-module_super : {L : Type 0} (a b : TypeTree L) → Sub a b → IsImportable (module_item a) → IsImportable (module_item b)
-module_super a b (Sub.same _ p) h = h
-module_super a b (Sub.instances _ _ f) h = absurd h
-module_super a b (Sub.components _ _ _ _ f g) h = absurd h
-module_super a b (Sub.modules _ _ _ _ f g) h = tt
-module_super a b (Sub.type_items _ _ s t) h = absurd h
-module_super a b (Sub.instance_items _ _ s) h = absurd h
-module_super a b (Sub.component_items _ _ s) h = absurd h
-module_super a b (Sub.module_items _ _ s) h = absurd h
-
-pub importable_super : {L : Type 0} (a b : TypeTree L) → Sub a b → IsImportable a → IsImportable b
+-- what is a supertype of an instance
+pub importable_super : {L : Type 0} (a b : TypeTree L) → Sub (instance_item a) b → IsImportable (instance_item a) → IsImportable b
 importable_super a b (Sub.same _ p) h = h
-importable_super a b (Sub.instances _ _ f) h = absurd h
-importable_super a b (Sub.components _ _ _ _ f g) h = absurd h
-importable_super a b (Sub.modules _ _ _ _ f g) h = absurd h
-importable_super a b (Sub.type_items c d s t) h = type_super c d s h
 importable_super a b (Sub.instance_items c d s) h = plain_instance c d s h
-importable_super a b (Sub.component_items _ _ s) h = absurd h
-importable_super a b (Sub.module_items c d s) h = module_super c d s h

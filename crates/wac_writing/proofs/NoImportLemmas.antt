@@ -1,6 +1,9 @@
--- Where nothing is imported no node is an import.
-use Rattle.std.proofs.Common.{◌≡◌, List, [], ◌∷◌, None, Some, Option, ap, length}
+-- Nothing is imported exactly where no node is an import.
+use Rattle.std.proofs.Common.{◌≡◌, List, [], ◌∷◌, None, Some, Option, String, ap, refl, length}
+use Rattle.std.specs.Global.{Global}
+use Rattle.std.specs.Prelude.{string_bytes}
 use Rattle.wac_primitives.specs.Name.{Name, find_name}
+use Rattle.wac_shapes.proofs.Names.{same_name-refl}
 use Rattle.wac_edges.specs.declared.node.NodeId.{NodeId}
 use Rattle.wac_nodes.specs.Graph.{IsImportOf}
 use Rattle.wac_nodes.specs.Nodes.{names_of}
@@ -15,3 +18,14 @@ pub no_import : (a : Fields) → Invariant a → length a.imports.entries ≡ 0 
 no_import a v none name n is = nothing (find_name (names_of a.imports.entries) name) (ap (λ es. find_name (names_of es) name) (none_of a.imports.entries none)) (v.named name n is) where
   nothing : (o : Option NodeId) → o ≡ None → o ≡ Some n → ⊥
   nothing o p q = cc
+
+-- an import that stands under a name is found under it
+first_found : (e : String Global × NodeId) (es : List (String Global × NodeId)) → find_name (names_of (e ∷ es)) (string_bytes e.0) ≡ Some e.1
+first_found e es = rw (same_name-refl (string_bytes e.0))
+
+-- so where no node is an import nothing is imported
+pub none_imported : (a : Fields) → Invariant a → ((name : Name) (n : NodeId) → IsImportOf (graph_of a) name n → ⊥) → length a.imports.entries ≡ 0
+none_imported a v none = empty a.imports.entries (λ name n found. none name n (v.importing name n found)) where
+  empty : (es : List (String Global × NodeId)) → ((name : Name) (n : NodeId) → find_name (names_of es) name ≡ Some n → ⊥) → length es ≡ 0
+  empty [] nothing = refl
+  empty (e ∷ es) nothing = absurd (nothing (string_bytes e.0) e.1 (first_found e es))

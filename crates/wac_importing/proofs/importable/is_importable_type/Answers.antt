@@ -16,10 +16,16 @@ pub returns-in-Value-clause-not : goal.returns-in-Value-clause-not
 returns-in-Value-clause-not c h so = c.has_no_handle.ensures.some h (values_importable c.args.types.now c.args.ty (is_of_values c.args.ty c.in-Value.is) so)
 
 pub returns-in_default : goal.returns-in_default
-returns-in_default c = record { plain = λ h. cc; not = λ h. type_not_importable c.args.types.now c.law.ensures c.args.ty c.requires (not_of_values c.args.ty c.in_default.not-Value c.in_default.not-Func) c.in_default.not-Interface }
+returns-in_default c = record { plain = λ h. cc; not = λ h. type_not_importable c.args.types.now c.law.ensures c.args.ty c.requires (not_of_values c.args.ty c.in_default.not-Value c.in_default.not-Func) c.in_default.not-Interface c.in_default.not-World }
 
 pub returns-in-Interface-clause-plain : goal.returns-in-Interface-clause-plain
 returns-in-Interface-clause-plain c h = subst (λ (a : AnyType). ListsPlain c.args.types.now (kind.TypeItem a)) (sym c.in-Interface.is) (c.has_plain_items.ensures.plain h)
 
 pub returns-in-Interface-clause-not : goal.returns-in-Interface-clause-not
 returns-in-Interface-clause-not c h so = c.has_plain_items.ensures.not_type h (subst (λ (a : AnyType). IsImportableKind c.args.types.now (kind.TypeItem a)) c.in-Interface.is so)
+
+pub returns-in-World-clause-plain : goal.returns-in-World-clause-plain
+returns-in-World-clause-plain c h = subst (λ (a : AnyType). ListsPlain c.args.types.now (kind.TypeItem a)) (sym c.in-World.is) (c.has_plain_sides.ensures.plain h)
+
+pub returns-in-World-clause-not : goal.returns-in-World-clause-not
+returns-in-World-clause-not c h so = c.has_plain_sides.ensures.not_type h (subst (λ (a : AnyType). IsImportableKind c.args.types.now (kind.TypeItem a)) c.in-World.is so)

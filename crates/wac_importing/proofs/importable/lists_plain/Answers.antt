@@ -7,3 +7,6 @@ returns-in-Instance-clause-not c h so = c.has_plain_items.ensures.not_instance h
 
 pub returns-in-TypeItem-clause-not : goal.returns-in-TypeItem-clause-not
 returns-in-TypeItem-clause-not c h so = c.is_importable_type.ensures.not h (subst (IsImportableKind c.args.types.now) c.in-TypeItem.is so)
+
+pub returns-in-Component-clause-not : goal.returns-in-Component-clause-not
+returns-in-Component-clause-not c h so = c.has_plain_sides.ensures.not_component h (subst (IsImportableKind c.args.types.now) c.in-Component.is so)

@@ -8,7 +8,7 @@ use Rattle.wac_importing.proofs.written.write_item.Goals as goal
 pub unreachable-requires : goal.unreachable-requires
 unreachable-requires c =
     let no : is_importable c.args.types.now c.args.item ≡ false = ap (λ (t : Collection). is_importable t c.args.item) (sym c.new-encoder.ensures) ∙ c.import.ensures.none (c.in-Ok-None.is ∙ ap Ok c.in-Ok-None.field-0-is) in
-    let yes : is_importable c.args.types.now c.args.item ≡ true = is_written c.args.types.now c.requires.ordered c.args.item c.requires.held c.requires.importable c.requires.other in
+    let yes : is_importable c.args.types.now c.args.item ≡ true = is_written c.args.types.now c.requires.ordered c.args.item c.requires.held c.requires.importable c.requires.other c.requires.no_component c.requires.no_world in
     cc
 
 pub unreachable-requires-in-Err-Write : goal.unreachable-requires-in-Err-Write

@@ -21,4 +21,4 @@ pub returns-then-imports_nothing-clause-room : goal.returns-then-imports_nothing
 returns-then-imports_nothing-clause-room c = λ n h. let small = c.capacity-count.ensures n h in omega (arith, small, c.in_ok-zeros.ensures.len)
 
 pub returns-then-imports_nothing-clause-found : goal.returns-then-imports_nothing-clause-found
-returns-then-imports_nothing-clause-found c = none_found c.args.reader.now (c.imports_nothing.ensures c.if-imports_nothing.true) c.args.imports.now c.in_ok-zeros.zeros.items
+returns-then-imports_nothing-clause-found c = none_found c.args.reader.now (c.imports_nothing.ensures.0 c.if-imports_nothing.true) c.args.imports.now c.in_ok-zeros.zeros.items
