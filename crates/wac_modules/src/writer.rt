@@ -1,14 +1,16 @@
 //! The writer of core module types.
 
-ghost use Rattle.std.specs.Prelude.{◌≡◌, ◌++◌, Err as Refused, IfOk, OnOk};
+ghost use Rattle.std.specs.Prelude.{◌≡◌, ◌++◌, ◌∷◌, [], Err as Refused, IfOk, OnOk};
+ghost use Rattle.wac_shapes.specs.declared.core_types.CoreExtern.TheVariants as core;
 ghost use Rattle.wac_binary.specs.Fits.{ModuleFits};
 ghost use Rattle.wac_binary.specs.Indexes.{function_types};
+ghost use Rattle.wac_binary.specs.Items.{module_func};
 ghost use Rattle.wac_binary.specs.declared.fault.BinaryFault.TheVariants.{TooLarge};
 ghost use Rattle.wac_modules.specs.Declarations.{entity, type_before, import_of, export_of, declarations_of, MeansModule};
 
 use std::alloc::Global;
 use wac_binary::{BinaryFault, EntityType, GlobalType, MemoryType, TableType};
-use wac_collection::{CoreExtern, ModuleType};
+use wac_collection::{CoreExtern, CoreFuncType, CoreRefType, CoreType, ModuleType};
 
 /// The type of a core module as it is written: its imports in order, then its exports in order, before each function and each tag a
 /// function type of its own.
@@ -73,48 +75,84 @@ fn entity_type(
     ensures too_large { result ≡ Refused TooLarge → ModuleFits (written.old ++ type_before item.now) → ⊥ }
 {
     match item {
-        CoreExtern::Func(func) => {
-            let index = written.func(func.params.as_slice(), func.results.as_slice())?;
-            Ok(EntityType::Function(index))
-        }
-        CoreExtern::Tag(func) => {
-            let index = written.func(func.params.as_slice(), func.results.as_slice())?;
-            Ok(EntityType::Tag(index))
-        }
+        CoreExtern::Func(func) => Ok(EntityType::Function(func_type(written, func)?)),
+        CoreExtern::Tag(func) => Ok(EntityType::Tag(func_type(written, func)?)),
         CoreExtern::Table {
             element_type,
             initial,
             maximum,
             table64,
             shared,
-        } => Ok(EntityType::Table(TableType {
-            element_type: *element_type,
-            table64: *table64,
-            minimum: *initial,
-            maximum: *maximum,
-            shared: *shared,
-        })),
+        } => Ok(table(*element_type, *table64, *initial, *maximum, *shared)),
         CoreExtern::Memory {
             memory64,
             shared,
             initial,
             maximum,
             page_size_log2,
-        } => Ok(EntityType::Memory(MemoryType {
-            minimum: *initial,
-            maximum: *maximum,
-            memory64: *memory64,
-            shared: *shared,
-            page_size_log2: *page_size_log2,
-        })),
+        } => Ok(memory(*memory64, *shared, *initial, *maximum, *page_size_log2)),
         CoreExtern::Global {
             val_type,
             mutable,
             shared,
-        } => Ok(EntityType::Global(GlobalType {
-            val_type: *val_type,
-            mutable: *mutable,
-            shared: *shared,
-        })),
+        } => Ok(global(*val_type, *mutable, *shared)),
     }
+}
+
+/// Declares a function type, and answers its index.
+fn func_type(written: &mut wac_builder::ModuleType, func: &CoreFuncType) -> Result<u32, BinaryFault>
+    ensures index { IfOk result (λ i. i ≡ function_types written.old) }
+    ensures declared { OnOk result (written.new ≡ written.old ++ module_func func.now.params func.now.results ∷ []) }
+    ensures too_large { result ≡ Refused TooLarge → ModuleFits (written.old ++ module_func func.now.params func.now.results ∷ []) → ⊥ }
+{
+    written.func(func.params.as_slice(), func.results.as_slice())
+}
+
+/// How a table is described.
+fn table(
+    element_type: CoreRefType,
+    table64: bool,
+    minimum: u64,
+    maximum: Option<u64>,
+    shared: bool,
+) -> EntityType
+    ensures { result ≡ entity 0 (core.Table element_type minimum maximum table64 shared) }
+{
+    EntityType::Table(TableType {
+        element_type,
+        table64,
+        minimum,
+        maximum,
+        shared,
+    })
+}
+
+/// How a memory is described.
+fn memory(
+    memory64: bool,
+    shared: bool,
+    minimum: u64,
+    maximum: Option<u64>,
+    page_size_log2: Option<u32>,
+) -> EntityType
+    ensures { result ≡ entity 0 (core.Memory memory64 shared minimum maximum page_size_log2) }
+{
+    EntityType::Memory(MemoryType {
+        minimum,
+        maximum,
+        memory64,
+        shared,
+        page_size_log2,
+    })
+}
+
+/// How a global is described.
+fn global(val_type: CoreType, mutable: bool, shared: bool) -> EntityType
+    ensures { result ≡ entity 0 (core.Global val_type mutable shared) }
+{
+    EntityType::Global(GlobalType {
+        val_type,
+        mutable,
+        shared,
+    })
 }
