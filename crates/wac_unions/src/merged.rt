@@ -30,10 +30,10 @@ ghost use Rattle.wac_uses.specs.Using.{AreBareImports, AreUsing};
 ghost use Rattle.wac_names.specs.Reading.{read_track};
 ghost use Rattle.wac_names.specs.Views.{track_view};
 
-use crate::writing::{write_kind, write_unions};
+use crate::writing::{put_item, write_kind, write_unions};
 use std::alloc::{AllocError, Global};
 use std::marker::Model;
-use wac_collection::{InterfaceId, ItemKind, Named, ShapeError, Type, Types};
+use wac_collection::{InterfaceId, ItemKind, Named, Type, Types};
 use wac_entries::bindings::{Bindings, class_tracks};
 use wac_entries::bound::Bound;
 use wac_entries::classes::Classes;
@@ -269,11 +269,7 @@ fn class_imports(
         let kind = class_kind(
             alloc, merged, renamed, types, became, written, number, entry,
         )?;
-        match imports.insert(alloc, entry.name(), kind) {
-            Ok(()) => {}
-            Err(ShapeError::OutOfMemory) => return Err(AllocError),
-            Err(ShapeError::NameTwice) => unreachable!(),
-        }
+        put_item(alloc, &mut imports, entry.name(), kind)?;
     }
     Ok(imports)
 }

@@ -1,8 +1,9 @@
 //! Unions as interfaces of a merged collection.
-ghost use Rattle.std.specs.Prelude.{◌+◌, ◌<◌, ◌≡◌, List, length, map, string_bytes, true, Some, IfOk, IfSome, OnOk, slice_get};
+ghost use Rattle.std.specs.Prelude.{◌+◌, ◌<◌, ◌≡◌, ◌++◌, ◌∷◌, [], List, length, map, string_bytes, true, None, Some, IfOk, IfSome, OnOk, slice_get};
 ghost use Rattle.std.specs.Option.{option_map};
 ghost use Rattle.wac_collection.specs.Collection.{Collection, HasInterface, HasResource, holds_type};
 ghost use Rattle.wac_shapes.specs.Kinds.{kind_type};
+ghost use Rattle.wac_primitives.specs.Name.{find_name};
 ghost use Rattle.wac_shapes.specs.declared.component.InterfaceId.{InterfaceId as AnId};
 ghost use Rattle.wac_shapes.specs.declared.component.ItemKind.TheVariants as kind_of;
 ghost use Rattle.wac_terms.specs.Became.{AreFresh};
@@ -182,6 +183,23 @@ fn begin(alloc: Global, renamed: &mut Renamed, part: &mut Option<usize>, next: u
     }
 }
 
+/// Puts an item behind others, none of which has its name.
+pub(crate) fn put_item(
+    alloc: Global,
+    items: &mut Named<ItemKind>,
+    name: &str,
+    item: ItemKind,
+) -> Result<(), AllocError>
+    requires { find_name items.old name.now ≡ None }
+    ensures { OnOk result (items.new ≡ items.old ++ (name.now, item) ∷ []) }
+{
+    match items.insert(alloc, name, item) {
+        Ok(()) => Ok(()),
+        Err(ShapeError::OutOfMemory) => Err(AllocError),
+        Err(ShapeError::NameTwice) => unreachable!(),
+    }
+}
+
 /// What the exports of a union become.
 fn write_exports<'a>(
     alloc: Global,
@@ -210,20 +228,14 @@ fn write_exports<'a>(
     for i in 0..exports.len() {
         let (name, export) = exports.entry_at(i);
         begin(alloc, renamed, &mut part, export.part);
-        let renaming = Renaming {
+        let here = Renaming {
             alloc,
             types,
             became,
             part,
         };
-        let item = write_export(
-            merged, renamed, &renaming, unions, written, union, name, export,
-        )?;
-        match items.insert(alloc, name, item) {
-            Ok(()) => {}
-            Err(ShapeError::OutOfMemory) => return Err(AllocError),
-            Err(ShapeError::NameTwice) => unreachable!(),
-        }
+        let item = write_export(merged, renamed, &here, unions, written, union, name, export)?;
+        put_item(alloc, &mut items, name, item)?;
     }
     Ok(items)
 }

@@ -1,4 +1,4 @@
-use Rattle.std.proofs.Common.{◌≡◌, ℕ, suc, ◌<◌, List, [], ◌∷◌, ◌++◌, Some, IsSome, Err, take, slice_get, get_or, length, refl, sym, ap, ◌∙◌, subst, arith, add-one}
+use Rattle.std.proofs.Common.{◌≡◌, ℕ, suc, ◌<◌, List, [], ◌∷◌, ◌++◌, Option, Some, None, IsSome, take, slice_get, get_or, length, refl, sym, ap, ◌∙◌, subst, arith, add-one}
 use Rattle.std.proofs.lemmas.List.{take_all}
 use Rattle.std.proofs.lemmas.Option.{slice_get_read, slice_get_within, slice_get-get_or}
 use Rattle.wac_collection.specs.Collection.{Collection}
@@ -41,8 +41,8 @@ class_kind-requires-clause-known c = still_can_all c.args.merged.now c.loop-i.me
 pub returns-in_err-kind-clause-extended : goal.returns-in_err-kind-clause-extended
 returns-in_err-kind-clause-extended c = extended_twice c.args.merged.now c.loop-i.merged c.class_kind.new.merged c.loop-i.invariant.extended c.class_kind.ensures.extended
 
-pub returns-in-Err-OutOfMemory-clause-extended : goal.returns-in-Err-OutOfMemory-clause-extended
-returns-in-Err-OutOfMemory-clause-extended c = extended_twice c.args.merged.now c.loop-i.merged c.class_kind.new.merged c.loop-i.invariant.extended c.class_kind.ensures.extended
+pub returns-in_err-put_item-clause-extended : goal.returns-in_err-put_item-clause-extended
+returns-in_err-put_item-clause-extended c = extended_twice c.args.merged.now c.loop-i.merged c.class_kind.new.merged c.loop-i.invariant.extended c.class_kind.ensures.extended
 
 pub class_kind-requires-clause-held : goal.class_kind-requires-clause-held
 class_kind-requires-clause-held c =
@@ -75,8 +75,13 @@ class_kind-requires-clause-given c =
     still-given c.args.merged.now c.loop-i.merged c.loop-i.invariant.extended e.kind (slice_get c.args.written.now k)
     (subst (λ (v : Entry). IsGiven c.args.merged.now v.kind (slice_get c.args.written.now k)) same (c.requires.given p k w.class w.entry w.there w.numbered w.member))
 
-pub unreachable-requires : goal.unreachable-requires
-unreachable-requires c =
+-- what is not there is none
+none-unless : (o : Option ItemKind) → (IsSome o → ⊥) → o ≡ None
+none-unless None h = refl
+none-unless (Some k) h = absurd (h refl)
+
+pub put_item-requires : goal.put_item-requires
+put_item-requires c =
     let es = c.args.entries.now in
     let order = c.args.order.now in
     let i : ℕ = c.loop-i.i in
@@ -88,9 +93,9 @@ unreachable-requires c =
     let e : Entry = c.index-entries-positions.result in
     let read : slice_get es p ≡ Some e = slice_get_read es (length es) p e refl (slice_get_within es p w.entry w.there) (c.index-entries-positions.is ∙ ap (λ (l : List ℕ). get_or es (get_or l k 0) e) c.positions-positions.ensures) in
     let same : w.entry ≡ e = some_same w.entry e (sym w.there ∙ read) in
-    imported-once c.args.types.now es c.args.became.now.parts.now c.args.became.now.bindings.now c.args.became.now.fresh.now c.args.written.now order c.requires.once c.loop-i.merged i k p c.loop-i.imports w at c.loop-i.invariant.imports
+    none-unless (find_name c.loop-i.imports c.name.result.now) (λ some. imported-once c.args.types.now es c.args.became.now.parts.now c.args.became.now.bindings.now c.args.became.now.fresh.now c.args.written.now order c.requires.once c.loop-i.merged i k p c.loop-i.imports w at c.loop-i.invariant.imports
     (λ j l at_j. c.requires.each l (contains-at order j l at_j))
-    (subst (λ (n : Name). IsSome (find_name c.loop-i.imports n)) (c.name.ensures ∙ ap (λ (v : Entry). v.name) (sym same)) (c.insert.ensures.name_twice.0 (c.in-Err-NameTwice.is ∙ ap Err c.in-Err-NameTwice.field-0-is)))
+    (subst (λ (n : Name). IsSome (find_name c.loop-i.imports n)) (c.name.ensures ∙ ap (λ (v : Entry). v.name) (sym same)) some))
 
 pub loop-i-preserved : goal.loop-i-preserved
 loop-i-preserved c =
@@ -114,7 +119,7 @@ loop-i-preserved c =
     let l : ItemKind = c.in_ok-kind.kind in
     let m : Collection = c.class_kind.new.merged in
     let kind : IsClassKind t m ps bs f ws k w.entry l = subst (λ (v : Entry). IsClassKind t m ps bs f ws k v l) (sym same) c.in_ok-kind.ensures.kind in
-    let inserted : c.insert.new.self ≡ c.loop-i.imports ++ (w.entry.name, l) ∷ [] = c.in-Ok.ensures.inserted ∙ ap (λ (n : Name). c.loop-i.imports ++ (n, l) ∷ []) (c.name.ensures ∙ ap (λ (v : Entry). v.name) (sym same)) in
+    let inserted : c.put_item.new.items ≡ c.loop-i.imports ++ (w.entry.name, l) ∷ [] = c.in_ok-put_item.ensures ∙ ap (λ (n : Name). c.loop-i.imports ++ (n, l) ∷ []) (c.name.ensures ∙ ap (λ (v : Entry). v.name) (sym same)) in
     record {
       extended = extended_twice c.args.merged.now c.loop-i.merged m c.loop-i.invariant.extended c.class_kind.ensures.extended;
       made = c.in_ok-kind.ensures.made;

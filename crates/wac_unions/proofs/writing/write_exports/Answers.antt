@@ -1,11 +1,10 @@
-use Rattle.std.proofs.Common.{◌≡◌, ◌<◌, List, [], Err, take, length, slice_get, refl, sym, ap, ◌∙◌, subst, arith, add-one}
+use Rattle.std.proofs.Common.{◌≡◌, ◌<◌, List, [], take, length, slice_get, refl, sym, ap, subst, arith, add-one}
 use Rattle.std.proofs.lemmas.List.{take_all}
 use Rattle.std.proofs.lemmas.Option.{slice_get_read}
-use Rattle.wac_primitives.specs.Name.{Name, find_name}
+use Rattle.wac_primitives.specs.Name.{Name}
 use Rattle.wac_shapes.specs.Named.{names_of}
 use Rattle.wac_shapes.specs.declared.component.ItemKind.{ItemKind}
 use Rattle.wac_shapes.proofs.Names.{find_name-at, none_before, take_at}
-use Rattle.wac_shapes.proofs.Under.{not_some}
 use Rattle.wac_renaming.specs.Made.{StayMade}
 use Rattle.wac_renaming.specs.declared.made.Made.{Made}
 use Rattle.wac_renaming.proofs.OneIds.{stay_twice}
@@ -58,17 +57,15 @@ write_export-requires-clause-export c =
 pub returns-in_err-item-clause-extended : goal.returns-in_err-item-clause-extended
 returns-in_err-item-clause-extended c = extended_twice c.args.merged.now c.loop-i.merged c.write_export.new.merged c.loop-i.invariant.extended c.write_export.ensures.extended
 
-pub returns-in-Err-OutOfMemory-clause-extended : goal.returns-in-Err-OutOfMemory-clause-extended
-returns-in-Err-OutOfMemory-clause-extended c = extended_twice c.args.merged.now c.loop-i.merged c.write_export.new.merged c.loop-i.invariant.extended c.write_export.ensures.extended
+pub returns-in_err-put_item-clause-extended : goal.returns-in_err-put_item-clause-extended
+returns-in_err-put_item-clause-extended c = extended_twice c.args.merged.now c.loop-i.merged c.write_export.new.merged c.loop-i.invariant.extended c.write_export.ensures.extended
 
-pub unreachable-requires : goal.unreachable-requires
-unreachable-requires c =
+pub put_item-requires : goal.put_item-requires
+put_item-requires c =
     let es : List (Name × Export) = c.index.result.now.exports in
     let i = c.loop-i.i in
-    let items : List (Name × ItemKind) = c.loop-i.items in
     let n : Name = c.entry_at.result.0.now in
-    not_some (find_name items n) (none_alike (take i es) items n (sym c.loop-i.invariant.names) (none_before es i n c.entry_at.result.1.now c.law-2.ensures c.entry_at.ensures))
-    (c.insert.ensures.name_twice.0 (c.in-Err-NameTwice.is ∙ ap Err c.in-Err-NameTwice.field-0-is))
+    none_alike (take i es) c.loop-i.items n (sym c.loop-i.invariant.names) (none_before es i n c.entry_at.result.1.now c.law-2.ensures c.entry_at.ensures)
 
 pub loop-i-preserved : goal.loop-i-preserved
 loop-i-preserved c =
@@ -87,12 +84,12 @@ loop-i-preserved c =
     record {
       extended = extended_twice c.args.merged.now now more v.extended c.write_export.ensures.extended;
       right = λ s p q r. renamed-alike more c.write_export.new.renamed renaming s (sym p) (sym q) (sym r) c.in_ok-item.ensures.right;
-      written = rw (add-one, take_at es i (n, e) c.entry_at.ensures, c.in-Ok.ensures.inserted)
+      written = rw (add-one, take_at es i (n, e) c.entry_at.ensures, c.in_ok-put_item.ensures)
           (items-more t now more b count c.args.written.now c.args.union (take i es) c.loop-i.items n e c.in_ok-item.item c.write_export.ensures.extended v.written c.in_ok-item.ensures.written);
-      once = rw (add-one, take_at es i (n, e) c.entry_at.ensures, c.in-Ok.ensures.inserted)
+      once = rw (add-one, take_at es i (n, e) c.entry_at.ensures, c.in_ok-put_item.ensures)
           (items-made-more t now more c.write_export.ensures.extended b.named.now c.loop-i.renamed.made c.write_export.new.renamed.made step (take i es) c.loop-i.items n e c.in_ok-item.item v.once c.in_ok-item.ensures.once);
       stay = stay_twice c.args.renamed.now.made c.loop-i.renamed.made c.write_export.new.renamed.made v.stay step;
-      names = rw (add-one, take_at es i (n, e) c.entry_at.ensures, c.in-Ok.ensures.inserted) (push_alike c.loop-i.items (take i es) n c.in_ok-item.item e v.names);
+      names = rw (add-one, take_at es i (n, e) c.entry_at.ensures, c.in_ok-put_item.ensures) (push_alike c.loop-i.items (take i es) n c.in_ok-item.item e v.names);
     }
 
 pub returns-clause-made : goal.returns-clause-made
