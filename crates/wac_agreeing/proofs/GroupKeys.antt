@@ -1,5 +1,5 @@
 -- A set of lists of rows, as groups.
-use Rattle.std.proofs.Common.{◌≡◌, ℕ, ◌<◌, Bool, true, false, ◌&&◌, nat_eq, eq-eqb, Global, Vec, List, [], ◌∷◌, ◌++◌, length, map, take, Option, Some, inl, inr, refl, ap, sym, ◌∙◌, subst, if◌then◌else◌}
+use Rattle.std.proofs.Common.{◌≡◌, ℕ, zero, ◌<◌, Bool, true, false, ◌&&◌, nat_eq, eq-eqb, Global, Vec, List, [], ◌∷◌, ◌++◌, length, map, take, Option, Some, inl, inr, refl, ap, sym, ◌∙◌, subst, if◌then◌else◌}
 use Rattle.std.specs.Prelude.{slice_get}
 use Rattle.std.specs.List.{list_any}
 use Rattle.std.specs.Cmp.Lexicographic.{pointwise}
@@ -92,7 +92,7 @@ first_taken [] x at = absurd (no_some x at)
 first_taken (y ∷ xs) x at = ap (λ z. z ∷ []) (some_same y x at)
 
 -- the first alone
-pub split_start : (ns : List Node) (holder : ℕ) (held : Item) (old : Option (ℕ × ℕ)) (rows group : List Row) → slice_get rows 0 ≡ Some (holder, held) → group ≡ (holder, held) ∷ [] → Splits ns holder held old (take 1 rows) group old
+pub split_start : (ns : List Node) (holder : ℕ) (held : Item) (old : Option (ℕ × ℕ)) (rows group : List Row) → slice_get rows zero ≡ Some (holder, held) → group ≡ (holder, held) ∷ [] → Splits ns holder held old (take 1 rows) group old
 split_start ns holder held old rows group at is =
     subst (λ (l : List Row). Splits ns holder held old l group old) (sym (first_taken rows (holder, held) at)) (subst (λ (g : List Row). Splits ns holder held old ((holder, held) ∷ []) g old) (sym is) alone)
 

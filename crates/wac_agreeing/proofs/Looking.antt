@@ -35,7 +35,7 @@ handled_more w v pair x y g (inr (inl (b, is, low))) = let (c, so, less) = g.fir
 handled_more w v pair x y g (inr (inr (k, z, at, a, b))) = inr (inr (k, z, g.groups k z at, a, b))
 
 -- ---- order
-pub led : (rows : List Row) (k : ℕ) (r q : Row) → AreOrdered rows → slice_get rows 0 ≡ Some r → slice_get rows k ≡ Some q → r.0 ≤ q.0
+pub led : (rows : List Row) (k : ℕ) (r q : Row) → AreOrdered rows → slice_get rows zero ≡ Some r → slice_get rows k ≡ Some q → r.0 ≤ q.0
 led [] k r q h first at = absurd (no_some r first)
 led (p ∷ rows) zero r q h first at = let same : ◌≡◌ {A = ℕ} r.0 q.0 = ap (λ (z : Row). z.0) (some_same r q (sym first ∙ at)) in omega (arith, same)
 led (p ∷ rows) (suc k) r q h first at = subst (λ (z : Row). z.0 ≤ q.0) (some_same p r first) (all_at (λ (z : Row). p.0 ≤ z.0) rows k q h.0 at)

@@ -45,7 +45,7 @@ pub record Compares (ns : List Node) (old : Walk) (rows : List Row) (new : Walk)
   pub holder : ℕ
   pub held : Item
   pub group : List Row
-  pub at : slice_get rows 0 ≡ Some (holder, held)
+  pub at : slice_get rows zero ≡ Some (holder, held)
   pub splits : Splits ns holder held old.first rows group new.first
   pub grouped : IsGrouped (groups_view old.groups.keys) group (groups_view new.groups.keys)
 

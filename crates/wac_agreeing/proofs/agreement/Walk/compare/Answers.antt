@@ -1,4 +1,4 @@
-use Rattle.std.proofs.Common.{◌≡◌, ◌∙◌, ◌<◌, ◌≤◌, [], ◌∷◌, ◌++◌, map, take, length, slice_index_or, inl, List, Some, refl, ap, subst, arith, add-one}
+use Rattle.std.proofs.Common.{◌≡◌, zero, ◌∙◌, ◌<◌, ◌≤◌, [], ◌∷◌, ◌++◌, map, take, length, slice_index_or, inl, List, Some, refl, ap, subst, arith, add-one}
 use Rattle.std.specs.Prelude.{slice_get}
 use Rattle.std.proofs.lemmas.Option.{slice_get-get_or}
 use Rattle.wac_shapes.proofs.Names.{take_at}
@@ -17,9 +17,9 @@ use Rattle.wac_agreeing.proofs.agreement.Walk.compare.Goals as goal
 pub loop-i-init : goal.loop-i-init
 loop-i-init c =
     let rows = c.args.rows.now in
-    let p = slice_index_or rows 0 (0, item.«Type» 0) in
+    let p = slice_index_or rows zero (0, item.«Type» 0) in
     let some : 0 < length rows = omega (arith, mapped_length row_view rows, c.requires.0) in
-    let at : slice_get (map row_view rows) 0 ≡ Some (row_view p) = get_map row_view rows 0 p (slice_get-get_or rows 0 (0, item.«Type» 0) some) in
+    let at : slice_get (map row_view rows) 0 ≡ Some (row_view p) = get_map row_view rows zero p (slice_get-get_or rows zero (0, item.«Type» 0) some) in
     let alone : map row_view c.push.new.self.items ≡ row_view p ∷ [] = push_view [] c.push.new.self.items (p.0, p.1) (c.in_ok-push.ensures.items ∙ ap (λ xs. xs ++ (p.0, p.1) ∷ []) c.new-group.ensures.items) in
     record {
       from = omega arith;
@@ -52,7 +52,7 @@ pub returns-in_ok-insert : goal.returns-in_ok-insert
 returns-in_ok-insert c =
     let rows = c.args.rows.now in
     let g = c.loop-i.group in
-    let p = slice_index_or rows 0 (0, item.«Type» 0) in
+    let p = slice_index_or rows zero (0, item.«Type» 0) in
     let some : 0 < length rows = omega (arith, mapped_length row_view rows, c.requires.0) in
     let long : length (map row_view rows) ≤ c.loop-i.i = omega (arith, mapped_length row_view rows, c.loop-i-test.false) in
     let several : 1 < length (map row_view g.items) = omega (arith, mapped_length row_view g.items, c.if-len-gt1.true, c.len.ensures) in
@@ -60,7 +60,7 @@ returns-in_ok-insert c =
       holder = p.0;
       held = item_view p.1;
       group = map row_view g.items;
-      at = get_map row_view rows 0 p (slice_get-get_or rows 0 (0, item.«Type» 0) some);
+      at = get_map row_view rows zero p (slice_get-get_or rows zero (0, item.«Type» 0) some);
       splits = subst (λ (l : List Row). Splits c.args.nodes.now p.0 (item_view p.1) c.args.self.now.first l (map row_view g.items) c.loop-i.self.first) (taken (map row_view rows) c.loop-i.i long) c.loop-i.invariant.splits;
       grouped = grouped_keys c.loop-i.self.groups.keys c.args.self.now.groups.keys c.insert.new.self.keys g (ap (λ s. s.keys) c.loop-i.invariant.groups) c.in_ok-insert.ensures.keys several;
     }
@@ -69,7 +69,7 @@ pub returns-else-len-gt1 : goal.returns-else-len-gt1
 returns-else-len-gt1 c =
     let rows = c.args.rows.now in
     let g = c.loop-i.group in
-    let p = slice_index_or rows 0 (0, item.«Type» 0) in
+    let p = slice_index_or rows zero (0, item.«Type» 0) in
     let some : 0 < length rows = omega (arith, mapped_length row_view rows, c.requires.0) in
     let long : length (map row_view rows) ≤ c.loop-i.i = omega (arith, mapped_length row_view rows, c.loop-i-test.false) in
     let few : length (map row_view g.items) ≤ 1 = omega (arith, mapped_length row_view g.items, c.if-len-gt1.false, c.len.ensures) in
@@ -77,7 +77,7 @@ returns-else-len-gt1 c =
       holder = p.0;
       held = item_view p.1;
       group = map row_view g.items;
-      at = get_map row_view rows 0 p (slice_get-get_or rows 0 (0, item.«Type» 0) some);
+      at = get_map row_view rows zero p (slice_get-get_or rows zero (0, item.«Type» 0) some);
       splits = subst (λ (l : List Row). Splits c.args.nodes.now p.0 (item_view p.1) c.args.self.now.first l (map row_view g.items) c.loop-i.self.first) (taken (map row_view rows) c.loop-i.i long) c.loop-i.invariant.splits;
       grouped = inl (few, ap (λ s. groups_view s.keys) c.loop-i.invariant.groups);
     }
