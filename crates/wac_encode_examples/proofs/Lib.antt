@@ -8,3 +8,4 @@ pub mod OpenedRows
 pub mod AliasedRows
 pub mod PlaceRows
 pub mod NestedRows
+pub mod PlanRows
