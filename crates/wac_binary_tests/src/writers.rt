@@ -160,7 +160,7 @@ impl Writers {
     }
 }
 
-// These bytes are written, in hexadecimal.
+/// These bytes are written, in hexadecimal.
 pub fn assert_written(
     rt: &impl Abort,
     alloc: Global,
@@ -173,7 +173,7 @@ pub fn assert_written(
     assert!(rt; written.as_str() == want.as_str(), "{what}");
 }
 
-// What is written, the calls, and the bytes of the component.
+/// What is written, the calls, and the bytes of the component.
 pub type Table = (&'static str, &'static [Row], &'static [&'static str]);
 
 fn assert_table(rt: &(impl Abort + AllocGlobal), table: Table) {
@@ -191,6 +191,7 @@ fn assert_table(rt: &(impl Abort + AllocGlobal), table: Table) {
     assert_written(rt, alloc, writers.root.into_bytes(), want, what);
 }
 
+/// Each of these calls answers so, and these bytes are written, for each of these tables.
 pub fn assert_tables(rt: &(impl Abort + AllocGlobal), tables: &[Table]) {
     for table in tables {
         assert_table(rt, *table);
