@@ -1,6 +1,6 @@
 -- Worlds are written as definitions.
 use Rattle.std.specs.Prelude.{ℕ, ◌≡◌, true, false, List, [], ◌∷◌, ◌++◌, Option, Some, None, is_some, Err}
-use Rattle.std.proofs.Common.{refl, ap, ◌∙◌, sym, subst, inl, inr, arith}
+use Rattle.std.proofs.Common.{refl, ap, ◌∙◌, sym, subst, inl, inr}
 use Rattle.std.proofs.Math.Path.{fun_ext}
 use Rattle.wac_primitives.specs.Name.{Name, option_case}
 use Rattle.wac_shapes.specs.declared.component.World.{World}
@@ -26,14 +26,14 @@ use Rattle.wac_stacks.specs.Scopes.{Open, env, next_type, with_def}
 use Rattle.wac_stacks.specs.Good.{Good, nothing_bound}
 use Rattle.wac_stacks.specs.Laws.{Adds, IsItsTree}
 use Rattle.wac_stacks.specs.Listed.{declaring, OpensWorld, ClosesComponent}
-use Rattle.wac_scopes.specs.Rooted.{unbound, IsRightRoot, IsWrittenThere}
+use Rattle.wac_scopes.specs.Rooted.{unbound, IsRightRoot}
 use Rattle.wac_scopes.specs.Scoped.{recorded_type, opened, AddsComponent, ListsComponentOf, WritesUnlessTooLarge, FitsUnlessTooLarge}
 use Rattle.wac_encode.specs.Written.{GoesOn, WritesFor}
 use Rattle.wac_encode.specs.Instances.{IsBare}
 use Rattle.wac_encode.proofs.Rows.{writes-type}
 use Rattle.wac_root.specs.Components.{held_world_under_id, world_component_tree}
 use Rattle.wac_root.specs.Defining.{WritesDefinition, MadeFor}
-use Rattle.wac_root.proofs.Defining.{stands-there, at-root, defined-so, content-is}
+use Rattle.wac_root.proofs.Defining.{StandsBehind, stands-last, at-root, defined-so, content-is}
 use Rattle.wac_root.proofs.Imported.{still-root}
 use Rattle.wac_worlds.specs.Worlds.{is_plain_world, SaysWorld, WritesWorld, IsWorldRefused}
 use Rattle.wac_worlds.proofs.Whole.{new-opened}
@@ -146,12 +146,12 @@ under-id-behind c old now w ds i says adds same = writes-type c (MadeFor c (ty.W
     goes : GoesOn c old now
     goes m ms o os g = (adds c (m ∷ ms) o os (world_component_tree c w) (says m ms (opened old o) os g)).0
 
-pub world-defined : IsWrittenThere → (c : Collection) (old now new : Scope) (n : Name) (w : WorldId) (ds : List Decl) (i k : ℕ) → IsRightRoot c old → SaysUnderId c w ds → AddsComponent old now ds i → now ≡ record old { content = and_type old.content (component_def (decls ds)) } → i ≡ next_index old.content → new ≡ record now { content = Builder (items_of now.content ++ export_item n sort.«Type» i ∷ []) } → k ≡ next_index now.content → WritesDefinition c (ty.World w) n old new k
-world-defined there c old now new n w ds i k r says adds same index exports answer =
+pub world-defined : StandsBehind → (c : Collection) (old now new : Scope) (n : Name) (w : WorldId) (ds : List Decl) (i k : ℕ) → IsRightRoot c old → SaysUnderId c w ds → AddsComponent old now ds i → now ≡ record old { content = and_type old.content (component_def (decls ds)) } → i ≡ next_index old.content → new ≡ record now { content = Builder (items_of now.content ++ export_item n sort.«Type» i ∷ []) } → k ≡ next_index now.content → WritesDefinition c (ty.World w) n old new k
+world-defined behind c old now new n w ds i k r says adds same index exports answer =
     let b = under-id-behind c old now w ds i says adds same in
     let is_root : IsRoot now.content = still-root old.content now.content b.types b.appended r.is_root in
     defined-so c (ty.World w) n 1 (MadeFor c (ty.World w)) old now new i k r b
-    (λ good means. stands-there there c 1 (MadeFor c (ty.World w)) old now i (world_component_tree c w) r b (omega (arith, index)) (at-root now i (world_component_tree c w) is_root (adds c (nothing_bound ∷ []) unbound [] (world_component_tree c w) (says nothing_bound [] (opened old unbound) [] good)).1))
+    (λ good means. stands-last behind c old now (component_def (decls ds)) i (world_component_tree c w) r same index means (at-root now i (world_component_tree c w) is_root (adds c (nothing_bound ∷ []) unbound [] (world_component_tree c w) (says nothing_bound [] (opened old unbound) [] good)).1))
     (content-is now new (Builder (items_of now.content ++ export_item n sort.«Type» i ∷ [])) exports) answer
 
 module _ (c : Collection) (old now : Scope) (n : Name) (w : WorldId) (ds : List Decl) (i : ℕ) (written : WritesUnderId c w ds) (same : now ≡ record old { content = and_component_type old.content ds }) (at : i ≡ next_index old.content) where

@@ -3,6 +3,7 @@
 //! A layer of `wac_graph`, whose crate is the door.
 #![tactic(auto)]
 
+mod listing;
 mod writer;
 
 pub use wac_reading::{GraphReader, package_in_slots};

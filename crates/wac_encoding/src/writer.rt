@@ -5,7 +5,11 @@ ghost use Rattle.wac_binary.specs.Items.{Item as AnItem};
 ghost use Rattle.wac_binary.specs.Views.{arguments_of};
 ghost use Rattle.wac_binary.specs.declared.sorts.Sort.{Sort as ASort};
 ghost use Rattle.wac_causes.specs.Cause.{cause_of};
-ghost use Rattle.wac_causes.specs.NotYet.{AllDefinable};
+ghost use Rattle.wac_causes.specs.NotYet.{AllDefinable, AllImportable};
+ghost use Rattle.wac_encoding.specs.Listed.{IsListedFor};
+ghost use Rattle.wac_entries.specs.Classes.{by_names};
+ghost use Rattle.wac_terms.specs.Faults.{HasNoCircle};
+ghost use Rattle.wac_nodes.specs.OuterImports.{outer_entries};
 ghost use Rattle.wac_edges.specs.Order.{Writes};
 ghost use Rattle.wac_edges.specs.declared.node.NodeId.{NodeId as AnId};
 ghost use Rattle.wac_meaning.specs.Beginning.{Begins};
@@ -16,10 +20,13 @@ ghost use Rattle.wac_meaning.specs.Writing.{WritesNode, IsArgumentItem, AreArgum
 ghost use Rattle.wac_nodes.specs.Graph.{node_at, imports_of, instantiation, definition, IsArgumentOf, IsUnsatisfied};
 ghost use Rattle.wac_scopes.specs.Contents.{items_of};
 ghost use Rattle.wac_scopes.specs.Rooted.{IsRightRoot};
+ghost use Rattle.wac_scopes.specs.Scoped.{listing};
+ghost use Rattle.wac_shapes.specs.declared.component.«Type».{«Type» as AnyType};
 ghost use Rattle.wac_writing.specs.Naming.{IsNamed};
 ghost use Rattle.wac_places.specs.Places.{ArePlaced};
 ghost use Rattle.wac_reading.specs.EncoderView.{progress};
 
+use crate::listing::list_imports;
 use std::alloc::AllocError;
 use wac_builder::{ComponentBuilder, Sort};
 use wac_causes::EncodeError;
@@ -46,6 +53,8 @@ pub fn write(
     requires whole { Writes reader.now.edges (is_written reader.now) order.now }
     requires named { named ≡ false → (sort : ASort) (n : AnId) → IsNamed reader.now sort n → ⊥ }
     requires definable { AllDefinable reader.now }
+    requires importable { AllImportable reader.now }
+    requires ordered { HasNoCircle by_names reader.now.types (outer_entries reader.now) }
     requires defined { options.define_components ≡ true }
     ensures means { IfOk result (λ bytes. (items : List AnItem) × (bytes.items ≡ bytes_of items) × Means items reader.now options.entry) }
     ensures fault { IfErr result (λ e. cause_of e ≡ None) }
@@ -56,6 +65,7 @@ pub fn write(
     reader.law();
     let indexes = import_indexes(reader, imports)?;
     let mut encoder = Encoder::new(reader.allocator(), root, indexes);
+    list_imports(reader, imports, &mut encoder.root)?;
     write_nodes(reader, &mut encoder, imports, order)?;
     let (mut component, indexes) = encoder.finish();
     reader.write_exports(&mut component, &indexes)?;
@@ -75,6 +85,7 @@ fn write_nodes(
     requires nodes { (i : ℕ) (n : AnId) → slice_get order.now i ≡ Some n → IsSomeAnd (node_at reader.now n) (λ node. is_import node.kind ≡ false) }
     requires definable { AllDefinable reader.now }
     requires right { IsRightRoot reader.now.types encoder.old.root }
+    requires listed { (m : AnId) → IsSomeAnd (node_at reader.now m) (λ node. node.kind ≡ definition) → IsListedFor reader.now imports.now.places.items encoder.old.root }
     requires room { HasRoom reader.now encoder.old.indexes.items }
     ensures written { OnOk result (WroteAll reader.now imports.now.places.items order.now (progress encoder.old) (progress encoder.new)) }
     ensures right { OnOk result (IsRightRoot reader.now.types encoder.new.root) }
@@ -98,10 +109,12 @@ fn write_node(
     requires node { IsSomeAnd (node_at reader.now n) (λ node. is_import node.kind ≡ false) }
     requires definable { AllDefinable reader.now }
     requires right { IsRightRoot reader.now.types encoder.old.root }
+    requires listed { (m : AnId) → IsSomeAnd (node_at reader.now m) (λ node. node.kind ≡ definition) → IsListedFor reader.now imports.now.places.items encoder.old.root }
     requires room { HasRoom reader.now encoder.old.indexes.items }
     requires noted { n.0 < length encoder.old.indexes.items }
     ensures written { OnOk result (Wrote reader.now imports.now.places.items n (progress encoder.old) (progress encoder.new)) }
     ensures right { OnOk result (IsRightRoot reader.now.types encoder.new.root) }
+    ensures listed { OnOk result ((a : AnyType) → listing encoder.new.root a ≡ listing encoder.old.root a) }
     ensures kept { length encoder.new.indexes.items ≡ length encoder.old.indexes.items }
     ensures fault { IfErr result (λ e. cause_of e ≡ None) }
 {
@@ -125,8 +138,10 @@ fn write_definition(
     requires definition { IsSomeAnd (node_at reader.now n) (λ node. node.kind ≡ definition) }
     requires definable { AllDefinable reader.now }
     requires right { IsRightRoot reader.now.types encoder.old.root }
+    requires listed { (m : AnId) → IsSomeAnd (node_at reader.now m) (λ node. node.kind ≡ definition) → IsListedFor reader.now imports.now.places.items encoder.old.root }
     ensures written { IfOk result (λ i. IfSome (node_at reader.now n) (λ node. WritesNode reader.now imports.now.places.items n node (index_in encoder.old.indexes.items) encoder.old.components.entries encoder.new.components.entries (items_of encoder.old.root.content) (items_of encoder.new.root.content) i)) }
     ensures right { OnOk result (IsRightRoot reader.now.types encoder.new.root) }
+    ensures listed { OnOk result ((a : AnyType) → listing encoder.new.root a ≡ listing encoder.old.root a) }
     ensures kept { encoder.new.indexes ≡ encoder.old.indexes }
     ensures fault { IfErr result (λ e. cause_of e ≡ None) }
 {
@@ -148,6 +163,7 @@ fn write_instantiation(
     requires room { HasRoom reader.now encoder.old.indexes.items }
     ensures written { IfOk result (λ i. IfSome (node_at reader.now n) (λ node. WritesNode reader.now imports.now.places.items n node (index_in encoder.old.indexes.items) encoder.old.components.entries encoder.new.components.entries (items_of encoder.old.root.content) (items_of encoder.new.root.content) i)) }
     ensures right { OnOk result (IsRightRoot reader.now.types encoder.new.root) }
+    ensures listed { OnOk result ((a : AnyType) → listing encoder.new.root a ≡ listing encoder.old.root a) }
     ensures kept { encoder.new.indexes ≡ encoder.old.indexes }
     ensures fault { IfErr result (λ e. cause_of e ≡ None) }
 {

@@ -135,7 +135,7 @@ definition_is_written = subst
     (λ o. IfSome o (λ node. (i : ℕ)
     × WritesNode defining_bool [] (node_number 0) node (index_in (0 ∷ [])) [] [] [] (type_item (value_def (primitive_def prim.Bool)) ∷ export_item (codes "foo") s.«Type» 0 ∷ []) i × (1 ∷ [] ≡ slice_set (0 ∷ []) 0 i)))
     (sym (node_0 base defined))
-    (1, writes_definition of_bool (codes "foo") 0 types refl refl refl refl (record { types = types; alone = (tt, tt); added = refl; meant = λ _. ((tt, tt), bool_is) }) refl refl, refl) where
+    (1, writes_definition of_bool (codes "foo") 0 types (written (primitive prim.Bool)) refl refl refl refl bool_is (record { types = types; alone = (tt, tt); added = refl; meant = λ _. ((tt, tt), refl) }) refl refl, refl) where
       types : List Item
       types = type_item (value_def (primitive_def prim.Bool)) ∷ []
 

@@ -9,7 +9,7 @@ ghost use Rattle.wac_places.specs.Places.{IsMergedFor, ArePlaced};
 ghost use Rattle.std.specs.Result.{IsErrAnd};
 ghost use Rattle.wac_causes.specs.Cause.{AnswersFor, Cause, cause_of, HasMerge, HasNoConflict, Stands};
 ghost use Rattle.wac_causes.specs.OuterNames.{export_names, import_names};
-ghost use Rattle.wac_causes.specs.NotYet.{AllDefinable, IsNotYet};
+ghost use Rattle.wac_causes.specs.NotYet.{AllDefinable, AllImportable, IsNotYet};
 ghost use Rattle.wac_causes.specs.TypeFaults.{HasNoTypeFault};
 ghost use Rattle.wac_edges.specs.Order.{IsAcyclic};
 ghost use Rattle.wac_nodes.specs.declared.options.EncodeOptions.{EncodeOptions as Asked};
@@ -76,6 +76,7 @@ impl CompositionGraph {
         ensures begins { IfOk result (λ b. Begins (merged_imports b.1.merge.merge) b.1.places.items b.0) }
         ensures placed { IfOk result (λ b. ArePlaced self.now b.1) }
         ensures definable { OnOk result (AllDefinable self.now) }
+        ensures importable { OnOk result (AllImportable self.now) }
         ensures written { OnOk result ((o : Asked) → o.define_components ≡ define_components → IsNotYet self.now o → ⊥) }
         ensures defined { OnOk result (define_components ≡ true) }
         ensures refused { IfErr result (λ e. (o : Asked) → o.define_components ≡ define_components → IsRefusedBefore self.now o e) }

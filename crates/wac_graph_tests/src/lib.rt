@@ -29,6 +29,8 @@ mod parts;
 #[cfg(test)]
 mod plugging;
 #[cfg(test)]
+mod redefined;
+#[cfg(test)]
 mod removal;
 #[cfg(test)]
 mod tables;

@@ -4,6 +4,7 @@ use crate::defining::{CALLS, DEFINED, answer, assert_undefined};
 use crate::imports::IMPORTS;
 use crate::once::ONCE;
 use crate::parts::{self, assert_displayed, assert_row, encode, export, import, instantiate};
+use crate::redefined::REDEFINED;
 use crate::writable::{DEPENDENCIES, WRITABLE};
 use std::alloc::Global;
 use std::process::Abort;
@@ -455,7 +456,15 @@ fn assert_answers(rt: &(impl Abort + AllocGlobal), cases: &[Case]) {
 
 #[test]
 fn graphs_are_encoded(rt: HostRuntime) {
-    for cases in [DEFINED, IMPORTS, ALIASED, ONCE, WRITABLE, DEPENDENCIES] {
+    for cases in [
+        DEFINED,
+        REDEFINED,
+        IMPORTS,
+        ALIASED,
+        ONCE,
+        WRITABLE,
+        DEPENDENCIES,
+    ] {
         assert_answers(&rt, cases);
     }
 }

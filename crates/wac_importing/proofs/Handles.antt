@@ -85,7 +85,7 @@ module _ {L : Type 0} (t : ValueType → TypeTree L) where
   defined_free (def.Stream v) h = (first_maybe v [] h).0
   defined_free (def.Future v) h = (first_maybe v [] h).0
 
-  free_defined : (x : DefinedType) → HasNoHandle (defined_tree t x) → AllByRecursion (λ v. HasNoHandle (t v)) (defined_values x)
+  pub free_defined : (x : DefinedType) → HasNoHandle (defined_tree t x) → AllByRecursion (λ v. HasNoHandle (t v)) (defined_values x)
   free_defined (def.Tuple vs) h = free_values vs h
   free_defined (def.List v) h = (h, tt)
   free_defined (def.FixedSizeList v n) h = (h, tt)
@@ -181,7 +181,7 @@ one_in P (v ∷ vs) b all (inl e) = (v, e, all.0)
 one_in P (v ∷ vs) b all (inr w) = one_in P vs b all.1 w
 
 -- ---- held types
-abbrev tree : Collection → AnyType → TypeTree Name
+abbrev pub tree : Collection → AnyType → TypeTree Name
 tree c a = unfolded by_name c (resource_names c) a
 
 abbrev pub Free : Collection → AnyType → Type 0
@@ -195,10 +195,10 @@ module _ (c : Collection) (wf : IsWellFormed c) where
     by None there h = absurd there
     by (Some x) there h = handle x.item.name h
 
-  own_handle : (r : ResourceId) → holds_type c (ty.Resource r) ≡ true → Free c (ty.Value (val.Own r)) → ⊥
+  pub own_handle : (r : ResourceId) → holds_type c (ty.Resource r) ≡ true → Free c (ty.Value (val.Own r)) → ⊥
   own_handle r held h = named_there (resolved c r) own (λ n h. h) (resolved_held c wf r held) (subst HasNoHandle (unfolded_step by_name c wf (resource_names c) (ty.Value (val.Own r)) held) h)
 
-  borrow_handle : (r : ResourceId) → holds_type c (ty.Resource r) ≡ true → Free c (ty.Value (val.Borrow r)) → ⊥
+  pub borrow_handle : (r : ResourceId) → holds_type c (ty.Resource r) ≡ true → Free c (ty.Value (val.Borrow r)) → ⊥
   borrow_handle r held h = named_there (resolved c r) borrow (λ n h. h) (resolved_held c wf r held) (subst HasNoHandle (unfolded_step by_name c wf (resource_names c) (ty.Value (val.Borrow r)) held) h)
 
   of_item : {A : Type 0} (f : A → List AnyType) (g : A → TypeTree Name) (P : AnyType → Type 0) (b : AnyType) → ((x : A) → HasNoHandle (g x) → IsIn b (f x) → P b) → (o : Option (Held A)) → HasNoHandle (of_held g o) → IsIn b (option_case (item_of o) [] f) → P b
@@ -244,7 +244,7 @@ module _ (c : Collection) (wf : IsWellFormed c) where
   abbrev PlainValue : ValueType → Type 0
   PlainValue v = IsPlainItem (type_equal (tree c (ty.Value v)))
 
-  value_step : (v : ValueType) → holds_value c v ≡ true → tree c (ty.Value v) ≡ step by_name c (λ m. unfolded by_name c m) (resource_names c) (ty.Value v)
+  pub value_step : (v : ValueType) → holds_value c v ≡ true → tree c (ty.Value v) ≡ step by_name c (λ m. unfolded by_name c m) (resource_names c) (ty.Value v)
   value_step v held = unfolded_step by_name c wf (resource_names c) (ty.Value v) held
 
   free_value : (n : ℕ) (v : ValueType) → IsValueBefore c n v → ReachesNone (ty.Value v) → PlainValue v

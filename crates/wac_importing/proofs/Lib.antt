@@ -1,6 +1,8 @@
 pub mod Lists
 pub mod Handles
+pub mod Bare
 pub mod Items
+pub mod Listing
 pub mod Nested
 pub mod Refusing
 pub mod Loop

@@ -3,13 +3,14 @@
 ghost use Rattle.std.specs.Prelude.{◌≡◌, true, IfOk, OnOk};
 ghost use Rattle.wac_shapes.specs.declared.component.ItemKind.TheVariants as kind;
 ghost use Rattle.wac_shapes.specs.declared.component.WorldId.{WorldId as AnyWorld};
+ghost use Rattle.wac_shapes.specs.declared.component.«Type».{«Type» as AnyType};
 ghost use Rattle.wac_shapes.specs.declared.component.«Type».TheVariants as sort;
 ghost use Rattle.wac_collection.specs.Collection.{holds_type};
-ghost use Rattle.wac_meaning.specs.Definition.{definition_tree};
 ghost use Rattle.wac_meaning.specs.Importable.{IsDefinableKind};
 ghost use Rattle.wac_scopes.specs.Contents.{items_of};
 ghost use Rattle.wac_scopes.specs.Rooted.{IsRightRoot};
-ghost use Rattle.wac_importing.specs.Defined.{DefinesType};
+ghost use Rattle.wac_scopes.specs.Scoped.{listing};
+ghost use Rattle.wac_importing.specs.Defined.{definition_thing, DefinesType};
 
 use wac_binary::BinaryFault;
 use wac_collection::{Type, Types, WorldId};
@@ -18,7 +19,7 @@ use wac_root::RootEncoder;
 use wac_scopes::{EncodeFault, Scope};
 
 /// Writes a definition of a held type behind what stands in the root: the types that it is made of, as far as none of them is recorded
-/// there, and the export by this name, whose type index it answers.
+/// there, and the export by this name, whose type index it answers. A value type that an instance lists is aliased from it, and not written.
 ///
 /// Answers `TooLarge` where it does not fit behind what stands; `OutOfMemory` where memory was refused.
 pub fn write_definition(
@@ -30,8 +31,9 @@ pub fn write_definition(
     requires held { holds_type types.now ty ≡ true }
     requires definable { IsDefinableKind types.now (kind.TypeItem ty) }
     requires right { IsRightRoot types.now root.old }
-    ensures written { IfOk result (DefinesType (definition_tree types.now ty) name.now (items_of root.old.content) (items_of root.new.content)) }
+    ensures written { IfOk result (DefinesType (definition_thing types.now root.old ty) name.now (items_of root.old.content) (items_of root.new.content)) }
     ensures right { OnOk result (IsRightRoot types.now root.new) }
+    ensures listed { OnOk result ((a : AnyType) → listing root.new a ≡ listing root.old a) }
 {
     match ty {
         Type::World(world) => write_world(types, root, name, world),
@@ -49,8 +51,9 @@ fn write_world(
     requires held { holds_type types.now (sort.World world) ≡ true }
     requires definable { IsDefinableKind types.now (kind.TypeItem (sort.World world)) }
     requires right { IsRightRoot types.now root.old }
-    ensures written { IfOk result (DefinesType (definition_tree types.now (sort.World world)) name.now (items_of root.old.content) (items_of root.new.content)) }
+    ensures written { IfOk result (DefinesType (definition_thing types.now root.old (sort.World world)) name.now (items_of root.old.content) (items_of root.new.content)) }
     ensures right { OnOk result (IsRightRoot types.now root.new) }
+    ensures listed { OnOk result ((a : AnyType) → listing root.new a ≡ listing root.old a) }
 {
     types.law();
     match ComponentEncoder::new(types).define_world(root, name, world) {
@@ -67,8 +70,9 @@ fn write_type(types: &Types, root: &mut Scope, name: &str, ty: Type) -> Result<u
     requires definable { IsDefinableKind types.now (kind.TypeItem ty) }
     requires other { (w : AnyWorld) → ty ≡ sort.World w → ⊥ }
     requires right { IsRightRoot types.now root.old }
-    ensures written { IfOk result (DefinesType (definition_tree types.now ty) name.now (items_of root.old.content) (items_of root.new.content)) }
+    ensures written { IfOk result (DefinesType (definition_thing types.now root.old ty) name.now (items_of root.old.content) (items_of root.new.content)) }
     ensures right { OnOk result (IsRightRoot types.now root.new) }
+    ensures listed { OnOk result ((a : AnyType) → listing root.new a ≡ listing root.old a) }
 {
     types.law();
     match RootEncoder::new(types).definition(root, name, ty) {

@@ -18,7 +18,7 @@ use Rattle.wac_binary.specs.declared.sorts.Sort.TheVariants as sort
 use Rattle.wac_binary.specs.Items.{Item, custom, alias_item, export_alias, export_item}
 use Rattle.wac_binary.specs.Indexes.{space, indexes}
 use Rattle.wac_binary.specs.Unfold.{bound_at}
-use Rattle.wac_binary.specs.Meaning.{Thing, stands_for, meaning}
+use Rattle.wac_binary.specs.Meaning.{Thing, import_at, projection, projected, stands_for, meaning}
 use Rattle.wac_binary.specs.HasMeaning.{HasMeaning, IsSomething}
 use Rattle.wac_edges.specs.declared.node.NodeId.{NodeId}
 use Rattle.wac_nodes.specs.declared.packages.PackageId.{PackageId}
@@ -28,13 +28,14 @@ use Rattle.wac_nodes.specs.Graph.{Graph, GraphNode, Kind, node_at}
 use Rattle.wac_nodes.specs.OuterImports.{AreOuterImports, IsImportPlace}
 use Rattle.wac_nodes.specs.Sound.{IsSound}
 use Rattle.wac_edges.specs.Order.{Writes, IsLowestReady}
-use Rattle.wac_meaning.specs.Definition.{definition_tree}
+use Rattle.wac_meaning.specs.Listing.{listing_of, IsDefined}
 use Rattle.wac_meaning.specs.Means.{node_is, is_import, is_instantiation, is_written, instantiations, IsThing, sort_of_kind, with_package, used_after, used_packages, package_bytes, HasItem, shown, first_export, export_of, export_item_of, AreNames, Means, further_exports, name_customs, processor_customs, custom_item}
 use Rattle.wac_meaning.specs.Beginning.{Places, Begins, Covers, IsPlacedNode}
 use Rattle.wac_meaning.specs.Encoding.{Progress, index_in, HasRoom}
-use Rattle.wac_meaning.specs.Writing.{WritesNode, writes_instantiation, writes_alias, writes_definition, Wrote, WroteAll}
+use Rattle.wac_meaning.specs.Writing.{WritesNode, writes_instantiation, writes_alias, IsDefinedBehind, writes_definition, Wrote, WroteAll}
 use Rattle.wac_edges.proofs.WrittenOrder.{has, minus, minus-push, minus-true, same, same-true, all_in, slice_get-middle}
 use Rattle.wac_meaning.proofs.ThingLemmas.{DefinesTypes, Stands, written_node, node_of_written, AreImported, all_things}
+use Rattle.wac_meaning.proofs.OuterOrder.{OneImportPlace}
 use Rattle.wac_meaning.proofs.CoverLemmas.{IsKnown}
 use Rattle.wac_meaning.proofs.MeantLemmas.{meant-push, something, IsAmong, IsFirstAmong, new_name}
 use Rattle.wac_meaning.proofs.FurtherLemmas.{further_there, further_new, further_no_first}
@@ -50,7 +51,18 @@ the_node : (o : Option GraphNode) → IsSome o → (node : GraphNode) × (o ≡ 
 the_node None h = cc
 the_node (Some node) h = (node, refl)
 
-module _ (laws : Laws) (g : Graph) (sound : IsSound g) (order : List NodeId) (at : NodeId → Thing) (is_thing : (n : NodeId) (node : GraphNode) → node_at g n ≡ Some node → IsThing g at order n node) (imported : List (Name × Tree)) (places : Places) where
+-- what a definition stands for behind items where the imports stand
+defined_behind : (g : Graph) (places : Places) (items : List Item) → ((p : ℕ) (t : Sort) (i : ℕ) → slice_get places p ≡ Some (t, i) → (i < indexes (space t) items) × (stands_for (meaning items) t i ≡ import_at p))
+    → (t : AnyType) (o : Option (Name × Name)) (x : Thing) → IsDefinedBehind g places items t o x → IsDefined g t o x
+defined_behind g places items stand t None x is = is
+defined_behind g places items stand t (Some (entry, name)) x (i, at, is) = (at.p, at.fell, is ∙ ap (λ y. projected y name) (stand at.p sort.Instance i at.placed).1)
+
+-- there is such a thing
+a_definition : (g : Graph) (places : Places) (items : List Item) (t : AnyType) (o : Option (Name × Name)) (x : Thing) → IsDefinedBehind g places items t o x → (y : Thing) × IsDefined g t o y
+a_definition g places items t None x is = (x, is)
+a_definition g places items t (Some (entry, name)) x (i, at, is) = (projection (import_at at.p) name, (at.p, at.fell, refl))
+
+module _ (laws : Laws) (g : Graph) (sound : IsSound g) (one_place : OneImportPlace g) (order : List NodeId) (at : NodeId → Thing) (is_thing : (n : NodeId) (node : GraphNode) → node_at g n ≡ Some node → IsThing g at order n node) (imported : List (Name × Tree)) (places : Places) where
   abbrev pub Done : List NodeId → List Item → List (PackageId × ℕ) → (NodeId → ℕ) → Type 0
   Done done items components index = Written laws g sound order at is_thing imported places done (used_packages g done) items components index
 
@@ -91,11 +103,11 @@ module _ (laws : Laws) (g : Graph) (sound : IsSound g) (order : List NodeId) (at
       let more = instance_more laws g sound order at is_thing imported places done later n node here ready writes there index index' i now others (with_package (used_packages g done) (Some id)) mid components' id c k arguments mid_written kind owned first stands typed given counts in
       subst (λ us. Written laws g sound order at is_thing imported places (done ++ n ∷ []) us items' components' index') (sym used)
       (subst (λ its. Written laws g sound order at is_thing imported places (done ++ n ∷ []) (with_package (used_packages g done) (Some id)) its components' index') (sym added) more)
-  adds_more done later n node here ready writes there index index' i now others components components' items items' (writes_definition t name k mid kind is_type first same wrote added counts) w =
+  adds_more done later n node here ready writes there index index' i now others components components' items items' (writes_definition t name k mid thing kind is_type first same thing_is wrote added counts) w =
       let test : node_is g (λ x. is_instantiation x.kind) n ≡ false = ap (λ o. option_case o false (λ x. is_instantiation x.kind)) there ∙ ap is_instantiation kind in
       let x : Item = export_item name sort.«Type» k in
-      let (typed, stands) = with_type laws g sound order at is_thing imported places done (used_packages g done) items mid components index (definition_tree g.types t) k w wrote in
-      let more = definition_more laws g sound order at is_thing imported places done later n node here ready writes there index index' i now others (used_packages g done) mid components t name k typed kind is_type first stands counts in
+      let (typed, stands) = with_type laws g sound order at is_thing imported places done (used_packages g done) items mid components index thing k w wrote in
+      let more = definition_more laws g sound order at is_thing imported places done later n node here ready writes there index index' i now others one_place (used_packages g done) mid components t name k thing typed kind is_type first (defined_behind g places items w.asked_for t (listing_of g t) thing thing_is) stands counts in
       subst (λ us. Written laws g sound order at is_thing imported places (done ++ n ∷ []) us items' components' index') (sym (used_push done n false test))
       (subst (λ cs. Written laws g sound order at is_thing imported places (done ++ n ∷ []) (used_packages g done) items' cs index') (sym same)
       (subst (λ its. Written laws g sound order at is_thing imported places (done ++ n ∷ []) (used_packages g done) its components index') (sym added) more))
@@ -354,18 +366,18 @@ defines_types g places order p q writes wrote n node there kind =
     let (before, after, one) = wrote_one g places order p q wrote n (all_in g.edges (is_written g) order [] writes n (written_node g n node there (ap is_import kind))) in
     let (i, adds, _) = subst (λ o. IfSome o (λ x. (i : ℕ) × WritesNode g places n x (index_in before.indexes) before.components after.components before.items after.items i × (after.indexes ≡ slice_set before.indexes n.0 i))) there one in
     of (index_in before.indexes) before.components after.components before.items after.items i adds where
-      of : (index : NodeId → ℕ) (components components' : List (PackageId × ℕ)) (items items' : List Item) (i : ℕ) → WritesNode g places n node index components components' items items' i → (t : AnyType) × (node.item_kind ≡ TypeItem t)
+      of : (index : NodeId → ℕ) (components components' : List (PackageId × ℕ)) (items items' : List Item) (i : ℕ) → WritesNode g places n node index components components' items items' i → (t : AnyType) × (node.item_kind ≡ TypeItem t) × (x : Thing) × IsDefined g t (listing_of g t) x
       of index components components' items items' i (writes_instantiation id c mid arguments other _ _ _ _ _) = absurd (two_kinds kind other) where
         two_kinds : {k : Kind} → k ≡ graph.definition → k ≡ graph.instantiation → ⊥
         two_kinds a b = cc
       of index components components' items items' i (writes_alias instance source k name other _ _ _ _ _ _) = absurd (two_kinds kind other) where
         two_kinds : {k : Kind} → k ≡ graph.definition → k ≡ graph.alias → ⊥
         two_kinds a b = cc
-      of index components components' items items' i (writes_definition t name k mid _ is_type _ _ _ _ _) = (t, is_type)
+      of index components components' items items' i (writes_definition t name k mid thing _ is_type _ _ thing_is _ _ _) = let y = a_definition g places items t (listing_of g t) thing thing_is in (t, is_type, y.0, y.1)
 
 -- Where items begin a component with what the graph asks for, then its nodes are written in order, its exports behind them, then the names, and the processor
 -- last, they mean the graph.
-pub means_all : Laws → (g : Graph) → IsSound g → (order : List NodeId) → Writes g.edges (is_written g) order
+pub means_all : Laws → (g : Graph) → IsSound g → OneImportPlace g → (order : List NodeId) → Writes g.edges (is_written g) order
     → (o : EncodeOptions) → o.define_components ≡ true → (imported : List (Name × Tree)) (places : Places) → AreOuterImports g imported
     → (begin : List Item) (indexes : List ℕ) → Begins imported places begin
     → ((n : NodeId) (node : GraphNode) (name : Name) → node_at g n ≡ Some node → node.kind ≡ graph.import name → (p : ℕ) × IsImportPlace g name p × IsPlacedNode g imported places (index_in indexes) n node p)
@@ -373,7 +385,7 @@ pub means_all : Laws → (g : Graph) → IsSound g → (order : List NodeId) →
     → (names : List (Sort × ℕ × Name)) → AreNames g (index_in q.indexes) names
     → (items with_names written : List Item) → items ≡ q.items ++ flat_map (export_item_of g (index_in q.indexes)) (further_exports g)
     → with_names ≡ items ++ map custom_item (name_customs names) → written ≡ with_names ++ map custom_item (processor_customs o.processor) → Means written g o
-means_all laws g sound order writes o define imported places outer begin indexes begins placed room p q start wrote names named items with_names written end next last =
+means_all laws g sound one_place order writes o define imported places outer begin indexes begins placed room p q start wrote names named items with_names written end next last =
     let (at, imports, is_thing) = all_things g sound (defines_types g places order p q writes wrote) (IsPlacedNode g imported places (index_in indexes)) order placed writes in
     let exported : List Item = q.items ++ flat_map (export_item_of g (index_in q.indexes)) (further_exports g) in
     let whole : written ≡ exported ++ map custom_item (name_customs names ++ processor_customs o.processor) =
@@ -381,4 +393,4 @@ means_all laws g sound order writes o define imported places outer begin indexes
     ∙ append_assoc exported (map custom_item (name_customs names)) (map custom_item (processor_customs o.processor))
     ∙ ap (λ its. exported ++ its) (sym (map-append custom_item (name_customs names) (processor_customs o.processor))) in
     subst (λ its. Means its g o) (sym whole)
-    (all_written laws g sound order at is_thing imported places o define outer writes begin indexes begins imports room q (subst (λ x. WroteAll g places order x q) start wrote) names named)
+    (all_written laws g sound one_place order at is_thing imported places o define outer writes begin indexes begins imports room q (subst (λ x. WroteAll g places order x q) start wrote) names named)

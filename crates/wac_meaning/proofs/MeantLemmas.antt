@@ -14,6 +14,8 @@ use Rattle.wac_binary.specs.Meaning.{Thing, Root, Export, start, stands_for, rea
 use Rattle.wac_binary.specs.HasMeaning.{ItemHasMeaning, AllHaveMeaning, HasMeaning, IsSomething, HasExport, IsNew}
 use Rattle.wac_edges.specs.declared.node.NodeId.{NodeId}
 use Rattle.wac_nodes.specs.Graph.{Graph, GraphNode, node_at}
+use Rattle.wac_shapes.specs.declared.component.«Type».{«Type» as AnyType}
+use Rattle.wac_meaning.specs.Listing.{listing_of, IsDefined}
 use Rattle.wac_meaning.specs.Means.{IsThing, as_import, as_instantiation, as_alias, sort_of_kind, shown, first_export, export_of, as_definition}
 use Rattle.wac_edges.proofs.WrittenOrder.{has, same, same_itself}
 
@@ -30,11 +32,16 @@ pub alias_meant : (items : List Item) (t : Sort) (i : ℕ) (n : Name) → IsSome
     → ItemHasMeaning (meaning items) (alias_item (export_alias t i n))
 alias_meant items t i n there has = (there, has)
 
+-- what a definition is is something
+pub defined_something : (g : Graph) (t : AnyType) (o : Option (Name × Name)) (x : Thing) → IsDefined g t o x → IsSomething x
+defined_something g t None x is = subst IsSomething (sym is) tt
+defined_something g t (Some (entry, name)) x (p, place, is) = subst IsSomething (sym is) tt
+
 -- what a node stands for is something
 pub something : (g : Graph) (at : NodeId → Thing) (order : List NodeId) (n : NodeId) (node : GraphNode) → IsThing g at order n node → IsSomething (at n)
 something g at order n node (as_import name p kind place is) = subst IsSomething (sym is) tt
 something g at order n node (as_instantiation k kind place is) = subst IsSomething (sym is) tt
-something g at order n node (as_definition t kind item is) = subst IsSomething (sym is) tt
+something g at order n node (as_definition t kind item is) = defined_something g t (listing_of g t) (at n) is
 something g at order n node (as_alias instance source i name kind aliased there exported is) = subst IsSomething (sym is) tt
 
 -- a name that is not among those of these exports is new

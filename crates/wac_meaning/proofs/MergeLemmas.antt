@@ -27,6 +27,7 @@ use Rattle.wac_meaning.specs.Beginning.{Places, IsPlacedAt, Begins, IsPlacedNode
 use Rattle.wac_meaning.specs.MergedImports.{merged_item, imports_from, merged_imports, IsMergeOf, IsFoundAt}
 use Rattle.wac_meaning.specs.Encoding.{Progress, index_in, HasRoom}
 use Rattle.wac_meaning.specs.Writing.{WroteAll}
+use Rattle.wac_meaning.proofs.OuterOrder.{EachOnce, one_place}
 use Rattle.wac_meaning.proofs.AskedMembers.{IsIn, in_filter, import_asked}
 use Rattle.wac_meaning.proofs.EncodeLemmas.{means_all}
 use Rattle.wac_meaning.proofs.MeaningLemmas.{Laws}
@@ -185,6 +186,12 @@ all_of_filter test P es e all within passes = let (i, at) = in_filter test es e 
   each (x ∷ xs) zero all at = let same : x ≡ e = cc in subst P same all.0
   each (x ∷ xs) (suc i) all at = each xs i all.1 at
 
+-- the import of what is asked for is a subtype of it
+pub found_subtype : ClassLaws → OrderHasClasses → (g : Graph) (m : Merged) → IsMergeOf g m → (x : Entry) → IsIn (outer_entries g) x → (p : ℕ) (e : Entry) → slice_get m.imports p ≡ Some e → e.name ≡ canonical by_names (outer_entries g) x.name → IsSubtype m.types e.kind g.types x.kind
+found_subtype laws has_classes g m whole x within p e at named =
+    let (k, class, placed, of_class, same) = place_of_name g m whole.merge laws has_classes p e at x.name named in
+    all_of_filter (λ y. same_class by_names (outer_entries g) class y.name) (λ member. IsSubtype m.types e.kind g.types member.kind) (outer_entries g) x (whole.merge.subtypes p k class e placed of_class at) within same
+
 placed_node : ClassLaws → OrderHasClasses → (g : Graph) → IsSound g → (m : Merged) → IsMergeOf g m → (places : Places) (index : NodeId → ℕ) (n : NodeId) (node : GraphNode) (name : Name)
     → node_at g n ≡ Some node → node.kind ≡ graph.import name → IsFoundAt g m places name (sort_of_kind node.item_kind) (index n) → (p : ℕ) × IsImportPlace g name p × IsPlacedNode g (merged_imports m) places index n node p
 placed_node laws has_classes g sound m whole places index n node name there kind found =
@@ -210,13 +217,13 @@ pub placed_argument : ClassLaws → OrderHasClasses → (g : Graph) (m : Merged)
 placed_argument laws has_classes g m merge places name t i found = record { p = found.p; fell = import_place g m merge laws has_classes found.p found.entry found.there name found.named; placed = found.placed }
 
 -- Where items begin a component with the imports of a merge of all that is asked for, and its nodes, exports, names and processor are written behind them, they mean the graph.
-pub means_merged : Laws → ClassLaws → OrderHasClasses → (g : Graph) → IsSound g → (m : Merged) → IsMergeOf g m → (order : List NodeId) → Writes g.edges (is_written g) order
+pub means_merged : Laws → ClassLaws → OrderHasClasses → (g : Graph) → EachOnce g → IsSound g → (m : Merged) → IsMergeOf g m → (order : List NodeId) → Writes g.edges (is_written g) order
     → (o : EncodeOptions) → o.define_components ≡ true → (places : Places) (begin : List Item) (indexes : List ℕ) → Begins (merged_imports m) places begin
     → ((n : NodeId) (node : GraphNode) (name : Name) → node_at g n ≡ Some node → node.kind ≡ graph.import name → IsFoundAt g m places name (sort_of_kind node.item_kind) (index_in indexes n))
     → HasRoom g indexes → (p q : Progress) → p ≡ record { items = begin; components = []; indexes = indexes } → WroteAll g places order p q
     → (names : List (Sort × ℕ × Name)) → AreNames g (index_in q.indexes) names
     → (items with_names written : List Item) → items ≡ q.items ++ flat_map (export_item_of g (index_in q.indexes)) (further_exports g)
     → with_names ≡ items ++ map custom_item (name_customs names) → written ≡ with_names ++ map custom_item (processor_customs o.processor) → Means written g o
-means_merged laws class_laws has_classes g sound m whole order writes o define places begin indexes begins found =
-    means_all laws g sound order writes o define (merged_imports m) places (outer_of_merge g m whole.merge) begin indexes begins
+means_merged laws class_laws has_classes g once sound m whole order writes o define places begin indexes begins found =
+    means_all laws g sound (one_place class_laws g once) order writes o define (merged_imports m) places (outer_of_merge g m whole.merge) begin indexes begins
     (λ n node name there kind. placed_node class_laws has_classes g sound m whole places (index_in indexes) n node name there kind (found n node name there kind))

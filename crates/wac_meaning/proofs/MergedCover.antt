@@ -9,6 +9,7 @@ use Rattle.wac_shapes.specs.declared.component.Interface.{Interface}
 use Rattle.wac_shapes.specs.declared.component.InterfaceId.{InterfaceId}
 use Rattle.wac_shapes.specs.declared.component.ItemKind.{ItemKind}
 use Rattle.wac_shapes.specs.declared.component.ItemKind.TheVariants as kind
+use Rattle.wac_shapes.specs.declared.component.ValueType.{ValueType}
 use Rattle.wac_shapes.specs.declared.component.«Type».{«Type» as AnyType}
 use Rattle.wac_shapes.specs.declared.component.«Type».TheVariants as ty
 use Rattle.wac_primitives.specs.Tree.{Side, exported, Place, TypeTree, Tree, absent, instance, fresh, type_equal, function_item, instance_item, component_item, module_item, value_item, items_in}
@@ -98,6 +99,17 @@ module _ (c : Collection) (wf : IsWellFormed c) (once : ExportsOnce c) where
       ap (λ t. items_in t name) tree ∙ listed_at (λ e. item_tree (unfolded (by_place c) c inner) ((by_place c).is_fresh inner exported e) e.1) h.item.exports p name l (once i h.item (ap item_of is)) listed in
       subst (λ t. IsOfSort (sort_of_kind j) (item_inside t rest)) (sym here) (has_inside l rest j more inner flag (held_export c wf i h is p name l listed))
 
+  -- a value type that an interface exports is exported as it is held inside
+  pub value_exported : (m : Bindings) (i : InterfaceId) (p : ℕ) (name : Name) (v : ValueType) → slice_get (interface_exports c i) p ≡ Some (name, kind.TypeItem (ty.Value v)) → holds_type c (ty.Interface i) ≡ true
+      → (inner : Bindings) × (items_in (held_tree c m (ty.Interface i)) name ≡ type_equal (held_tree c inner (ty.Value v)))
+  unfolding held_tree
+  value_exported m i p name v at held =
+      let (h, is, listed) = the_interface c i p (name, kind.TypeItem (ty.Value v)) at in
+      let inner : Bindings = (by_place c).in_instance h.item m in
+      let tree : unfolded (by_place c) c m (ty.Interface i) ≡ interface_tree (by_place c) c (unfolded (by_place c) c) m h.item =
+      unfolded_step (by_place c) c wf m (ty.Interface i) held ∙ ap (of_held (interface_tree (by_place c) c (unfolded (by_place c) c) m)) is in
+      (inner, ap (λ t. items_in t name) tree ∙ listed_at (λ e. item_tree (unfolded (by_place c) c inner) ((by_place c).is_fresh inner exported e) e.1) h.item.exports p name (kind.TypeItem (ty.Value v)) (once i h.item (ap item_of is)) listed)
+
   pub held_covers : (m : Bindings) (side : Side) (path : List Place) (k : ItemKind) → holds_type c (kind_type k) ≡ true → Covers c k (placed_item c m side path k)
   unfolding held_tree
   held_covers m side path k held names j has = has_inside k names j has m (binds_here c m side path k) held
@@ -142,6 +154,10 @@ of_instance_items : {L : Type 0} (a b : TypeTree L) → Sub (instance_item a) (i
 of_instance_items a b (Sub.same _ p) = absurd p
 of_instance_items a b (Sub.instance_items _ _ s) = s
 
+of_type_items : {L : Type 0} (a b : TypeTree L) → Sub (type_equal a) (type_equal b) → Sub a b
+of_type_items a b (Sub.same _ p) = absurd p
+of_type_items a b (Sub.type_items _ _ s t) = s
+
 top_sort : (c : Collection) (k : ItemKind) → sort_of_top (top (kind_tree c k)) ≡ sort_of_kind k
 top_sort c (kind.TypeItem t) = refl
 top_sort c (kind.Func f) = refl
@@ -185,6 +201,45 @@ module _ (m c : Collection) (wm : IsWellFormed m) (wc : IsWellFormed c) (once : 
   -- an item of the first kind has, under these names, one of the sort of the second kind
   abbrev Offers : ItemKind → List Name → ItemKind → Type 0
   Offers k names j = (l : ItemKind) × HasInside m k names l × (sort_of_kind l ≡ sort_of_kind j)
+
+  -- each export of an instance of the second collection is one of the first, of a subtype
+  pub exports_sub : (i' i : InterfaceId) (p : ℕ) (name : Name) (l : ItemKind) → slice_get (interface_exports c i) p ≡ Some (name, l)
+      → holds_type m (ty.Interface i') ≡ true → holds_type c (ty.Interface i) ≡ true → IsSubtype m (kind.Instance i') c (kind.Instance i)
+      → (q : ℕ) × (l' : ItemKind) × (slice_get (interface_exports m i') q ≡ Some (name, l')) × (holds_type m (kind_type l') ≡ true) × (holds_type c (kind_type l) ≡ true) × IsSubtype m l' c l
+  exports_sub i' i p name l at held held_c sub =
+      let (h, is, listed) = the_interface c i p (name, l) at in
+      let (h', is') = the_held m.interfaces i'.0 held in
+      let xs : Name → TypeTree Name = exports_tree m h'.item.exports in
+      let ys : Name → TypeTree Name = exports_tree c h.item.exports in
+      let s : Sub (instance xs) (instance ys) = subst (λ t. Sub t (instance ys)) (instance_tree m wm i' h' is' held)
+      (subst (λ t. Sub (type_tree m (ty.Interface i')) t) (instance_tree c wc i h is held_c) (of_instance_items (type_tree m (ty.Interface i')) (type_tree c (ty.Interface i)) sub)) in
+      let y : ys name ≡ kind_tree c l = exported_at c h.item.exports p name l (once i h.item (ap item_of is)) listed in
+      let sub_l : Sub (xs name) (kind_tree c l) = subst (λ t. Sub (xs name) t) y (of_instances xs ys s name (λ none. there c l (ap top (sym y ∙ none)))) in
+      split h' is' sub_l (held_export c wc i h is p name l listed) (exported_from m h'.item.exports name) where
+        split : (h' : Held Interface) → slice_get m.interfaces i'.0 ≡ Some h' → Sub (exports_tree m h'.item.exports name) (kind_tree c l) → holds_type c (kind_type l) ≡ true
+            → (exports_tree m h'.item.exports name ≡ absent) ⊎ ((p : ℕ) × (k : ItemKind) × (slice_get h'.item.exports p ≡ Some (name, k)) × (exports_tree m h'.item.exports name ≡ kind_tree m k))
+            → (q : ℕ) × (l' : ItemKind) × (slice_get (interface_exports m i') q ≡ Some (name, l')) × (holds_type m (kind_type l') ≡ true) × (holds_type c (kind_type l) ≡ true) × IsSubtype m l' c l
+        split h' is' sub_l held_l (inl none) = absurd (there c l (sym (same_top absent (kind_tree c l) (subst (λ t. Sub t (kind_tree c l)) none sub_l))))
+        split h' is' sub_l held_l (inr (q, l', at', same)) =
+            (q, l', ap (λ o. slice_get (option_case (item_of o) [] (λ x. x.exports)) q) is' ∙ at', held_export m wm i' h' is' q name l' at', held_l, subst (λ t. Sub t (kind_tree c l)) same sub_l)
+
+  -- what is a subtype of an instance is one
+  pub instance_sub : (k : ItemKind) (i : InterfaceId) → IsSubtype m k c (kind.Instance i) → (i' : InterfaceId) × (k ≡ kind.Instance i')
+  instance_sub (kind.Instance i') i sub = (i', refl)
+  instance_sub (kind.TypeItem t) i sub = absurd (omega (arith, same_top (kind_tree m (kind.TypeItem t)) (kind_tree c (kind.Instance i)) sub))
+  instance_sub (kind.Func f) i sub = absurd (omega (arith, same_top (kind_tree m (kind.Func f)) (kind_tree c (kind.Instance i)) sub))
+  instance_sub (kind.Component w) i sub = absurd (omega (arith, same_top (kind_tree m (kind.Component w)) (kind_tree c (kind.Instance i)) sub))
+  instance_sub (kind.Module x) i sub = absurd (omega (arith, same_top (kind_tree m (kind.Module x)) (kind_tree c (kind.Instance i)) sub))
+  instance_sub (kind.Value v) i sub = absurd (omega (arith, same_top (kind_tree m (kind.Value v)) (kind_tree c (kind.Instance i)) sub))
+
+  -- and of a type item, one of a type that is a subtype
+  pub type_item_sub : (k : ItemKind) (a : AnyType) → IsSubtype m k c (kind.TypeItem a) → (b : AnyType) × (k ≡ kind.TypeItem b) × Sub (type_tree m b) (type_tree c a)
+  type_item_sub (kind.TypeItem b) a sub = (b, refl, of_type_items (type_tree m b) (type_tree c a) sub)
+  type_item_sub (kind.Instance i) a sub = absurd (omega (arith, same_top (kind_tree m (kind.Instance i)) (kind_tree c (kind.TypeItem a)) sub))
+  type_item_sub (kind.Func f) a sub = absurd (omega (arith, same_top (kind_tree m (kind.Func f)) (kind_tree c (kind.TypeItem a)) sub))
+  type_item_sub (kind.Component w) a sub = absurd (omega (arith, same_top (kind_tree m (kind.Component w)) (kind_tree c (kind.TypeItem a)) sub))
+  type_item_sub (kind.Module x) a sub = absurd (omega (arith, same_top (kind_tree m (kind.Module x)) (kind_tree c (kind.TypeItem a)) sub))
+  type_item_sub (kind.Value v) a sub = absurd (omega (arith, same_top (kind_tree m (kind.Value v)) (kind_tree c (kind.TypeItem a)) sub))
 
   offers_export : (k : ItemKind) (i : InterfaceId) (p : ℕ) (name : Name) (l j : ItemKind) (rest : List Name) → slice_get (interface_exports c i) p ≡ Some (name, l)
       → ((l' : ItemKind) → holds_type m (kind_type l') ≡ true → holds_type c (kind_type l) ≡ true → IsSubtype m l' c l → Offers l' rest j)

@@ -8,7 +8,7 @@ use Rattle.std.proofs.lemmas.List.Elements.{filter-append}
 use Rattle.wac_primitives.specs.Name.{Name, option_case}
 use Rattle.wac_shapes.specs.declared.component.ItemKind.TheVariants.{TypeItem}
 use Rattle.wac_shapes.specs.declared.component.«Type».{«Type» as AnyType}
-use Rattle.wac_binary.specs.Meaning.{Thing, nothing, import_at, instance_at, projection, written}
+use Rattle.wac_binary.specs.Meaning.{Thing, nothing, import_at, instance_at, projection}
 use Rattle.wac_edges.specs.declared.edges.Edge.{Edge}
 use Rattle.wac_edges.specs.declared.node.NodeId.{NodeId}
 use Rattle.wac_edges.specs.Edge.{alias_edge}
@@ -17,7 +17,7 @@ use Rattle.wac_nodes.specs.Graph.{Graph, GraphNode, Kind, node_at}
 use Rattle.wac_nodes.specs.OuterImports.{IsImportPlace}
 use Rattle.wac_nodes.specs.Sound.{IsSound}
 use Rattle.wac_edges.specs.Order.{Writes, IsLowestReady}
-use Rattle.wac_meaning.specs.Definition.{definition_tree}
+use Rattle.wac_meaning.specs.Listing.{listing_of, IsDefined}
 use Rattle.wac_meaning.specs.Means.{node_is, is_import, is_instantiation, is_written, instantiations, IsThing, as_import, as_instantiation, as_alias, as_definition}
 use Rattle.wac_edges.proofs.WrittenOrder.{has, minus, minus-push, minus-false, minus-true, same, same-true, same_itself, apart, in_push, still_in, all_in, slice_get-middle}
 
@@ -29,9 +29,9 @@ the_node : (o : Option GraphNode) → IsSome o → (node : GraphNode) × (o ≡ 
 the_node None h = cc
 the_node (Some node) h = (node, refl)
 
--- what a definition stands for is a type
+-- what a definition stands for is a type, or what lists it
 abbrev pub DefinesTypes : Graph → Type 0
-DefinesTypes g = (n : NodeId) (node : GraphNode) → node_at g n ≡ Some node → node.kind ≡ graph.definition → (t : AnyType) × (node.item_kind ≡ TypeItem t)
+DefinesTypes g = (n : NodeId) (node : GraphNode) → node_at g n ≡ Some node → node.kind ≡ graph.definition → (t : AnyType) × (node.item_kind ≡ TypeItem t) × (x : Thing) × IsDefined g t (listing_of g t) x
 
 -- a node stands for something already: it is an import, or it is written
 abbrev pub Stands : List NodeId → NodeId → GraphNode → Type 0
@@ -147,7 +147,7 @@ module _ (g : Graph) (sound : IsSound g) (types : DefinesTypes g) (P : NodeId �
   kept : (done : List NodeId) (at : NodeId → Thing) (n : NodeId) (t : Thing) → Good done at → minus (is_written g) done n ≡ true → (m : NodeId) (node : GraphNode) → has done m ≡ true → IsThing g at order m node → IsThing g (put_at at n t) order m node
   kept done at n t good left m node here (as_import name p k place is) = as_import name p k place (put_other at n t m (apart done m n here (minus-true (is_written g) done n left).1) ∙ is)
   kept done at n t good left m node here (as_instantiation j k place is) = as_instantiation j k place (put_other at n t m (apart done m n here (minus-true (is_written g) done n left).1) ∙ is)
-  kept done at n t good left m node here (as_definition d k item is) = as_definition d k item (put_other at n t m (apart done m n here (minus-true (is_written g) done n left).1) ∙ is)
+  kept done at n t good left m node here (as_definition d k item is) = as_definition d k item (subst (IsDefined g d (listing_of g d)) (sym (put_other at n t m (apart done m n here (minus-true (is_written g) done n left).1))) is)
   kept done at n t good left m node here (as_alias instance source i name k aliased there exported is) =
       let before : Stands done instance source = good.closed (alias_edge instance m i) aliased here source there in
       as_alias instance source i name k aliased there exported
@@ -169,9 +169,8 @@ module _ (g : Graph) (sound : IsSound g) (types : DefinesTypes g) (P : NodeId �
     split : (k : Kind) → node.kind ≡ k → (t : Thing) × IsThing g (put_at at n t) order n node
     split (graph.import name) is = absurd (clash (is_import node.kind) (ap is_import is) no_import)
     split graph.definition is =
-        let (d, is_type) = types n node there is in
-        let t : Thing = written (definition_tree g.types d) in
-        (t, as_definition d is is_type (put_here at n t))
+        let (d, is_type, t, defined) = types n node there is in
+        (t, as_definition d is is_type (subst (IsDefined g d (listing_of g d)) (sym (put_here at n t)) defined))
     split graph.instantiation is =
         let t : Thing = instance_at (length (instantiations g done)) in
         (t, as_instantiation (length (instantiations g done)) is (place_of done rest n node e there is) (put_here at n t))

@@ -19,7 +19,7 @@ use Rattle.wac_binary.specs.declared.sorts.Sort.{Sort}
 use Rattle.wac_binary.specs.declared.sorts.Sort.TheVariants as sort
 use Rattle.wac_binary.specs.Items.{Item, nested, instantiate, alias_item, export_alias, export_item}
 use Rattle.wac_binary.specs.Indexes.{space, indexes, is_in, adds, sort_added}
-use Rattle.wac_binary.specs.Meaning.{Thing, import_at, instance_at, component_at, projection, projected, written, Instantiation, start, stands_for, meaning}
+use Rattle.wac_binary.specs.Meaning.{Thing, nothing, import_at, instance_at, component_at, projection, projected, Instantiation, start, stands_for, meaning}
 use Rattle.wac_binary.specs.Unfold.{Bound, bound_at}
 use Rattle.wac_binary.specs.HasMeaning.{ItemHasMeaning, AllHaveMeaning, HasMeaning, IsSomething, HasExport}
 use Rattle.wac_edges.specs.declared.edges.Edge.{Edge}
@@ -31,14 +31,15 @@ use Rattle.wac_nodes.specs.Graph.{Graph, GraphNode, Kind, node_at, export_at, im
 use Rattle.wac_nodes.specs.Sound.{IsSound}
 use Rattle.wac_edges.specs.Order.{Writes, IsLowestReady}
 use Rattle.wac_meaning.specs.Means.{node_is, is_import, is_instantiation, is_written, instantiations, IsThing, as_import, as_instantiation, as_alias, sort_of_kind, same_package, with_package, used_after, used_packages, package_bytes, IsArgument, given, AreArguments, HasItem, is_first, is_own_item, as_definition, asked, shown, first_export}
-use Rattle.wac_meaning.specs.Definition.{definition_tree}
+use Rattle.wac_meaning.specs.Listing.{listing_of, IsDefined}
 use Rattle.wac_meaning.specs.Beginning.{Places}
 use Rattle.wac_meaning.specs.Encoding.{HasComponent}
 use Rattle.wac_meaning.specs.Writing.{IsArgumentItem, of_node, of_import, AreArgumentItems, WritesType}
 use Rattle.wac_edges.proofs.WrittenOrder.{has, minus, minus-true, same, same_itself, eqb_same, apart, in_list, in_push, now_in, slice_get-middle, written_left, only_place, has-filter}
 use Rattle.wac_meaning.proofs.ThingLemmas.{Stands, node_of_written, stands_apart, stood, ready_sources}
+use Rattle.wac_meaning.proofs.OuterOrder.{OneImportPlace, defined_once}
 use Rattle.wac_meaning.proofs.CoverLemmas.{IsKnown, known_export, known_alias}
-use Rattle.wac_meaning.proofs.MeantLemmas.{meant-push, alias_meant, something, IsAmong, IsFirstAmong, new_name}
+use Rattle.wac_meaning.proofs.MeantLemmas.{meant-push, alias_meant, defined_something, something, IsAmong, IsFirstAmong, new_name}
 use Rattle.wac_meaning.proofs.QuietLemmas.{IsQuiet, quiet_rest, quiet_types, all_behind}
 use Rattle.wac_meaning.proofs.MeaningLemmas.{Laws, meaning-push, alias_stands, alias_bound, instance_bound, alias_rest, nested_bytes_more, nested_stands, instantiations_more, instance_stands, export_shown, type_export_stands, export_others, made_of, indexes-push}
 use Rattle.wac_meaning.proofs.DefinedLemmas.{IsMadeOf, AreMade}
@@ -117,6 +118,10 @@ HasItem-within items node index k h = omega (arith, ap length h.split, length-ap
 
 first_of : {A B : Type 0} (o : Option (A × B)) (a b : A) (x y : B) → o ≡ Some (a, x) → o ≡ Some (b, y) → a ≡ b
 first_of {A} {B} o a b x y p q = ap (λ (z : Option (A × B)). option_case z a (λ (e : A × B). e.0)) (sym p ∙ q)
+
+projected_some : (x : Thing) (name : Name) → IsSomething x → projected x name ≡ projection x name
+projected_some nothing name h = absurd h
+projected_some x name h = refl
 
 -- an item that adds an index of a sort
 pub counted_up : (t : Sort) (items : List Item) (x : Item) → adds x ≡ Some (space t) → indexes (space t) items < indexes (space t) (items ++ x ∷ [])
@@ -231,10 +236,10 @@ module _ (laws : Laws) (g : Graph) (sound : IsSound g) (order : List NodeId) (at
       subst (λ its. Written done used its components index) (append_assoc items (x ∷ []) more)
       (quiet_all done used more (items ++ x ∷ []) components index quiet.1 (subst (λ r. AllHaveMeaning r more) (sym (meaning-push items x)) meant.1) (quiet_more done used items components index w x quiet.0 meant.0))
 
-  -- types alone more, of which one stands for this tree
-  pub with_type : (done : List NodeId) (used : List PackageId) (items mid : List Item) (components : List (PackageId × ℕ)) (index : NodeId → ℕ) (tree : Tree) (k : ℕ)
-      → Written done used items components index → WritesType tree items mid k → Written done used mid components index × (stands_for (meaning mid) sort.«Type» k ≡ written tree)
-  with_type done used items mid components index tree k w t =
+  -- types alone more, of which one stands for this
+  pub with_type : (done : List NodeId) (used : List PackageId) (items mid : List Item) (components : List (PackageId × ℕ)) (index : NodeId → ℕ) (thing : Thing) (k : ℕ)
+      → Written done used items components index → WritesType thing items mid k → Written done used mid components index × (stands_for (meaning mid) sort.«Type» k ≡ thing)
+  with_type done used items mid components index thing k w t =
       let (meant, stands) = t.meant w.meant in
       let behind : AllHaveMeaning (meaning items) t.types = all_behind start items t.types (subst HasMeaning t.added meant) in
       (subst (λ its. Written done used its components index) (sym t.added) (quiet_all done used t.types items components index (quiet_types t.types t.alone) behind w), stands)
@@ -272,7 +277,7 @@ module _ (laws : Laws) (g : Graph) (sound : IsSound g) (order : List NodeId) (at
   projected_thing : (m : NodeId) (node : GraphNode) (name : Name) → IsThing g at order m node → projected (at m) name ≡ projection (at m) name
   projected_thing m node name (as_import n p k place is) = rw is refl
   projected_thing m node name (as_instantiation j k place is) = rw is refl
-  projected_thing m node name (as_definition t k item is) = rw is refl
+  projected_thing m node name (as_definition t k item is) = projected_some (at m) name (defined_something g t (listing_of g t) (at m) is)
   projected_thing m node name (as_alias instance source i n k aliased there exported is) = rw is refl
 
   -- the next node, with the index at which it stands
@@ -602,11 +607,11 @@ module _ (laws : Laws) (g : Graph) (sound : IsSound g) (order : List NodeId) (at
           )
 
     -- a definition is exported by its first name
-    pub definition_more : (used : List PackageId) (items : List Item) (components : List (PackageId × ℕ)) (t : AnyType) (name : Name) (k : ℕ) → Written done used items components index
-        → node.kind ≡ graph.definition → node.item_kind ≡ item.TypeItem t → node.first_name ≡ Some name → stands_for (meaning items) sort.«Type» k ≡ written (definition_tree g.types t)
+    pub definition_more : OneImportPlace g → (used : List PackageId) (items : List Item) (components : List (PackageId × ℕ)) (t : AnyType) (name : Name) (k : ℕ) (thing : Thing) → Written done used items components index
+        → node.kind ≡ graph.definition → node.item_kind ≡ item.TypeItem t → node.first_name ≡ Some name → IsDefined g t (listing_of g t) thing → stands_for (meaning items) sort.«Type» k ≡ thing
         → i ≡ indexes (space sort.«Type») items
         → Written (done ++ n ∷ []) used (items ++ export_item name sort.«Type» k ∷ []) components index'
-    definition_more used items components t name k w kind is_type first stands counts =
+    definition_more one_place used items components t name k thing w kind is_type first defined stands counts =
         let x : Item = export_item name sort.«Type» k in
         let more = export_others items sort.«Type» k name in
         let typed : sort_of_kind node.item_kind ≡ sort.«Type» = ap sort_of_kind is_type in
@@ -615,11 +620,11 @@ module _ (laws : Laws) (g : Graph) (sound : IsSound g) (order : List NodeId) (at
         let exported : map shown (meaning (items ++ x ∷ [])).exports ≡ flat_map (first_export g at) done ++ (name, sort_of_kind node.item_kind, at n) ∷ [] =
         export_shown items sort.«Type» k name
         ∙ ap (λ es. es ++ (name, sort.«Type», stands_for (meaning items) sort.«Type» k) ∷ []) w.exports
-        ∙ ap (λ z. flat_map (first_export g at) done ++ (name, sort.«Type», z) ∷ []) (stands ∙ sym (is_type_written (is_thing n node there)))
+        ∙ ap (λ z. flat_map (first_export g at) done ++ (name, sort.«Type», z) ∷ []) (stands ∙ sym (is_type_defined (is_thing n node there)))
         ∙ ap (λ z. flat_map (first_export g at) done ++ (name, z, at n) ∷ []) (sym typed) in
         record {
           nodes = λ m within. nodes_more used items components w m (in_push done n m within);
-          meant = meant-push items x w.meant (new_name g at items done [] name (w.exports ∙ sym (append-nil (flat_map (first_export g at) done))) not_first no_others, subst IsSomething (sym stands) tt);
+          meant = meant-push items x w.meant (new_name g at items done [] name (w.exports ∙ sym (append-nil (flat_map (first_export g at) done))) not_first no_others, subst IsSomething (sym stands) (defined_something g t (listing_of g t) thing defined));
           imports = more.0 ∙ w.imports;
           customs = more.3 ∙ w.customs;
           exports = exported ∙ sym (first-push (Some name) first);
@@ -650,17 +655,17 @@ module _ (laws : Laws) (g : Graph) (sound : IsSound g) (order : List NodeId) (at
                 one_node : (o : Option NodeId) → o ≡ Some m → o ≡ Some n → m ≡ n
                 one_node o a b = cc
 
-          is_type_written : IsThing g at order n node → at n ≡ written (definition_tree g.types t)
-          is_type_written (as_import other p other_kind at_p is) = absurd (no_import kind other_kind) where
+          is_type_defined : IsThing g at order n node → at n ≡ thing
+          is_type_defined (as_import other p other_kind at_p is) = absurd (no_import kind other_kind) where
             no_import : {q : Kind} {m : Name} → q ≡ graph.definition → q ≡ graph.import m → ⊥
             no_import a b = cc
-          is_type_written (as_instantiation j other_kind at_j is) = absurd (no_kind kind other_kind) where
+          is_type_defined (as_instantiation j other_kind at_j is) = absurd (no_kind kind other_kind) where
             no_kind : {q : Kind} → q ≡ graph.definition → q ≡ graph.instantiation → ⊥
             no_kind a b = cc
-          is_type_written (as_definition other other_kind other_type is) = is ∙ ap (λ z. written (definition_tree g.types z)) (one_type node.item_kind other_type is_type) where
+          is_type_defined (as_definition other other_kind other_type is) = defined_once g one_place t (listing_of g t) (at n) thing (subst (λ z. IsDefined g z (listing_of g z) (at n)) (one_type node.item_kind other_type is_type) is) defined where
             one_type : (q : ItemKind) → q ≡ item.TypeItem other → q ≡ item.TypeItem t → other ≡ t
             one_type q a b = cc
-          is_type_written (as_alias other other_source j other_name other_kind _ _ _ _) = absurd (no_kind kind other_kind) where
+          is_type_defined (as_alias other other_source j other_name other_kind _ _ _ _) = absurd (no_kind kind other_kind) where
             no_kind : {q : Kind} → q ≡ graph.definition → q ≡ graph.alias → ⊥
             no_kind a b = cc
 
@@ -668,5 +673,5 @@ module _ (laws : Laws) (g : Graph) (sound : IsSound g) (order : List NodeId) (at
               × (stands_for (meaning (items ++ export_item name sort.«Type» k ∷ [])) sort.«Type» (indexes (space sort.«Type») items) ≡ at n)
           here_stands = (
             counted_up sort.«Type» items (export_item name sort.«Type» k) refl,
-            type_export_stands items k name (indexes (space sort.«Type») items) (sym (laws.counted items sort.«Type»)) ∙ stands ∙ sym (is_type_written (is_thing n node there)),
+            type_export_stands items k name (indexes (space sort.«Type») items) (sym (laws.counted items sort.«Type»)) ∙ stands ∙ sym (is_type_defined (is_thing n node there)),
           )

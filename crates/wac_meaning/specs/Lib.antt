@@ -1,4 +1,5 @@
 pub mod Definition
+pub mod Listing
 pub mod Means
 pub mod Beginning
 pub mod Importable

@@ -17,14 +17,14 @@ use Rattle.wac_binary.specs.Items.{Item, custom, instantiate, alias_item, export
 use Rattle.wac_binary.specs.Customs as custom_section
 use Rattle.wac_binary.specs.Customs.{of_sort, AreRising, names_bytes, producers_bytes}
 use Rattle.wac_binary.specs.Indexes.{space, indexes, sort_added}
-use Rattle.wac_binary.specs.Meaning.{Thing, import_at, projection, instance_at, component_at, written, Instantiation, Export, meaning, stands_for}
+use Rattle.wac_binary.specs.Meaning.{Thing, import_at, projection, instance_at, component_at, Instantiation, Export, meaning, stands_for}
 use Rattle.wac_binary.specs.HasMeaning.{HasMeaning}
 use Rattle.wac_edges.specs.declared.node.NodeId.{NodeId}
 use Rattle.wac_nodes.specs.declared.packages.PackageId.{PackageId}
 use Rattle.wac_nodes.specs.Graph.{Graph, GraphNode, Kind, import, instantiation, alias, node_at, package_at, imports_of, exports_of, IsAliasOf, IsArgumentOf, IsUnsatisfied, definition}
 use Rattle.wac_edges.specs.Order.{Writes}
 use Rattle.wac_nodes.specs.OuterImports.{AreOuterImports, IsImportPlace}
-use Rattle.wac_meaning.specs.Definition.{definition_tree}
+use Rattle.wac_meaning.specs.Listing.{listing_of, IsDefined}
 use Rattle.wac_nodes.specs.declared.options.EncodeOptions.{EncodeOptions}
 use Rattle.wac_nodes.specs.declared.options.Processor.{Processor}
 
@@ -133,7 +133,7 @@ AreInstantiations g o imports at order _ _ = ⊥
 pub data IsThing (g : Graph) (at : NodeId → Thing) (order : List NodeId) (n : NodeId) (node : GraphNode) : Type 0 where
   as_import : (name : Name) (p : ℕ) → node.kind ≡ import name → IsImportPlace g name p → at n ≡ import_at p → IsThing g at order n node
   as_instantiation : (k : ℕ) → node.kind ≡ instantiation → slice_get (instantiations g order) k ≡ Some n → at n ≡ instance_at k → IsThing g at order n node
-  as_definition : (t : AnyType) → node.kind ≡ definition → node.item_kind ≡ TypeItem t → at n ≡ written (definition_tree g.types t) → IsThing g at order n node
+  as_definition : (t : AnyType) → node.kind ≡ definition → node.item_kind ≡ TypeItem t → IsDefined g t (listing_of g t) (at n) → IsThing g at order n node
   as_alias : (instance : NodeId) (source : GraphNode) (i : ℕ) (name : Name) → node.kind ≡ alias → IsAliasOf g instance i n → node_at g instance ≡ Some source → slice_get (exports_of g source) i ≡ Some (name, node.item_kind) → at n ≡ projection (at instance) name → IsThing g at order n node
 
 -- is this the name by which a definition was exported first

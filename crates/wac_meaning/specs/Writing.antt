@@ -1,22 +1,22 @@
 -- What a node adds to the items that are written so far, where these begin with imports.
-use Rattle.std.specs.Prelude.{ℕ, suc, ◌≡◌, IfSome, List, [], ◌∷◌, ◌++◌, Some, slice_get, slice_set}
+use Rattle.std.specs.Prelude.{ℕ, suc, ◌≡◌, IfSome, List, [], ◌∷◌, ◌++◌, Option, Some, None, slice_get, slice_set}
 use Rattle.std.specs.List.{AllByRecursion}
 use Rattle.wac_primitives.specs.Name.{Name}
 use Rattle.wac_shapes.specs.declared.component.ItemKind.{ItemKind}
 use Rattle.wac_shapes.specs.declared.component.ItemKind.TheVariants.{TypeItem}
 use Rattle.wac_shapes.specs.declared.component.«Type».{«Type» as AnyType}
-use Rattle.wac_primitives.specs.Tree.{Tree}
 use Rattle.wac_binary.specs.declared.sorts.Sort.{Sort}
 use Rattle.wac_binary.specs.declared.sorts.Sort.TheVariants as sort
 use Rattle.wac_binary.specs.Items.{Item, core_type, instantiate, alias_item, export_alias, type_item, export_item}
 use Rattle.wac_binary.specs.Indexes.{space, alias_sort, indexes}
-use Rattle.wac_binary.specs.Meaning.{written, meaning, stands_for}
+use Rattle.wac_binary.specs.Meaning.{Thing, written, projected, meaning, stands_for}
 use Rattle.wac_binary.specs.HasMeaning.{HasMeaning}
 use Rattle.wac_edges.specs.declared.node.NodeId.{NodeId}
 use Rattle.wac_nodes.specs.declared.packages.PackageId.{PackageId}
 use Rattle.wac_nodes.specs.Graph as graph
 use Rattle.wac_nodes.specs.Graph.{Graph, GraphNode, node_at, imports_of, exports_of, IsAliasOf, IsArgumentOf, IsUnsatisfied}
 use Rattle.wac_meaning.specs.Definition.{definition_tree}
+use Rattle.wac_meaning.specs.Listing.{listing_of}
 use Rattle.wac_meaning.specs.Means.{package_bytes, sort_of_kind}
 use Rattle.wac_meaning.specs.Beginning.{Places, IsPlacedAt}
 use Rattle.wac_meaning.specs.Encoding.{HasComponent, Progress, index_in}
@@ -39,12 +39,17 @@ IsTypeAlone (type_item t) = Unit {0}
 IsTypeAlone (alias_item a) = alias_sort a ≡ sort.«Type»
 IsTypeAlone _ = ⊥
 
--- Types alone are written behind what stood. Where that had a meaning, all has one, and type index k stands for this tree.
-pub record WritesType (tree : Tree) (items items' : List Item) (k : ℕ) : Type 0 where
+-- Types alone are written behind what stood. Where that had a meaning, all has one, and type index k stands for this.
+pub record WritesType (thing : Thing) (items items' : List Item) (k : ℕ) : Type 0 where
   pub types : List Item
   pub alone : AllByRecursion IsTypeAlone types
   pub added : items' ≡ items ++ types
-  pub meant : HasMeaning items → HasMeaning items' × (stands_for (meaning items') sort.«Type» k ≡ written tree)
+  pub meant : HasMeaning items → HasMeaning items' × (stands_for (meaning items') sort.«Type» k ≡ thing)
+
+-- what the type index of a definition stands for, behind these items: where an import lists the type, the export of the instance at that import's place
+abbrev pub IsDefinedBehind : Graph → Places → List Item → AnyType → Option (Name × Name) → Thing → Type 0
+IsDefinedBehind g places items t None x = x ≡ written (definition_tree g.types t)
+IsDefinedBehind g places items t (Some (entry, name)) x = (i : ℕ) × IsPlacedAt g places entry sort.Instance i × (x ≡ projected (stands_for (meaning items) sort.Instance i) name)
 
 -- node n is written, and stands at index i
 pub data WritesNode (g : Graph) (places : Places) (n : NodeId) (node : GraphNode) (index : NodeId → ℕ) (components components' : List (PackageId × ℕ)) (items items' : List Item) (i : ℕ) : Type 0 where
@@ -58,10 +63,10 @@ pub data WritesNode (g : Graph) (places : Places) (n : NodeId) (node : GraphNode
       → components' ≡ components
       → items' ≡ items ++ alias_item (export_alias (sort_of_kind node.item_kind) (index instance) name) ∷ [] → i ≡ indexes (space (sort_of_kind node.item_kind)) items
       → WritesNode g places n node index components components' items items' i
-  writes_definition : (t : AnyType) (name : Name) (k : ℕ) (mid : List Item)
+  writes_definition : (t : AnyType) (name : Name) (k : ℕ) (mid : List Item) (thing : Thing)
       → node.kind ≡ graph.definition → node.item_kind ≡ TypeItem t → node.first_name ≡ Some name
       → components' ≡ components
-      → WritesType (definition_tree g.types t) items mid k
+      → IsDefinedBehind g places items t (listing_of g t) thing → WritesType thing items mid k
       → items' ≡ mid ++ export_item name sort.«Type» k ∷ [] → i ≡ indexes (space sort.«Type») mid
       → WritesNode g places n node index components components' items items' i
 

@@ -155,6 +155,13 @@ impl TypeAggregator {
         })
     }
 
+    /// What was asked for, in order.
+    pub fn entries(&self) -> &[Entry]
+        ensures { result.now ≡ self.now.entries }
+    {
+        self.entries.as_slice()
+    }
+
     /// The merged imports of a finished aggregator: the canonical name of each class with its merged item, in the order in
     /// which they are written.
     pub fn imports(&self) -> &Named<ItemKind>

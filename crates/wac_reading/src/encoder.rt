@@ -4,6 +4,8 @@ ghost use Rattle.wac_causes.specs.Cause.{cause_of};
 ghost use Rattle.wac_meaning.specs.Means.{sort_of_kind};
 ghost use Rattle.wac_scopes.specs.Contents.{IsRoot, items_of};
 ghost use Rattle.wac_scopes.specs.Rooted.{IsRightRoot};
+ghost use Rattle.wac_scopes.specs.Scoped.{type_index, listing};
+ghost use Rattle.wac_shapes.specs.declared.component.«Type».{«Type» as AnyType};
 
 use indexmap::IndexMap;
 use std::alloc::Global;
@@ -35,6 +37,8 @@ impl Encoder {
     pub fn new(alloc: Global, component: ComponentBuilder, indexes: Vec<u32>) -> Encoder
         ensures items { items_of result.root.content ≡ component }
         ensures right { (c : AnyTypes) → IsRightRoot c result.root }
+        ensures types { (a : AnyType) → type_index result.root a ≡ None }
+        ensures listed { (a : AnyType) → listing result.root a ≡ None }
         ensures components { result.components.entries ≡ [] }
         ensures indexes { result.indexes ≡ indexes }
     {
@@ -64,6 +68,7 @@ impl Encoder {
         requires { IsRoot self.old.root.content }
         ensures there { IfOk result (λ c. HasComponent bytes.now id c self.old.components.entries self.new.components.entries (items_of self.old.root.content) (items_of self.new.root.content)) }
         ensures right { (c : AnyTypes) → IsRightRoot c self.old.root → IsRightRoot c self.new.root }
+        ensures listed { (a : AnyType) → listing self.new.root a ≡ listing self.old.root a }
         ensures kept { self.new.indexes ≡ self.old.indexes }
         ensures fault { IfErr result (λ e. cause_of e ≡ None) }
     {

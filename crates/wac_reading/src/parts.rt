@@ -10,6 +10,8 @@ ghost use Rattle.wac_meaning.specs.Writing.{WritesNode};
 ghost use Rattle.wac_nodes.specs.Graph.{node_at, alias};
 ghost use Rattle.wac_scopes.specs.Contents.{items_of};
 ghost use Rattle.wac_scopes.specs.Rooted.{IsRightRoot};
+ghost use Rattle.wac_scopes.specs.Scoped.{listing};
+ghost use Rattle.wac_shapes.specs.declared.component.«Type».{«Type» as AnyType};
 ghost use Rattle.wac_primitives.specs.Name.{Name as AName};
 ghost use Rattle.wac_writing.specs.Naming.{IsNamed};
 ghost use Rattle.std.specs.List.{flat_map};
@@ -32,6 +34,7 @@ impl<'a> GraphReader<'a> {
         requires room { HasRoom self.now encoder.old.indexes.items }
         ensures written { IfOk result (λ i. (places : Places) → IfSome (node_at self.now n) (λ node. WritesNode self.now places n node (index_in encoder.old.indexes.items) encoder.old.components.entries encoder.new.components.entries (items_of encoder.old.root.content) (items_of encoder.new.root.content) i)) }
         ensures right { OnOk result (IsRightRoot self.now.types encoder.new.root) }
+        ensures listed { OnOk result ((a : AnyType) → listing encoder.new.root a ≡ listing encoder.old.root a) }
         ensures kept { encoder.new.indexes ≡ encoder.old.indexes }
         ensures fault { IfErr result (λ e. cause_of e ≡ None) }
     {

@@ -1,6 +1,6 @@
 -- Interfaces are written as component types.
 use Rattle.std.specs.Prelude.{ℕ, ◌≡◌, true, false, List, [], ◌∷◌, ◌++◌, Option, Some, None, is_some, Err}
-use Rattle.std.proofs.Common.{refl, ap, ◌∙◌, sym, subst, inl, inr, arith}
+use Rattle.std.proofs.Common.{refl, ap, ◌∙◌, sym, subst, inl, inr}
 use Rattle.std.proofs.Math.Path.{fun_ext}
 use Rattle.wac_primitives.specs.Name.{Name, option_case}
 use Rattle.wac_shapes.specs.declared.component.Interface.{Interface}
@@ -27,7 +27,7 @@ use Rattle.wac_stacks.specs.Scopes.{Open, env, next_type, with_def}
 use Rattle.wac_stacks.specs.Good.{Good, nothing_bound}
 use Rattle.wac_stacks.specs.Laws.{Adds, IsItsTree, StaysOnward}
 use Rattle.wac_stacks.specs.Listed.{declaring, OpensWorld, ClosesComponent}
-use Rattle.wac_scopes.specs.Rooted.{unbound, IsRightRoot, IsWrittenThere}
+use Rattle.wac_scopes.specs.Rooted.{unbound, IsRightRoot}
 use Rattle.wac_scopes.specs.Scoped.{type_index, recorded_type, opened, AddsInstance, AddsComponent, ListsInstanceOf, WritesUnlessTooLarge, FitsUnlessTooLarge, listing, place}
 use Rattle.wac_encode.specs.Written.{GoesOn, WritesFor}
 use Rattle.wac_encode.specs.Listing.{lists_plain, SaysInterface, IsInterfaceRefused}
@@ -35,7 +35,7 @@ use Rattle.wac_encode.specs.Instances.{IsBare}
 use Rattle.wac_root.specs.Components.{HasId, held_under_id, component_tree, SaysComponent, WritesAlone, under_id, WritesComponent, IsComponentRefused, EndsWithComponent}
 use Rattle.wac_root.specs.Defining.{IsDefinable, WritesDefinition, MadeFor, WritesTypesFor, WritesOnce, IsDefinitionRefused}
 use Rattle.wac_encode.proofs.Answering.{as-it-was}
-use Rattle.wac_root.proofs.Defining.{stands-there, at-root, defined-so, content-is, records-same}
+use Rattle.wac_root.proofs.Defining.{StandsBehind, stands-last, at-root, defined-so, content-is, records-same}
 use Rattle.wac_root.proofs.Imported.{still-root}
 use Rattle.wac_encode.proofs.Rows.{writes-type}
 use Rattle.wac_encode.proofs.Stacks.{writes-none}
@@ -148,12 +148,12 @@ component-behind c old now i ds k says adds same = writes-type c (MadeFor c (ty.
 pub ends-with-component : (c : Collection) (old now : Scope) (i : InterfaceId) (ds : List Decl) (k : ℕ) → WritesComponent c i ds → now ≡ record old { content = and_type old.content (component_def (decls ds)) } → k ≡ count (space sort.«Type») old.content → EndsWithComponent c old now i k
 ends-with-component c old now i ds k written same index = record { declarations = ds; written = written; appended = same; index = index }
 
-pub interface-defined : IsWrittenThere → (c : Collection) (old now new : Scope) (n : Name) (i : InterfaceId) (ds : List Decl) (j k : ℕ) → IsRightRoot c old → SaysComponent c i ds → AddsComponent old now ds j → now ≡ record old { content = and_type old.content (component_def (decls ds)) } → j ≡ count (space sort.«Type») old.content → new ≡ record now { content = Builder (items_of now.content ++ export_item n sort.«Type» j ∷ []) } → k ≡ count (space sort.«Type») now.content → WritesDefinition c (ty.Interface i) n old new k
-interface-defined there c old now new n i ds j k r says adds same index exports answer =
+pub interface-defined : StandsBehind → (c : Collection) (old now new : Scope) (n : Name) (i : InterfaceId) (ds : List Decl) (j k : ℕ) → IsRightRoot c old → SaysComponent c i ds → AddsComponent old now ds j → now ≡ record old { content = and_type old.content (component_def (decls ds)) } → j ≡ count (space sort.«Type») old.content → new ≡ record now { content = Builder (items_of now.content ++ export_item n sort.«Type» j ∷ []) } → k ≡ count (space sort.«Type») now.content → WritesDefinition c (ty.Interface i) n old new k
+interface-defined behind c old now new n i ds j k r says adds same index exports answer =
     let w = component-behind c old now i ds j says adds same in
     let is_root : IsRoot now.content = still-root old.content now.content w.types w.appended r.is_root in
     defined-so c (ty.Interface i) n 1 (MadeFor c (ty.Interface i)) old now new j k r w
-    (λ good means. stands-there there c 1 (MadeFor c (ty.Interface i)) old now j (component_tree c i) r w (omega (arith, index)) (at-root now j (component_tree c i) is_root (adds c (nothing_bound ∷ []) unbound [] (component_tree c i) (says nothing_bound [] (opened old unbound) [] good)).1))
+    (λ good means. stands-last behind c old now (component_def (decls ds)) j (component_tree c i) r same index means (at-root now j (component_tree c i) is_root (adds c (nothing_bound ∷ []) unbound [] (component_tree c i) (says nothing_bound [] (opened old unbound) [] good)).1))
     (content-is now new (Builder (items_of now.content ++ export_item n sort.«Type» j ∷ [])) exports) answer
 
 pub interface-once : (c : Collection) (old now new : Scope) (n : Name) (i : InterfaceId) (j k : ℕ) → WritesFor c 1 (MadeFor c (ty.Interface i)) old now → EndsWithComponent c old now i j → new ≡ record now { content = Builder (items_of now.content ++ export_item n sort.«Type» j ∷ []) } → WritesOnce c (ty.Interface i) n old new k

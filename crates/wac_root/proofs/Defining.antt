@@ -1,5 +1,5 @@
 -- Definitions are written into the root.
-use Rattle.std.specs.Prelude.{ℕ, ◌≡◌, ◌≤◌, List, [], ◌∷◌, ◌++◌, map, Option, Some, None, Err}
+use Rattle.std.specs.Prelude.{ℕ, zero, suc, ◌≡◌, ◌+◌, List, [], ◌∷◌, ◌++◌, map, Option, Some, None, slice_get, Err}
 use Rattle.std.proofs.Common.{refl, ap, ◌∙◌, sym, subst, arith, inl, inr}
 use Rattle.std.proofs.lemmas.List.{append-nil}
 use Rattle.wac_primitives.specs.Name.{Name}
@@ -32,15 +32,16 @@ use Rattle.wac_scopes.specs.Faults.{encode_fault}
 use Rattle.wac_stacks.specs.Scopes.{Content, ContentHasMeaning, at_type, scope_of, env}
 use Rattle.wac_stacks.specs.Good.{At, IsHeld, Good, nothing_bound}
 use Rattle.wac_stacks.specs.Laws.{IsItsEnd, IsItsTree, StaysOnward}
-use Rattle.wac_scopes.specs.Rooted.{unbound, IsRightRoot, StaysRight, MeansBefore, IsWrittenThere}
+use Rattle.wac_scopes.specs.Rooted.{unbound, thing_listed, ListedStays, IsRightRoot, StaysRight, MeansBefore, IsTypeItem, thing_of_type, IsWrittenThere}
 use Rattle.wac_scopes.specs.Scoped.{type_index, value_index, named_at, opened, root_of, HasToo, IsAsBefore, AddsPrimitive, WritesUnlessTooLarge, FitsUnlessTooLarge, listing}
 use Rattle.wac_scopes.proofs.Rooted.{content-of-root}
 use Rattle.wac_stacks.proofs.Values.{primitive-held}
 use Rattle.wac_scopes.specs.declared.scope.Listed.{Listed}
-use Rattle.wac_encode.specs.Written.{PartOf, WritesFor, with_types, IsOfFunc, AddsHeldFunc, IsFuncFrom, IsFuncAt, IsRefused, IsFuncRefused, NewType, defined as as_defined, aliased, as_item, IsListedThere}
+use Rattle.wac_scopes.specs.declared.scope.Listed.TheVariants.{ByInstance, Around}
+use Rattle.wac_encode.specs.Written.{PartOf, WritesFor, with_types, IsOfFunc, AddsHeldFunc, IsFuncFrom, IsFuncAt, IsRefused, IsFuncRefused, NewType, defined as as_defined, aliased, as_item, IsWrittenAs, IsListedThere}
 use Rattle.wac_encode.specs.Listing.{NeededBy, own_types, SameRecords, PrimitiveDoesNotFit}
 use Rattle.wac_root.specs.Importing.{IsImportedOnce, NamesImportedValue}
-use Rattle.wac_root.specs.Defining.{defined_tree, WritesDefinition, item_of_type, MadeFor, IsDefinedAt, WritesOnce, IsDefinitionRefused}
+use Rattle.wac_root.specs.Defining.{defined_thing, WritesDefinition, item_of_type, MadeFor, IsDefinedAt, WritesOnce, IsDefinitionRefused}
 use Rattle.wac_encode.proofs.Answering.{as-it-was}
 use Rattle.wac_root.proofs.Imported.{still-root}
 use Rattle.wac_encode.proofs.Listed.{held-at-end}
@@ -61,20 +62,15 @@ counted-root (Builder items) h = refl
 counted-root (Instance ds) h = absurd h
 counted-root (Component ds) h = absurd h
 
-no-place : (l : Listed) → None ≡ Some l → ⊥
-no-place l h = cc
+-- what is listed in the root is listed by an instance, so types and their aliases alone are added
+types-alone : (c : Collection) (P : AnyType → Type 0) (s : Scope) → IsRightRoot c s → (ys : List NewType) → AllByRecursion (IsListedThere P s) ys → AllByRecursion IsTypeItem (map as_item ys)
+types-alone c P s r [] h = tt
+types-alone c P s r (as_defined y ∷ ys) h = (tt, types-alone c P s r ys h.1)
+types-alone c P s r (aliased (ByInstance j n) ∷ ys) h = (tt, types-alone c P s r ys h.1)
+types-alone c P s r (aliased (Around i) ∷ ys) h = absurd (r.there (ty.Value (val.Defined h.0.0)) (Around i) h.0.2)
 
--- where no instance lists a type, all are definitions
-definitions : (P : AnyType → Type 0) (s : Scope) → ((a : AnyType) → listing s a ≡ None) → (ys : List NewType) → AllByRecursion (IsListedThere P s) ys → (ts : List TypeDef) × (map as_item ys ≡ map type_item ts)
-definitions P s unlisted [] h = ([], refl)
-definitions P s unlisted (as_defined y ∷ ys) h = let r = definitions P s unlisted ys h.1 in (y ∷ r.0, ap (λ (es : List Item). type_item y ∷ es) r.1)
-definitions P s unlisted (aliased l ∷ ys) h = absurd (no-place l (sym (unlisted (ty.Value (val.Defined h.0.0))) ∙ h.0.2))
-
--- type definitions alone are added
-items-added : (c : Collection) (n : ℕ) (P : AnyType → Type 0) (old now : Scope) → IsRightRoot c old → WritesFor c n P old now → (ts : List TypeDef) × (items_of now.content ≡ items_of old.content ++ map type_item ts)
-items-added c n P old now r w =
-    let d = definitions P old r.unlisted w.types w.aliases in
-    (d.0, ap items_of w.appended ∙ items-with old.content w.types r.is_root ∙ ap (λ (es : List Item). items_of old.content ++ es) d.1)
+items-added : (c : Collection) (n : ℕ) (P : AnyType → Type 0) (old now : Scope) → IsRightRoot c old → (w : WritesFor c n P old now) → items_of now.content ≡ items_of old.content ++ map as_item w.types
+items-added c n P old now r w = ap items_of w.appended ∙ items-with old.content w.types r.is_root
 
 pub at-root : (s : Scope) (i : ℕ) (t : Tree) → IsRoot s.content → At ((env (opened s unbound) []).types) i t → At ((root_of s).scope.types) i t
 at-root s i t is_root at = subst (λ (x : Content). At ((scope_of x []).types) i t) (content-of-root s.content is_root) at
@@ -82,31 +78,76 @@ at-root s i t is_root at = subst (λ (x : Content). At ((scope_of x []).types) i
 means-now : (c : Collection) (s : Scope) → IsRoot s.content → Good c (nothing_bound ∷ []) (opened s unbound ∷ []) → HasMeaning (items_of s.content)
 means-now c s is_root g = subst (λ (x : Content). ContentHasMeaning x []) (content-of-root s.content is_root) g.0.meaning
 
--- a type index that was added stands for the tree that it has
-pub stands-there : IsWrittenThere → (c : Collection) (m : ℕ) (P : AnyType → Type 0) (old now : Scope) (i : ℕ) (t : Tree) → IsRightRoot c old → WritesFor c m P old now → count (space sort.«Type») old.content ≤ i → At ((root_of now).scope.types) i t → stands_for (root_of now) sort.«Type» i ≡ written t
-stands-there there c m P old now i t r w behind at =
-    let added = items-added c m P old now r w in
-    ap (λ (items : List Item). stands_for (meaning items) sort.«Type» i) added.1
-    ∙ there (items_of old.content) added.0 i t (subst (λ (n : ℕ). n ≤ i) (counted-root old.content r.is_root) behind) (subst (λ (items : List Item). At ((meaning items).scope.types) i t) added.1 at)
+-- what is known of types that are added, and of what is listed
+abbrev pub StandsBehind : Type 0
+StandsBehind = IsWrittenThere × ListedStays
 
--- and so for its type
-stands-new : IsWrittenThere → IsItsTree → (c : Collection) (m : ℕ) (P : AnyType → Type 0) (old now : Scope) (a : AnyType) (i : ℕ) (t : Tree) → IsRightRoot c old → WritesFor c m P old now → count (space sort.«Type») old.content ≤ i → IsHeld c nothing_bound a t → At ((root_of now).scope.types) i t
-    → stands_for (root_of now) sort.«Type» i ≡ written (held_tree c nothing_bound a)
-stands-new there tree c m P old now a i t r w behind held at = stands-there there c m P old now i t r w behind at ∙ ap written (sym (tree c nothing_bound a t held))
+-- a type that is written last stands for its tree
+pub stands-last : StandsBehind → (c : Collection) (old now : Scope) (y : TypeDef) (i : ℕ) (t : Tree) → IsRightRoot c old → now ≡ record old { content = and_type old.content y } → i ≡ count (space sort.«Type») old.content → HasMeaning (items_of now.content) → At ((root_of now).scope.types) i t → stands_for (root_of now) sort.«Type» i ≡ written t
+stands-last behind c old now y i t r same index means at =
+    let items : List Item = items_of old.content in
+    let added : items_of now.content ≡ items ++ type_item y ∷ [] = ap (λ (s : Scope). items_of s.content) same ∙ one-behind old.content y r.is_root in
+    let here : i ≡ indexes (space sort.«Type») items + 0 = index ∙ counted-root old.content r.is_root ∙ plus-none (indexes (space sort.«Type») items) in
+    ap (λ (xs : List Item). stands_for (meaning xs) sort.«Type» i) added ∙ ap (stands_for (meaning (items ++ type_item y ∷ [])) sort.«Type») here
+    ∙ behind.0 items (type_item y ∷ []) 0 (type_item y) t (tt, tt) (subst HasMeaning added means) refl
+    (subst (λ (k : ℕ). At ((meaning (items ++ type_item y ∷ [])).scope.types) k t) here (subst (λ (xs : List Item). At ((meaning xs).scope.types) i t) added at))
+  where
+    one-behind : (x : Encodable) (y : TypeDef) → IsRoot x → items_of (and_type x y) ≡ items_of x ++ type_item y ∷ []
+    one-behind (Builder items) y h = refl
+    one-behind (Instance ds) y h = absurd h
+    one-behind (Component ds) y h = absurd h
+
+    plus-none : (n : ℕ) → n ≡ n + 0
+    plus-none n = omega arith
+
+item-at : (ys : List NewType) (p : ℕ) (y : NewType) → slice_get ys p ≡ Some y → slice_get (map as_item ys) p ≡ Some (as_item y)
+item-at [] p y h = cc
+item-at (x ∷ ys) zero y h = let same : x ≡ y = cc in ap (λ (z : NewType). Some (as_item z)) same
+item-at (x ∷ ys) (suc p) y h = item-at ys p y h
+
+-- what is written for a type stands for it, or for what lists it
+thing-as : (c : Collection) (old now : Scope) (a : AnyType) (t : Tree) → IsRightRoot c old → (o : Option Listed) → listing old a ≡ o → (y : NewType) → IsWrittenAs c now a o y → thing_of_type (root_of old) t (as_item y) ≡ thing_listed o (root_of old) t
+thing-as c old now a t r None none (as_defined y) h = refl
+thing-as c old now a t r None none (aliased l) h = absurd h
+thing-as c old now a t r (Some l) some (as_defined y) h = absurd h
+thing-as c old now a t r (Some (ByInstance j n)) some (aliased k) h = subst (λ (l : Listed). thing_of_type (root_of old) t (as_item (aliased l)) ≡ thing_listed (Some (ByInstance j n)) (root_of old) t) h refl
+thing-as c old now a t r (Some (Around i)) some (aliased k) h = absurd (r.there a (Around i) some)
+
+-- what was recorded since stands for its type, or for what lists it
+stands-new : StandsBehind → IsItsTree → (c : Collection) (m : ℕ) (P : AnyType → Type 0) (old now : Scope) (a : AnyType) (i : ℕ) (t : Tree) → IsRightRoot c old → WritesFor c m P old now → type_index old a ≡ None → type_index now a ≡ Some i → HasMeaning (items_of now.content) → IsHeld c nothing_bound a t → At ((root_of now).scope.types) i t
+    → stands_for (root_of now) sort.«Type» i ≡ thing_listed (listing old a) (root_of old) (held_tree c nothing_bound a)
+stands-new behind tree c m P old now a i t r w none some means held at =
+    let items : List Item = items_of old.content in
+    let ys : List Item = map as_item w.types in
+    let (p, index, y, there, is) = w.sources a i none some in
+    let added : items_of now.content ≡ items ++ ys = items-added c m P old now r w in
+    let here : i ≡ indexes (space sort.«Type») items + p = index ∙ ap (λ (k : ℕ). k + p) (counted-root old.content r.is_root) in
+    ap (λ (xs : List Item). stands_for (meaning xs) sort.«Type» i) added ∙ ap (stands_for (meaning (items ++ ys)) sort.«Type») here
+    ∙ behind.0 items ys p (as_item y) t (types-alone c P old r w.types w.aliases) (subst HasMeaning added means) (item-at w.types p y there)
+    (subst (λ (k : ℕ). At ((meaning (items ++ ys)).scope.types) k t) here (subst (λ (xs : List Item). At ((meaning xs).scope.types) i t) added at))
+    ∙ thing-as c old now a t r (listing old a) refl y is
+    ∙ ap (thing_listed (listing old a) (root_of old)) (sym (tree c nothing_bound a t held))
+
+-- what is listed stands for the same behind what is added
+listed-after : StandsBehind → (c : Collection) (old new : Scope) (more : List Item) → IsRightRoot c old → items_of new.content ≡ items_of old.content ++ more → (a : AnyType) (t : Tree) → listing new a ≡ listing old a → thing_listed (listing new a) (root_of new) t ≡ thing_listed (listing old a) (root_of old) t
+listed-after behind c old new more r added a t listed =
+    ap (λ (o : Option Listed). thing_listed o (root_of new) t) listed ∙ ap (λ (xs : List Item). thing_listed (listing old a) (meaning xs) t) added ∙ behind.1 (items_of old.content) more (listing old a) t (r.there a)
 
 -- one that is recorded, too
 stands-recorded : IsItsEnd → IsItsTree → (c : Collection) → IsWellFormed c → (s : Scope) (v : ValueType) (d : DefinedTypeId) (i : ℕ) → value_resolved c v ≡ val.Defined d → IsRightRoot c s → value_index s d ≡ Some i → HasMeaning (items_of s.content)
-    → stands_for (root_of s) sort.«Type» i ≡ written (held_tree c nothing_bound (ty.Value v))
+    → stands_for (root_of s) sort.«Type» i ≡ defined_thing c s (ty.Value v)
 stands-recorded end tree c wf s v d i is r at means =
     let m = (r.right means).0.memo (ty.Value (val.Defined d)) (at_type i) (recorded-at s (ty.Value (val.Defined d)) i at) in
-    r.written means (ty.Value (val.Defined d)) i at ∙ ap written (tree c nothing_bound (ty.Value (val.Defined d)) m.0 m.1 ∙ sym (tree c nothing_bound (ty.Value v) m.0 (held-at-end c wf end nothing_bound v (val.Defined d) m.0 is m.1)))
+    r.written means (ty.Value (val.Defined d)) i at
+    ∙ ap (thing_listed (listing s (ty.Value (val.Defined d))) (root_of s)) (tree c nothing_bound (ty.Value (val.Defined d)) m.0 m.1 ∙ sym (tree c nothing_bound (ty.Value v) m.0 (held-at-end c wf end nothing_bound v (val.Defined d) m.0 is m.1)))
+    ∙ ap (λ (w : ValueType). thing_listed (listing s (ty.Value w)) (root_of s) (held_tree c nothing_bound (ty.Value v))) (sym is)
 
 -- the root stays right
 
-pub right-after : StaysRight → MeansBefore → IsWrittenThere → IsItsTree → (c : Collection) (n : ℕ) (P : AnyType → Type 0) (old new : Scope) → WritesFor c n P old new → IsRightRoot c old → IsRightRoot c new
-right-after stays before there tree c n P old new w r = record {
+pub right-after : StaysRight → MeansBefore → StandsBehind → IsItsTree → (c : Collection) (n : ℕ) (P : AnyType → Type 0) (old new : Scope) → WritesFor c n P old new → IsRightRoot c old → IsRightRoot c new
+right-after stays before behind tree c n P old new w r = record {
   is_root = is_root;
-  unlisted = λ a. w.listed a ∙ r.unlisted a;
+  there = λ a l h. mid.there a l (sym (w.listed a) ∙ h);
   right = good;
   written = λ means a i h. by_old means a i h (type_index old a) refl;
 }
@@ -114,20 +155,23 @@ right-after stays before there tree c n P old new w r = record {
     is_root : IsRoot new.content
     is_root = still-root old.content new.content w.types w.appended r.is_root
 
-    added : (ts : List TypeDef) × (items_of new.content ≡ items_of old.content ++ map type_item ts)
+    added : items_of new.content ≡ items_of old.content ++ map as_item w.types
     added = items-added c n P old new r w
 
     good : HasMeaning (items_of new.content) → Good c (nothing_bound ∷ []) (opened new unbound ∷ [])
-    good means = (w.onward nothing_bound [] unbound [] (r.right (before (items_of old.content) (map type_item added.0) (subst HasMeaning added.1 means)))).0
+    good means = (w.onward nothing_bound [] unbound [] (r.right (before (items_of old.content) (map as_item w.types) (subst HasMeaning added means)))).0
 
     mid : IsRightRoot c (record old { content = new.content })
-    mid = stays c old (record old { content = new.content }) (map type_item added.0) r is_root added.1 (λ a. refl) (λ a. refl)
+    mid = stays c old (record old { content = new.content }) (map as_item w.types) r is_root added (λ a. refl) (λ a. refl)
 
-    by_old : HasMeaning (items_of new.content) → (a : AnyType) (i : ℕ) → type_index new a ≡ Some i → (o : Option ℕ) → type_index old a ≡ o → stands_for (root_of new) sort.«Type» i ≡ written (held_tree c nothing_bound a)
-    by_old means a i h (Some j) e = subst (λ (k : ℕ). stands_for (root_of new) sort.«Type» k ≡ written (held_tree c nothing_bound a)) (same-index new a j i (w.kept a j e) h) (mid.written means a j e)
+    by_old : HasMeaning (items_of new.content) → (a : AnyType) (i : ℕ) → type_index new a ≡ Some i → (o : Option ℕ) → type_index old a ≡ o → stands_for (root_of new) sort.«Type» i ≡ thing_listed (listing new a) (root_of new) (held_tree c nothing_bound a)
+    by_old means a i h (Some j) e =
+        subst (λ (k : ℕ). stands_for (root_of new) sort.«Type» k ≡ thing_listed (listing old a) (root_of new) (held_tree c nothing_bound a)) (same-index new a j i (w.kept a j e) h) (mid.written means a j e)
+        ∙ ap (λ (o : Option Listed). thing_listed o (root_of new) (held_tree c nothing_bound a)) (sym (w.listed a))
     by_old means a i h None e =
         let m = (good means).0.memo a (at_type i) (recorded-at new a i h) in
-        stands-new there tree c n P old new a i m.0 r w (w.later a i e h) m.1 (at-root new i m.0 is_root m.3)
+        stands-new behind tree c n P old new a i m.0 r w e h means m.1 (at-root new i m.0 is_root m.3)
+        ∙ sym (listed-after behind c old new (map as_item w.types) r added a (held_tree c nothing_bound a) (w.listed a))
 
 pub right-exported : StaysRight → (c : Collection) (now new : Scope) (n : Name) (i : ℕ) → new ≡ record now { content = Builder (items_of now.content ++ export_item n sort.«Type» i ∷ []) } → IsRightRoot c now → IsRightRoot c new
 right-exported stays c now new n i is r = subst (IsRightRoot c) (sym is) (stays c now (record now { content = Builder (items_of now.content ++ export_item n sort.«Type» i ∷ []) }) (export_item n sort.«Type» i ∷ []) r tt refl (λ a. refl) (λ a. refl))
@@ -140,14 +184,15 @@ right-still stays c old new h r = stays c old new [] r (subst IsRoot (sym h.cont
 
 -- what is written is the definition
 
-pub defined-so : (c : Collection) (t : AnyType) (n : Name) (m : ℕ) (P : AnyType → Type 0) (old now new : Scope) (i k : ℕ) → IsRightRoot c old → WritesFor c m P old now → (Good c (nothing_bound ∷ []) (opened old unbound ∷ []) → HasMeaning (items_of now.content) → stands_for (root_of now) sort.«Type» i ≡ written (defined_tree c t)) → new.content ≡ Builder (items_of now.content ++ export_item n sort.«Type» i ∷ []) → k ≡ count (space sort.«Type») now.content
+pub defined-so : (c : Collection) (t : AnyType) (n : Name) (m : ℕ) (P : AnyType → Type 0) (old now new : Scope) (i k : ℕ) → IsRightRoot c old → WritesFor c m P old now → (Good c (nothing_bound ∷ []) (opened old unbound ∷ []) → HasMeaning (items_of now.content) → stands_for (root_of now) sort.«Type» i ≡ defined_thing c old t) → new.content ≡ Builder (items_of now.content ++ export_item n sort.«Type» i ∷ []) → k ≡ count (space sort.«Type») now.content
     → WritesDefinition c t n old new k
 defined-so c t n m P old now new i k r w stands appended answer =
     let is_root : IsRoot now.content = still-root old.content now.content w.types w.appended r.is_root in
-    let added = items-added c m P old now r w in record {
-      types = added.0;
+    record {
+      types = map as_item w.types;
+      alone = types-alone c P old r w.types w.aliases;
       mid = items_of now.content;
-      added = added.1;
+      added = items-added c m P old now r w;
       index = i;
       meant = λ means.
           let good : Good c (nothing_bound ∷ []) (opened old unbound ∷ []) = r.right means in
@@ -165,13 +210,16 @@ records-same now new x is = record { types = λ a. ap (λ (s : Scope). type_inde
 
 -- a primitive
 
-pub primitive-defined : IsWrittenThere → IsItsEnd → IsItsTree → (c : Collection) → IsWellFormed c → (old now new : Scope) (n : Name) (v : ValueType) (p : PrimitiveType) (i k : ℕ) → IsRightRoot c old → value_resolved c v ≡ val.Primitive p → i ≡ count (space sort.«Type») old.content → AddsPrimitive old now p i → now ≡ record old { content = and_type old.content (value_def (primitive_def p)) }
+pub primitive-defined : StandsBehind → IsItsEnd → IsItsTree → (c : Collection) → IsWellFormed c → (old now new : Scope) (n : Name) (v : ValueType) (p : PrimitiveType) (i k : ℕ) → IsRightRoot c old → value_resolved c v ≡ val.Primitive p → i ≡ count (space sort.«Type») old.content → AddsPrimitive old now p i → now ≡ record old { content = and_type old.content (value_def (primitive_def p)) }
     → new ≡ record now { content = Builder (items_of now.content ++ export_item n sort.«Type» i ∷ []) } → k ≡ count (space sort.«Type») now.content → WritesDefinition c (ty.Value v) n old new k
-primitive-defined there end tree c wf old now new n v p i k r is index adds same exports answer =
+primitive-defined behind end tree c wf old now new n v p i k r is index adds same exports answer =
     let w = primitive-behind c old now v p i is adds same in
     let is_root : IsRoot now.content = still-root old.content now.content w.types w.appended r.is_root in
     defined-so c (ty.Value v) n (own_types c (item_of_type (ty.Value v))) (NeededBy c (item_of_type (ty.Value v))) old now new i k r w
-    (λ good means. stands-new there tree c (own_types c (item_of_type (ty.Value v))) (NeededBy c (item_of_type (ty.Value v))) old now (ty.Value v) i (primitive p) r w (omega (arith, index)) (held-at-end c wf end nothing_bound v (val.Primitive p) (primitive p) is (primitive-held c nothing_bound p)) (at-root now i (primitive p) is_root (adds c nothing_bound [] unbound [] good).1))
+    (λ good means.
+    stands-last behind c old now (value_def (primitive_def p)) i (primitive p) r same index means (at-root now i (primitive p) is_root (adds c nothing_bound [] unbound [] good).1)
+    ∙ ap written (sym (tree c nothing_bound (ty.Value v) (primitive p) (held-at-end c wf end nothing_bound v (val.Primitive p) (primitive p) is (primitive-held c nothing_bound p))))
+    ∙ ap (λ (u : ValueType). thing_listed (listing old (ty.Value u)) (root_of old) (held_tree c nothing_bound (ty.Value v))) (sym is))
     (content-is now new (Builder (items_of now.content ++ export_item n sort.«Type» i ∷ [])) exports) answer
 
 pub primitive-once : (c : Collection) (old now new : Scope) (n : Name) (v : ValueType) (p : PrimitiveType) (i k : ℕ) → value_resolved c v ≡ val.Primitive p → i ≡ count (space sort.«Type») old.content → AddsPrimitive old now p i → now ≡ record old { content = and_type old.content (value_def (primitive_def p)) } → new ≡ record now { content = Builder (items_of now.content ++ export_item n sort.«Type» i ∷ []) } → WritesOnce c (ty.Value v) n old new k
@@ -204,11 +252,15 @@ second-once c stays old new n v d i k is at exports = record {
 
 -- one that is written for it
 
-pub first-defined : StaysRight → MeansBefore → IsWrittenThere → IsItsEnd → IsItsTree → (c : Collection) → IsWellFormed c → (old now new : Scope) (n : Name) (v : ValueType) (d : DefinedTypeId) (i k : ℕ) → IsRightRoot c old → value_resolved c v ≡ val.Defined d → WritesFor c 0 (PartOf c (value_resolved c v)) old now → value_index now d ≡ Some i
+pub first-defined : StaysRight → MeansBefore → StandsBehind → IsItsEnd → IsItsTree → (c : Collection) → IsWellFormed c → (old now new : Scope) (n : Name) (v : ValueType) (d : DefinedTypeId) (i k : ℕ) → IsRightRoot c old → value_resolved c v ≡ val.Defined d → WritesFor c 0 (PartOf c (value_resolved c v)) old now → value_index now d ≡ Some i
     → new.content ≡ Builder (items_of now.content ++ export_item n sort.«Type» i ∷ []) → k ≡ count (space sort.«Type») now.content → WritesDefinition c (ty.Value v) n old new k
-first-defined stays before there end tree c wf old now new n v d i k r is w at appended answer =
+first-defined stays before behind end tree c wf old now new n v d i k r is w at appended answer =
+    let now_right : IsRightRoot c now = right-after stays before behind tree c 0 (PartOf c (value_resolved c v)) old now w r in
     defined-so c (ty.Value v) n 0 (PartOf c (value_resolved c v)) old now new i k r w
-    (λ good means. stands-recorded end tree c wf now v d i is (right-after stays before there tree c 0 (PartOf c (value_resolved c v)) old now w r) at means) appended answer
+    (λ good means.
+    stands-recorded end tree c wf now v d i is now_right at means
+    ∙ listed-after behind c old now (map as_item w.types) r (items-added c 0 (PartOf c (value_resolved c v)) old now r w) (ty.Value (value_resolved c v)) (held_tree c nothing_bound (ty.Value v)) (w.listed (ty.Value (value_resolved c v))))
+    appended answer
 
 pub first-once : (c : Collection) (old now new : Scope) (n : Name) (v : ValueType) (d : DefinedTypeId) (i k : ℕ) → value_resolved c v ≡ val.Defined d → value_index old d ≡ None → WritesFor c 0 (PartOf c (value_resolved c v)) old now → value_index now d ≡ Some i → new.content ≡ Builder (items_of now.content ++ export_item n sort.«Type» i ∷ []) → HasToo now (ty.Value (val.Defined d)) k new → named_at new d ≡ Some k → WritesOnce c (ty.Value v) n old new k
 first-once c old now new n v d i k is none w at appended too name = record {
@@ -227,13 +279,13 @@ recorded-func : (c : Collection) (old now : Scope) (f : FuncTypeId) (i : ℕ) (o
 recorded-func c old now f i (Some j) is w at = let h = subst (λ (p : Option ℕ). IsFuncFrom p c f old now i) is at in w.kept (ty.Func f) i (is ∙ ap (λ (k : ℕ). Some k) (sym h.0))
 recorded-func c old now f i None is w at = (subst (λ (p : Option ℕ). IsFuncFrom p c f old now i) is at).0
 
-function-stands : StaysRight → MeansBefore → IsWrittenThere → IsItsTree → (c : Collection) (old now : Scope) (f : FuncTypeId) (i : ℕ) → IsRightRoot c old → WritesFor c 0 (IsOfFunc c f) old now → IsFuncAt c f old now i → HasMeaning (items_of now.content) → stands_for (root_of now) sort.«Type» i ≡ written (held_tree c nothing_bound (ty.Func f))
-function-stands stays before there tree c old now f i r w at means = (right-after stays before there tree c 0 (IsOfFunc c f) old now w r).written means (ty.Func f) i (recorded-func c old now f i (type_index old (ty.Func f)) refl w at)
+function-stands : StaysRight → MeansBefore → StandsBehind → IsItsTree → (c : Collection) (old now : Scope) (f : FuncTypeId) (i : ℕ) → IsRightRoot c old → WritesFor c 0 (IsOfFunc c f) old now → IsFuncAt c f old now i → HasMeaning (items_of now.content) → stands_for (root_of now) sort.«Type» i ≡ written (held_tree c nothing_bound (ty.Func f))
+function-stands stays before behind tree c old now f i r w at means = (right-after stays before behind tree c 0 (IsOfFunc c f) old now w r).written means (ty.Func f) i (recorded-func c old now f i (type_index old (ty.Func f)) refl w at)
 
-pub function-defined : StaysRight → MeansBefore → IsWrittenThere → IsItsTree → (c : Collection) (old now new : Scope) (n : Name) (f : FuncTypeId) (i k : ℕ) → IsRightRoot c old → WritesFor c 0 (IsOfFunc c f) old now → IsFuncAt c f old now i → new ≡ record now { content = Builder (items_of now.content ++ export_item n sort.«Type» i ∷ []) } → k ≡ count (space sort.«Type») now.content → WritesDefinition c (ty.Func f) n old new k
-function-defined stays before there tree c old now new n f i k r w at exports answer =
+pub function-defined : StaysRight → MeansBefore → StandsBehind → IsItsTree → (c : Collection) (old now new : Scope) (n : Name) (f : FuncTypeId) (i k : ℕ) → IsRightRoot c old → WritesFor c 0 (IsOfFunc c f) old now → IsFuncAt c f old now i → new ≡ record now { content = Builder (items_of now.content ++ export_item n sort.«Type» i ∷ []) } → k ≡ count (space sort.«Type») now.content → WritesDefinition c (ty.Func f) n old new k
+function-defined stays before behind tree c old now new n f i k r w at exports answer =
     defined-so c (ty.Func f) n 0 (IsOfFunc c f) old now new i k r w
-    (λ good means. function-stands stays before there tree c old now f i r w at means)
+    (λ good means. function-stands stays before behind tree c old now f i r w at means)
     (content-is now new (Builder (items_of now.content ++ export_item n sort.«Type» i ∷ [])) exports) answer
 
 pub function-once : (c : Collection) (old now new : Scope) (n : Name) (f : FuncTypeId) (i k : ℕ) → WritesFor c 0 (IsOfFunc c f) old now → AddsHeldFunc c old now f i → IsFuncAt c f old now i → new ≡ record now { content = Builder (items_of now.content ++ export_item n sort.«Type» i ∷ []) } → WritesOnce c (ty.Func f) n old new k

@@ -1,5 +1,6 @@
--- What the writer of definitions writes into the root: types, and the export of one of them.
-use Rattle.std.specs.Prelude.{ℕ, ◌≡◌, ◌⊎◌, true, List, [], ◌∷◌, ◌++◌, map, Result, Ok, Err}
+-- What the writer of definitions writes into the root: types and aliases of types, and the export of one of them.
+use Rattle.std.specs.Prelude.{ℕ, ◌≡◌, ◌⊎◌, true, List, [], ◌∷◌, ◌++◌, Result, Ok, Err}
+use Rattle.std.specs.List.{AllByRecursion}
 use Rattle.wac_primitives.specs.Name.{Name}
 use Rattle.wac_shapes.specs.declared.component.ItemKind.{ItemKind}
 use Rattle.wac_shapes.specs.declared.component.ItemKind.TheVariants as kind
@@ -11,10 +12,10 @@ use Rattle.wac_collection.specs.Aliases.{value_resolved}
 use Rattle.wac_collection.specs.Bound.{held_tree}
 use Rattle.wac_binary.specs.declared.sorts.Sort.TheVariants as sort
 use Rattle.wac_binary.specs.Indexes.{space, indexes}
-use Rattle.wac_binary.specs.Items.{TypeDef, Item, type_item, export_item}
+use Rattle.wac_binary.specs.Items.{Item, export_item}
 use Rattle.wac_binary.specs.Fits.{Fits}
 use Rattle.wac_binary.specs.HasMeaning.{HasMeaning}
-use Rattle.wac_binary.specs.Meaning.{written, meaning, stands_for}
+use Rattle.wac_binary.specs.Meaning.{Thing, written, meaning, stands_for}
 use Rattle.wac_scopes.specs.declared.encodable.Encodable.TheVariants.{Builder}
 use Rattle.wac_scopes.specs.declared.fault.EncodeFault.{EncodeFault}
 use Rattle.wac_scopes.specs.declared.fault.EncodeFault.TheVariants as fault
@@ -22,6 +23,8 @@ use Rattle.wac_scopes.specs.declared.fault.WriteFault.{WriteFault}
 use Rattle.wac_scopes.specs.declared.fault.WriteFault.TheVariants as write
 use Rattle.wac_scopes.specs.declared.scope.Scope.{Scope}
 use Rattle.wac_scopes.specs.Contents.{items_of}
+use Rattle.wac_scopes.specs.Rooted.{thing_listed, IsTypeItem}
+use Rattle.wac_scopes.specs.Scoped.{listing, root_of}
 use Rattle.wac_stacks.specs.Good.{nothing_bound}
 use Rattle.wac_encode.specs.Written.{WritesFor, HasHandle, AddsHeldFunc, IsFuncAt}
 use Rattle.wac_encode.specs.Listing.{lists_plain, NeededBy, own_types, IsListedAt, SameRecords, TypeDoesNotFit}
@@ -41,14 +44,20 @@ defined_tree c (ty.Interface i) = component_tree c i
 defined_tree c (ty.World w) = world_component_tree c w
 defined_tree c t = held_tree c nothing_bound t
 
--- From old to new: types alone behind what stood, then the export of one of them under the name, at index k.
+-- what its index stands for: of a value type that an instance lists, aliases followed to the end, the instance's export
+abbrev pub defined_thing : Collection → Scope → AnyType → Thing
+defined_thing c s (ty.Value v) = thing_listed (listing s (ty.Value (value_resolved c v))) (root_of s) (defined_tree c (ty.Value v))
+defined_thing c s t = written (defined_tree c t)
+
+-- From old to new: types and aliases of types alone behind what stood, then the export of one of them under the name, at index k.
 pub record WritesDefinition (c : Collection) (t : AnyType) (n : Name) (old new : Scope) (k : ℕ) : Type 0 where
-  pub types : List TypeDef
+  pub types : List Item
+  pub alone : AllByRecursion IsTypeItem types
   pub mid : List Item
-  pub added : mid ≡ items_of old.content ++ map type_item types
+  pub added : mid ≡ items_of old.content ++ types
   pub index : ℕ
-  -- the one that is exported is the type
-  pub meant : HasMeaning (items_of old.content) → HasMeaning mid × (stands_for (meaning mid) sort.«Type» index ≡ written (defined_tree c t))
+  -- the one that is exported is the type, or its alias
+  pub meant : HasMeaning (items_of old.content) → HasMeaning mid × (stands_for (meaning mid) sort.«Type» index ≡ defined_thing c old t)
   pub content : new.content ≡ Builder (mid ++ export_item n sort.«Type» index ∷ [])
   pub answer : k ≡ indexes (space sort.«Type») mid
 

@@ -161,17 +161,17 @@ make_id n = record { 0 = n }
 same-id : (a b : DefinedTypeId) → nat_eq a.0 b.0 ≡ true → a ≡ b
 same-id a b h = let same : a.0 ≡ b.0 = grind arith in ap make_id same
 
--- a definition is listed where it was, or is among those that the instance exports
-listed-there : (c : Collection) (m : Bindings) (b : Bound) (k : ℕ) (at : DefinedTypeId → Option Listed) (d : DefinedTypeId) (l : Listed) (es : List (DefinedTypeId × Name)) → ((p : ℕ) (e : DefinedTypeId × Name) → slice_get es p ≡ Some e → Exports c m b e.0 e.1) → listed_too k es at d ≡ Some l
-    → (at d ≡ Some l) ⊎ ((n : Name) × (l ≡ ByInstance k n) × Exports c m b d n)
-listed-there c m b k at d l [] exports h = inl h
-listed-there c m b k at d l (e ∷ es) exports h = by_rest (λ is. listed-there c m b k at d l es (λ p y there. exports (suc p) y there) is) (listed_too k es at d) refl h
+-- a definition is listed where it was, or is among those that the instance lists, of which this holds
+pub listed-where : (P : DefinedTypeId → Name → Type 0) (k : ℕ) (at : DefinedTypeId → Option Listed) (d : DefinedTypeId) (l : Listed) (es : List (DefinedTypeId × Name)) → ((p : ℕ) (e : DefinedTypeId × Name) → slice_get es p ≡ Some e → P e.0 e.1) → listed_too k es at d ≡ Some l
+    → (at d ≡ Some l) ⊎ ((n : Name) × (l ≡ ByInstance k n) × P d n)
+listed-where P k at d l [] holds h = inl h
+listed-where P k at d l (e ∷ es) holds h = by_rest (λ is. listed-where P k at d l es (λ p y there. holds (suc p) y there) is) (listed_too k es at d) refl h
   where
-    by_id : (z : Bool) → nat_eq e.0.0 d.0 ≡ z → cond z (Some (ByInstance k e.1)) None ≡ Some l → (n : Name) × (l ≡ ByInstance k n) × Exports c m b d n
-    by_id true same is = (e.1, sym (some-equal (ByInstance k e.1) l is), subst (λ (x : DefinedTypeId). Exports c m b x e.1) (same-id e.0 d same) (exports 0 e refl))
+    by_id : (z : Bool) → nat_eq e.0.0 d.0 ≡ z → cond z (Some (ByInstance k e.1)) None ≡ Some l → (n : Name) × (l ≡ ByInstance k n) × P d n
+    by_id true same is = (e.1, sym (some-equal (ByInstance k e.1) l is), subst (λ (x : DefinedTypeId). P x e.1) (same-id e.0 d same) (holds 0 e refl))
     by_id false same is = let no_some : None ≡ Some l = is in cc
 
-    by_rest : (listed_too k es at d ≡ Some l → (at d ≡ Some l) ⊎ ((n : Name) × (l ≡ ByInstance k n) × Exports c m b d n)) → (o : Option Listed) → listed_too k es at d ≡ o → first_of o (listed_by k e d) ≡ Some l → (at d ≡ Some l) ⊎ ((n : Name) × (l ≡ ByInstance k n) × Exports c m b d n)
+    by_rest : (listed_too k es at d ≡ Some l → (at d ≡ Some l) ⊎ ((n : Name) × (l ≡ ByInstance k n) × P d n)) → (o : Option Listed) → listed_too k es at d ≡ o → first_of o (listed_by k e d) ≡ Some l → (at d ≡ Some l) ⊎ ((n : Name) × (l ≡ ByInstance k n) × P d n)
     by_rest rest (Some x) is found = rest (is ∙ found)
     by_rest rest None is found = inr (by_id (nat_eq e.0.0 d.0) refl found)
 
@@ -186,7 +186,7 @@ pub listed-stands : (c : Collection) (m : Bindings) (out : List Env) (mid new : 
 listed-stands c m out mid new o b k es memo at exports lists a w h = by_index (type_index mid a) refl (sym (ap (λ (x : Option ℕ). place x (listing new a)) (lists.types a)) ∙ h)
   where
     by_list : (u : AnyType) (l : Listed) → type_index mid u ≡ None → listing new u ≡ Some l → StandsIn c m out mid o u (place_listed l)
-    by_list (ty.Value (val.Defined d)) l none is = by_place (listed-there c m b k (listed_at mid) d l es exports (sym (lists.listed d) ∙ is))
+    by_list (ty.Value (val.Defined d)) l none is = by_place (listed-where (Exports c m b) k (listed_at mid) d l es exports (sym (lists.listed d) ∙ is))
       where
         by_place : (listed_at mid d ≡ Some l) ⊎ ((n : Name) × (l ≡ ByInstance k n) × Exports c m b d n) → StandsIn c m out mid o (ty.Value (val.Defined d)) (place_listed l)
         by_place (inl was) = memo (ty.Value (val.Defined d)) (place_listed l) (ap2 place none was)

@@ -1,5 +1,8 @@
--- A root into which definitions are written beside other items: what is recorded there are types that are written.
-use Rattle.std.specs.Prelude.{ℕ, ◌≡◌, ◌≤◌, false, List, [], ◌∷◌, ◌++◌, map, Some, None}
+-- A root into which definitions are written beside other items: what is recorded there are types that are written, or aliased from the
+-- instances that list them.
+use Rattle.std.specs.Prelude.{ℕ, ◌≡◌, ◌<◌, ◌+◌, false, List, [], ◌∷◌, ◌++◌, Option, Some, None, slice_get}
+use Rattle.std.specs.List.{AllByRecursion}
+use Rattle.wac_primitives.specs.Name.{Name}
 use Rattle.wac_shapes.specs.declared.component.DefinedTypeId.{DefinedTypeId}
 use Rattle.wac_shapes.specs.declared.component.«Type».{«Type» as AnyType}
 use Rattle.wac_primitives.specs.Tree.{Tree}
@@ -7,27 +10,46 @@ use Rattle.wac_collection.specs.Collection.{Collection}
 use Rattle.wac_collection.specs.Bound.{held_tree}
 use Rattle.wac_binary.specs.declared.sorts.Sort.TheVariants as sort
 use Rattle.wac_binary.specs.Indexes.{space, indexes}
-use Rattle.wac_binary.specs.Items.{TypeDef, Item, type_item}
-use Rattle.wac_binary.specs.Meaning.{written, meaning, stands_for}
+use Rattle.wac_binary.specs.Items.{Item, type_item, alias_item, export_alias}
+use Rattle.wac_binary.specs.Unfold.{Bound}
+use Rattle.wac_binary.specs.Meaning.{Thing, nothing, written, Root, projected, meaning, stands_for}
 use Rattle.wac_binary.specs.HasMeaning.{HasMeaning}
+use Rattle.wac_scopes.specs.declared.scope.Listed.{Listed}
+use Rattle.wac_scopes.specs.declared.scope.Listed.TheVariants.{ByInstance, Around}
 use Rattle.wac_scopes.specs.declared.scope.Scope.{Scope}
 use Rattle.wac_scopes.specs.Contents.{IsRoot, items_of}
 use Rattle.wac_stacks.specs.Scopes.{Open, opening}
 use Rattle.wac_stacks.specs.Good.{At, Good, nothing_bound}
+use Rattle.wac_stacks.specs.Instances.{Exports}
 use Rattle.wac_scopes.specs.Scoped.{type_index, value_index, listing, opened, root_of}
 
 -- nothing is recorded
 abbrev pub unbound : Open
 unbound = opening (λ r. false)
 
--- a root where nothing is bound, alone, in which no instance lists a type: as far as what is written has a meaning, what is recorded is right,
--- and is written there
+-- what the index of a type stands for: the export of the instance that lists it; where none does, the type itself
+abbrev pub thing_listed : Option Listed → Root → Tree → Thing
+thing_listed None r t = written t
+thing_listed (Some (ByInstance j n)) r t = projected (stands_for r sort.Instance j) n
+thing_listed (Some (Around i)) r t = nothing
+
+-- the instance that lists a type stands among the items
+abbrev pub IsListedIn : List Item → Listed → Type 0
+IsListedIn items (ByInstance j n) = j < indexes (space sort.Instance) items
+IsListedIn items (Around i) = ⊥
+
+-- what it stands for stays as items are added
+abbrev pub ListedStays : Type 0
+ListedStays = (items more : List Item) (o : Option Listed) (t : Tree) → ((l : Listed) → o ≡ Some l → IsListedIn items l) → thing_listed o (meaning (items ++ more)) t ≡ thing_listed o (meaning items) t
+
+-- a root where nothing is bound, alone: as far as what is written has a meaning, what is recorded is right, and is written there, or aliased
+-- from the instance that lists it
 pub record IsRightRoot (c : Collection) (s : Scope) : Type 0 where
   pub is_root : IsRoot s.content
-  pub unlisted : (a : AnyType) → listing s a ≡ None
+  pub there : (a : AnyType) (l : Listed) → listing s a ≡ Some l → IsListedIn (items_of s.content) l
   pub right : HasMeaning (items_of s.content) → Good c (nothing_bound ∷ []) (opened s unbound ∷ [])
   pub written : HasMeaning (items_of s.content) → (a : AnyType) (i : ℕ) → type_index s a ≡ Some i
-      → stands_for (root_of s) sort.Type i ≡ written (held_tree c nothing_bound a)
+      → stands_for (root_of s) sort.Type i ≡ thing_listed (listing s a) (root_of s) (held_tree c nothing_bound a)
 
 -- a root in which nothing is recorded is such, whatever its items are
 abbrev pub BeginsRight : Type 0
@@ -42,11 +64,32 @@ StaysRight = (c : Collection) (old new : Scope) (more : List Item) → IsRightRo
 abbrev pub MeansBefore : Type 0
 MeansBefore = (items more : List Item) → HasMeaning (items ++ more) → HasMeaning items
 
--- a type index of types that are added stands for a type that is written
+-- a type, or an alias of a type that an instance exports
+abbrev pub IsTypeItem : Item → Type 0
+IsTypeItem (type_item t) = Unit {0}
+IsTypeItem (alias_item (export_alias sort.Type j n)) = Unit {0}
+IsTypeItem _ = ⊥
+
+-- what the type index that it adds stands for
+abbrev pub thing_of_type : Root → Tree → Item → Thing
+thing_of_type r t (alias_item (export_alias s j n)) = projected (stands_for r sort.Instance j) n
+thing_of_type r t x = written t
+
+-- a type index of types and aliases that are added stands for the type, or for what is aliased
 abbrev pub IsWrittenThere : Type 0
-IsWrittenThere = (items : List Item) (types : List TypeDef) (i : ℕ) (t : Tree) → indexes (space sort.Type) items ≤ i → At ((meaning (items ++ map type_item types)).scope.types) i t
-    → stands_for (meaning (items ++ map type_item types)) sort.Type i ≡ written t
+IsWrittenThere = (items types : List Item) (p : ℕ) (x : Item) (t : Tree) → AllByRecursion IsTypeItem types → HasMeaning (items ++ types) → slice_get types p ≡ Some x
+    → At ((meaning (items ++ types)).scope.types) (indexes (space sort.Type) items + p) t
+    → stands_for (meaning (items ++ types)) sort.Type (indexes (space sort.Type) items + p) ≡ thing_of_type (meaning items) t x
 
 -- where the definition was recorded at index i before, the root is such with it recorded at the export of that index
 abbrev pub ExportsRight : Scope → Scope → DefinedTypeId → ℕ → Type 0
 ExportsRight old new d i = (c : Collection) → IsRightRoot c old → value_index old d ≡ Some i → IsRightRoot c new
+
+-- an instance stands at this index, and as far as what is written has a meaning it exports these definitions as the held value types
+abbrev pub HasListing : Collection → Scope → ℕ → List (DefinedTypeId × Name) → Type 0
+HasListing c s k es = (k < indexes (space sort.Instance) (items_of s.content))
+    × (HasMeaning (items_of s.content) → (b : Bound) × At ((root_of s).scope.instances) k b × ((p : ℕ) (e : DefinedTypeId × Name) → slice_get es p ≡ Some e → Exports c nothing_bound b e.0 e.1))
+
+-- where no type is written yet, the root is such with what the instance lists
+abbrev pub ListsRight : Scope → ℕ → List (DefinedTypeId × Name) → Scope → Type 0
+ListsRight old k es new = (c : Collection) → IsRightRoot c old → ((a : AnyType) → type_index old a ≡ None) → HasListing c old k es → IsRightRoot c new

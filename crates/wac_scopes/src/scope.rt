@@ -14,7 +14,7 @@ ghost use Rattle.wac_binary.specs.Views.{arguments_of, defined_of, func_of};
 ghost use Rattle.wac_scopes.specs.declared.encodable.Encodable.TheVariants.{Builder};
 ghost use Rattle.wac_scopes.specs.Contents.{IsRoot, IsOpenType, and_type, and_core_module, and_export, and_import, count, items_of, ContentFits};
 ghost use Rattle.wac_scopes.specs.Scoped.{IfThere, IsThere, AddsValue, AddsFunc, AddsPrimitive, AddsInstance, AddsComponent, AddsModule, ListsType, ListsValue, ListsFunction, ListsInstanceOf, ListsComponentOf, RootImportsType, RootImportsValue, RootImportsFunction, RootImportsInstance, RootImportsModule, RootImportsComponent, RootImportsListing, HasToo, IsAsBefore, AlsoLists, ListsAround, AliasesValue, IsAliased, AliasFits, IsAt, type_index, value_index, named_at, listed_at, listing, in_use, WritesUnlessTooLarge, FitsUnlessTooLarge, RecordsUnlessTooLarge};
-ghost use Rattle.wac_scopes.specs.Rooted.{ExportsRight};
+ghost use Rattle.wac_scopes.specs.Rooted.{ExportsRight, ListsRight};
 ghost use Rattle.wac_scopes.specs.Sides.{side_of, IsOpenComponent, and_declared, DeclaresType, DeclaresValue, DeclaresFunction, DeclaresInstance, DeclaresListing};
 
 use crate::encodable::Encodable;
@@ -564,6 +564,25 @@ impl Scope {
         let instance = self.import_instance(name, index)?;
         self.list(instance, definitions);
         Ok(instance)
+    }
+
+    /// Records that an instance that stands in the root lists these definitions as type items, each under its name: those that no instance
+    /// listed before are from now on aliased from this one, the last under its name where one stands here twice.
+    ///
+    /// Answers `AllocError` where memory was refused; then nothing is recorded.
+    pub fn list_definitions(
+        &mut self,
+        instance: u32,
+        definitions: Vec<(DefinedTypeId, Text)>,
+    ) -> Result<(), AllocError>
+        ensures right { OnOk result (ListsRight self.old instance definitions.items self.new) }
+        ensures listed { OnOk result (AlsoLists self.old instance definitions.items self.new) }
+        ensures kept { self.new.content ≡ self.old.content }
+        ensures refused { OnErr result (IsAsBefore self.old self.new) }
+    {
+        self.make_listed_room(definitions.len())?;
+        self.list(instance, definitions);
+        Ok(())
     }
 
     /// Makes room to record where so many definitions more are listed.

@@ -1,13 +1,13 @@
 use Rattle.std.proofs.Common.{◌≡◌, true, sym, subst}
 use Rattle.wac_collection.specs.Collection.{Collection, holds_type}
-use Rattle.wac_meaning.specs.Definition.{definition_tree}
+use Rattle.wac_importing.specs.Defined.{definition_thing}
 use Rattle.wac_meaning.specs.Encoding.{index_in}
 use Rattle.wac_meaning.specs.Importable.{IsDefinableKind}
 use Rattle.wac_meaning.specs.Writing.{WritesType}
 use Rattle.wac_shapes.specs.declared.component.ItemKind.TheVariants.{TypeItem}
 use Rattle.wac_scopes.specs.Contents.{items_of}
 use Rattle.wac_scopes.specs.Rooted.{IsRightRoot}
-use Rattle.wac_encoding.proofs.DefinitionLemmas.{definable, written}
+use Rattle.wac_encoding.proofs.DefinitionLemmas.{definable, written, defined_behind}
 use Rattle.wac_encoding.proofs.writer.write_definition.Goals as goal
 
 pub write_definition-requires-clause-held : goal.write_definition-requires-clause-held
@@ -26,7 +26,9 @@ returns-clause-written c =
     let w = c.in_ok-index.ensures.written in
     written c.args.reader.now c.args.n c.definition-ty.result.1 c.definition-ty.result.0.now c.requires.definition c.definition-ty.ensures.defined c.args.imports.now.places.items
     (index_in c.args.encoder.now.indexes.items) c.args.encoder.now.components.entries (items_of c.args.encoder.now.root.content) w.mid (items_of c.write_definition.new.root.content) w.k c.in_ok-index.index
-    (subst (λ (t : Collection). WritesType (definition_tree t c.definition-ty.result.1) (items_of c.args.encoder.now.root.content) w.mid w.k) c.types.ensures w.writes) w.exported w.index
+    (definition_thing c.args.reader.now.types c.args.encoder.now.root c.definition-ty.result.1)
+    (defined_behind c.args.reader.now c.args.imports.now.places.items c.args.encoder.now.root (c.requires.listed c.args.n c.requires.definition) c.definition-ty.result.1)
+    (subst (λ (t : Collection). WritesType (definition_thing t c.args.encoder.now.root c.definition-ty.result.1) (items_of c.args.encoder.now.root.content) w.mid w.k) c.types.ensures w.writes) w.exported w.index
 
 pub returns-clause-right : goal.returns-clause-right
 returns-clause-right c = subst (λ (t : Collection). IsRightRoot t c.write_definition.new.root) c.types.ensures c.in_ok-index.ensures.right

@@ -1,7 +1,9 @@
-use Rattle.std.proofs.Common.{◌∙◌}
+use Rattle.std.proofs.Common.{ap, ◌∙◌}
 use Rattle.wac_binary.specs.declared.sorts.Sort.TheVariants as sort
 use Rattle.wac_binary.specs.Indexes.{space}
 use Rattle.wac_scopes.specs.Contents.{items_of}
+use Rattle.wac_scopes.specs.declared.scope.Scope.{Scope}
+use Rattle.wac_scopes.specs.Scoped.{listing}
 use Rattle.wac_writing.proofs.WriteArgumentsLemmas.{added_instantiation}
 use Rattle.wac_reading.proofs.RootLemmas.{root_count, grown, stays_right}
 use Rattle.wac_encoding.proofs.writer.write_instantiation.Goals as goal
@@ -18,3 +20,6 @@ returns-clause-written c = added_instantiation c.args.reader.now c.args.imports.
 
 pub returns-clause-right : goal.returns-clause-right
 returns-clause-right c = stays_right c.rooted_law.ensures.stays c.args.reader.now.types c.component.new.self.root c.instantiate.new.self _ (c.component.ensures.right c.args.reader.now.types c.requires.right) c.in_ok-instantiate.ensures.appended
+
+pub returns-clause-listed : goal.returns-clause-listed
+returns-clause-listed c = λ a. ap (λ (s : Scope). listing s a) c.in_ok-instantiate.ensures.appended ∙ c.component.ensures.listed a

@@ -1,4 +1,8 @@
-use Rattle.std.proofs.Common.{◌≡◌, ap, false}
+use Rattle.std.proofs.Common.{◌≡◌, ap, sym, subst, false}
+use Rattle.wac_shapes.specs.declared.component.«Type».{«Type» as AnyType}
+use Rattle.wac_scopes.specs.Rooted.{IsRightRoot}
+use Rattle.wac_scopes.specs.Scoped.{listing}
+use Rattle.wac_reading.specs.declared.encoder.Encoder.{Encoder}
 use Rattle.wac_meaning.specs.Means.{is_import}
 use Rattle.wac_nodes.specs.Graph.{instantiation, alias, definition}
 use Rattle.wac_nodes.specs.Nodes.{kind_of}
@@ -29,4 +33,18 @@ returns-clause-written c = elim c.match-kind.branch [
   | in-Instantiation+in_ok-index-in-Instantiation w ↦ noted c.args.reader.now c.args.imports.now.places.items c.args.n.0 (progress c.args.encoder.now) (progress w.write_instantiation.new.encoder) (progress c.match-kind.encoder) _ c.match-kind.index (ap progress w.encoder-is) w.index-is w.in_ok-index-in-Instantiation.ensures.written (ap (λ v. v.items) w.in_ok-index-in-Instantiation.ensures.kept)
   | in-Alias+in_ok-index-in-Alias w ↦ noted c.args.reader.now c.args.imports.now.places.items c.args.n.0 (progress c.args.encoder.now) (progress w.write_alias.new.encoder) (progress c.match-kind.encoder) _ c.match-kind.index (ap progress w.encoder-is) w.index-is (w.in_ok-index-in-Alias.ensures.written c.args.imports.now.places.items) (ap (λ v. v.items) w.in_ok-index-in-Alias.ensures.kept)
   | in-Definition+in_ok-index-in-Definition w ↦ noted c.args.reader.now c.args.imports.now.places.items c.args.n.0 (progress c.args.encoder.now) (progress w.write_definition.new.encoder) (progress c.match-kind.encoder) _ c.match-kind.index (ap progress w.encoder-is) w.index-is w.in_ok-index-in-Definition.ensures.written (ap (λ v. v.items) w.in_ok-index-in-Definition.ensures.kept)
+]
+
+pub returns-clause-right : goal.returns-clause-right
+returns-clause-right c = elim c.match-kind.branch [
+  | in-Instantiation+in_ok-index-in-Instantiation w ↦ subst (λ (e : Encoder). IsRightRoot c.args.reader.now.types e.root) (sym w.encoder-is) w.in_ok-index-in-Instantiation.ensures.right
+  | in-Alias+in_ok-index-in-Alias w ↦ subst (λ (e : Encoder). IsRightRoot c.args.reader.now.types e.root) (sym w.encoder-is) w.in_ok-index-in-Alias.ensures.right
+  | in-Definition+in_ok-index-in-Definition w ↦ subst (λ (e : Encoder). IsRightRoot c.args.reader.now.types e.root) (sym w.encoder-is) w.in_ok-index-in-Definition.ensures.right
+]
+
+pub returns-clause-listed : goal.returns-clause-listed
+returns-clause-listed c = elim c.match-kind.branch [
+  | in-Instantiation+in_ok-index-in-Instantiation w ↦ subst (λ (e : Encoder). (a : AnyType) → listing e.root a ≡ listing c.args.encoder.now.root a) (sym w.encoder-is) w.in_ok-index-in-Instantiation.ensures.listed
+  | in-Alias+in_ok-index-in-Alias w ↦ subst (λ (e : Encoder). (a : AnyType) → listing e.root a ≡ listing c.args.encoder.now.root a) (sym w.encoder-is) w.in_ok-index-in-Alias.ensures.listed
+  | in-Definition+in_ok-index-in-Definition w ↦ subst (λ (e : Encoder). (a : AnyType) → listing e.root a ≡ listing c.args.encoder.now.root a) (sym w.encoder-is) w.in_ok-index-in-Definition.ensures.listed
 ]

@@ -2,10 +2,9 @@ use Rattle.std.proofs.Common.{◌≡◌, true, IfOk, sym, subst}
 use Rattle.wac_shapes.specs.declared.component.ItemKind.TheVariants as kind
 use Rattle.wac_shapes.specs.declared.component.«Type».{«Type» as AnyType}
 use Rattle.wac_collection.specs.Collection.{holds_type}
-use Rattle.wac_meaning.specs.Definition.{definition_tree}
 use Rattle.wac_meaning.specs.Importable.{IsDefinableKind}
 use Rattle.wac_scopes.specs.Contents.{items_of}
-use Rattle.wac_importing.specs.Defined.{DefinesType}
+use Rattle.wac_importing.specs.Defined.{definition_thing, DefinesType}
 use Rattle.wac_importing.proofs.defined.write_definition.Goals as goal
 
 pub write_world-requires-clause-held : goal.write_world-requires-clause-held
@@ -19,4 +18,4 @@ write_type-requires-clause-other c = c.in_default.not-World
 
 pub returns-in-World-clause-written : goal.returns-in-World-clause-written
 returns-in-World-clause-written c =
-    subst (λ (t : AnyType). IfOk c.write_world.result (DefinesType (definition_tree c.args.types.now t) c.args.name.now (items_of c.args.root.now.content) (items_of c.write_world.new.root.content))) (sym c.in-World.is) c.write_world.ensures.written
+    subst (λ (t : AnyType). IfOk c.write_world.result (DefinesType (definition_thing c.args.types.now c.args.root.now t) c.args.name.now (items_of c.args.root.now.content) (items_of c.write_world.new.root.content))) (sym c.in-World.is) c.write_world.ensures.written

@@ -1,6 +1,6 @@
 use Rattle.std.proofs.Common.{Err, ap, ◌∙◌, sym, subst}
-use Rattle.wac_root.specs.Defining.{IsDefinable, WritesDefinition, IsDefinitionRefused}
-use Rattle.wac_importing.proofs.Defining.{is_writable, no_fault, defines}
+use Rattle.wac_root.specs.Defining.{IsDefinable, WritesDefinition, WritesOnce, IsDefinitionRefused}
+use Rattle.wac_importing.proofs.Defining.{is_writable, no_fault, defines, still_listed}
 use Rattle.wac_importing.proofs.defined.write_type.Goals as goal
 
 pub definition-requires-clause-definable : goal.definition-requires-clause-definable
@@ -15,3 +15,7 @@ unreachable-requires c =
 pub returns-in-Ok-clause-written : goal.returns-in-Ok-clause-written
 returns-in-Ok-clause-written c = defines c.args.types.now c.law.ensures c.args.name.now c.args.root.now c.definition.new.root c.in-Ok.index c.args.ty c.requires.other c.requires.held c.requires.definable
     (subst (λ types. WritesDefinition types c.args.ty c.args.name.now c.args.root.now c.definition.new.root c.in-Ok.index) c.new.ensures c.in-Ok.ensures.definition)
+
+pub returns-in-Ok-clause-listed : goal.returns-in-Ok-clause-listed
+returns-in-Ok-clause-listed c = still_listed c.args.types.now c.args.ty c.args.name.now c.args.root.now c.definition.new.root c.in-Ok.index
+    (subst (λ types. WritesOnce types c.args.ty c.args.name.now c.args.root.now c.definition.new.root c.in-Ok.index) c.new.ensures c.in-Ok.ensures.written)

@@ -1,6 +1,8 @@
 use Rattle.std.proofs.Common.{ℕ, Err, ap, ◌∙◌, sym, subst}
 use Rattle.wac_shapes.specs.declared.component.«Type».TheVariants as ty
 use Rattle.wac_root.specs.Defining.{WritesDefinition}
+use Rattle.wac_scopes.specs.declared.scope.Scope.{Scope}
+use Rattle.wac_scopes.specs.Scoped.{listing}
 use Rattle.wac_components.specs.Definitions.{IsDefinableWorld, IsWorldNotDefined}
 use Rattle.wac_importing.proofs.Refusing.{world_no_fault}
 use Rattle.wac_importing.proofs.Worlds.{plain_items, world_definable}
@@ -19,3 +21,6 @@ unreachable-requires c =
 pub returns-in-Ok-clause-written : goal.returns-in-Ok-clause-written
 returns-in-Ok-clause-written c = world_defines c.args.types.now c.law.ensures c.args.name.now c.args.root.now c.define_world.new.root c.in-Ok.index c.args.world c.requires.definable
     (subst (λ types. WritesDefinition types (ty.World c.args.world) c.args.name.now c.args.root.now c.define_world.new.root c.in-Ok.index) c.new.ensures c.in-Ok.ensures.definition)
+
+pub returns-in-Ok-clause-listed : goal.returns-in-Ok-clause-listed
+returns-in-Ok-clause-listed c = λ a. ap (λ (s : Scope). listing s a) c.in-Ok.ensures.written.defined

@@ -41,3 +41,6 @@ returns-in-None-clause-refused c = λ o is.
 
 pub returns-in-Some-clause-definable : goal.returns-in-Some-clause-definable
 returns-in-Some-clause-definable c = c.are_definable.ensures.all (c.in_ok-are_definable.was ∙ ap Ok c.if-not-branch.false)
+
+pub returns-in-Some-clause-importable : goal.returns-in-Some-clause-importable
+returns-in-Some-clause-importable c = when_some c.in_ok-root.field-0 c.in-Some.field-0 (λ (w : WrittenImports). AllImportable c.args.self.now) c.in-Some.is c.in_ok-root.ensures.importable

@@ -2,8 +2,11 @@ use Rattle.std.proofs.Common.{◌≡◌, List, IfSome, refl, sym, subst}
 use Rattle.wac_binary.specs.Bytes.{bytes_of}
 use Rattle.wac_binary.specs.Items.{Item}
 use Rattle.wac_causes.specs.Cause.{AnswersFor, Stands, cause_of}
-use Rattle.wac_causes.specs.NotYet.{AllDefinable}
+use Rattle.wac_causes.specs.NotYet.{AllDefinable, AllImportable}
 use Rattle.wac_causes.specs.Search.{IsRefused}
+use Rattle.wac_entries.specs.Classes.{by_names}
+use Rattle.wac_nodes.specs.OuterImports.{outer_entries}
+use Rattle.wac_terms.specs.Faults.{HasNoCircle}
 use Rattle.wac_edges.specs.Order.{Writes, IsAcyclic}
 use Rattle.wac_meaning.specs.Means.{Means, is_written}
 use Rattle.wac_places.specs.Places.{ArePlaced}
@@ -86,6 +89,12 @@ write-requires-clause-placed c = subst (λ g. ArePlaced g c.in_ok-root.imports) 
 
 pub write-requires-clause-definable : goal.write-requires-clause-definable
 write-requires-clause-definable c = subst AllDefinable (sym c.reader-reader.ensures) c.in_ok-root.ensures.definable
+
+pub write-requires-clause-importable : goal.write-requires-clause-importable
+write-requires-clause-importable c = subst AllImportable (sym c.reader-reader.ensures) c.in_ok-root.ensures.importable
+
+pub write-requires-clause-ordered : goal.write-requires-clause-ordered
+write-requires-clause-ordered c = subst (λ g. HasNoCircle by_names g.types (outer_entries g)) (sym c.reader-reader.ensures) c.in_ok-merge.ensures.merges.1
 
 pub write-requires-clause-whole : goal.write-requires-clause-whole
 write-requires-clause-whole c = subst (λ ns. Writes c.reader-reader.result.edges (is_written c.reader-reader.result) ns) (sym c.deref.ensures.value) c.in_ok-order.ensures.whole

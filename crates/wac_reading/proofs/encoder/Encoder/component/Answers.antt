@@ -1,4 +1,6 @@
-use Rattle.std.proofs.Common.{refl, inl, inr, ◌∙◌}
+use Rattle.std.proofs.Common.{refl, ap, inl, inr, ◌∙◌}
+use Rattle.wac_scopes.specs.declared.scope.Scope.{Scope}
+use Rattle.wac_scopes.specs.Scoped.{listing}
 use Rattle.wac_binary.specs.declared.sorts.Sort.TheVariants as sort
 use Rattle.wac_binary.specs.Indexes.{space}
 use Rattle.wac_writing.proofs.ComponentLemmas.{noted_for, noted_nowhere, noted_last}
@@ -21,3 +23,9 @@ returns-clause-right c = λ types right. stays_right c.rooted_law.ensures.stays 
 
 pub returns-in_err-insert-clause-right : goal.returns-in_err-insert-clause-right
 returns-in_err-insert-clause-right c = λ types right. stays_right c.rooted_law.ensures.stays types c.args.self.now.root c.component.new.self _ right c.in_ok-index.ensures.appended
+
+pub returns-clause-listed : goal.returns-clause-listed
+returns-clause-listed c = λ a. ap (λ (s : Scope). listing s a) c.in_ok-index.ensures.appended
+
+pub returns-in_err-insert-clause-listed : goal.returns-in_err-insert-clause-listed
+returns-in_err-insert-clause-listed c = λ a. ap (λ (s : Scope). listing s a) c.in_ok-index.ensures.appended

@@ -1,4 +1,6 @@
-use Rattle.std.proofs.Common.{◌<◌, ◌∙◌, refl, sym, subst, IfSome}
+use Rattle.wac_scopes.specs.declared.scope.Scope.{Scope}
+use Rattle.wac_scopes.specs.Scoped.{listing}
+use Rattle.std.proofs.Common.{◌<◌, ◌∙◌, refl, ap, sym, subst, IfSome}
 use Rattle.wac_binary.specs.Indexes.{space}
 use Rattle.wac_scopes.specs.Contents.{items_of}
 use Rattle.wac_reading.proofs.RootLemmas.{root_count, grown, stays_right}
@@ -48,3 +50,6 @@ index-instance-requires c = subst (λ k. c.in-Some.source.0 < k) (sym c.args.enc
 
 pub returns-clause-right : goal.returns-clause-right
 returns-clause-right c = stays_right c.rooted_law.ensures.stays c.args.self.now.types c.args.encoder.now.root c.alias_export.new.self _ c.requires.right c.in_ok-alias_export.ensures.appended
+
+pub returns-clause-listed : goal.returns-clause-listed
+returns-clause-listed c = λ a. ap (λ (s : Scope). listing s a) c.in_ok-alias_export.ensures.appended

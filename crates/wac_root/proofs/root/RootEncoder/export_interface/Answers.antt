@@ -42,7 +42,7 @@ pub returns-in_err-own-clause-right : goal.returns-in_err-own-clause-right
 returns-in_err-own-clause-right c =
     let t = c.args.self.now.types.now in
     let w = component-behind t c.args.root.now c.define_component.new.self c.args.interface c.in_ok-component.component c.in_ok-index.index c.in_ok-component.ensures.says c.in_ok-index.ensures.stands c.in_ok-index.ensures.appended in
-    right-same t c.define_component.new.self c.export.new.self c.in_err-own.ensures.refused (right-after c.rooted_law.ensures.stays c.rooted_law.ensures.before c.rooted_law.ensures.written_there c.step_law.ensures.is_its_tree t 1 (MadeFor t (ty.Interface c.args.interface)) c.args.root.now c.define_component.new.self w c.requires.right)
+    right-same t c.define_component.new.self c.export.new.self c.in_err-own.ensures.refused (right-after c.rooted_law.ensures.stays c.rooted_law.ensures.before (c.rooted_law.ensures.written_there, c.rooted_law.ensures.listed_stays) c.step_law.ensures.is_its_tree t 1 (MadeFor t (ty.Interface c.args.interface)) c.args.root.now c.define_component.new.self w c.requires.right)
 
 pub returns-in_err-own-clause-refused : goal.returns-in_err-own-clause-refused
 returns-in_err-own-clause-refused c =
@@ -60,7 +60,7 @@ returns-in_err-own-clause-fault c =
     rw (p.1, p.2) (name-too-large ℕ ℕ t (ty.Interface c.args.interface) c.args.root.now c.define_component.new.self c.args.name.now 1 c.in_ok-index.index (encode_fault c.in_err-own.field-0.0) w ends (as-fault ℕ c.in_err-own.field-0.0 _ c.in_err-own.ensures.too_large))
 
 pub returns-clause-definition : goal.returns-clause-definition
-returns-clause-definition c = interface-defined c.rooted_law.ensures.written_there c.args.self.now.types.now c.args.root.now c.define_component.new.self c.export.new.self c.args.name.now c.args.interface c.in_ok-component.component c.in_ok-index.index c.in_ok-own.own c.requires.right c.in_ok-component.ensures.says c.in_ok-index.ensures.stands c.in_ok-index.ensures.appended c.in_ok-index.ensures.index c.in_ok-own.ensures.appended c.in_ok-own.ensures.index
+returns-clause-definition c = interface-defined (c.rooted_law.ensures.written_there, c.rooted_law.ensures.listed_stays) c.args.self.now.types.now c.args.root.now c.define_component.new.self c.export.new.self c.args.name.now c.args.interface c.in_ok-component.component c.in_ok-index.index c.in_ok-own.own c.requires.right c.in_ok-component.ensures.says c.in_ok-index.ensures.stands c.in_ok-index.ensures.appended c.in_ok-index.ensures.index c.in_ok-own.ensures.appended c.in_ok-own.ensures.index
 
 pub returns-clause-written : goal.returns-clause-written
 returns-clause-written c =
@@ -73,4 +73,4 @@ pub returns-clause-right : goal.returns-clause-right
 returns-clause-right c =
     let t = c.args.self.now.types.now in
     let w = component-behind t c.args.root.now c.define_component.new.self c.args.interface c.in_ok-component.component c.in_ok-index.index c.in_ok-component.ensures.says c.in_ok-index.ensures.stands c.in_ok-index.ensures.appended in
-    right-exported c.rooted_law.ensures.stays t c.define_component.new.self c.export.new.self c.args.name.now c.in_ok-index.index c.in_ok-own.ensures.appended (right-after c.rooted_law.ensures.stays c.rooted_law.ensures.before c.rooted_law.ensures.written_there c.step_law.ensures.is_its_tree t 1 (MadeFor t (ty.Interface c.args.interface)) c.args.root.now c.define_component.new.self w c.requires.right)
+    right-exported c.rooted_law.ensures.stays t c.define_component.new.self c.export.new.self c.args.name.now c.in_ok-index.index c.in_ok-own.ensures.appended (right-after c.rooted_law.ensures.stays c.rooted_law.ensures.before (c.rooted_law.ensures.written_there, c.rooted_law.ensures.listed_stays) c.step_law.ensures.is_its_tree t 1 (MadeFor t (ty.Interface c.args.interface)) c.args.root.now c.define_component.new.self w c.requires.right)

@@ -1,0 +1,92 @@
+//! What the imports of a graph list, as it is recorded in the root.
+ghost use Rattle.std.specs.Prelude.{◌≡◌, ℕ, OnOk, None, Some, IsSomeAnd, slice_get};
+ghost use Rattle.wac_causes.specs.NotYet.{AllImportable};
+ghost use Rattle.wac_encoding.specs.Listed.{IsListedFor};
+ghost use Rattle.wac_encode.specs.Instances.{listed_definitions};
+ghost use Rattle.wac_meaning.specs.Beginning.{Begins, IsPlacedAt};
+ghost use Rattle.wac_meaning.specs.MergedImports.{merged_imports};
+ghost use Rattle.wac_edges.specs.declared.node.NodeId.{NodeId as AnId};
+ghost use Rattle.wac_nodes.specs.Graph.{node_at, definition};
+ghost use Rattle.wac_nodes.specs.OuterImports.{outer_entries};
+ghost use Rattle.wac_collection.specs.Collection.{interface_exports};
+ghost use Rattle.wac_places.specs.Places.{ArePlaced};
+ghost use Rattle.wac_scopes.specs.Contents.{items_of};
+ghost use Rattle.wac_scopes.specs.Rooted.{IsRightRoot};
+ghost use Rattle.wac_scopes.specs.Scoped.{type_index, listing, AlsoLists};
+ghost use Rattle.wac_shapes.specs.declared.component.ItemKind.TheVariants as kind;
+ghost use Rattle.wac_shapes.specs.declared.component.«Type».{«Type» as AnyType};
+ghost use Rattle.wac_binary.specs.declared.sorts.Sort.TheVariants as sort;
+
+use std::alloc::AllocError;
+use wac_binary::kept_law;
+use wac_encode::TypeEncoder;
+use wac_merge::laws::{class_laws, order_law};
+use wac_places::ImportPlaces;
+use wac_reading::GraphReader;
+use wac_scopes::{Scope, instance_law};
+use wac_types::{InterfaceId, ItemKind};
+
+/// Records in the root, where the graph defines a type, what the instances list that the graph asks for, each at the import into which its
+/// name fell: definitions are aliased from there, each from the first instance that lists it.
+pub(crate) fn list_imports(
+    reader: &GraphReader<'_>,
+    imports: &ImportPlaces,
+    root: &mut Scope,
+) -> Result<(), AllocError>
+    requires placed { ArePlaced reader.now imports.now }
+    requires importable { AllImportable reader.now }
+    requires begins { Begins (merged_imports imports.now.merge.merge) imports.now.places.items (items_of root.old.content) }
+    requires right { IsRightRoot reader.now.types root.old }
+    requires types { (a : AnyType) → type_index root.old a ≡ None }
+    requires unlisted { (a : AnyType) → listing root.old a ≡ None }
+    ensures right { OnOk result (IsRightRoot reader.now.types root.new) }
+    ensures listed { OnOk result ((n : AnId) → IsSomeAnd (node_at reader.now n) (λ node. node.kind ≡ definition) → IsListedFor reader.now imports.now.places.items root.new) }
+    ensures kept { OnOk result (root.new.content ≡ root.old.content) }
+{
+    if !reader.has_definition() {
+        return Ok(());
+    }
+    let entries = imports.merge.entries();
+    for i in 0..entries.len() {
+        let entry = &entries[i];
+        if let ItemKind::Instance(interface) = entry.kind() {
+            list_instance(reader, imports, root, i, entry.name(), interface)?;
+        }
+    }
+    Ok(())
+}
+
+/// Records what the instance lists that is asked for at a position.
+fn list_instance(
+    reader: &GraphReader<'_>,
+    imports: &ImportPlaces,
+    root: &mut Scope,
+    position: usize,
+    name: &str,
+    interface: InterfaceId,
+) -> Result<(), AllocError>
+    requires placed { ArePlaced reader.now imports.now }
+    requires importable { AllImportable reader.now }
+    requires asked { slice_get (outer_entries reader.now) position ≡ Some (record { name = name.now; kind = kind.Instance interface }) }
+    requires begins { Begins (merged_imports imports.now.merge.merge) imports.now.places.items (items_of root.old.content) }
+    requires right { IsRightRoot reader.now.types root.old }
+    requires types { (a : AnyType) → type_index root.old a ≡ None }
+    ensures right { OnOk result (IsRightRoot reader.now.types root.new) }
+    ensures listed { OnOk result ((index : ℕ) × IsPlacedAt reader.now imports.now.places.items name.now sort.Instance index × AlsoLists root.old index (listed_definitions reader.now.types (interface_exports reader.now.types interface)) root.new) }
+    ensures kept { OnOk result (root.new.content ≡ root.old.content) }
+{
+    wac_binary::law();
+    kept_law();
+    class_laws();
+    order_law();
+    instance_law();
+    reader.law();
+    let types = reader.types();
+    types.law();
+    let (_, index) = imports.place_of(name);
+    let held = &types[interface];
+    held.exports.law();
+    let definitions = TypeEncoder::new(types).listed_definitions(&held.exports)?;
+    root.list_definitions(index, definitions)?;
+    Ok(())
+}
