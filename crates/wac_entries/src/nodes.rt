@@ -42,9 +42,10 @@ pub enum Core {
     Tag(Vec<CoreType>, Vec<CoreType>),
 }
 
-/// A type that mentions other types by their numbers in a table.
+/// A type that mentions other types by their numbers in a table. Its names are borrowed, from the collection that holds the type;
+/// those of core modules are its own.
 #[derive(PartialEq, Eq, Hash, Drop)]
-pub enum Node {
+pub enum Node<'a> {
     /// A resource.
     Resource(Called),
     /// A primitive.
@@ -54,9 +55,9 @@ pub enum Node {
     /// A handle to a resource that is lent.
     Borrow(Called),
     /// Fields under names.
-    Record(Vec<(String, usize)>),
+    Record(Vec<(&'a str, usize)>),
     /// Cases under names.
-    Variant(Vec<(String, Option<usize>)>),
+    Variant(Vec<(&'a str, Option<usize>)>),
     /// A list of any length.
     List(usize),
     /// A list of this length.
@@ -64,9 +65,9 @@ pub enum Node {
     /// Values one after another.
     Tuple(Vec<usize>),
     /// Flags under names.
-    Flags(Vec<String>),
+    Flags(Vec<&'a str>),
     /// One of these names.
-    Enum(Vec<String>),
+    Enum(Vec<&'a str>),
     /// A value or none.
     Option(usize),
     /// A value or an error.
@@ -76,28 +77,28 @@ pub enum Node {
     /// A future.
     Future(Option<usize>),
     /// A function: whether it is asynchronous, its parameters, its result.
-    Func(bool, Vec<(String, usize)>, Option<usize>),
+    Func(bool, Vec<(&'a str, usize)>, Option<usize>),
     /// An instance: its exports, sorted by name.
-    Instance(Vec<(String, Item)>),
+    Instance(Vec<(&'a str, Item)>),
     /// A component: its imports and its exports, each sorted by name.
-    Component(Vec<(String, Item)>, Vec<(String, Item)>),
+    Component(Vec<(&'a str, Item)>, Vec<(&'a str, Item)>),
     /// A core module: its imports by module and name, and its exports, each sorted by name.
     Module(Vec<(String, Vec<(String, Core)>)>, Vec<(String, Core)>),
 }
 
 /// Nodes, each once, which mention lower ones.
-pub struct Nodes {
-    nodes: IndexSet<Node>,
+pub struct Nodes<'a> {
+    nodes: IndexSet<Node<'a>>,
 }
 
 /// The nodes are let go of here, and not anew at each place where a table goes out of scope.
-impl Drop for Nodes {
+impl<'a> Drop for Nodes<'a> {
     fn drop(self) {
         let Nodes { nodes: _ } = self;
     }
 }
 
-impl Model for Nodes {
+impl<'a> Model for Nodes<'a> {
     ghost use Rattle.std.specs.Prelude.{List, map};
     ghost use Rattle.wac_entries.specs.Nodes as table;
     ghost use Rattle.wac_entries.specs.NodeViews.{node_view};
@@ -109,9 +110,9 @@ impl Model for Nodes {
     ghost invariant = { λ t. table.IsTable (map node_view t.nodes.keys) };
 }
 
-impl Nodes {
+impl<'a> Nodes<'a> {
     /// No node.
-    pub fn new(alloc: Global) -> Nodes
+    pub fn new(alloc: Global) -> Nodes<'a>
         ensures { result ≡ [] }
     {
         Nodes {
@@ -134,7 +135,7 @@ impl Nodes {
     }
 
     /// The node of a number.
-    pub fn node(&self, number: usize) -> &Node
+    pub fn node(&self, number: usize) -> &Node<'a>
         requires { number < length self.now }
         ensures { slice_get self.now number ≡ Some (node_view result.now) }
     {
@@ -142,10 +143,10 @@ impl Nodes {
     }
 
     /// The number of a node, which is put behind the others where it is not there. Where memory runs out nothing has changed.
-    pub fn add(&mut self, node: Node) -> Result<usize, AllocError>
+    pub fn add(&mut self, node: Node<'a>) -> Result<usize, AllocError>
         requires lower { AllByRecursion (λ m. m < length self.old) (mentions (node_view node)) }
         requires sorted { IsSorted (node_view node) }
-        ensures added { OnOk result (IfOk result (λ i. Added self.old (node_view node) self.new i)) }
+        ensures added { OnOk result (IfOk result (λ i. Added self.old (node_view node.entry) self.new i)) }
         ensures refused { OnErr result (self.new ≡ self.old) }
     {
         let Ok((index, _)) = self.nodes.insert_full(node) else {
