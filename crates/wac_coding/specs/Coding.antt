@@ -24,7 +24,7 @@ use Rattle.wac_entries.specs.declared.tasks.Task.TheVariants.{Open, Close}
 use Rattle.wac_entries.specs.Nodes.{Node, mentions, IsSorted, node_tree, tree_at}
 use Rattle.wac_entries.specs.NodeViews.{node_view}
 use Rattle.wac_coding.specs.CallsView.{names_in}
-use Rattle.wac_coding.specs.Numbers.{number_at}
+use Rattle.wac_entries.specs.Numbers.{number_at}
 use Rattle.wac_entries.specs.Tasks.{task_id, parts_of, openings, HasTask, IsHeldTask}
 
 -- the tree of each type where resources are called so

@@ -2,10 +2,10 @@
 ghost use Rattle.std.specs.Prelude.{◌≡◌, [], None, OnOk};
 ghost use Rattle.wac_coding.specs.Coding.{defined_number, func_number, HasDefinedToo, HasFuncToo, HasSame};
 
-use crate::numbers::Numbers;
 use std::alloc::{AllocError, Global};
 use std::mem::replace;
 use wac_collection::{DefinedTypeId, FuncTypeId};
+use wac_entries::rounds::Numbers;
 use wac_entries::tasks::Task;
 
 /// The numbers of the types of a scope: of those that have one so far.

@@ -1,5 +1,6 @@
 pub mod Classes
 pub mod Numbering
+pub mod Numbers
 pub mod Binding
 pub mod Agreement
 pub mod Scopes
