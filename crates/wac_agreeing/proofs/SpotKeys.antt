@@ -1,12 +1,12 @@
 -- A map by spots, as a table.
 use Rattle.std.proofs.Common.{◌≡◌, ℕ, zero, suc, Bool, true, false, Global, Vec, List, [], ◌∷◌, ◌++◌, map, Some, None, refl, ap, sym, ◌∙◌, subst, eq-eqb, inl, inr, if◌then◌else◌}
-use Rattle.std.specs.Prelude.{slice_get, string_bytes}
+use Rattle.std.specs.Prelude.{slice_get}
 use Rattle.std.specs.Map.{lookup, values_of}
 use Rattle.std.proofs.lemmas.Bool.{eqb-true, cases_Bool}
 use Rattle.std.proofs.lemmas.List.{map-append}
 use Rattle.indexmap.specs.IndexMap.{insert_entry, set_value_at}
 use Rattle.wac_entries.specs.declared.nodes.Item.{Item as AnItem}
-use Rattle.wac_entries.proofs.Telling.{text_tells}
+use Rattle.wac_entries.proofs.Telling.{borrowed_tells}
 use Rattle.wac_terms.proofs.Found.{no_some, some_same}
 use Rattle.wac_agreeing.specs.declared.rows.Spot.{Spot as ASpot}
 use Rattle.wac_agreeing.specs.declared.rows.Spot.TheVariants as spot
@@ -22,15 +22,15 @@ spot_eq = (SpotEq.ghosts).eq
 
 pub spot_there : (a b : ASpot) → spot_eq a b ≡ true → spot_view a ≡ spot_view b
 spot_there (spot.Class k) (spot.Class l) e = ap spec.of_class (eqb-true k l e)
-spot_there (spot.Export n) (spot.Export m) e = ap spec.export ((text_tells n m).0 e)
+spot_there (spot.Export n) (spot.Export m) e = ap spec.export ((borrowed_tells n m).0 e)
 spot_there _ _ e = cc e
 
 pub spot_back : (a b : ASpot) → spot_view a ≡ spot_view b → spot_eq a b ≡ true
 spot_back (spot.Class k) (spot.Class l) e = eq-eqb k l (inner e) where
   inner : spec.of_class k ≡ spec.of_class l → k ≡ l
   inner e = cc
-spot_back (spot.Export n) (spot.Export m) e = (text_tells n m).1 (name e) where
-  name : spec.export (string_bytes n) ≡ spec.export (string_bytes m) → string_bytes n ≡ string_bytes m
+spot_back (spot.Export n) (spot.Export m) e = (borrowed_tells n m).1 (name e) where
+  name : spec.export n.now ≡ spec.export m.now → n.now ≡ m.now
   name e = cc
 spot_back _ _ e = cc e
 

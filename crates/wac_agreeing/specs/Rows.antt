@@ -1,5 +1,5 @@
 -- What entries have at each spot. Private functions alone cite this.
-use Rattle.std.specs.Prelude.{ℕ, suc, ◌≡◌, ◌⊎◌, List, [], ◌∷◌, ◌++◌, map, Vec, string_bytes}
+use Rattle.std.specs.Prelude.{ℕ, suc, ◌≡◌, ◌⊎◌, List, [], ◌∷◌, ◌++◌, map, Vec}
 use Rattle.std.specs.List.{AllByRecursion}
 use Rattle.wac_primitives.specs.Name.{Name, option_case}
 use Rattle.wac_entries.specs.Nodes.{Item, Node}
@@ -24,7 +24,7 @@ Table = List (Spot × List Row)
 
 abbrev pub spot_view : ASpot → Spot
 spot_view (spot.Class k) = of_class k
-spot_view (spot.Export n) = export (string_bytes n)
+spot_view (spot.Export n) = export n.now
 
 abbrev pub row_view : ℕ × AnItem → Row
 row_view r = (r.0, item_view r.1)

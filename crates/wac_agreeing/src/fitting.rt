@@ -8,7 +8,7 @@ ghost use Rattle.wac_agreeing.specs.Fitting.{Fits, exports_of};
 use wac_entries::nodes::{Item, Node, Nodes};
 
 /// What an item exports, where it is an instance.
-pub fn exports(nodes: &Nodes, item: Item) -> Option<&[(String, Item)]>
+pub fn exports<'a, 'b>(nodes: &'a Nodes<'b>, item: Item) -> Option<&'a [(&'b str, Item)]>
     requires { type_of (item_view item) < length nodes.now }
     ensures { option_map (λ es. listed es.now) result ≡ exports_of nodes.now (item_view item) }
 {

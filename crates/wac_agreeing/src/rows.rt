@@ -12,25 +12,25 @@ use wac_entries::nodes::{Item, Nodes};
 
 /// Where items are compared.
 #[derive(PartialEq, Eq, Hash, Drop)]
-pub enum Spot {
+pub enum Spot<'a> {
     /// As members of the class of this number.
     Class(usize),
     /// Under a name that instances of several entries export.
-    Export(String),
+    Export(&'a str),
 }
 
 /// The entries that have each spot, with their items there.
-pub type Rows = IndexMap<Spot, Vec<(usize, Item)>>;
+pub type Rows<'a> = IndexMap<Spot<'a>, Vec<(usize, Item)>>;
 
 /// Puts what an entry has at a spot behind what others have there.
-fn put(
+fn put<'a>(
     alloc: Global,
-    rows: &mut Rows,
-    spot: Spot,
+    rows: &mut Rows<'a>,
+    spot: Spot<'a>,
     entry: usize,
     item: Item,
 ) -> Result<(), AllocError>
-    ensures { OnOk result (IsPut (table_view rows.old.entries) (spot_view spot) (entry, item_view item) (table_view rows.new.entries)) }
+    ensures { OnOk result (IsPut (table_view rows.old.entries) (spot_view spot.entry) (entry, item_view item) (table_view rows.new.entries)) }
 {
     if let Some((position, _, _)) = rows.get_full(&spot) {
         let there = rows.get_index_mut(position).unwrap();
@@ -46,7 +46,11 @@ fn put(
 }
 
 /// The members of each class.
-pub fn members(alloc: Global, items: &[Item], classes: &[usize]) -> Result<Rows, AllocError>
+pub fn members(
+    alloc: Global,
+    items: &[Item],
+    classes: &[usize],
+) -> Result<Rows<'static>, AllocError>
     requires counted { length classes.now ≡ length items.now }
     ensures { IfOk result (λ rows. ArePut [] (members_put 0 (map item_view items.now) classes.now) (table_view rows.entries)) }
 {
@@ -58,23 +62,27 @@ pub fn members(alloc: Global, items: &[Item], classes: &[usize]) -> Result<Rows,
 }
 
 /// Puts what an instance of an entry exports.
-fn put_exports(
+fn put_exports<'a>(
     alloc: Global,
-    rows: &mut Rows,
+    rows: &mut Rows<'a>,
     entry: usize,
-    exports: &[(String, Item)],
+    exports: &[(&'a str, Item)],
 ) -> Result<(), AllocError>
     ensures { OnOk result (ArePut (table_view rows.old.entries) (exports_put entry (listed exports.now)) (table_view rows.new.entries)) }
 {
     for i in 0..exports.len() {
         let (name, item) = &exports[i];
-        put(alloc, rows, Spot::Export(name.clone()?), entry, *item)?;
+        put(alloc, rows, Spot::Export(*name), entry, *item)?;
     }
     Ok(())
 }
 
 /// What instances of entries export, by name.
-pub fn exported(alloc: Global, nodes: &Nodes, group: &[(usize, Item)]) -> Result<Rows, AllocError>
+pub fn exported<'a>(
+    alloc: Global,
+    nodes: &Nodes<'a>,
+    group: &[(usize, Item)],
+) -> Result<Rows<'a>, AllocError>
     requires { AllByRecursion (λ r. type_of r.1 < length nodes.now) (map row_view group.now) }
     ensures { IfOk result (λ rows. ArePut [] (all_put nodes.now (map row_view group.now)) (table_view rows.entries)) }
 {

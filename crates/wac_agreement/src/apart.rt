@@ -22,7 +22,7 @@ use wac_collection::{InterfaceId, ItemKind, Types};
 use wac_entries::nodes::{Item, Nodes};
 
 /// What stands under a name in a sorted listing.
-fn find_export(exports: &[(String, Item)], name: &str) -> Option<Item>
+fn find_export(exports: &[(&str, Item)], name: &str) -> Option<Item>
     requires { Sorted (listed exports.now) }
     ensures { option_map item_view result ≡ find_name (listed exports.now) name.now }
 {
@@ -31,7 +31,7 @@ fn find_export(exports: &[(String, Item)], name: &str) -> Option<Item>
     while low < high {
         let middle = low + (high - low) / 2;
         let (key, item) = &exports[middle];
-        match key.as_str().cmp(name) {
+        match (*key).cmp(name) {
             Ordering::Less => low = middle + 1,
             Ordering::Equal => return Some(*item),
             Ordering::Greater => high = middle,

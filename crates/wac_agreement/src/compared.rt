@@ -32,7 +32,11 @@ use wac_entries::outward::outward_in;
 use wac_entries::scopes::{Opener, Scopes};
 
 /// What the item of an entry is compared as, from around its scopes.
-fn source_item(memo: &mut Memo, nodes: &mut Nodes, source: &Source) -> Result<Item, AllocError>
+fn source_item<'a>(
+    memo: &mut Memo,
+    nodes: &mut Nodes<'a>,
+    source: &Source<'a, '_>,
+) -> Result<Item, AllocError>
     requires held { holds_type source.now.types.now (kind_type source.now.calls.now.kind) ≡ true }
     requires named { AreNamed source.now.types.now source.now.calls.now }
     requires outermost { source.now.calls.now.scope ≡ None }
@@ -54,11 +58,11 @@ fn source_item(memo: &mut Memo, nodes: &mut Nodes, source: &Source) -> Result<It
 }
 
 /// What an entry of a class is compared as.
-fn entry_item(
+fn entry_item<'a>(
     alloc: Global,
     memo: &mut Memo,
-    nodes: &mut Nodes,
-    types: &Types,
+    nodes: &mut Nodes<'a>,
+    types: &'a Types,
     entries: &[Entry],
     bindings: &Bindings,
     class: usize,
@@ -94,10 +98,10 @@ fn entry_item(
 }
 
 /// What the entries are compared as, in order.
-pub fn entry_items(
+pub fn entry_items<'a>(
     alloc: Global,
-    nodes: &mut Nodes,
-    types: &Types,
+    nodes: &mut Nodes<'a>,
+    types: &'a Types,
     entries: &[Entry],
     classes: &Classes,
     bindings: &Bindings,

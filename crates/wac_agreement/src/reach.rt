@@ -77,7 +77,7 @@ pub fn put_optional(numbers: &mut BTreeSet<usize>, number: Option<usize>) -> Res
 }
 
 /// Puts the types of fields among numbers.
-fn put_fields(numbers: &mut BTreeSet<usize>, fields: &[(String, usize)]) -> Result<(), AllocError>
+fn put_fields(numbers: &mut BTreeSet<usize>, fields: &[(&str, usize)]) -> Result<(), AllocError>
     ensures { OnOk result (numbers.new.keys ≡ with_all numbers.old.keys (seconds (named fields.now))) }
 {
     for field in fields {
@@ -89,7 +89,7 @@ fn put_fields(numbers: &mut BTreeSet<usize>, fields: &[(String, usize)]) -> Resu
 /// Puts the types of cases among numbers.
 fn put_cases(
     numbers: &mut BTreeSet<usize>,
-    cases: &[(String, Option<usize>)],
+    cases: &[(&str, Option<usize>)],
 ) -> Result<(), AllocError>
     ensures { OnOk result (numbers.new.keys ≡ with_all numbers.old.keys (optionals (named cases.now))) }
 {
@@ -124,7 +124,7 @@ pub fn type_of(item: Item) -> usize
 }
 
 /// Puts the types of items among numbers.
-fn put_items(numbers: &mut BTreeSet<usize>, items: &[(String, Item)]) -> Result<(), AllocError>
+fn put_items(numbers: &mut BTreeSet<usize>, items: &[(&str, Item)]) -> Result<(), AllocError>
     ensures { OnOk result (numbers.new.keys ≡ with_all numbers.old.keys (types_of (listed items.now))) }
 {
     for item in items {

@@ -1,7 +1,8 @@
 //! Measures how long calls of the libraries take: `names` reads names, `comparing` adds and compares items, `merging` merges
 //! imports, `writing` writes components; `chain`, `fan`, `aliases`, `plug` and `shared` make graphs and encode them, `churn`
-//! removes nodes and makes them again, and `wide` adds types. With such a word it takes a workload at some counts and prints its
-//! times and by which power of the count they grow, of graphs both alone and in equal memory; without one it does a little of
+//! removes nodes and makes them again, and `wide` makes and encodes graphs of many imported interfaces. With such a word it takes a
+//! workload at some counts and prints its times and by which power of the count they grow, of graphs both alone and (but for
+//! `wide`) in equal memory; without one it does a little of
 //! each and prints no time. With the word of graphs, a count and a step (`prepared`, `made`, `turned`, `encoded`) it takes one graph
 //! up to that step, for what counts from outside (`tools/growth`). Another word ends it with status 2.
 #![tactic(auto)]

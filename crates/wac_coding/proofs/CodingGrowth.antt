@@ -1,8 +1,8 @@
 -- What a table has stays while it grows.
-use Rattle.std.proofs.Common.{Global, ◌≡◌, ℕ, zero, suc, ◌<◌, ◌≤◌, List, [], ◌∷◌, ◌++◌, length, Option, Some, None, Result, Ok, Err, IfOk, OnOk, ◌⊎◌, inl, inr, refl, ap, sym, ◌∙◌, subst, append_assoc, length-append, arith}
-use Rattle.std.specs.Prelude.{slice_get, string_bytes}
+use Rattle.std.proofs.Common.{◌≡◌, ℕ, zero, suc, ◌<◌, ◌≤◌, List, [], ◌∷◌, ◌++◌, length, Option, Some, None, Result, Ok, Err, IfOk, OnOk, ◌⊎◌, inl, inr, refl, ap, sym, ◌∙◌, subst, append_assoc, length-append, arith}
+use Rattle.std.specs.Prelude.{slice_get}
+use Rattle.std.specs.Borrow.{Bor}
 use Rattle.std.specs.List.{AllByRecursion}
-use Rattle.std.specs.declared.string.String.{String}
 use Rattle.std.specs.declared.alloc.AllocError.{AllocError}
 use Rattle.wac_primitives.specs.Name.{Name, option_case}
 use Rattle.wac_primitives.specs.Tree.{TypeTree, absent}
@@ -85,11 +85,11 @@ module _ (t : ValueType → TypeTree Called) (old new : List Node) (g : IsGrown 
   pub parts_grown : (vs : List ValueType) (is : List ℕ) → AreParts old t vs is → AreParts new t vs is
   parts_grown vs is h = zip_all (λ v i. HasTree old (t v) i) (λ v i. HasTree new (t v) i) (λ v i k. tree_grown old new (t v) i g k) vs is h
 
-  pub fields_grown : (fs : List (Name × ValueType)) (es : List (String Global × ℕ)) → AreFields old t fs es → AreFields new t fs es
-  fields_grown fs es h = zip_all _ _ (λ f e (k : (string_bytes e.0 ≡ f.0) × HasTree old (t f.1) e.1). (k.0, tree_grown old new (t f.1) e.1 g k.1)) fs es h
+  pub fields_grown : (fs : List (Name × ValueType)) (es : List (Bor (List ℕ) × ℕ)) → AreFields old t fs es → AreFields new t fs es
+  fields_grown fs es h = zip_all _ _ (λ f e (k : (e.0.now ≡ f.0) × HasTree old (t f.1) e.1). (k.0, tree_grown old new (t f.1) e.1 g k.1)) fs es h
 
-  pub cases_grown : (fs : List (Name × Option ValueType)) (es : List (String Global × Option ℕ)) → AreCases old t fs es → AreCases new t fs es
-  cases_grown fs es h = zip_all _ _ (λ f e (k : (string_bytes e.0 ≡ f.0) × HasOption old t f.1 e.1). (k.0, option_grown f.1 e.1 k.1)) fs es h
+  pub cases_grown : (fs : List (Name × Option ValueType)) (es : List (Bor (List ℕ) × Option ℕ)) → AreCases old t fs es → AreCases new t fs es
+  cases_grown fs es h = zip_all _ _ (λ f e (k : (e.0.now ≡ f.0) × HasOption old t f.1 e.1). (k.0, option_grown f.1 e.1 k.1)) fs es h
 
 -- ---- what a call answers
 pub answer_same : (r : Result ℕ AllocError) (ns : List Node) (t u : TypeTree Called) → t ≡ u → IfOk r (λ n. HasTree ns t n) → IfOk r (λ n. HasTree ns u n)

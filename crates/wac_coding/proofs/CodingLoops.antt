@@ -1,8 +1,8 @@
 -- Numbers of parts, as far as a loop has come.
-use Rattle.std.proofs.Common.{Global, ◌≡◌, ℕ, ◌+◌, ◌<◌, List, [], ◌∷◌, ◌++◌, length, take, get_or, Option, Some, sym, subst, add-one}
-use Rattle.std.specs.Prelude.{slice_get, string_bytes}
+use Rattle.std.proofs.Common.{◌≡◌, ℕ, ◌+◌, ◌<◌, List, [], ◌∷◌, ◌++◌, length, take, get_or, Option, Some, sym, subst, add-one}
+use Rattle.std.specs.Prelude.{slice_get}
+use Rattle.std.specs.Borrow.{Bor}
 use Rattle.std.specs.Option.{option_map}
-use Rattle.std.specs.declared.string.String.{String}
 use Rattle.wac_primitives.specs.Name.{Name}
 use Rattle.wac_primitives.specs.Tree.{TypeTree}
 use Rattle.wac_subtyping.specs.Called.{Called}
@@ -24,18 +24,18 @@ module _ (t : ValueType → TypeTree Called) (old new : List Node) (g : IsGrown 
       (subst (λ ks. AreParts new t (take i vs ++ get_or vs i d ∷ []) ks) (sym more)
       (zip_push (λ v n. HasTree new (t v) n) (take i vs) is (get_or vs i d) k (parts_grown t old new g (take i vs) is h) next))
 
-  pub fields_more : (fs : List (Name × ValueType)) (i : ℕ) (n : Name) (v : ValueType) (es more : List (String Global × ℕ)) (s : String Global) (k : ℕ)
-      → option_map (λ e. e.0) (slice_get fs i) ≡ Some n → option_map (λ e. e.1) (slice_get fs i) ≡ Some v → more ≡ es ++ (s, k) ∷ [] → string_bytes s ≡ n → AreFields old t (take i fs) es → HasTree new (t v) k
+  pub fields_more : (fs : List (Name × ValueType)) (i : ℕ) (n : Name) (v : ValueType) (es more : List (Bor (List ℕ) × ℕ)) (s : Bor (List ℕ)) (k : ℕ)
+      → option_map (λ e. e.0) (slice_get fs i) ≡ Some n → option_map (λ e. e.1) (slice_get fs i) ≡ Some v → more ≡ es ++ (s, k) ∷ [] → s.now ≡ n → AreFields old t (take i fs) es → HasTree new (t v) k
       → AreFields new t (take (i + 1) fs) more
   fields_more fs i n v es more s k named valued is text h next =
       subst (λ ws. AreFields new t ws more) (sym (take_next fs i n v named valued))
       (subst (λ ks. AreFields new t (take i fs ++ (n, v) ∷ []) ks) (sym is)
-      (zip_push (λ f e. (string_bytes e.0 ≡ f.0) × HasTree new (t f.1) e.1) (take i fs) es (n, v) (s, k) (fields_grown t old new g (take i fs) es h) (text, next)))
+      (zip_push (λ f e. (e.0.now ≡ f.0) × HasTree new (t f.1) e.1) (take i fs) es (n, v) (s, k) (fields_grown t old new g (take i fs) es h) (text, next)))
 
-  pub cases_more : (fs : List (Name × Option ValueType)) (i : ℕ) (n : Name) (v : Option ValueType) (es more : List (String Global × Option ℕ)) (s : String Global) (k : Option ℕ)
-      → option_map (λ e. e.0) (slice_get fs i) ≡ Some n → option_map (λ e. e.1) (slice_get fs i) ≡ Some v → more ≡ es ++ (s, k) ∷ [] → string_bytes s ≡ n → AreCases old t (take i fs) es → HasOption new t v k
+  pub cases_more : (fs : List (Name × Option ValueType)) (i : ℕ) (n : Name) (v : Option ValueType) (es more : List (Bor (List ℕ) × Option ℕ)) (s : Bor (List ℕ)) (k : Option ℕ)
+      → option_map (λ e. e.0) (slice_get fs i) ≡ Some n → option_map (λ e. e.1) (slice_get fs i) ≡ Some v → more ≡ es ++ (s, k) ∷ [] → s.now ≡ n → AreCases old t (take i fs) es → HasOption new t v k
       → AreCases new t (take (i + 1) fs) more
   cases_more fs i n v es more s k named valued is text h next =
       subst (λ ws. AreCases new t ws more) (sym (take_next fs i n v named valued))
       (subst (λ ks. AreCases new t (take i fs ++ (n, v) ∷ []) ks) (sym is)
-      (zip_push (λ f e. (string_bytes e.0 ≡ f.0) × HasOption new t f.1 e.1) (take i fs) es (n, v) (s, k) (cases_grown t old new g (take i fs) es h) (text, next)))
+      (zip_push (λ f e. (e.0.now ≡ f.0) × HasOption new t f.1 e.1) (take i fs) es (n, v) (s, k) (cases_grown t old new g (take i fs) es h) (text, next)))

@@ -1,7 +1,8 @@
 -- One more number in a memo.
-use Rattle.std.proofs.Common.{◌≡◌, ℕ, Bool, true, false, cond, nat_eq, List, Some, Result, Ok, Err, OnOk, refl, ap, sym, ◌∙◌, subst, eq-eqb}
+use Rattle.std.proofs.Common.{◌≡◌, ℕ, Bool, true, false, cond, nat_eq, List, [], ◌∷◌, Some, Result, Ok, Err, OnOk, refl, ap, sym, ◌∙◌, subst, eq-eqb}
 use Rattle.std.proofs.lemmas.Bool.{eqb-true}
 use Rattle.std.specs.Prelude.{IsSome}
+use Rattle.std.specs.List.{AllByRecursion}
 use Rattle.std.specs.declared.alloc.AllocError.{AllocError}
 use Rattle.wac_primitives.specs.Tree.{TypeTree}
 use Rattle.wac_subtyping.specs.Called.{Called}
@@ -12,8 +13,10 @@ use Rattle.wac_shapes.specs.declared.component.«Type».{«Type» as AnyType}
 use Rattle.wac_shapes.specs.declared.component.«Type».TheVariants as ty
 use Rattle.wac_coding.specs.declared.memo.Memo.{Memo}
 use Rattle.wac_entries.specs.Nodes.{Node}
-use Rattle.wac_coding.specs.Numbers.{number_at}
-use Rattle.wac_coding.specs.Coding.{HasTree, defined_number, func_number, HasDefinedToo, HasFuncToo, IsRight, IsMore}
+use Rattle.wac_entries.specs.Numbers.{number_at}
+use Rattle.wac_entries.specs.Tasks.{task_id}
+use Rattle.wac_entries.specs.declared.tasks.Task.{Task}
+use Rattle.wac_coding.specs.Coding.{HasTree, defined_number, func_number, HasDefinedToo, HasFuncToo, HasSame, IsRight, IsMore, IsDone}
 
 same_defined : (a b : DefinedTypeId) → nat_eq a.0 b.0 ≡ true → a ≡ b
 same_defined a b e = rw (eqb-true a.0 b.0 e) refl
@@ -62,3 +65,14 @@ module _ (t : AnyType → TypeTree Called) (ns : List Node) (old new : Memo) whe
   pub defined_put : (d : DefinedTypeId) (n : ℕ) (r : Result (Unit {0}) AllocError) → OnOk r (HasDefinedToo old d n new) → IsRight t old ns → HasTree ns (t (ty.Value (val.Defined d))) n → OnOk r (IsRight t new ns)
   defined_put d n (Ok _) put r h = defined_right d n put r h
   defined_put d n (Err _) put r h = put
+
+-- where the numbers are the same
+pub same_right : (t : AnyType → TypeTree Called) (ns : List Node) (old new : Memo) → HasSame old new → IsRight t old ns → IsRight t new ns
+same_right t ns old new same r = record {
+  defined = λ d i is. r.defined d i (ap (λ m. number_at m d.0) (sym same.defined) ∙ is);
+  funcs = λ f i is. r.funcs f i (ap (λ m. number_at m f.0) (sym same.funcs) ∙ is);
+}
+
+pub same_done : (old new : Memo) (ts : List Task) → HasSame old new → AllByRecursion (IsDone old) ts → AllByRecursion (IsDone new) ts
+same_done old new [] same h = tt
+same_done old new (t ∷ ts) same h = (subst (λ m. IsSome (number_at m (task_id t).0)) (sym same.defined) h.0, same_done old new ts same h.1)

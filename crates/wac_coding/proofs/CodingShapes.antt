@@ -1,7 +1,7 @@
 -- Nodes of shapes whose parts have numbers.
-use Rattle.std.proofs.Common.{Global, ◌≡◌, ℕ, suc, Bool, ◌<◌, List, [], ◌∷◌, length, map, Option, Some, None, refl, ap, sym, subst}
+use Rattle.std.proofs.Common.{◌≡◌, ℕ, suc, Bool, ◌<◌, List, [], ◌∷◌, length, map, Option, Some, None, refl, ap, sym, subst}
+use Rattle.std.specs.Borrow.{Bor}
 use Rattle.std.specs.List.{AllByRecursion}
-use Rattle.std.specs.declared.string.String.{String}
 use Rattle.wac_primitives.specs.Name.{Name}
 use Rattle.wac_primitives.specs.Tree.{TypeTree, record_of, variant_of, list_of, fixed_list_of, tuple_of, flags_of, enum_of, option_of, result_of, stream_of, future_of, function}
 use Rattle.wac_subtyping.specs.Called.{Called}
@@ -47,37 +47,37 @@ module _ (t : ValueType → TypeTree Called) (ns : List Node) where
   parts_low (v ∷ vs) [] h = absurd h
   parts_low (v ∷ vs) (i ∷ is) h = (h.0.there, parts_low vs is h.1)
 
-  fields_are : (fs : List (Name × ValueType)) (es : List (String Global × ℕ)) → AreFields ns t fs es → map (λ e. tree_at ns e.1) (named es) ≡ map (λ f. t f.1) fs
+  fields_are : (fs : List (Name × ValueType)) (es : List (Bor (List ℕ) × ℕ)) → AreFields ns t fs es → map (λ e. tree_at ns e.1) (named es) ≡ map (λ f. t f.1) fs
   fields_are [] [] h = refl
   fields_are [] (e ∷ es) h = absurd h
   fields_are (f ∷ fs) [] h = absurd h
   fields_are (f ∷ fs) (e ∷ es) h = let a = h.0.1.is in let b = fields_are fs es h.1 in (λ j. a j ∷ b j)
 
-  fields_named : (fs : List (Name × ValueType)) (es : List (String Global × ℕ)) → AreFields ns t fs es → map (λ e. e.0) (named es) ≡ map (λ f. f.0) fs
+  fields_named : (fs : List (Name × ValueType)) (es : List (Bor (List ℕ) × ℕ)) → AreFields ns t fs es → map (λ e. e.0) (named es) ≡ map (λ f. f.0) fs
   fields_named [] [] h = refl
   fields_named [] (e ∷ es) h = absurd h
   fields_named (f ∷ fs) [] h = absurd h
   fields_named (f ∷ fs) (e ∷ es) h = let a = h.0.0 in let b = fields_named fs es h.1 in (λ j. a j ∷ b j)
 
-  fields_low : (fs : List (Name × ValueType)) (es : List (String Global × ℕ)) → AreFields ns t fs es → Low (seconds (named es))
+  fields_low : (fs : List (Name × ValueType)) (es : List (Bor (List ℕ) × ℕ)) → AreFields ns t fs es → Low (seconds (named es))
   fields_low [] [] h = tt
   fields_low [] (e ∷ es) h = absurd h
   fields_low (f ∷ fs) [] h = absurd h
   fields_low (f ∷ fs) (e ∷ es) h = (h.0.1.there, fields_low fs es h.1)
 
-  cases_are : (fs : List (Name × Option ValueType)) (es : List (String Global × Option ℕ)) → AreCases ns t fs es → map (λ e. optional_tree (tree_at ns) e.1) (named es) ≡ map (λ f. option_tree t f.1) fs
+  cases_are : (fs : List (Name × Option ValueType)) (es : List (Bor (List ℕ) × Option ℕ)) → AreCases ns t fs es → map (λ e. optional_tree (tree_at ns) e.1) (named es) ≡ map (λ f. option_tree t f.1) fs
   cases_are [] [] h = refl
   cases_are [] (e ∷ es) h = absurd h
   cases_are (f ∷ fs) [] h = absurd h
   cases_are (f ∷ fs) (e ∷ es) h = let a = option_is f.1 e.1 h.0.1 in let b = cases_are fs es h.1 in (λ j. a j ∷ b j)
 
-  cases_named : (fs : List (Name × Option ValueType)) (es : List (String Global × Option ℕ)) → AreCases ns t fs es → map (λ e. e.0) (named es) ≡ map (λ f. f.0) fs
+  cases_named : (fs : List (Name × Option ValueType)) (es : List (Bor (List ℕ) × Option ℕ)) → AreCases ns t fs es → map (λ e. e.0) (named es) ≡ map (λ f. f.0) fs
   cases_named [] [] h = refl
   cases_named [] (e ∷ es) h = absurd h
   cases_named (f ∷ fs) [] h = absurd h
   cases_named (f ∷ fs) (e ∷ es) h = let a = h.0.0 in let b = cases_named fs es h.1 in (λ j. a j ∷ b j)
 
-  cases_low : (fs : List (Name × Option ValueType)) (es : List (String Global × Option ℕ)) → AreCases ns t fs es → Low (optionals (named es))
+  cases_low : (fs : List (Name × Option ValueType)) (es : List (Bor (List ℕ) × Option ℕ)) → AreCases ns t fs es → Low (optionals (named es))
   cases_low [] [] h = tt
   cases_low [] (e ∷ es) h = absurd h
   cases_low (f ∷ fs) [] h = absurd h
@@ -106,12 +106,12 @@ module _ (t : ValueType → TypeTree Called) (ns : List Node) where
   pub fits_future : (v : Option ValueType) (i : Option ℕ) → HasOption ns t v i → Fits ns (future_of (option_tree t v)) (of_future i)
   fits_future v i h = record { lower = option_low v i [] h tt; sorted = tt; is = ap future_of (option_is v i h) }
 
-  pub fits_record : (fs : List (Name × ValueType)) (es : List (String Global × ℕ)) → AreFields ns t fs es → Fits ns (record_of (map (λ f. f.0) fs) (part_at (map (λ f. t f.1) fs))) (of_record (named es))
+  pub fits_record : (fs : List (Name × ValueType)) (es : List (Bor (List ℕ) × ℕ)) → AreFields ns t fs es → Fits ns (record_of (map (λ f. f.0) fs) (part_at (map (λ f. t f.1) fs))) (of_record (named es))
   fits_record fs es h =
       let a = fields_named fs es h in let b = fields_are fs es h in
       record { lower = fields_low fs es h; sorted = tt; is = λ j. record_of (a j) (part_at (b j)) }
 
-  pub fits_variant : (fs : List (Name × Option ValueType)) (es : List (String Global × Option ℕ)) → AreCases ns t fs es → Fits ns (variant_of (map (λ f. f.0) fs) (part_at (map (λ f. option_tree t f.1) fs))) (of_variant (named es))
+  pub fits_variant : (fs : List (Name × Option ValueType)) (es : List (Bor (List ℕ) × Option ℕ)) → AreCases ns t fs es → Fits ns (variant_of (map (λ f. f.0) fs) (part_at (map (λ f. option_tree t f.1) fs))) (of_variant (named es))
   fits_variant fs es h =
       let a = cases_named fs es h in let b = cases_are fs es h in
       record { lower = cases_low fs es h; sorted = tt; is = λ j. variant_of (a j) (part_at (b j)) }
@@ -122,7 +122,7 @@ module _ (t : ValueType → TypeTree Called) (ns : List Node) where
   pub fits_enum : (names labels : List Name) → names ≡ labels → Fits ns (enum_of labels) (of_enum names)
   fits_enum names labels e = record { lower = tt; sorted = tt; is = ap enum_of e }
 
-  pub fits_function : (b : Bool) (fs : List (Name × ValueType)) (es : List (String Global × ℕ)) (v : Option ValueType) (i : Option ℕ) → AreFields ns t fs es → HasOption ns t v i
+  pub fits_function : (b : Bool) (fs : List (Name × ValueType)) (es : List (Bor (List ℕ) × ℕ)) (v : Option ValueType) (i : Option ℕ) → AreFields ns t fs es → HasOption ns t v i
       → Fits ns (function b (map (λ f. f.0) fs) (part_at (map (λ f. t f.1) fs)) (option_tree t v)) (of_function b (named es) i)
   fits_function b fs es v i h g =
       let n = fields_named fs es h in let p = fields_are fs es h in let r = option_is v i g in

@@ -1,7 +1,6 @@
 pub mod CodingShapes
 pub mod CodingGrowth
 pub mod CodingTrees
-pub mod CodingNumbers
 pub mod CodingMemo
 pub mod CodingLoops
 pub mod CodingTasks

@@ -1,8 +1,7 @@
 -- Types of a scope as nodes of a table. Private functions alone cite this.
-use Rattle.std.specs.Global.{Global}
-use Rattle.std.specs.Prelude.{ℕ, ◌≡◌, ◌<◌, ◌++◌, ◌⊎◌, cond, nat_eq, List, [], ◌∷◌, length, Option, Some, None, IsSome, string_bytes}
+use Rattle.std.specs.Prelude.{ℕ, ◌≡◌, ◌<◌, ◌++◌, ◌⊎◌, cond, nat_eq, List, [], ◌∷◌, length, Option, Some, None, IsSome}
+use Rattle.std.specs.Borrow.{Bor}
 use Rattle.std.specs.List.{AllByRecursion, AllZip}
-use Rattle.std.specs.declared.string.String.{String}
 use Rattle.wac_primitives.specs.Name.{Name}
 use Rattle.wac_primitives.specs.Tree.{TypeTree}
 use Rattle.wac_collection.specs.Collection.{Collection}
@@ -25,7 +24,7 @@ use Rattle.wac_entries.specs.declared.tasks.Task.TheVariants.{Open, Close}
 use Rattle.wac_entries.specs.Nodes.{Node, mentions, IsSorted, node_tree, tree_at}
 use Rattle.wac_entries.specs.NodeViews.{node_view}
 use Rattle.wac_coding.specs.CallsView.{names_in}
-use Rattle.wac_coding.specs.Numbers.{number_at}
+use Rattle.wac_entries.specs.Numbers.{number_at}
 use Rattle.wac_entries.specs.Tasks.{task_id, parts_of, openings, HasTask, IsHeldTask}
 
 -- the tree of each type where resources are called so
@@ -65,6 +64,11 @@ pub record HasDefinedToo (old : Memo) (d : DefinedTypeId) (n : ℕ) (new : Memo)
 pub record HasFuncToo (old : Memo) (f : FuncTypeId) (n : ℕ) (new : Memo) : Type 0 where
   pub funcs : (k : FuncTypeId) → func_number new k ≡ cond (nat_eq f.0 k.0) (Some n) (func_number old k)
   pub defined : new.defined ≡ old.defined
+
+-- with the same numbers
+pub record HasSame (old new : Memo) : Type 0 where
+  pub defined : new.defined ≡ old.defined
+  pub funcs : new.funcs ≡ old.funcs
 
 -- each number in the memo has the tree of its type
 pub record IsRight (t : AnyType → TypeTree Called) (memo : Memo) (ns : List Node) : Type 0 where
@@ -124,11 +128,11 @@ HasOption ns t _ _ = ⊥
 abbrev pub AreParts : List Node → (ValueType → TypeTree Called) → List ValueType → List ℕ → Type 0
 AreParts ns t = AllZip (λ v i. HasTree ns (t v) i)
 
-abbrev pub AreFields : List Node → (ValueType → TypeTree Called) → List (Name × ValueType) → List (String Global × ℕ) → Type 0
-AreFields ns t = AllZip (λ f e. (string_bytes e.0 ≡ f.0) × HasTree ns (t f.1) e.1)
+abbrev pub AreFields : List Node → (ValueType → TypeTree Called) → List (Name × ValueType) → List (Bor (List ℕ) × ℕ) → Type 0
+AreFields ns t = AllZip (λ f e. (e.0.now ≡ f.0) × HasTree ns (t f.1) e.1)
 
-abbrev pub AreCases : List Node → (ValueType → TypeTree Called) → List (Name × Option ValueType) → List (String Global × Option ℕ) → Type 0
-AreCases ns t = AllZip (λ f e. (string_bytes e.0 ≡ f.0) × HasOption ns t f.1 e.1)
+abbrev pub AreCases : List Node → (ValueType → TypeTree Called) → List (Name × Option ValueType) → List (Bor (List ℕ) × Option ℕ) → Type 0
+AreCases ns t = AllZip (λ f e. (e.0.now ≡ f.0) × HasOption ns t f.1 e.1)
 
 -- a node that may be put into the table, where it gets this tree
 pub record Fits (ns : List Node) (t : TypeTree Called) (n : Node) : Type 0 where

@@ -1,5 +1,4 @@
 pub mod CallsView
-pub mod Numbers
 pub mod Coding
 pub mod ModuleCoding
 pub mod ItemCoding

@@ -2,7 +2,7 @@
 //!
 //! A definition whose parts have no numbers yet waits in a list of tasks, below its parts, so that no chain of definitions is
 //! too long. Each is opened once and numbered once.
-ghost use Rattle.std.specs.Prelude.{◌≡◌, ◌<◌, ◌↔◌, [], length, map, true, IsTrue, IfOk, OnOk, string_bytes};
+ghost use Rattle.std.specs.Prelude.{◌≡◌, ◌<◌, ◌↔◌, [], length, map, true, IsTrue, IfOk, OnOk};
 ghost use Rattle.std.specs.List.{AllByRecursion};
 ghost use Rattle.wac_collection.specs.Collection.{and_maybe, HasDefined, HasFunc, holds_value, defined_values, case_values, seconds};
 ghost use Rattle.wac_collection.specs.Held.{defined_tree};
@@ -25,20 +25,18 @@ use wac_subtyping::laws::trees_are_whole;
 
 /// Where a scope's types are held, and what resources are called in it.
 #[derive(Clone, Copy)]
-pub struct Source<'a> {
+pub struct Source<'a, 'b> {
     /// The memory that numbers are kept in.
     pub alloc: Global,
-    /// The collection.
+    /// The collection, from which nodes borrow names.
     pub types: &'a Types,
     /// What resources are called.
-    pub calls: &'a Calls<'a>,
+    pub calls: &'b Calls<'b>,
 }
 
-impl<'a> Source<'a> {
+impl<'a, 'b> Source<'a, 'b> {
     /// The types as they are where resources are called so.
-    pub fn with<'b>(&self, calls: &'b Calls<'b>) -> Source<'b>
-    where
-        'a: 'b,
+    pub fn with<'c>(&self, calls: &'c Calls<'c>) -> Source<'a, 'c>
         ensures { result ≡ record { alloc = self.now.alloc; types = self.now.types; calls = calls.entry } }
     {
         Source {
@@ -51,19 +49,19 @@ impl<'a> Source<'a> {
 
 /// What a definition comes to.
 #[derive(Drop)]
-pub enum Meaning {
+pub enum Meaning<'a> {
     /// A node.
-    New(Node),
+    New(Node<'a>),
     /// The node of this number, that of what an alias names.
     Same(usize),
 }
 
 /// The number of a node, with the node's tree.
-pub fn add(nodes: &mut Nodes, node: Node) -> Result<usize, AllocError>
+pub fn add<'a>(nodes: &mut Nodes<'a>, node: Node<'a>) -> Result<usize, AllocError>
     requires lower { AllByRecursion (λ m. m < length nodes.old) (mentions (node_view node)) }
     requires sorted { IsSorted (node_view node) }
     ensures grown { IsGrown nodes.old nodes.new }
-    ensures number { IfOk result (λ n. HasTree nodes.new (node_tree (tree_at nodes.old) (node_view node)) n) }
+    ensures number { IfOk result (λ n. HasTree nodes.new (node_tree (tree_at nodes.old) (node_view node.entry)) n) }
 {
     nodes.table_law();
     match nodes.add(node) {
@@ -75,14 +73,13 @@ pub fn add(nodes: &mut Nodes, node: Node) -> Result<usize, AllocError>
     }
 }
 
-/// Names in order, in memory of their own.
-fn names(alloc: Global, labels: &Labels) -> Result<Vec<String>, AllocError>
-    ensures { IfOk result (λ v. map string_bytes v.items ≡ labels.now) }
+/// Names in order.
+fn names<'a>(alloc: Global, labels: &'a Labels) -> Result<Vec<&'a str>, AllocError>
+    ensures { IfOk result (λ v. map (λ n. n.now) v.items ≡ labels.now) }
 {
     let mut names = Vec::with_capacity(alloc, labels.len())?;
     for i in 0..labels.len() {
-        let name = String::from_str(alloc, labels.name_at(i))?;
-        names.push(name)?;
+        names.push(labels.name_at(i))?;
     }
     Ok(names)
 }
@@ -187,12 +184,12 @@ impl Memo {
     }
 
     /// The numbers of fields or parameters, under their names.
-    fn fields(
+    fn fields<'a>(
         &self,
         nodes: &mut Nodes,
         source: &Source,
-        fields: &Named<ValueType>,
-    ) -> Result<Vec<(String, usize)>, AllocError>
+        fields: &'a Named<ValueType>,
+    ) -> Result<Vec<(&'a str, usize)>, AllocError>
         requires held { AreHeldValues source.now.types.now (seconds fields.now) }
         requires ready { AreReady self.now (seconds fields.now) }
         requires named { AreNamed source.now.types.now source.now.calls.now }
@@ -204,19 +201,18 @@ impl Memo {
         for i in 0..fields.len() {
             let (name, value) = fields.entry_at(i);
             let number = self.part(nodes, source, *value)?;
-            let name = String::from_str(source.alloc, name)?;
             numbers.push((name, number))?;
         }
         Ok(numbers)
     }
 
     /// The numbers of the payloads of cases, under their names.
-    fn cases(
+    fn cases<'a>(
         &self,
         nodes: &mut Nodes,
         source: &Source,
-        cases: &Named<Option<ValueType>>,
-    ) -> Result<Vec<(String, Option<usize>)>, AllocError>
+        cases: &'a Named<Option<ValueType>>,
+    ) -> Result<Vec<(&'a str, Option<usize>)>, AllocError>
         requires held { AreHeldValues source.now.types.now (case_values cases.now) }
         requires ready { AreReady self.now (case_values cases.now) }
         requires named { AreNamed source.now.types.now source.now.calls.now }
@@ -228,20 +224,19 @@ impl Memo {
         for i in 0..cases.len() {
             let (name, value) = cases.entry_at(i);
             let number = self.optional(nodes, source, *value)?;
-            let name = String::from_str(source.alloc, name)?;
             numbers.push((name, number))?;
         }
         Ok(numbers)
     }
 
     /// The node of a result with these payloads.
-    fn outcome(
+    fn outcome<'a>(
         &self,
-        nodes: &mut Nodes,
+        nodes: &mut Nodes<'a>,
         source: &Source,
         ok: Option<ValueType>,
         err: Option<ValueType>,
-    ) -> Result<Node, AllocError>
+    ) -> Result<Node<'a>, AllocError>
         requires held { AreHeldValues source.now.types.now (and_maybe ok (and_maybe err [])) }
         requires ready { AreReady self.now (and_maybe ok (and_maybe err [])) }
         requires named { AreNamed source.now.types.now source.now.calls.now }
@@ -255,12 +250,12 @@ impl Memo {
     }
 
     /// What a definition comes to whose parts have numbers.
-    fn meaning(
+    fn meaning<'a>(
         &self,
-        nodes: &mut Nodes,
+        nodes: &mut Nodes<'a>,
         source: &Source,
-        definition: &DefinedType,
-    ) -> Result<Meaning, AllocError>
+        definition: &'a DefinedType,
+    ) -> Result<Meaning<'a>, AllocError>
         requires held { AreHeldValues source.now.types.now (defined_values definition.now) }
         requires ready { AreReady self.now (defined_values definition.now) }
         requires named { AreNamed source.now.types.now source.now.calls.now }
@@ -294,10 +289,10 @@ impl Memo {
     }
 
     /// Numbers a definition whose parts have numbers.
-    fn close(
+    fn close<'a>(
         &mut self,
-        nodes: &mut Nodes,
-        source: &Source,
+        nodes: &mut Nodes<'a>,
+        source: &Source<'a, '_>,
         id: DefinedTypeId,
     ) -> Result<(), AllocError>
         requires held { HasDefined source.now.types.now id }
@@ -319,10 +314,10 @@ impl Memo {
     }
 
     /// Does a task: numbers its definition, or puts it off behind its parts. One whose only part has a number is not put off.
-    fn perform(
+    fn perform<'a>(
         &mut self,
-        nodes: &mut Nodes,
-        source: &Source,
+        nodes: &mut Nodes<'a>,
+        source: &Source<'a, '_>,
         task: Task,
         tasks: &mut Vec<Task>,
     ) -> Result<(), AllocError>
@@ -353,10 +348,10 @@ impl Memo {
     }
 
     /// Numbers the definitions of tasks, and what they reach.
-    fn finish(
+    fn finish<'a>(
         &mut self,
-        nodes: &mut Nodes,
-        source: &Source,
+        nodes: &mut Nodes<'a>,
+        source: &Source<'a, '_>,
         mut tasks: Vec<Task>,
     ) -> Result<(), AllocError>
         requires held { AllByRecursion (IsHeldTask source.now.types.now) tasks.items }
@@ -371,14 +366,15 @@ impl Memo {
         while let Some(task) = tasks.pop() {
             self.perform(nodes, source, task, &mut tasks)?;
         }
+        self.keep_tasks(tasks);
         Ok(())
     }
 
     /// The number of a value type.
-    pub fn value(
+    pub fn value<'a>(
         &mut self,
-        nodes: &mut Nodes,
-        source: &Source,
+        nodes: &mut Nodes<'a>,
+        source: &Source<'a, '_>,
         value: ValueType,
     ) -> Result<usize, AllocError>
         requires held { holds_value source.now.types.now value ≡ true }
@@ -393,17 +389,17 @@ impl Memo {
                 return Ok(number);
             }
         }
-        let mut tasks = Vec::new(source.alloc);
+        let mut tasks = self.take_tasks(source.alloc);
         open_value(&mut tasks, value)?;
         self.finish(nodes, source, tasks)?;
         self.part(nodes, source, value)
     }
 
     /// The number of a function type.
-    pub fn func_type(
+    pub fn func_type<'a>(
         &mut self,
-        nodes: &mut Nodes,
-        source: &Source,
+        nodes: &mut Nodes<'a>,
+        source: &Source<'a, '_>,
         id: FuncTypeId,
     ) -> Result<usize, AllocError>
         requires held { HasFunc source.now.types.now id }
@@ -419,7 +415,7 @@ impl Memo {
         source.types.law();
         trees_are_whole(source.types);
         let func = &source.types[id];
-        let mut tasks = Vec::new(source.alloc);
+        let mut tasks = self.take_tasks(source.alloc);
         open_optional(&mut tasks, func.result)?;
         open_fields(&mut tasks, &func.params)?;
         self.finish(nodes, source, tasks)?;

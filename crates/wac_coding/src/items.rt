@@ -20,10 +20,10 @@ use wac_entries::nodes::{Item, Node, Nodes};
 
 impl Memo {
     /// The number of a type that opens no scope.
-    pub fn plain_type(
+    pub fn plain_type<'a>(
         &mut self,
-        nodes: &mut Nodes,
-        source: &Source,
+        nodes: &mut Nodes<'a>,
+        source: &Source<'a, '_>,
         ty: Type,
     ) -> Result<usize, AllocError>
         requires held { holds_type source.now.types.now ty ≡ true }
@@ -47,10 +47,10 @@ impl Memo {
     }
 
     /// What an item that opens no scope is listed as.
-    pub fn plain_item(
+    pub fn plain_item<'a>(
         &mut self,
-        nodes: &mut Nodes,
-        source: &Source,
+        nodes: &mut Nodes<'a>,
+        source: &Source<'a, '_>,
         kind: ItemKind,
     ) -> Result<Item, AllocError>
         requires held { holds_type source.now.types.now (kind_type kind) ≡ true }

@@ -10,4 +10,3 @@ pub mod listing;
 pub mod listings;
 pub mod memo;
 pub mod modules;
-pub mod numbers;

@@ -15,12 +15,12 @@ use wac_entries::nodes::{Item, Node, Nodes};
 use wac_entries::scopes::Opener;
 
 /// Items under their names, sorted by name.
-fn entries(
+fn entries<'a>(
     nodes: &Nodes,
     source: &Source,
-    kinds: &Named<ItemKind>,
+    kinds: &'a Named<ItemKind>,
     items: &[Item],
-) -> Result<Vec<(String, Item)>, AllocError>
+) -> Result<Vec<(&'a str, Item)>, AllocError>
     requires { AreItems nodes.now (source_tree source.now) kinds.now items.now }
     ensures { IfOk result (λ v. Lists nodes.now (source_tree source.now) kinds.now (listed v.items)) }
 {
@@ -28,18 +28,17 @@ fn entries(
     kinds.law();
     let mut entries = Vec::with_capacity(source.alloc, kinds.len())?;
     for i in 0..kinds.len() {
-        let name = String::from_str(source.alloc, kinds.name_at(i))?;
-        entries.push((name, items[i]))?;
+        entries.push((kinds.name_at(i), items[i]))?;
     }
-    entries.sort_unstable_by(|a, b| a.0.cmp(&b.0));
+    entries.sort_unstable_by(|a, b| a.0.cmp(b.0));
     Ok(entries)
 }
 
 /// The number of the instance that lists these items under their names.
-fn listing(
-    nodes: &mut Nodes,
+fn listing<'a>(
+    nodes: &mut Nodes<'a>,
     source: &Source,
-    kinds: &Named<ItemKind>,
+    kinds: &'a Named<ItemKind>,
     items: &[Item],
 ) -> Result<usize, AllocError>
     requires { AreItems nodes.old (source_tree source.now) kinds.now items.now }
@@ -63,9 +62,9 @@ pub fn listed_kinds(types: &Types, opener: Opener) -> &Named<ItemKind>
 }
 
 /// The number of the instance that is listed in a scope, given what each of its items is listed as.
-pub fn scope_instance(
-    nodes: &mut Nodes,
-    source: &Source,
+pub fn scope_instance<'a>(
+    nodes: &mut Nodes<'a>,
+    source: &Source<'a, '_>,
     opener: Opener,
     items: &[Item],
 ) -> Result<usize, AllocError>
@@ -78,12 +77,12 @@ pub fn scope_instance(
 }
 
 /// The number of the component of a world, given what is listed on each of its sides.
-pub fn component(
-    nodes: &mut Nodes,
+pub fn component<'a>(
+    nodes: &mut Nodes<'a>,
     id: WorldId,
-    inside: &Source,
+    inside: &Source<'a, '_>,
     imported: &[Item],
-    outside: &Source,
+    outside: &Source<'a, '_>,
     exported: &[Item],
 ) -> Result<usize, AllocError>
     requires inside { HasWorld inside.now.types.now id }

@@ -3,6 +3,7 @@ ghost use Rattle.std.specs.Prelude.{◌≡◌, ◌≢◌, ◌+◌, ◌<◌, true
 ghost use Rattle.wac_subtyping.specs.Called.{Called};
 ghost use Rattle.wac_primitives.specs.Tree.{TypeTree};
 ghost use Rattle.wac_shapes.specs.declared.component.«Type».{«Type» as AnyType};
+ghost use Rattle.wac_shapes.specs.declared.component.«Type».TheVariants as ty;
 ghost use Rattle.wac_entries.specs.Nodes.{Node};
 ghost use Rattle.wac_collection.specs.Collection.{holds_all, holds_type, kind_types};
 ghost use Rattle.wac_shapes.specs.Kinds.{kind_type};
@@ -11,14 +12,14 @@ ghost use Rattle.wac_coding.specs.CallsView.{AreNamed, names_in};
 ghost use Rattle.wac_coding.specs.Coding.{source_tree, tree_in, HasTree, IsGrown, IsRight};
 ghost use Rattle.wac_coding.specs.ItemCoding.{AreItems, HasItem};
 ghost use Rattle.wac_coding.specs.Listings.{at_scope, AreOpen, IsAround, AreListings, AreInnerListings};
-ghost use Rattle.wac_entries.specs.Scopes.{listed_in, opened, opened_by};
+ghost use Rattle.wac_entries.specs.Scopes.{listed_in, opened, opened_by, opened_by_type};
 ghost use Rattle.wac_entries.specs.declared.scopes.Scope.{Scope as AScope};
 
 use crate::coder::Source;
 use crate::listing::{component, listed_kinds, scope_instance};
 use crate::memo::Memo;
 use std::alloc::{AllocError, Global};
-use wac_collection::{ItemKind, Named, Type};
+use wac_collection::{ItemKind, Named, Type, WorldId};
 use wac_entries::nodes::{Item, Nodes};
 use wac_entries::scopes::Opener;
 use wac_subtyping::laws::trees_are_whole;
@@ -34,11 +35,39 @@ fn opened_item(kind: ItemKind, number: usize) -> Item
     }
 }
 
+/// The number of the component of a world in a scope, where it is known what the scopes in it list.
+fn inner_component<'a>(
+    nodes: &mut Nodes<'a>,
+    source: &Source<'a, '_>,
+    id: WorldId,
+    listings: &[Vec<Item>],
+) -> Result<usize, AllocError>
+    requires held { holds_type source.now.types.now (ty.World id) ≡ true }
+    requires named { AreNamed source.now.types.now source.now.calls.now }
+    requires around { IsAround source.now.calls.now }
+    requires opened { AreOpen source.now.calls.now (opened_by_type (ty.World id)) }
+    requires counted { length listings.now ≡ length source.now.calls.now.scopes.now }
+    requires listings { AreInnerListings nodes.old source.now.types.now source.now.calls.now listings.now }
+    ensures grown { IsGrown nodes.old nodes.new }
+    ensures number { IfOk result (λ n. HasTree nodes.new (source_tree source.now (ty.World id)) n) }
+{
+    trees_are_whole(source.types);
+    let imports = source.calls.position(Opener::Imports(id));
+    let calls = source.calls.at(imports);
+    let inside = source.with(&calls);
+    let exports = source.calls.position(Opener::Exports(id));
+    let calls = source.calls.at(exports);
+    let outside = source.with(&calls);
+    let imported = listings[imports].as_slice();
+    let exported = listings[exports].as_slice();
+    component(nodes, id, &inside, imported, &outside, exported)
+}
+
 /// What an item of a scope is listed as, where it is known what the scopes in it list.
-pub fn listed_item(
+pub fn listed_item<'a>(
     memo: &mut Memo,
-    nodes: &mut Nodes,
-    source: &Source,
+    nodes: &mut Nodes<'a>,
+    source: &Source<'a, '_>,
     kind: ItemKind,
     listings: &[Vec<Item>],
 ) -> Result<Item, AllocError>
@@ -64,15 +93,7 @@ pub fn listed_item(
             Ok(opened_item(kind, number))
         }
         Type::World(id) => {
-            let imports = source.calls.position(Opener::Imports(id));
-            let calls = source.calls.at(imports);
-            let inside = source.with(&calls);
-            let exports = source.calls.position(Opener::Exports(id));
-            let calls = source.calls.at(exports);
-            let outside = source.with(&calls);
-            let imported = listings[imports].as_slice();
-            let exported = listings[exports].as_slice();
-            let number = component(nodes, id, &inside, imported, &outside, exported)?;
+            let number = inner_component(nodes, source, id, listings)?;
             Ok(opened_item(kind, number))
         }
         _ => memo.plain_item(nodes, source, kind),
@@ -80,10 +101,10 @@ pub fn listed_item(
 }
 
 /// What items of a scope are listed as, where it is known what the scopes in it list.
-fn listed_items(
+fn listed_items<'a>(
     memo: &mut Memo,
-    nodes: &mut Nodes,
-    source: &Source,
+    nodes: &mut Nodes<'a>,
+    source: &Source<'a, '_>,
     kinds: &Named<ItemKind>,
     listings: &[Vec<Item>],
 ) -> Result<Vec<Item>, AllocError>
@@ -106,10 +127,10 @@ fn listed_items(
 }
 
 /// What the scope at a position lists, where it is known what those behind it list.
-fn listing_at(
+fn listing_at<'a>(
     memo: &mut Memo,
-    nodes: &mut Nodes,
-    source: &Source,
+    nodes: &mut Nodes<'a>,
+    source: &Source<'a, '_>,
     position: usize,
     listings: &[Vec<Item>],
 ) -> Result<Vec<Item>, AllocError>
@@ -139,10 +160,10 @@ fn unlisted(alloc: Global, count: usize) -> Result<Vec<Vec<Item>>, AllocError>
 }
 
 /// What each scope of an entry lists. The memo is used for one scope after another.
-pub fn listings(
+pub fn listings<'a>(
     memo: &mut Memo,
-    nodes: &mut Nodes,
-    source: &Source,
+    nodes: &mut Nodes<'a>,
+    source: &Source<'a, '_>,
 ) -> Result<Vec<Vec<Item>>, AllocError>
     requires named { AreNamed source.now.types.now source.now.calls.now }
     ensures grown { IsGrown nodes.old nodes.new }

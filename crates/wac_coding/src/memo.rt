@@ -1,10 +1,12 @@
 //! The numbers that the types of a scope have in a table.
-ghost use Rattle.std.specs.Prelude.{◌≡◌, None, OnOk};
-ghost use Rattle.wac_coding.specs.Coding.{defined_number, func_number, HasDefinedToo, HasFuncToo};
+ghost use Rattle.std.specs.Prelude.{◌≡◌, [], None, OnOk};
+ghost use Rattle.wac_coding.specs.Coding.{defined_number, func_number, HasDefinedToo, HasFuncToo, HasSame};
 
-use crate::numbers::Numbers;
 use std::alloc::{AllocError, Global};
+use std::mem::replace;
 use wac_collection::{DefinedTypeId, FuncTypeId};
+use wac_entries::rounds::Numbers;
+use wac_entries::tasks::Task;
 
 /// The numbers of the types of a scope: of those that have one so far.
 pub struct Memo {
@@ -12,6 +14,8 @@ pub struct Memo {
     defined: Numbers,
     /// Those of function types, by position.
     funcs: Numbers,
+    /// Memory for the tasks of a type. None is left between calls.
+    tasks: Vec<Task>,
 }
 
 /// The numbers are let go of here, and not anew at each place where they go out of scope.
@@ -20,6 +24,7 @@ impl Drop for Memo {
         let Memo {
             defined: _,
             funcs: _,
+            tasks: _,
         } = self;
     }
 }
@@ -33,6 +38,7 @@ impl Memo {
         Memo {
             defined: Numbers::new(alloc),
             funcs: Numbers::new(alloc),
+            tasks: Vec::new(alloc),
         }
     }
 
@@ -71,5 +77,22 @@ impl Memo {
         ensures { OnOk result (HasFuncToo self.old id number self.new) }
     {
         self.funcs.put(id.0, number)
+    }
+
+    /// Takes the memory for tasks out. None is in it.
+    pub(crate) fn take_tasks(&mut self, alloc: Global) -> Vec<Task>
+        ensures none { result.items ≡ [] }
+        ensures same { HasSame self.old self.new }
+    {
+        let mut tasks = replace(&mut self.tasks, Vec::new(alloc));
+        tasks.clear();
+        tasks
+    }
+
+    /// Keeps memory for tasks.
+    pub(crate) fn keep_tasks(&mut self, tasks: Vec<Task>)
+        ensures { HasSame self.old self.new }
+    {
+        self.tasks = tasks;
     }
 }

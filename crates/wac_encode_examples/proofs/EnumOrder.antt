@@ -13,7 +13,7 @@ use Rattle.wac_shapes.specs.declared.component.ValueType.TheVariants as val
 use Rattle.wac_shapes.specs.declared.component.«Type».TheVariants as ty
 use Rattle.wac_collection.specs.Collection.{Collection, item_at}
 use Rattle.wac_listing.specs.Made.{MadeOf, itself, part, parts}
-use Rattle.wac_listing.specs.Order.{listed, Lists, Mentions, IsNext, Takes, is_value_type_at}
+use Rattle.wac_listing.specs.Order.{listed, Lists, Mentions, IsNext, Takes, is_value_type_at, AreOrdered}
 use Rattle.wac_encode.specs.Listing.{IsOrder}
 use Rattle.wac_encode.proofs.Ordered.{is-order}
 use Rattle.wac_encode_examples.proofs.Apart.{no_flag, no_entry, one_entry, two_numbers}
@@ -89,13 +89,13 @@ no_function_first h = no_flag (ap first_is_function (no_other_order (function_it
 abbrev the_record : DefinedTypeId
 the_record = record { 0 = 1 }
 
-abbrev record_item : Name × ItemKind
+abbrev pub record_item : Name × ItemKind
 record_item = (codes "r", kind.TypeItem (ty.Value (val.Defined the_record)))
 
-abbrev record_listed_first : List (Name × ItemKind)
+abbrev pub record_listed_first : List (Name × ItemKind)
 record_listed_first = record_item ∷ enum_item ∷ function_item ∷ []
 
-abbrev with_record : Collection
+abbrev pub with_record : Collection
 with_record = record types {
   defined = record { item = the_enum_type; before = 0 } ∷ record { item = def.Record (record { fields = (codes "x", val.Defined the_enum) ∷ [] }); before = 1 } ∷ [];
 }
@@ -153,9 +153,12 @@ none_left (suc zero) = refl
 none_left (suc (suc zero)) = refl
 none_left (suc (suc (suc q))) = refl
 
+pub enum_and_record : AreOrdered with_record record_listed_first (1 ∷ 0 ∷ [])
+enum_and_record = (enum_before_record, (record_after_enum, none_left))
+
 -- the enum, the record, the function
 pub enum_before_record_order : IsOrder with_record record_listed_first (enum_item ∷ record_item ∷ function_item ∷ [])
-enum_before_record_order = is-order with_record record_listed_first (1 ∷ 0 ∷ []) (enum_item ∷ record_item ∷ []) (enum_item ∷ record_item ∷ function_item ∷ []) (enum_before_record, (record_after_enum, none_left)) (refl, (refl, tt)) refl
+enum_before_record_order = is-order with_record record_listed_first (1 ∷ 0 ∷ []) (enum_item ∷ record_item ∷ []) (enum_item ∷ record_item ∷ function_item ∷ []) enum_and_record (refl, (refl, tt)) refl
 
 -- the record is not written first, as it is listed
 pub no_record_first : IsOrder with_record record_listed_first record_listed_first → ⊥

@@ -9,3 +9,4 @@ pub mod AliasedRows
 pub mod PlaceRows
 pub mod NestedRows
 pub mod PlanRows
+pub mod WorldRows

@@ -20,3 +20,4 @@ pub mod Places
 pub mod ClassPaths
 pub mod TaskOpenings
 pub mod TaskLemmas
+pub mod PutNumbers

@@ -28,7 +28,7 @@ use Rattle.wac_entries.specs.declared.nodes.Node.TheVariants as node
 use Rattle.wac_entries.specs.CalledViews.{called_view}
 use Rattle.wac_entries.specs.NodeViews.{named, item_view, listed, core_view, core_items, core_modules, node_view}
 use Rattle.wac_entries.specs.Nodes as table
-use Rattle.wac_entries.proofs.Telling.{Tells, both, and_true, list_same, list_itself, Text, text_eq, text_tells}
+use Rattle.wac_entries.proofs.Telling.{Tells, both, and_true, list_same, list_itself, Text, text_eq, text_tells, Borrowed, bytes, borrowed_eq, borrowed_tells}
 use Rattle.wac_entries.proofs.CalledKeys.{called_tells}
 
 number_tells : (x y : ℕ) → (nat_eq x y ≡ true → x ≡ y) × (x ≡ y → nat_eq x y ≡ true)
@@ -42,24 +42,45 @@ optional_tells (Some a) (Some b) = (λ e. ap Some (eqb-true a b e), λ e. eq-eqb
   inner : Some a ≡ Some b → a ≡ b
   inner e = cc
 
-abbrev entry_eq : {V : Type 0} → (V → V → Bool) → Text × V → Text × V → Bool
-entry_eq E x y = text_eq x.0 y.0 && E x.1 y.1
+-- entries are told apart by what tells their names and their values apart
+abbrev entry_eq : {N V : Type 0} → (N → N → Bool) → (V → V → Bool) → N × V → N × V → Bool
+entry_eq D E x y = D x.0 y.0 && E x.1 y.1
 
--- entries are told apart by their names and by what tells their values apart
-abbrev pair_view : {V W : Type 0} → (V → W) → Text × V → Name × W
-pair_view v e = (string_bytes e.0, v e.1)
+abbrev pair_view : {N V W : Type 0} → (N → Name) → (V → W) → N × V → Name × W
+pair_view n v e = (n e.0, v e.1)
 
-pair_there : {V W : Type 0} (v : V → W) (E : V → V → Bool) → Tells v E → (x y : Text × V) → entry_eq E x y ≡ true → pair_view v x ≡ pair_view v y
-pair_there v E t x y e = let (p, q) = both (text_eq x.0 y.0) (E x.1 y.1) e in rw ((text_tells x.0 y.0).0 p, (t x.1 y.1).0 q) refl
+module _ {N V W : Type 0} (n : N → Name) (D : N → N → Bool) (s : Tells n D) (v : V → W) (E : V → V → Bool) (t : Tells v E) where
+  pair_there : (x y : N × V) → entry_eq D E x y ≡ true → pair_view n v x ≡ pair_view n v y
+  pair_there x y e = let (p, q) = both (D x.0 y.0) (E x.1 y.1) e in rw ((s x.0 y.0).0 p, (t x.1 y.1).0 q) refl
 
-pair_back : {V W : Type 0} (v : V → W) (E : V → V → Bool) → Tells v E → (x y : Text × V) → pair_view v x ≡ pair_view v y → entry_eq E x y ≡ true
-pair_back v E t x y e = and_true (text_eq x.0 y.0) (E x.1 y.1) ((text_tells x.0 y.0).1 (ap (λ p. p.0) e)) ((t x.1 y.1).1 (ap (λ p. p.1) e))
+  pair_back : (x y : N × V) → pair_view n v x ≡ pair_view n v y → entry_eq D E x y ≡ true
+  pair_back x y e = and_true (D x.0 y.0) (E x.1 y.1) ((s x.0 y.0).1 (ap (λ p. p.0) e)) ((t x.1 y.1).1 (ap (λ p. p.1) e))
 
-pair_tells : {V W : Type 0} (v : V → W) (E : V → V → Bool) → Tells v E → Tells (pair_view v) (entry_eq E)
-pair_tells v E t x y = (pair_there v E t x y, pair_back v E t x y)
+  pair_tells : Tells (pair_view n v) (entry_eq D E)
+  pair_tells x y = (pair_there x y, pair_back x y)
 
-entry_tells : {V : Type 0} (E : V → V → Bool) → ((x y : V) → (E x y ≡ true → x ≡ y) × (x ≡ y → E x y ≡ true)) → Tells (pair_view (λ (v : V). v)) (entry_eq E)
-entry_tells E t = pair_tells (λ v. v) E t
+-- entries under names of their own
+abbrev own_eq : {V : Type 0} → (V → V → Bool) → Text × V → Text × V → Bool
+own_eq E = entry_eq text_eq E
+
+abbrev own_view : {V W : Type 0} → (V → W) → Text × V → Name × W
+own_view v = pair_view string_bytes v
+
+own_tells : {V W : Type 0} (v : V → W) (E : V → V → Bool) → Tells v E → Tells (own_view v) (own_eq E)
+own_tells v E t = pair_tells string_bytes text_eq text_tells v E t
+
+-- entries under names that stand elsewhere
+abbrev field_eq : {V : Type 0} → (V → V → Bool) → Borrowed × V → Borrowed × V → Bool
+field_eq E = entry_eq borrowed_eq E
+
+abbrev field_view : {V W : Type 0} → (V → W) → Borrowed × V → Name × W
+field_view v = pair_view bytes v
+
+field_tells : {V W : Type 0} (v : V → W) (E : V → V → Bool) → Tells v E → Tells (field_view v) (field_eq E)
+field_tells v E t = pair_tells bytes borrowed_eq borrowed_tells v E t
+
+entry_tells : {V : Type 0} (E : V → V → Bool) → ((x y : V) → (E x y ≡ true → x ≡ y) × (x ≡ y → E x y ≡ true)) → Tells (field_view (λ (v : V). v)) (field_eq E)
+entry_tells E t = field_tells (λ v. v) E t
 
 item_tells : Tells item_view (ItemEq.ghosts).eq
 item_tells x y = (there x y, back x y) where
@@ -81,8 +102,8 @@ item_tells x y = (there x y, back x y) where
   back (item.Value a) (item.Value b) e = eq-eqb a b (ap type_of e)
   back _ _ e = cc e
 
-listed_tells : Tells (pair_view item_view) (entry_eq (ItemEq.ghosts).eq)
-listed_tells = pair_tells item_view (ItemEq.ghosts).eq item_tells
+listed_tells : Tells (field_view item_view) (field_eq (ItemEq.ghosts).eq)
+listed_tells = field_tells item_view (ItemEq.ghosts).eq item_tells
 
 core_type_same : (a b : CoreType) → (CoreTypeEq.ghosts).eq a b ≡ true → a ≡ b
 core_type_same core_type.I32 core_type.I32 e = refl
@@ -202,44 +223,44 @@ core_tells : Tells core_view (CoreEq.ghosts).eq
 core_tells x y = (core_there x y, core_back x y)
 
 abbrev cores_eq : Vec (Text × Core) Global → Vec (Text × Core) Global → Bool
-cores_eq x y = pointwise (entry_eq (CoreEq.ghosts).eq) x.items y.items
+cores_eq x y = pointwise (own_eq (CoreEq.ghosts).eq) x.items y.items
 
 cores_tell : Tells (λ (x : Vec (Text × Core) Global). core_items x.items) cores_eq
-cores_tell x y = (list_same (pair_view core_view) (entry_eq (CoreEq.ghosts).eq) (pair_tells core_view (CoreEq.ghosts).eq core_tells) x.items y.items, list_itself (pair_view core_view) (entry_eq (CoreEq.ghosts).eq) (pair_tells core_view (CoreEq.ghosts).eq core_tells) x.items y.items)
+cores_tell x y = (list_same (own_view core_view) (own_eq (CoreEq.ghosts).eq) (own_tells core_view (CoreEq.ghosts).eq core_tells) x.items y.items, list_itself (own_view core_view) (own_eq (CoreEq.ghosts).eq) (own_tells core_view (CoreEq.ghosts).eq core_tells) x.items y.items)
 
 abbrev module_entry : Text × Vec (Text × Core) Global → Name × List (Name × CoreItem)
 module_entry e = (string_bytes e.0, core_items e.1.items)
 
-modules_tell : Tells module_entry (entry_eq cores_eq)
-modules_tell = pair_tells (λ (x : Vec (Text × Core) Global). core_items x.items) cores_eq cores_tell
+modules_tell : Tells module_entry (own_eq cores_eq)
+modules_tell = own_tells (λ (x : Vec (Text × Core) Global). core_items x.items) cores_eq cores_tell
 
 pub same_node : (a b : Node) → (NodeEq.ghosts).eq a b ≡ true → node_view a ≡ node_view b
 same_node (node.Resource a) (node.Resource b) e = ap table.of_resource ((called_tells a b).0 e)
 same_node (node.Primitive a) (node.Primitive b) e = ap table.of_primitive (same_true the_type (search rules) a b e)
 same_node (node.Own a) (node.Own b) e = ap table.of_own ((called_tells a b).0 e)
 same_node (node.Borrow a) (node.Borrow b) e = ap table.of_borrow ((called_tells a b).0 e)
-same_node (node.Record a) (node.Record b) e = ap table.of_record (list_same (pair_view (λ v. v)) (entry_eq nat_eq) (entry_tells nat_eq number_tells) a.items b.items e)
-same_node (node.Variant a) (node.Variant b) e = ap table.of_variant (list_same (pair_view (λ v. v)) (entry_eq (option_eq nat_eq)) (entry_tells (option_eq nat_eq) optional_tells) a.items b.items e)
+same_node (node.Record a) (node.Record b) e = ap table.of_record (list_same (field_view (λ v. v)) (field_eq nat_eq) (entry_tells nat_eq number_tells) a.items b.items e)
+same_node (node.Variant a) (node.Variant b) e = ap table.of_variant (list_same (field_view (λ v. v)) (field_eq (option_eq nat_eq)) (entry_tells (option_eq nat_eq) optional_tells) a.items b.items e)
 same_node (node.List a) (node.List b) e = ap table.of_list (eqb-true a b e)
 same_node (node.FixedSizeList a x) (node.FixedSizeList b y) e = let (p, q) = both (nat_eq a b) (nat_eq x y) e in rw (eqb-true a b p, eqb-true x y q) refl
 same_node (node.Tuple a) (node.Tuple b) e = ap table.of_tuple ((bytes_decides a.items b.items).0 e)
-same_node (node.Flags a) (node.Flags b) e = ap table.of_flags (list_same string_bytes text_eq text_tells a.items b.items e)
-same_node (node.Enum a) (node.Enum b) e = ap table.of_enum (list_same string_bytes text_eq text_tells a.items b.items e)
+same_node (node.Flags a) (node.Flags b) e = ap table.of_flags (list_same bytes borrowed_eq borrowed_tells a.items b.items e)
+same_node (node.Enum a) (node.Enum b) e = ap table.of_enum (list_same bytes borrowed_eq borrowed_tells a.items b.items e)
 same_node (node.Option a) (node.Option b) e = ap table.of_option (eqb-true a b e)
 same_node (node.Result a x) (node.Result b y) e = let (p, q) = both (option_eq nat_eq a b) (option_eq nat_eq x y) e in rw ((optional_tells a b).0 p, (optional_tells x y).0 q) refl
 same_node (node.Stream a) (node.Stream b) e = ap table.of_stream ((optional_tells a b).0 e)
 same_node (node.Future a) (node.Future b) e = ap table.of_future ((optional_tells a b).0 e)
 same_node (node.Func i a x) (node.Func j b y) e =
     let (p, rest) = both (beq i j) _ e in
-    let (q, r) = both (pointwise (entry_eq nat_eq) a.items b.items) (option_eq nat_eq x y) rest in
-    rw (same_flag i j p, list_same (pair_view (λ v. v)) (entry_eq nat_eq) (entry_tells nat_eq number_tells) a.items b.items q, (optional_tells x y).0 r) refl
-same_node (node.Instance a) (node.Instance b) e = ap table.of_instance (list_same (pair_view item_view) (entry_eq (ItemEq.ghosts).eq) listed_tells a.items b.items e)
+    let (q, r) = both (pointwise (field_eq nat_eq) a.items b.items) (option_eq nat_eq x y) rest in
+    rw (same_flag i j p, list_same (field_view (λ v. v)) (field_eq nat_eq) (entry_tells nat_eq number_tells) a.items b.items q, (optional_tells x y).0 r) refl
+same_node (node.Instance a) (node.Instance b) e = ap table.of_instance (list_same (field_view item_view) (field_eq (ItemEq.ghosts).eq) listed_tells a.items b.items e)
 same_node (node.Component i a) (node.Component j b) e =
-    let (p, q) = both (pointwise (entry_eq (ItemEq.ghosts).eq) i.items j.items) (pointwise (entry_eq (ItemEq.ghosts).eq) a.items b.items) e in
-    rw (list_same (pair_view item_view) (entry_eq (ItemEq.ghosts).eq) listed_tells i.items j.items p, list_same (pair_view item_view) (entry_eq (ItemEq.ghosts).eq) listed_tells a.items b.items q) refl
+    let (p, q) = both (pointwise (field_eq (ItemEq.ghosts).eq) i.items j.items) (pointwise (field_eq (ItemEq.ghosts).eq) a.items b.items) e in
+    rw (list_same (field_view item_view) (field_eq (ItemEq.ghosts).eq) listed_tells i.items j.items p, list_same (field_view item_view) (field_eq (ItemEq.ghosts).eq) listed_tells a.items b.items q) refl
 same_node (node.Module i a) (node.Module j b) e =
-    let (p, q) = both (pointwise (entry_eq cores_eq) i.items j.items) _ e in
-    rw (list_same module_entry (entry_eq cores_eq) modules_tell i.items j.items p, (cores_tell a b).0 q) refl
+    let (p, q) = both (pointwise (own_eq cores_eq) i.items j.items) _ e in
+    rw (list_same module_entry (own_eq cores_eq) modules_tell i.items j.items p, (cores_tell a b).0 q) refl
 same_node _ _ e = cc e
 
 pub node_itself : (a b : Node) → node_view a ≡ node_view b → (NodeEq.ghosts).eq a b ≡ true
@@ -255,10 +276,10 @@ node_itself (node.Own a) (node.Own b) e = (called_tells a b).1 (inner e) where
 node_itself (node.Borrow a) (node.Borrow b) e = (called_tells a b).1 (inner e) where
   inner : table.of_borrow (called_view a) ≡ table.of_borrow (called_view b) → called_view a ≡ called_view b
   inner e = cc
-node_itself (node.Record a) (node.Record b) e = list_itself (pair_view (λ v. v)) (entry_eq nat_eq) (entry_tells nat_eq number_tells) a.items b.items (inner e) where
+node_itself (node.Record a) (node.Record b) e = list_itself (field_view (λ v. v)) (field_eq nat_eq) (entry_tells nat_eq number_tells) a.items b.items (inner e) where
   inner : table.of_record (named a.items) ≡ table.of_record (named b.items) → named a.items ≡ named b.items
   inner e = cc
-node_itself (node.Variant a) (node.Variant b) e = list_itself (pair_view (λ v. v)) (entry_eq (option_eq nat_eq)) (entry_tells (option_eq nat_eq) optional_tells) a.items b.items (inner e) where
+node_itself (node.Variant a) (node.Variant b) e = list_itself (field_view (λ v. v)) (field_eq (option_eq nat_eq)) (entry_tells (option_eq nat_eq) optional_tells) a.items b.items (inner e) where
   inner : table.of_variant (named a.items) ≡ table.of_variant (named b.items) → named a.items ≡ named b.items
   inner e = cc
 node_itself (node.List a) (node.List b) e = eq-eqb a b (inner e) where
@@ -273,11 +294,11 @@ node_itself (node.FixedSizeList a x) (node.FixedSizeList b y) e = and_true (nat_
 node_itself (node.Tuple a) (node.Tuple b) e = (bytes_decides a.items b.items).1 (inner e) where
   inner : table.of_tuple a.items ≡ table.of_tuple b.items → a.items ≡ b.items
   inner e = cc
-node_itself (node.Flags a) (node.Flags b) e = list_itself string_bytes text_eq text_tells a.items b.items (inner e) where
-  inner : table.of_flags (map string_bytes a.items) ≡ table.of_flags (map string_bytes b.items) → map string_bytes a.items ≡ map string_bytes b.items
+node_itself (node.Flags a) (node.Flags b) e = list_itself bytes borrowed_eq borrowed_tells a.items b.items (inner e) where
+  inner : table.of_flags (map bytes a.items) ≡ table.of_flags (map bytes b.items) → map bytes a.items ≡ map bytes b.items
   inner e = cc
-node_itself (node.Enum a) (node.Enum b) e = list_itself string_bytes text_eq text_tells a.items b.items (inner e) where
-  inner : table.of_enum (map string_bytes a.items) ≡ table.of_enum (map string_bytes b.items) → map string_bytes a.items ≡ map string_bytes b.items
+node_itself (node.Enum a) (node.Enum b) e = list_itself bytes borrowed_eq borrowed_tells a.items b.items (inner e) where
+  inner : table.of_enum (map bytes a.items) ≡ table.of_enum (map bytes b.items) → map bytes a.items ≡ map bytes b.items
   inner e = cc
 node_itself (node.Option a) (node.Option b) e = eq-eqb a b (inner e) where
   inner : table.of_option a ≡ table.of_option b → a ≡ b
@@ -295,8 +316,8 @@ node_itself (node.Future a) (node.Future b) e = (optional_tells a b).1 (inner e)
   inner : table.of_future a ≡ table.of_future b → a ≡ b
   inner e = cc
 node_itself (node.Func i a x) (node.Func j b y) e =
-    and_true (beq i j) _ (flags i j (sorts e)) (and_true (pointwise (entry_eq nat_eq) a.items b.items) (option_eq nat_eq x y)
-    (list_itself (pair_view (λ v. v)) (entry_eq nat_eq) (entry_tells nat_eq number_tells) a.items b.items (names e)) ((optional_tells x y).1 (results e))) where
+    and_true (beq i j) _ (flags i j (sorts e)) (and_true (pointwise (field_eq nat_eq) a.items b.items) (option_eq nat_eq x y)
+    (list_itself (field_view (λ v. v)) (field_eq nat_eq) (entry_tells nat_eq number_tells) a.items b.items (names e)) ((optional_tells x y).1 (results e))) where
       sorts : table.of_function i (named a.items) x ≡ table.of_function j (named b.items) y → i ≡ j
       sorts e = cc
 
@@ -311,19 +332,19 @@ node_itself (node.Func i a x) (node.Func j b y) e =
       flags true false e = cc
       flags false true e = cc
       flags false false e = refl
-node_itself (node.Instance a) (node.Instance b) e = list_itself (pair_view item_view) (entry_eq (ItemEq.ghosts).eq) listed_tells a.items b.items (inner e) where
+node_itself (node.Instance a) (node.Instance b) e = list_itself (field_view item_view) (field_eq (ItemEq.ghosts).eq) listed_tells a.items b.items (inner e) where
   inner : table.of_instance (listed a.items) ≡ table.of_instance (listed b.items) → listed a.items ≡ listed b.items
   inner e = cc
 node_itself (node.Component i a) (node.Component j b) e =
-    and_true (pointwise (entry_eq (ItemEq.ghosts).eq) i.items j.items) (pointwise (entry_eq (ItemEq.ghosts).eq) a.items b.items)
-    (list_itself (pair_view item_view) (entry_eq (ItemEq.ghosts).eq) listed_tells i.items j.items (first e)) (list_itself (pair_view item_view) (entry_eq (ItemEq.ghosts).eq) listed_tells a.items b.items (second e)) where
+    and_true (pointwise (field_eq (ItemEq.ghosts).eq) i.items j.items) (pointwise (field_eq (ItemEq.ghosts).eq) a.items b.items)
+    (list_itself (field_view item_view) (field_eq (ItemEq.ghosts).eq) listed_tells i.items j.items (first e)) (list_itself (field_view item_view) (field_eq (ItemEq.ghosts).eq) listed_tells a.items b.items (second e)) where
       first : table.of_component (listed i.items) (listed a.items) ≡ table.of_component (listed j.items) (listed b.items) → listed i.items ≡ listed j.items
       first e = cc
 
       second : table.of_component (listed i.items) (listed a.items) ≡ table.of_component (listed j.items) (listed b.items) → listed a.items ≡ listed b.items
       second e = cc
 node_itself (node.Module i a) (node.Module j b) e =
-    and_true (pointwise (entry_eq cores_eq) i.items j.items) (cores_eq a b) (list_itself module_entry (entry_eq cores_eq) modules_tell i.items j.items (first e)) ((cores_tell a b).1 (second e)) where
+    and_true (pointwise (own_eq cores_eq) i.items j.items) (cores_eq a b) (list_itself module_entry (own_eq cores_eq) modules_tell i.items j.items (first e)) ((cores_tell a b).1 (second e)) where
       first : table.of_module (core_modules i.items) (core_items a.items) ≡ table.of_module (core_modules j.items) (core_items b.items) → core_modules i.items ≡ core_modules j.items
       first e = cc
 

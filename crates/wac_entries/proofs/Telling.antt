@@ -1,5 +1,6 @@
 -- Tests that tell apart what things stand for.
-use Rattle.std.proofs.Common.{Global, ◌≡◌, Bool, true, false, ◌&&◌, nat_eq, List, [], ◌∷◌, map, refl}
+use Rattle.std.proofs.Common.{Global, ℕ, ◌≡◌, Bool, true, false, ◌&&◌, nat_eq, List, [], ◌∷◌, map, refl}
+use Rattle.std.specs.Borrow.{Bor}
 use Rattle.std.specs.Cmp.Lexicographic.{pointwise, bytes_decides}
 use Rattle.std.specs.Prelude.{string_bytes}
 use Rattle.std.specs.declared.string.String.{String}
@@ -41,3 +42,16 @@ text_eq x y = pointwise nat_eq (string_bytes x) (string_bytes y)
 
 pub text_tells : Tells string_bytes text_eq
 text_tells x y = bytes_decides (string_bytes x) (string_bytes y)
+
+-- a text that stands elsewhere
+abbrev pub Borrowed : Type 0
+Borrowed = Bor (List ℕ)
+
+abbrev pub bytes : Borrowed → List ℕ
+bytes x = x.now
+
+abbrev pub borrowed_eq : Borrowed → Borrowed → Bool
+borrowed_eq x y = pointwise nat_eq x.now y.now
+
+pub borrowed_tells : Tells bytes borrowed_eq
+borrowed_tells x y = bytes_decides x.now y.now

@@ -1,5 +1,6 @@
 pub mod Classes
 pub mod Numbering
+pub mod Numbers
 pub mod Binding
 pub mod Agreement
 pub mod Scopes
@@ -7,6 +8,8 @@ pub mod Opening
 pub mod CalledViews
 pub mod Nodes
 pub mod NodeViews
+pub mod ItemHash
+pub mod NodeHash
 pub mod Places
 pub mod Bindings
 pub mod Walking

@@ -1,6 +1,7 @@
 -- What the nodes of a table stand for.
 use Rattle.std.specs.Global.{Global}
-use Rattle.std.specs.Prelude.{Vec, List, map, string_bytes}
+use Rattle.std.specs.Prelude.{Vec, List, map, string_bytes, ℕ}
+use Rattle.std.specs.Borrow.{Bor}
 use Rattle.std.specs.declared.string.String.{String}
 use Rattle.wac_primitives.specs.Name.{Name}
 use Rattle.wac_primitives.specs.Core.{CoreItem, core_function, core_table, core_memory, core_global, core_tag}
@@ -13,8 +14,8 @@ use Rattle.wac_entries.specs.declared.nodes.Node.{Node}
 use Rattle.wac_entries.specs.declared.nodes.Node.TheVariants as node
 use Rattle.wac_entries.specs.Nodes as table
 
-abbrev pub named : {A V : Type 0} → List (String A × V) → List (Name × V)
-named es = map (λ e. (string_bytes e.0, e.1)) es
+abbrev pub named : {V : Type 0} → List (Bor (List ℕ) × V) → List (Name × V)
+named es = map (λ e. (e.0.now, e.1)) es
 
 abbrev pub item_view : Item → table.Item
 item_view (item.«Type» n) = table.a_type n
@@ -24,8 +25,8 @@ item_view (item.Component n) = table.a_component n
 item_view (item.Module n) = table.a_module n
 item_view (item.Value n) = table.a_value n
 
-abbrev pub listed : {A : Type 0} → List (String A × Item) → List (Name × table.Item)
-listed es = map (λ e. (string_bytes e.0, item_view e.1)) es
+abbrev pub listed : List (Bor (List ℕ) × Item) → List (Name × table.Item)
+listed es = map (λ e. (e.0.now, item_view e.1)) es
 
 abbrev pub core_view : Core → CoreItem
 core_view (core.Func params results) = core_function params.items results.items
@@ -50,8 +51,8 @@ node_view (node.Variant cases) = table.of_variant (named cases.items)
 node_view (node.List n) = table.of_list n
 node_view (node.FixedSizeList n k) = table.of_fixed_list k n
 node_view (node.Tuple ns) = table.of_tuple ns.items
-node_view (node.Flags names) = table.of_flags (map string_bytes names.items)
-node_view (node.Enum names) = table.of_enum (map string_bytes names.items)
+node_view (node.Flags names) = table.of_flags (map (λ n. n.now) names.items)
+node_view (node.Enum names) = table.of_enum (map (λ n. n.now) names.items)
 node_view (node.Option n) = table.of_option n
 node_view (node.Result ok err) = table.of_result ok err
 node_view (node.Stream n) = table.of_stream n

@@ -11,5 +11,6 @@ pub mod entry;
 pub mod naming;
 pub mod nodes;
 pub mod outward;
+pub mod rounds;
 pub mod scopes;
 pub mod tasks;

@@ -1,17 +1,20 @@
 //! Types as nodes of a table, each once.
-ghost use Rattle.std.specs.Prelude.{◌≡◌, ◌<◌, ℕ, [], length, Some, slice_get, OnOk, OnErr, IfOk};
+ghost use Rattle.std.specs.Prelude.{◌≡◌, ◌<◌, ℕ, [], fold, length, Some, slice_get, OnOk, OnErr, IfOk};
 ghost use Rattle.std.specs.List.{AllByRecursion};
 ghost use Rattle.wac_entries.specs.Nodes.{mentions, tree_at, Added, IsSorted, IsTable};
 ghost use Rattle.wac_entries.specs.NodeViews.{node_view};
+ghost use Rattle.wac_entries.specs.ItemHash.{item_writes, item_alike};
+ghost use Rattle.wac_entries.specs.NodeHash.{node_writes, node_alike, number_writes};
 
 use crate::called::Called;
 use indexmap::IndexSet;
 use std::alloc::{AllocError, Global};
+use std::hash::{Hash, Hasher};
 use std::marker::Model;
 use wac_collection::{CoreRefType, CoreType, PrimitiveType};
 
 /// What an instance or a component lists under a name: its sort, and the number of its type.
-#[derive(Clone, Copy, PartialEq, Eq, Hash)]
+#[derive(Clone, Copy, PartialEq, Eq)]
 pub enum Item {
     /// A type.
     Type(usize),
@@ -25,6 +28,24 @@ pub enum Item {
     Module(usize),
     /// A value.
     Value(usize),
+}
+
+/// The number of an item's type is hashed, and not its sort, in one write.
+impl Hash for Item {
+    ghost hash_input = { item_writes };
+
+    ghost respects_eq = { λ a b e. item_alike a b e };
+
+    fn hash<H: Hasher>(&self, state: &mut H) {
+        match self {
+            Item::Type(number) => number.hash(state),
+            Item::Func(number) => number.hash(state),
+            Item::Instance(number) => number.hash(state),
+            Item::Component(number) => number.hash(state),
+            Item::Module(number) => number.hash(state),
+            Item::Value(number) => number.hash(state),
+        }
+    }
 }
 
 /// What a core module imports or exports.
@@ -42,9 +63,10 @@ pub enum Core {
     Tag(Vec<CoreType>, Vec<CoreType>),
 }
 
-/// A type that mentions other types by their numbers in a table.
-#[derive(PartialEq, Eq, Hash, Drop)]
-pub enum Node {
+/// A type that mentions other types by their numbers in a table. Its names are borrowed, from the collection that holds the type;
+/// those of core modules are its own.
+#[derive(PartialEq, Eq, Drop)]
+pub enum Node<'a> {
     /// A resource.
     Resource(Called),
     /// A primitive.
@@ -54,9 +76,9 @@ pub enum Node {
     /// A handle to a resource that is lent.
     Borrow(Called),
     /// Fields under names.
-    Record(Vec<(String, usize)>),
+    Record(Vec<(&'a str, usize)>),
     /// Cases under names.
-    Variant(Vec<(String, Option<usize>)>),
+    Variant(Vec<(&'a str, Option<usize>)>),
     /// A list of any length.
     List(usize),
     /// A list of this length.
@@ -64,9 +86,9 @@ pub enum Node {
     /// Values one after another.
     Tuple(Vec<usize>),
     /// Flags under names.
-    Flags(Vec<String>),
+    Flags(Vec<&'a str>),
     /// One of these names.
-    Enum(Vec<String>),
+    Enum(Vec<&'a str>),
     /// A value or none.
     Option(usize),
     /// A value or an error.
@@ -76,28 +98,77 @@ pub enum Node {
     /// A future.
     Future(Option<usize>),
     /// A function: whether it is asynchronous, its parameters, its result.
-    Func(bool, Vec<(String, usize)>, Option<usize>),
+    Func(bool, Vec<(&'a str, usize)>, Option<usize>),
     /// An instance: its exports, sorted by name.
-    Instance(Vec<(String, Item)>),
+    Instance(Vec<(&'a str, Item)>),
     /// A component: its imports and its exports, each sorted by name.
-    Component(Vec<(String, Item)>, Vec<(String, Item)>),
+    Component(Vec<(&'a str, Item)>, Vec<(&'a str, Item)>),
     /// A core module: its imports by module and name, and its exports, each sorted by name.
     Module(Vec<(String, Vec<(String, Core)>)>, Vec<(String, Core)>),
 }
 
+/// The parts of a node are hashed, and not its sort, so that a list or an option is one write.
+impl<'a> Hash for Node<'a> {
+    ghost hash_input = { node_writes };
+
+    ghost respects_eq = { λ a b e. node_alike a b e };
+
+    fn hash<H: Hasher>(&self, state: &mut H) {
+        match self {
+            Node::Resource(called) => called.hash(state),
+            Node::Primitive(primitive) => primitive.hash(state),
+            Node::Own(called) => called.hash(state),
+            Node::Borrow(called) => called.hash(state),
+            Node::Record(fields) => fields.hash(state),
+            Node::Variant(cases) => cases.hash(state),
+            Node::List(part) => part.hash(state),
+            Node::FixedSizeList(part, _) => part.hash(state),
+            Node::Tuple(parts) => parts.hash(state),
+            Node::Flags(names) => names.hash(state),
+            Node::Enum(names) => names.hash(state),
+            Node::Option(part) => part.hash(state),
+            Node::Result(ok, err) => {
+                ok.hash(state);
+                err.hash(state);
+            }
+            Node::Stream(part) => hash_number(*part, state),
+            Node::Future(part) => hash_number(*part, state),
+            Node::Func(_, params, result) => {
+                params.hash(state);
+                hash_number(*result, state);
+            }
+            Node::Instance(exports) => exports.hash(state),
+            Node::Component(imports, exports) => {
+                imports.hash(state);
+                exports.hash(state);
+            }
+            Node::Module(_, exports) => exports.hash(state),
+        }
+    }
+}
+
+/// Hashes a number where there is one.
+fn hash_number<H: Hasher>(number: Option<usize>, state: &mut H)
+    ensures { state.new ≡ fold H.write state.old (number_writes number) }
+{
+    if let Some(number) = number {
+        number.hash(state);
+    }
+}
+
 /// Nodes, each once, which mention lower ones.
-pub struct Nodes {
-    nodes: IndexSet<Node>,
+pub struct Nodes<'a> {
+    nodes: IndexSet<Node<'a>>,
 }
 
 /// The nodes are let go of here, and not anew at each place where a table goes out of scope.
-impl Drop for Nodes {
+impl<'a> Drop for Nodes<'a> {
     fn drop(self) {
         let Nodes { nodes: _ } = self;
     }
 }
 
-impl Model for Nodes {
+impl<'a> Model for Nodes<'a> {
     ghost use Rattle.std.specs.Prelude.{List, map};
     ghost use Rattle.wac_entries.specs.Nodes as table;
     ghost use Rattle.wac_entries.specs.NodeViews.{node_view};
@@ -109,9 +180,9 @@ impl Model for Nodes {
     ghost invariant = { λ t. table.IsTable (map node_view t.nodes.keys) };
 }
 
-impl Nodes {
+impl<'a> Nodes<'a> {
     /// No node.
-    pub fn new(alloc: Global) -> Nodes
+    pub fn new(alloc: Global) -> Nodes<'a>
         ensures { result ≡ [] }
     {
         Nodes {
@@ -134,7 +205,7 @@ impl Nodes {
     }
 
     /// The node of a number.
-    pub fn node(&self, number: usize) -> &Node
+    pub fn node(&self, number: usize) -> &Node<'a>
         requires { number < length self.now }
         ensures { slice_get self.now number ≡ Some (node_view result.now) }
     {
@@ -142,10 +213,10 @@ impl Nodes {
     }
 
     /// The number of a node, which is put behind the others where it is not there. Where memory runs out nothing has changed.
-    pub fn add(&mut self, node: Node) -> Result<usize, AllocError>
+    pub fn add(&mut self, node: Node<'a>) -> Result<usize, AllocError>
         requires lower { AllByRecursion (λ m. m < length self.old) (mentions (node_view node)) }
         requires sorted { IsSorted (node_view node) }
-        ensures added { OnOk result (IfOk result (λ i. Added self.old (node_view node) self.new i)) }
+        ensures added { OnOk result (IfOk result (λ i. Added self.old (node_view node.entry) self.new i)) }
         ensures refused { OnErr result (self.new ≡ self.old) }
     {
         let Ok((index, _)) = self.nodes.insert_full(node) else {

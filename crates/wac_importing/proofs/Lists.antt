@@ -51,3 +51,7 @@ none_end xs i le none r w = none r (subst (IsIn (ty.Resource r)) (sym (take_all 
 
 pub one_there : (xs : List AnyType) (i : ℕ) (x : AnyType) (r : ResourceId) → slice_get xs i ≡ Some x → x ≡ ty.Resource r → HasNoResource xs → ⊥
 one_there xs i x r at is none = none r (in_at (ty.Resource r) xs i (at ∙ ap Some is))
+
+-- what was looked at before is known
+pub known_none : (known : ℕ) (before old after new : List AnyType) → known ≡ length before → before ≡ old → after ≡ new → take (length old) new ≡ old → HasNoResource old → HasNoResource (take known after)
+known_none known before old after new count same also behind none = subst HasNoResource (sym (ap (λ xs. take known xs) also ∙ ap (λ n. take n new) (count ∙ ap length same) ∙ behind)) none

@@ -9,7 +9,7 @@ use Rattle.wac_shapes.specs.declared.component.WorldId.{WorldId}
 use Rattle.wac_shapes.specs.declared.component.«Type».{«Type» as AnyType}
 use Rattle.wac_shapes.specs.declared.component.«Type».TheVariants as ty
 use Rattle.wac_collection.specs.Collection.{Collection, interface_exports, world_imports, world_exports}
-use Rattle.wac_reach.specs.Reach.{IsIn}
+use Rattle.wac_reach.specs.Reach.{IsIn, AreClosed}
 use Rattle.wac_subtyping.specs.Subtype.{type_tree, kind_tree}
 use Rattle.wac_encode.specs.Inside.{IsInside}
 use Rattle.wac_meaning.specs.Importable.{HasNoHandle, IsPlainItem, IsImportableKind, UsesNothing}
@@ -23,6 +23,10 @@ IsOfValues t = ⊥
 -- no resource is among the types
 abbrev pub HasNoResource : List AnyType → Type 0
 HasNoResource ts = (r : ResourceId) → IsIn (ty.Resource r) ts → ⊥
+
+-- held types with all that they mention, and no resource among them
+abbrev pub AreFree : Collection → List AnyType → Type 0
+AreFree c ts = AreClosed c ts × HasNoResource ts
 
 -- an item is plain, whatever is inside of it where it is an instance
 abbrev pub IsPlainAlone : Collection → ItemKind → Type 0

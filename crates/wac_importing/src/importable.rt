@@ -1,6 +1,6 @@
 //! Which imports and definitions can be written so far.
 
-ghost use Rattle.std.specs.Prelude.{◌≡◌, ◌<◌, ℕ, true, false, List, Some, Ok as Answers, length, slice_get};
+ghost use Rattle.std.specs.Prelude.{◌≡◌, ◌<◌, ℕ, true, false, List, Some, Ok as Answers, length, take, slice_get};
 ghost use Rattle.wac_shapes.specs.Kinds.{kind_type};
 ghost use Rattle.wac_shapes.specs.declared.component.ItemKind.{ItemKind as AnyItem};
 ghost use Rattle.wac_shapes.specs.declared.component.ItemKind.TheVariants as kind;
@@ -10,31 +10,36 @@ ghost use Rattle.wac_subtyping.specs.Subtype.{type_tree, kind_tree};
 ghost use Rattle.wac_shapes.specs.declared.component.«Type».{«Type» as AnyType};
 ghost use Rattle.wac_encode.specs.Inside.{IsHeldInterface};
 ghost use Rattle.wac_meaning.specs.Importable.{HasNoHandle, IsPlainItem, IsImportableKind, UsesNothing, IsDefinableKind};
-ghost use Rattle.wac_importing.specs.Looked.{IsOfValues, HasNoResource, IsPlainAlone, ArePlainAlone, ListsPlainAlone, ListPlainAlone, ArePlain, IsPlainDeep, ArePlainDeep, HasPlainItems, UseNothing, ListsPlain, AreImportable, HasNotYet};
+ghost use Rattle.wac_importing.specs.Looked.{IsOfValues, HasNoResource, IsPlainAlone, ArePlainAlone, ListsPlainAlone, ListPlainAlone, ArePlain, AreFree, IsPlainDeep, ArePlainDeep, HasPlainItems, UseNothing, ListsPlain, AreImportable, HasNotYet};
 
 use std::alloc::AllocError;
 use wac_collection::{InterfaceId, ItemKind, Named, Type, Types, WorldId};
 use wac_encode::TypeEncoder;
-use wac_reach::reach;
+use wac_reach::Reached;
 
-/// Whether a held value type or function type is made of no handle.
-fn has_no_handle(types: &Types, ty: Type) -> Result<bool, AllocError>
+/// Whether a held value type or function type is made of no handle. What types reach that were looked at before is known to be free of
+/// them, and is not looked at again; where the answer is yes, so is what this one reaches.
+fn has_no_handle(types: &Types, looked: &mut Reached, ty: Type) -> Result<bool, AllocError>
     requires held { holds_type types.now ty ≡ true }
     requires of_values { IsOfValues ty }
+    requires free { AreFree types.now looked.old }
     ensures none { result ≡ Answers true → HasNoHandle (type_tree types.now ty) }
     ensures some { result ≡ Answers false → HasNoHandle (type_tree types.now ty) → ⊥ }
+    ensures free { result ≡ Answers true → AreFree types.now looked.new }
 {
     types.law();
-    let reached = reach(types, ty)?;
-    Ok(holds_no_resource(reached.as_slice()))
+    let known = looked.as_slice().len();
+    looked.reach_from(types, ty)?;
+    Ok(holds_no_resource(looked.as_slice(), known))
 }
 
-/// Whether no type is a resource.
-fn holds_no_resource(types: &[Type]) -> bool
+/// Whether no type is a resource, where so many of the first are none.
+fn holds_no_resource(types: &[Type], known: usize) -> bool
+    requires { HasNoResource (take known types.now) }
     ensures none { result ≡ true → HasNoResource types.now }
     ensures some { result ≡ false → HasNoResource types.now → ⊥ }
 {
-    for i in 0..types.len() {
+    for i in known..types.len() {
         if let Type::Resource(_) = type_at(types, i) {
             return false;
         }
@@ -51,42 +56,52 @@ fn type_at(types: &[Type], index: usize) -> Type
 }
 
 /// Whether a type item of a held type is one of a value type or a function type that is made of no handle.
-fn is_plain_type(types: &Types, ty: Type) -> Result<bool, AllocError>
-    requires { holds_type types.now ty ≡ true }
+fn is_plain_type(types: &Types, looked: &mut Reached, ty: Type) -> Result<bool, AllocError>
+    requires held { holds_type types.now ty ≡ true }
+    requires free { AreFree types.now looked.old }
     ensures plain { result ≡ Answers true → IsPlainItem (kind_tree types.now (kind.TypeItem ty)) }
     ensures not { result ≡ Answers false → IsPlainItem (kind_tree types.now (kind.TypeItem ty)) → ⊥ }
+    ensures free { result ≡ Answers true → AreFree types.now looked.new }
 {
     types.law();
     match ty {
-        Type::Value(_) | Type::Func(_) => has_no_handle(types, ty),
+        Type::Value(_) | Type::Func(_) => has_no_handle(types, looked, ty),
         _ => Ok(false),
     }
 }
 
 /// Whether a held item is a function or a type item of a value type or a function type, and made of no handle, or an instance, whatever is
 /// inside.
-fn is_plain(types: &Types, item: ItemKind) -> Result<bool, AllocError>
-    requires { holds_type types.now (kind_type item) ≡ true }
+fn is_plain(types: &Types, looked: &mut Reached, item: ItemKind) -> Result<bool, AllocError>
+    requires held { holds_type types.now (kind_type item) ≡ true }
+    requires free { AreFree types.now looked.old }
     ensures plain { result ≡ Answers true → IsPlainAlone types.now item }
     ensures not { result ≡ Answers false → IsPlainAlone types.now item → ⊥ }
+    ensures free { result ≡ Answers true → AreFree types.now looked.new }
 {
     match item {
-        ItemKind::Func(func) => has_no_handle(types, Type::Func(func)),
-        ItemKind::TypeItem(ty) => is_plain_type(types, ty),
+        ItemKind::Func(func) => has_no_handle(types, looked, Type::Func(func)),
+        ItemKind::TypeItem(ty) => is_plain_type(types, looked, ty),
         ItemKind::Instance(_) => Ok(true),
         _ => Ok(false),
     }
 }
 
 /// Whether all items are.
-fn are_plain(types: &Types, items: &Named<ItemKind>) -> Result<bool, AllocError>
-    requires { (i : ℕ) (e : List ℕ × AnyItem) → slice_get items.now i ≡ Some e → holds_type types.now (kind_type e.1) ≡ true }
+fn are_plain(
+    types: &Types,
+    looked: &mut Reached,
+    items: &Named<ItemKind>,
+) -> Result<bool, AllocError>
+    requires held { (i : ℕ) (e : List ℕ × AnyItem) → slice_get items.now i ≡ Some e → holds_type types.now (kind_type e.1) ≡ true }
+    requires free { AreFree types.now looked.old }
     ensures plain { result ≡ Answers true → ArePlainAlone types.now items.now }
     ensures not { result ≡ Answers false → ArePlainAlone types.now items.now → ⊥ }
+    ensures free { result ≡ Answers true → AreFree types.now looked.new }
 {
     for i in 0..items.len() {
         let (_, item) = items.entry_at(i);
-        if !is_plain(types, *item)? {
+        if !is_plain(types, looked, *item)? {
             return Ok(false);
         }
     }
@@ -94,26 +109,34 @@ fn are_plain(types: &Types, items: &Named<ItemKind>) -> Result<bool, AllocError>
 }
 
 /// Whether a held interface lists plain items alone, whatever is inside instances.
-fn lists_plain_alone(types: &Types, ty: Type) -> Result<bool, AllocError>
-    requires { IsHeldInterface types.now ty }
+fn lists_plain_alone(types: &Types, looked: &mut Reached, ty: Type) -> Result<bool, AllocError>
+    requires held { IsHeldInterface types.now ty }
+    requires free { AreFree types.now looked.old }
     ensures plain { result ≡ Answers true → ListsPlainAlone types.now ty }
     ensures not { result ≡ Answers false → ListsPlainAlone types.now ty → ⊥ }
+    ensures free { result ≡ Answers true → AreFree types.now looked.new }
 {
     types.law();
     let Type::Interface(interface) = ty else {
         unreachable!()
     };
-    are_plain(types, &types[interface].exports)
+    are_plain(types, looked, &types[interface].exports)
 }
 
 /// Whether all of these interfaces do.
-fn list_plain_alone(types: &Types, inside: &[Type]) -> Result<bool, AllocError>
-    requires { (i : ℕ) (t : AnyType) → slice_get inside.now i ≡ Some t → IsHeldInterface types.now t }
+fn list_plain_alone(
+    types: &Types,
+    looked: &mut Reached,
+    inside: &[Type],
+) -> Result<bool, AllocError>
+    requires held { (i : ℕ) (t : AnyType) → slice_get inside.now i ≡ Some t → IsHeldInterface types.now t }
+    requires free { AreFree types.now looked.old }
     ensures plain { result ≡ Answers true → ListPlainAlone types.now inside.now }
     ensures not { result ≡ Answers false → ListPlainAlone types.now inside.now → ⊥ }
+    ensures free { result ≡ Answers true → AreFree types.now looked.new }
 {
     for i in 0..inside.len() {
-        if !lists_plain_alone(types, inside[i])? {
+        if !lists_plain_alone(types, looked, inside[i])? {
             return Ok(false);
         }
     }
@@ -121,39 +144,53 @@ fn list_plain_alone(types: &Types, inside: &[Type]) -> Result<bool, AllocError>
 }
 
 /// Whether a held interface and all inside it list plain items alone, so that an instance of it and its type are imported so far.
-fn has_plain_items(types: &Types, interface: InterfaceId) -> Result<bool, AllocError>
-    requires { holds_type types.now (ty.Interface interface) ≡ true }
+fn has_plain_items(
+    types: &Types,
+    looked: &mut Reached,
+    interface: InterfaceId,
+) -> Result<bool, AllocError>
+    requires held { holds_type types.now (ty.Interface interface) ≡ true }
+    requires free { AreFree types.now looked.old }
     ensures plain { result ≡ Answers true → ListsPlain types.now (kind.Instance interface) }
     ensures not { result ≡ Answers false → ListsPlain types.now (kind.Instance interface) → ⊥ }
     ensures not_instance { result ≡ Answers false → IsImportableKind types.now (kind.Instance interface) → ⊥ }
     ensures not_type { result ≡ Answers false → IsImportableKind types.now (kind.TypeItem (ty.Interface interface)) → ⊥ }
+    ensures free { result ≡ Answers true → AreFree types.now looked.new }
 {
     types.law();
     let inside = TypeEncoder::new(types).interfaces_inside(interface)?;
-    list_plain_alone(types, inside.as_slice())
+    list_plain_alone(types, looked, inside.as_slice())
 }
 
 /// Whether a held item is plain, to any depth.
-fn is_plain_deep(types: &Types, item: ItemKind) -> Result<bool, AllocError>
-    requires { holds_type types.now (kind_type item) ≡ true }
+fn is_plain_deep(types: &Types, looked: &mut Reached, item: ItemKind) -> Result<bool, AllocError>
+    requires held { holds_type types.now (kind_type item) ≡ true }
+    requires free { AreFree types.now looked.old }
     ensures plain { result ≡ Answers true → IsPlainDeep types.now item }
     ensures not { result ≡ Answers false → IsPlainItem (kind_tree types.now item) → ⊥ }
+    ensures free { result ≡ Answers true → AreFree types.now looked.new }
 {
     match item {
-        ItemKind::Instance(id) => has_plain_items(types, id),
-        _ => is_plain(types, item),
+        ItemKind::Instance(id) => has_plain_items(types, looked, id),
+        _ => is_plain(types, looked, item),
     }
 }
 
 /// Whether all items are.
-fn are_plain_deep(types: &Types, items: &Named<ItemKind>) -> Result<bool, AllocError>
-    requires { (i : ℕ) (e : List ℕ × AnyItem) → slice_get items.now i ≡ Some e → holds_type types.now (kind_type e.1) ≡ true }
+fn are_plain_deep(
+    types: &Types,
+    looked: &mut Reached,
+    items: &Named<ItemKind>,
+) -> Result<bool, AllocError>
+    requires held { (i : ℕ) (e : List ℕ × AnyItem) → slice_get items.now i ≡ Some e → holds_type types.now (kind_type e.1) ≡ true }
+    requires free { AreFree types.now looked.old }
     ensures plain { result ≡ Answers true → ArePlainDeep types.now items.now }
     ensures not { result ≡ Answers false → ArePlain types.now items.now → ⊥ }
+    ensures free { result ≡ Answers true → AreFree types.now looked.new }
 {
     for i in 0..items.len() {
         let (_, item) = items.entry_at(i);
-        if !is_plain_deep(types, *item)? {
+        if !is_plain_deep(types, looked, *item)? {
             return Ok(false);
         }
     }
@@ -161,73 +198,86 @@ fn are_plain_deep(types: &Types, items: &Named<ItemKind>) -> Result<bool, AllocE
 }
 
 /// Whether a held world lists plain items alone, to any depth, so that a component of it and its type are imported so far.
-fn has_plain_sides(types: &Types, world: WorldId) -> Result<bool, AllocError>
-    requires { holds_type types.now (ty.World world) ≡ true }
+fn has_plain_sides(types: &Types, looked: &mut Reached, world: WorldId) -> Result<bool, AllocError>
+    requires held { holds_type types.now (ty.World world) ≡ true }
+    requires free { AreFree types.now looked.old }
     ensures plain { result ≡ Answers true → HasPlainItems types.now world }
     ensures not { result ≡ Answers false → HasPlainItems types.now world → ⊥ }
     ensures not_component { result ≡ Answers false → IsImportableKind types.now (kind.Component world) → ⊥ }
     ensures not_type { result ≡ Answers false → IsImportableKind types.now (kind.TypeItem (ty.World world)) → ⊥ }
+    ensures free { result ≡ Answers true → AreFree types.now looked.new }
 {
     types.law();
     let held = &types[world];
     held.imports.law();
     held.exports.law();
-    if !are_plain_deep(types, &held.imports)? {
+    if !are_plain_deep(types, looked, &held.imports)? {
         return Ok(false);
     }
-    are_plain_deep(types, &held.exports)
+    are_plain_deep(types, looked, &held.exports)
 }
 
 /// Whether a held type as an item lists plain ones: a value type or a function type that is made of no handle, or an interface or a world
 /// that lists plain items alone.
-fn is_importable_type(types: &Types, ty: Type) -> Result<bool, AllocError>
-    requires { holds_type types.now ty ≡ true }
+fn is_importable_type(types: &Types, looked: &mut Reached, ty: Type) -> Result<bool, AllocError>
+    requires held { holds_type types.now ty ≡ true }
+    requires free { AreFree types.now looked.old }
     ensures plain { result ≡ Answers true → ListsPlain types.now (kind.TypeItem ty) }
     ensures not { result ≡ Answers false → IsImportableKind types.now (kind.TypeItem ty) → ⊥ }
+    ensures free { result ≡ Answers true → AreFree types.now looked.new }
 {
     types.law();
     match ty {
-        Type::Value(_) | Type::Func(_) => has_no_handle(types, ty),
-        Type::Interface(interface) => has_plain_items(types, interface),
-        Type::World(world) => has_plain_sides(types, world),
+        Type::Value(_) | Type::Func(_) => has_no_handle(types, looked, ty),
+        Type::Interface(interface) => has_plain_items(types, looked, interface),
+        Type::World(world) => has_plain_sides(types, looked, world),
         _ => Ok(false),
     }
 }
 
 /// Whether a held item is plain, an instance or a component that lists plain ones or its type, the type of a function that is made of no
 /// handle, or a core module.
-fn lists_plain(types: &Types, item: ItemKind) -> Result<bool, AllocError>
-    requires { holds_type types.now (kind_type item) ≡ true }
+fn lists_plain(types: &Types, looked: &mut Reached, item: ItemKind) -> Result<bool, AllocError>
+    requires held { holds_type types.now (kind_type item) ≡ true }
+    requires free { AreFree types.now looked.old }
     ensures plain { result ≡ Answers true → ListsPlain types.now item }
     ensures not { result ≡ Answers false → IsImportableKind types.now item → ⊥ }
+    ensures free { result ≡ Answers true → AreFree types.now looked.new }
 {
     types.law();
     match item {
-        ItemKind::Instance(id) => has_plain_items(types, id),
-        ItemKind::TypeItem(ty) => is_importable_type(types, ty),
-        ItemKind::Component(world) => has_plain_sides(types, world),
+        ItemKind::Instance(id) => has_plain_items(types, looked, id),
+        ItemKind::TypeItem(ty) => is_importable_type(types, looked, ty),
+        ItemKind::Component(world) => has_plain_sides(types, looked, world),
         ItemKind::Module(_) => Ok(true),
-        ItemKind::Func(func) => has_no_handle(types, Type::Func(func)),
+        ItemKind::Func(func) => has_no_handle(types, looked, Type::Func(func)),
         _ => Ok(false),
     }
 }
 
 /// Whether a held item is imported so far: it is a core module, or it is a function, a type item of a value type or of a function type, an
 /// instance or a component of functions, type items of such types and such instances, or the type of such a one, and made of no handle.
-/// Answers `AllocError` where memory ran out. Linear in what each of its items reaches.
+/// Answers `AllocError` where memory ran out. Linear in its items and
+/// what they reach together.
 pub fn is_importable(types: &Types, item: ItemKind) -> Result<bool, AllocError>
     requires { holds_type types.now (kind_type item) ≡ true }
     ensures importable { result ≡ Answers true → IsImportableKind types.now item }
     ensures not { result ≡ Answers false → IsImportableKind types.now item → ⊥ }
 {
     types.law();
-    lists_plain(types, item)
+    let mut looked = Reached::new(types.allocator());
+    lists_plain(types, &mut looked, item)
 }
 
 /// Whether a held interface has an id, uses nothing, and lists functions, type items of value types and function types, and instances of
 /// such alone, made of no handle.
-fn is_definable_interface(types: &Types, interface: InterfaceId) -> Result<bool, AllocError>
-    requires { HasInterface types.now interface }
+fn is_definable_interface(
+    types: &Types,
+    looked: &mut Reached,
+    interface: InterfaceId,
+) -> Result<bool, AllocError>
+    requires held { HasInterface types.now interface }
+    requires free { AreFree types.now looked.old }
     ensures definable { result ≡ Answers true → IsDefinableKind types.now (kind.TypeItem (ty.Interface interface)) }
     ensures not { result ≡ Answers false → IsDefinableKind types.now (kind.TypeItem (ty.Interface interface)) → ⊥ }
 {
@@ -236,7 +286,7 @@ fn is_definable_interface(types: &Types, interface: InterfaceId) -> Result<bool,
     if held.id.is_none() || held.uses.len() > 0 {
         return Ok(false);
     }
-    has_plain_items(types, interface)
+    has_plain_items(types, looked, interface)
 }
 
 /// Whether no item is an instance of an interface that uses another.
@@ -268,8 +318,13 @@ fn uses_some(types: &Types, item: ItemKind) -> bool
 
 /// Whether a held world has an id, uses nothing, and lists functions, type items of value types and function types, and instances of such
 /// alone that use nothing, made of no handle.
-fn is_definable_world(types: &Types, world: WorldId) -> Result<bool, AllocError>
-    requires { HasWorld types.now world }
+fn is_definable_world(
+    types: &Types,
+    looked: &mut Reached,
+    world: WorldId,
+) -> Result<bool, AllocError>
+    requires held { HasWorld types.now world }
+    requires free { AreFree types.now looked.old }
     ensures definable { result ≡ Answers true → IsDefinableKind types.now (kind.TypeItem (ty.World world)) }
     ensures not { result ≡ Answers false → IsDefinableKind types.now (kind.TypeItem (ty.World world)) → ⊥ }
 {
@@ -284,48 +339,51 @@ fn is_definable_world(types: &Types, world: WorldId) -> Result<bool, AllocError>
     if !use_nothing(types, &item.exports) {
         return Ok(false);
     }
-    has_plain_sides(types, world)
+    has_plain_sides(types, looked, world)
 }
 
 /// Whether a held type is a value type or a function type, made of no handle, or an interface or a world that is defined so far.
-fn is_definable_type(types: &Types, ty: Type) -> Result<bool, AllocError>
-    requires { holds_type types.now ty ≡ true }
+fn is_definable_type(types: &Types, looked: &mut Reached, ty: Type) -> Result<bool, AllocError>
+    requires held { holds_type types.now ty ≡ true }
+    requires free { AreFree types.now looked.old }
     ensures definable { result ≡ Answers true → IsDefinableKind types.now (kind.TypeItem ty) }
     ensures not { result ≡ Answers false → IsDefinableKind types.now (kind.TypeItem ty) → ⊥ }
 {
     types.law();
     match ty {
-        Type::Value(_) | Type::Func(_) => has_no_handle(types, ty),
-        Type::Interface(interface) => is_definable_interface(types, interface),
-        Type::World(world) => is_definable_world(types, world),
+        Type::Value(_) | Type::Func(_) => has_no_handle(types, looked, ty),
+        Type::Interface(interface) => is_definable_interface(types, looked, interface),
+        Type::World(world) => is_definable_world(types, looked, world),
         _ => Ok(false),
     }
 }
 
 /// Whether a held item is a type that is defined so far: a type item of a value type or a function type that is made of no handle, or of
 /// an interface or a world that has an id, uses nothing, and lists functions, type items of such types and instances of such alone, made of
-/// no handle, where instances that a world lists use nothing. Answers `AllocError` where memory ran out. Linear in what the type, or each of
-/// the items, reaches.
+/// no handle, where instances that a world lists use nothing. Answers `AllocError` where memory ran out. Linear in what the type
+/// lists and what it reaches.
 pub fn is_definable(types: &Types, item: ItemKind) -> Result<bool, AllocError>
     requires { holds_type types.now (kind_type item) ≡ true }
     ensures definable { result ≡ Answers true → IsDefinableKind types.now item }
     ensures not { result ≡ Answers false → IsDefinableKind types.now item → ⊥ }
 {
+    let mut looked = Reached::new(types.allocator());
     match item {
-        ItemKind::TypeItem(ty) => is_definable_type(types, ty),
+        ItemKind::TypeItem(ty) => is_definable_type(types, &mut looked, ty),
         _ => Ok(false),
     }
 }
 
-/// Whether all held items are imported so far.
+/// Whether all held items are imported so far. What they reach together is looked at once.
 pub(crate) fn are_importable(types: &Types, items: &Named<ItemKind>) -> Result<bool, AllocError>
     requires { (i : ℕ) (e : List ℕ × AnyItem) → slice_get items.now i ≡ Some e → holds_type types.now (kind_type e.1) ≡ true }
     ensures importable { result ≡ Answers true → AreImportable types.now items.now }
     ensures not { result ≡ Answers false → HasNotYet types.now items.now }
 {
+    let mut looked = Reached::new(types.allocator());
     for i in 0..items.len() {
         let (_, item) = items.entry_at(i);
-        if !lists_plain(types, *item)? {
+        if !lists_plain(types, &mut looked, *item)? {
             return Ok(false);
         }
     }

@@ -1,5 +1,6 @@
 -- The ends of value types, as types that were found. Private functions alone cite this.
-use Rattle.std.specs.Prelude.{List, [], ◌∷◌, Option, Some, None}
+use Rattle.std.specs.Prelude.{Bool, List, [], ◌∷◌, Option, Some, None}
+use Rattle.std.specs.List.{filter}
 use Rattle.wac_primitives.specs.Name.{Name, option_case}
 use Rattle.wac_shapes.specs.declared.component.DefinedTypeId.{DefinedTypeId}
 use Rattle.wac_shapes.specs.declared.component.FuncType.{FuncType}
@@ -12,7 +13,18 @@ use Rattle.wac_shapes.specs.declared.component.«Type».TheVariants as ty
 use Rattle.wac_collection.specs.Collection.{Collection, and_maybe, interface_exports, item_at, seconds}
 use Rattle.wac_collection.specs.Aliases.{value_resolved}
 use Rattle.wac_reach.specs.Found.{with_all}
-use Rattle.wac_listing.specs.Made.{parts}
+use Rattle.wac_listing.specs.Made.{is_own, parts}
+use Rattle.wac_listing.specs.Order.{is_value_type}
+use Rattle.wac_listing.specs.declared.made.Among.{Among}
+use Rattle.wac_listing.specs.declared.made.Among.TheVariants.{Own, ValueTypes}
+
+-- whether an item is looked at
+abbrev pub is_among : Among → ItemKind → Bool
+is_among Own k = is_own k
+is_among ValueTypes k = is_value_type k
+
+abbrev pub items_among : Among → List (Name × ItemKind) → List (Name × ItemKind)
+items_among g es = filter (λ e. is_among g e.1) es
 
 -- the parts that hold something
 abbrev pub somes : List (Option ValueType) → List ValueType

@@ -11,10 +11,11 @@ ghost use Rattle.wac_shapes.specs.Kinds.{kind_type};
 ghost use Rattle.wac_collection.specs.Collection.{HasDefined, HasInterface, and_maybe, holds_type, item_at, seconds};
 ghost use Rattle.wac_reach.specs.Found.{with_all};
 ghost use Rattle.wac_reach.specs.Reach.{IsIn};
-ghost use Rattle.wac_listing.specs.Made.{AreMadeOf, is_own as is_no_instance, own_items, parts};
-ghost use Rattle.wac_listing.specs.Found.{somes, with_ends, func_ends, item_ends, items_ends, found_ends, definition_in as definition_that, definitions_in};
+ghost use Rattle.wac_listing.specs.Made.{AreMadeOf, own_items, parts};
+ghost use Rattle.wac_listing.specs.Found.{somes, with_ends, func_ends, item_ends, items_ends, found_ends, definition_in as definition_that, definitions_in, is_among, items_among};
 
 use crate::parts::part_at;
+use crate::places::is_value_type;
 use indexmap::IndexSet;
 use std::alloc::{AllocError, Global};
 use wac_collection::{
@@ -106,25 +107,40 @@ fn put_items(
     Ok(())
 }
 
-/// Whether an item is no instance.
-fn is_own(item: ItemKind) -> bool
-    ensures { result ≡ is_no_instance item }
-{
-    !matches!(item, ItemKind::Instance(_))
+/// Which items are looked at.
+#[derive(Clone, Copy)]
+pub(crate) enum Among {
+    /// Those that are no instances.
+    Own,
+    /// The type items of value types.
+    ValueTypes,
 }
 
-/// The same of items that are no instances.
-fn put_own_items(
+impl Among {
+    /// Whether an item is one of them.
+    fn contains(self, item: ItemKind) -> bool
+        ensures { result ≡ is_among self item }
+    {
+        match self {
+            Among::Own => !matches!(item, ItemKind::Instance(_)),
+            Among::ValueTypes => is_value_type(item),
+        }
+    }
+}
+
+/// The same of the items that are looked at.
+fn put_among(
     types: &Types,
     found: &mut IndexSet<Type>,
     items: &Named<ItemKind>,
+    among: Among,
 ) -> Result<(), AllocError>
     requires { (k : ℕ) (e : List ℕ × AnyItem) → slice_get items.now k ≡ Some e → holds_type types.now (kind_type e.1) ≡ true }
-    ensures { OnOk result (found.new.keys ≡ items_ends types.now found.old.keys (own_items items.now)) }
+    ensures { OnOk result (found.new.keys ≡ items_ends types.now found.old.keys (items_among among items.now)) }
 {
     for i in 0..items.len() {
         let item = *items.value_at(i);
-        if is_own(item) {
+        if among.contains(item) {
             put_item(types, found, item)?;
         }
     }
@@ -206,18 +222,19 @@ pub fn definitions_of(
     definitions_among(alloc, found.as_slice())
 }
 
-/// The definitions that the items that are no instances are made of, among types of which each stands once. Linear, without recursion.
-pub(crate) fn own_found(
+/// The definitions that the items that are looked at are made of, among types of which each stands once. Linear, without recursion.
+pub(crate) fn found_among(
     types: &Types,
     items: &Named<ItemKind>,
+    among: Among,
 ) -> Result<IndexSet<Type>, AllocError>
     requires { (k : ℕ) (e : List ℕ × AnyItem) → slice_get items.now k ≡ Some e → holds_type types.now (kind_type e.1) ≡ true }
     ensures held { IfOk result (λ found. (d : AnId) → IsIn (ty.Value (val.Defined d)) found.keys → HasDefined types.now d) }
-    ensures made { IfOk result (λ found. AreMadeOf types.now (own_items items.now) (definitions_in found.keys)) }
+    ensures made { IfOk result (λ found. AreMadeOf types.now (items_among among items.now) (definitions_in found.keys)) }
 {
     types.law();
     let mut found = IndexSet::new(types.allocator());
-    put_own_items(types, &mut found, items)?;
+    put_among(types, &mut found, items, among)?;
     let mut place = 0;
     while place < found.len() {
         let ty = found.as_slice()[place];
@@ -240,6 +257,6 @@ pub fn own_definitions_of(
     ensures made { IfOk result (λ ds. (it : AnInterface) → item_at types.now.interfaces interface.0 ≡ Some it → AreMadeOf types.now (own_items it.exports) ds.items) }
 {
     types.law();
-    let found = own_found(types, &types[interface].exports)?;
+    let found = found_among(types, &types[interface].exports, Among::Own)?;
     definitions_among(types.allocator(), found.as_slice())
 }

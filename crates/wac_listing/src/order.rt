@@ -7,7 +7,7 @@ ghost use Rattle.wac_collection.specs.Collection.{holds_type};
 ghost use Rattle.wac_listing.specs.Order.{AreOrdered};
 ghost use Rattle.wac_listing.specs.Before.{AreReached, items_of};
 
-use crate::made::own_found;
+use crate::made::{Among, found_among};
 use crate::places::Places;
 use std::alloc::{AllocError, Global};
 use wac_collection::{ItemKind, Named, Types};
@@ -18,8 +18,8 @@ use wac_reach::Reached;
 
 /// The positions of the type items of value types among these items in the order in which they are written: the next is always the first
 /// listed one of those left that mentions none of those left. An item mentions another where its definition is made of that which the
-/// other names, being the first that lists it. This takes as many steps as the definitions that the items are made of have parts, those
-/// of instances left out, but for a logarithm.
+/// other names, being the first that lists it. This takes as many steps as the definitions that the type items are made of have parts, but
+/// for a logarithm.
 ///
 /// Answers `AllocError` where memory ran out.
 #[tactic(none)]
@@ -27,7 +27,7 @@ pub fn type_order(types: &Types, items: &Named<ItemKind>) -> Result<Vec<usize>, 
     requires { (k : ℕ) (e : List ℕ × AnyItem) → slice_get items.now k ≡ Some e → holds_type types.now (kind_type e.1) ≡ true }
     ensures { IfOk result (λ order. AreOrdered types.now items.now order.items) }
 {
-    let found = own_found(types, items)?;
+    let found = found_among(types, items, Among::ValueTypes)?;
     let reached = Reached::of(found);
     let places = Places {
         types,

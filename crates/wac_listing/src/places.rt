@@ -211,7 +211,7 @@ impl<'a> Places<'a> {
 }
 
 /// Whether an item is a type item of a value type.
-fn is_value_type(item: ItemKind) -> bool
+pub(crate) fn is_value_type(item: ItemKind) -> bool
     ensures { result ≡ type_item item }
 {
     matches!(item, ItemKind::TypeItem(Type::Value(_)))

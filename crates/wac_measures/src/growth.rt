@@ -6,7 +6,7 @@
 use crate::graph::Graph;
 use crate::plan::{Plan, Sort, Stand, do_all, empty};
 use crate::step::Step;
-use crate::times::{OF_TEN, ROUNDS as FEW_ROUNDS, Times, print_power, print_times};
+use crate::times::{OF_TEN, print_power};
 use anyhow::Result;
 use std::alloc::{AllocError, Global};
 use std::time::{Duration, Instant};
@@ -141,35 +141,13 @@ fn measure_sizes<G: Graph>(
     print(rt, what, how, &sizes)
 }
 
-/// Measures graphs of a sort, which are printed under this word, and prints how the times grow.
+/// Measures graphs of a sort in both ways, which are printed under this word, and prints how the times grow.
 pub fn measure<G: Graph>(rt: &HostRuntime, what: &str, sort: Sort) -> Result<()> {
     measure_sizes::<G>(rt, what, "alone", sort, 0)?;
     measure_sizes::<G>(rt, what, "in equal memory", sort, PARTS)
 }
 
-/// Makes one graph of so many parts some times, and prints how long that takes.
-fn made<G: Graph>(rt: &HostRuntime, what: &str, sort: Sort, count: u32) -> Result<Duration> {
-    let count = u64::from(count);
-    let plan = Plan::of(rt.alloc(), sort, count)?;
-    let mut rounds = [Duration::ZERO; FEW_ROUNDS];
-    for time in rounds.iter_mut() {
-        let mut stands: Vec<Stand<G>> = empty(rt.alloc(), 1)?;
-        *time = timed(rt, &mut stands, &plan, Step::Made)?;
-    }
-    let times = Times::of(&mut rounds);
-    print_times(rt, what, count, times)?;
-    Ok(times.least)
-}
-
-/// Measures how long graphs of a sort take to make, and prints how the time grows.
-pub fn measure_made<G: Graph>(rt: &HostRuntime, what: &str, sort: Sort) -> Result<()> {
-    let mut before = None;
-    for count in sort.counts() {
-        let least = made::<G>(rt, what, sort, *count)?;
-        if let Some(first) = before {
-            print_power(rt, what, first, least, OF_TEN)?;
-        }
-        before = Some(least);
-    }
-    Ok(())
+/// Measures graphs of a sort, one of each count at a time, which are printed under this word, and prints how the times grow.
+pub fn measure_alone<G: Graph>(rt: &HostRuntime, what: &str, sort: Sort) -> Result<()> {
+    measure_sizes::<G>(rt, what, "alone", sort, 0)
 }

@@ -54,7 +54,7 @@ fn measure<G: Graph>(rt: &HostRuntime, word: &str) -> Result<bool> {
         ("comparing", _) => comparing::measure(rt),
         ("merging", _) => times::measure(rt, merging::MEASURED),
         ("writing", _) => writing::measure(rt),
-        (_, Some(Sort::Wide)) => growth::measure_made::<G>(rt, word, Sort::Wide),
+        (_, Some(Sort::Wide)) => growth::measure_alone::<G>(rt, word, Sort::Wide),
         (_, Some(Sort::Churn)) => growth::measure::<G>(rt, "churn of triples", Sort::Churn),
         (_, Some(sort)) => growth::measure::<G>(rt, word, sort),
         (_, None) => return Ok(false),

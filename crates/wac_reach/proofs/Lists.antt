@@ -1,5 +1,5 @@
 -- What is in a list of types, and in one with more.
-use Rattle.std.proofs.Common.{ℕ, zero, suc, ◌<◌, Bool, true, false, ◌||◌, if◌then◌else◌, List, [], ◌∷◌, ◌++◌, Option, Some, None, IfSome, IfNone, is_some, length, drop, get_or, ◌+◌, ◌≡◌, ◌⊎◌, inl, inr, refl, ap, sym, ◌∙◌, subst, arith, append_assoc}
+use Rattle.std.proofs.Common.{ℕ, zero, suc, ◌<◌, Bool, true, false, ◌||◌, if◌then◌else◌, List, [], ◌∷◌, ◌++◌, Option, Some, None, IfSome, IfNone, is_some, length, take, drop, get_or, ◌+◌, ◌≡◌, ◌⊎◌, inl, inr, refl, ap, sym, ◌∙◌, subst, arith, append_assoc}
 use Rattle.std.specs.Prelude.{slice_get}
 use Rattle.std.specs.Option.{option_map}
 use Rattle.std.specs.List.{AllByRecursion, list_any, position}
@@ -29,6 +29,10 @@ pub in_either : (t : AnyType) (ts us : List AnyType) → IsIn t (ts ++ us) → I
 in_either t [] us h = inr h
 in_either t (x ∷ ts) us (inl e) = inl (inl e)
 in_either t (x ∷ ts) us (inr h) = elim (in_either t ts us h) [ inl k ↦ inl (inr k) | inr k ↦ inr k ]
+
+pub take_append : (ts us : List AnyType) → take (length ts) (ts ++ us) ≡ ts
+take_append [] us = refl
+take_append (x ∷ ts) us = ap (λ xs. x ∷ xs) (take_append ts us)
 
 -- what is in a list stands at a position, and the other way round
 pub in_at : (t : AnyType) (ts : List AnyType) (i : ℕ) → slice_get ts i ≡ Some t → IsIn t ts

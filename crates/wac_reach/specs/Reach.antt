@@ -1,10 +1,10 @@
 -- What a type mentions, and what it reaches.
-use Rattle.std.specs.Prelude.{◌≡◌, ◌⊎◌, List, [], ◌∷◌}
+use Rattle.std.specs.Prelude.{◌≡◌, ◌⊎◌, true, List, [], ◌∷◌}
 use Rattle.wac_primitives.specs.Name.{option_case}
 use Rattle.wac_shapes.specs.declared.component.«Type».{«Type» as AnyType}
 use Rattle.wac_shapes.specs.declared.component.«Type».TheVariants as ty
 use Rattle.wac_shapes.specs.declared.component.ValueType.TheVariants as val
-use Rattle.wac_collection.specs.Collection.{Collection, item_at, resource_mentions, func_mentions, defined_mentions, interface_mentions, world_mentions}
+use Rattle.wac_collection.specs.Collection.{Collection, holds_type, item_at, resource_mentions, func_mentions, defined_mentions, interface_mentions, world_mentions}
 
 -- what a type of a collection mentions: the types whose ids stand in it
 abbrev pub mentions : Collection → AnyType → List AnyType
@@ -27,3 +27,8 @@ IsIn t (u ∷ us) = (t ≡ u) ⊎ IsIn t us
 pub data Reaches (c : Collection) : AnyType → AnyType → Type 0 where
   at_once : (a b : AnyType) → IsIn b (mentions c a) → Reaches c a b
   further : (a b d : AnyType) → IsIn b (mentions c a) → Reaches c b d → Reaches c a d
+
+-- the types are held, and what they mention is among them
+pub record AreClosed (c : Collection) (ts : List AnyType) : Type 0 where
+  pub held : (t : AnyType) → IsIn t ts → holds_type c t ≡ true
+  pub mentioned : (u t : AnyType) → IsIn u ts → IsIn t (mentions c u) → IsIn t ts

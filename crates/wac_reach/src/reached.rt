@@ -1,8 +1,8 @@
 //! The types that a type reaches.
-ghost use Rattle.std.specs.Prelude.{◌≡◌, ◌↔◌, ℕ, [], Some, IsTrue, IfOk, IfSome, IfNone, true, slice_get};
+ghost use Rattle.std.specs.Prelude.{◌≡◌, ◌↔◌, ◌⊎◌, ℕ, [], Some, IsTrue, IfOk, OnOk, OnErr, IfSome, IfNone, true, length, take, slice_get};
 ghost use Rattle.wac_collection.specs.Collection.{holds_type};
 ghost use Rattle.wac_shapes.specs.declared.component.«Type».{«Type» as AnyType};
-ghost use Rattle.wac_reach.specs.Reach.{IsIn, Reaches};
+ghost use Rattle.wac_reach.specs.Reach.{IsIn, Reaches, AreClosed};
 ghost use Rattle.wac_reach.specs.Found.{NoneTwice};
 
 use indexmap::IndexSet;
@@ -33,7 +33,7 @@ impl Model for Reached {
 
 impl Reached {
     /// No type.
-    pub(crate) fn new(alloc: Global) -> Reached
+    pub fn new(alloc: Global) -> Reached
         ensures { result ≡ [] }
     {
         Reached {
@@ -73,6 +73,44 @@ impl Reached {
     {
         self.types.as_slice()
     }
+
+    /// Puts the types that a held type reaches behind these, each once, where what these mention is among them. Answers
+    /// `AllocError` where memory ran out, and no type is left then. Linear in what is mentioned by the type and by those
+    /// that were not there yet, without recursion.
+    pub fn reach_from(&mut self, types: &Types, ty: Type) -> Result<(), AllocError>
+        requires held { holds_type types.now ty ≡ true }
+        requires closed { AreClosed types.now self.old }
+        ensures reached { OnOk result ((t : AnyType) → IsIn t self.new ↔ (IsIn t self.old ⊎ Reaches types.now ty t)) }
+        ensures closed { OnOk result (AreClosed types.now self.new) }
+        ensures behind { OnOk result (take (length self.old) self.new ≡ self.old) }
+        ensures none_left { OnErr result (self.new ≡ []) }
+    {
+        match self.find_from(types, ty) {
+            Ok(()) => Ok(()),
+            Err(error) => {
+                self.types.clear();
+                Err(error)
+            }
+        }
+    }
+
+    fn find_from(&mut self, types: &Types, ty: Type) -> Result<(), AllocError>
+        requires held { holds_type types.now ty ≡ true }
+        requires closed { AreClosed types.now self.old }
+        ensures reached { OnOk result ((t : AnyType) → IsIn t self.new ↔ (IsIn t self.old ⊎ Reaches types.now ty t)) }
+        ensures closed { OnOk result (AreClosed types.now self.new) }
+        ensures behind { OnOk result (take (length self.old) self.new ≡ self.old) }
+    {
+        types.law();
+        let mut next = self.types.len();
+        self.put_mentions(types, ty)?;
+        while next < self.types.len() {
+            let found = self.types.as_slice()[next];
+            self.put_mentions(types, found)?;
+            next += 1;
+        }
+        Ok(())
+    }
 }
 
 /// The types that a held type reaches: those that it mentions, those that they mention, and so on. Answers `AllocError`
@@ -81,14 +119,7 @@ pub fn reach(types: &Types, ty: Type) -> Result<Reached, AllocError>
     requires { holds_type types.now ty ≡ true }
     ensures { IfOk result (λ r. (t : AnyType) → IsIn t r ↔ Reaches types.now ty t) }
 {
-    types.law();
     let mut reached = Reached::new(types.allocator());
-    reached.put_mentions(types, ty)?;
-    let mut next = 0;
-    while next < reached.types.len() {
-        let found = reached.types.as_slice()[next];
-        reached.put_mentions(types, found)?;
-        next += 1;
-    }
+    reached.reach_from(types, ty)?;
     Ok(reached)
 }

@@ -1,7 +1,6 @@
 -- One more definition, or function type, that became another.
 use Rattle.std.proofs.Common.{◌≡◌, Bool, true, false, cond, nat_eq, Some, Result, Ok, Err, OnOk, refl, ap, sym, ◌∙◌, subst}
 use Rattle.std.proofs.lemmas.Bool.{eqb-true}
-use Rattle.std.specs.HashMap.{get}
 use Rattle.std.specs.Prelude.{IsSome}
 use Rattle.std.specs.declared.alloc.AllocError.{AllocError}
 use Rattle.wac_collection.specs.Collection.{Collection, item_at}
@@ -14,7 +13,7 @@ use Rattle.wac_shapes.specs.declared.component.ValueType.TheVariants as val
 use Rattle.wac_shapes.specs.declared.component.«Type».TheVariants as ty
 use Rattle.wac_renaming.specs.Made.{AreMade, IsFuncMadeOf, IsMadeOf, StayMade}
 use Rattle.wac_renaming.specs.declared.made.Made.{Made}
-use Rattle.wac_renaming.specs.RenamedTypes.{AreRenamed, becomes, defined_in, func_in}
+use Rattle.wac_renaming.specs.RenamedTypes.{AreRenamed, becomes, defined_at, defined_in, func_at, func_in}
 use Rattle.wac_terms.specs.Renaming.{IsExtended, IsRenamed}
 use Rattle.wac_renaming.specs.RenamingSteps.{FieldsGoTogether, GoTogether, HasDefinedToo, HasFuncToo, HaveOneShape, IsDefinedBehind, IsFuncBehind, IsMore, IsRenamedIn, IsRenamedValue}
 use Rattle.wac_renaming.specs.declared.renamer.Renamed.{Renamed}
@@ -45,10 +44,10 @@ module _ (s : Renaming) (m : Collection) (old new : Renamed) where
     defined_right : AreRenamed m s old → IsRenamedIn s m old.made (val.Defined d) (val.Defined e) → AreRenamed m s new
     defined_right r h = record {
       defined = λ k i is. (became_now r h k i is).0;
-      funcs = λ f i is. r.funcs f i (ap (λ x. get (λ a b. nat_eq a.0 b.0) x f) (sym put.funcs) ∙ is);
+      funcs = λ f i is. r.funcs f i (ap (λ x. func_at x f) (sym put.funcs) ∙ is);
       made = subst (AreMade m) (sym put.made) r.made;
       once = λ k i is. subst (λ (made : Made). IsMadeOf s.types.now s.became.now.named.now made (val.Defined k) (val.Defined i)) (sym put.made) (became_now r h k i is).1;
-      once_funcs = λ f i is. subst (λ (made : Made). IsFuncMadeOf s.types.now m s.became.now.named.now made f i) (sym put.made) (r.once_funcs f i (ap (λ x. get (λ a b. nat_eq a.0 b.0) x f) (sym put.funcs) ∙ is));
+      once_funcs = λ f i is. subst (λ (made : Made). IsFuncMadeOf s.types.now m s.became.now.named.now made f i) (sym put.made) (r.once_funcs f i (ap (λ x. func_at x f) (sym put.funcs) ∙ is));
     }
 
   module _ (f g : FuncTypeId) (put : HasFuncToo old f g new) where
@@ -58,10 +57,10 @@ module _ (s : Renaming) (m : Collection) (old new : Renamed) where
 
     pub func_right : AreRenamed m s old → IsRenamed s.types.now m (becomes s) (ty.Func f) (ty.Func g) → IsFuncMadeOf s.types.now m s.became.now.named.now old.made f g → AreRenamed m s new
     func_right r h o = record {
-      defined = λ d i is. r.defined d i (ap (λ x. get (λ a b. nat_eq a.0 b.0) x d) (sym put.defined) ∙ is);
+      defined = λ d i is. r.defined d i (ap (λ x. defined_at x d) (sym put.defined) ∙ is);
       funcs = λ k i is. split_func (λ a b. IsRenamed s.types.now m (becomes s) (ty.Func a) (ty.Func b)) r.funcs h k i (nat_eq f.0 k.0) refl (sym (put.funcs k) ∙ is);
       made = subst (AreMade m) (sym put.made) r.made;
-      once = λ d i is. subst (λ (made : Made). IsMadeOf s.types.now s.became.now.named.now made (val.Defined d) (val.Defined i)) (sym put.made) (r.once d i (ap (λ x. get (λ a b. nat_eq a.0 b.0) x d) (sym put.defined) ∙ is));
+      once = λ d i is. subst (λ (made : Made). IsMadeOf s.types.now s.became.now.named.now made (val.Defined d) (val.Defined i)) (sym put.made) (r.once d i (ap (λ x. defined_at x d) (sym put.defined) ∙ is));
       once_funcs = λ k i is. subst (λ (made : Made). IsFuncMadeOf s.types.now m s.became.now.named.now made k i) (sym put.made)
           (split_func (λ a b. IsFuncMadeOf s.types.now m s.became.now.named.now old.made a b) r.once_funcs o k i (nat_eq f.0 k.0) refl (sym (put.funcs k) ∙ is));
     }
@@ -74,7 +73,7 @@ module _ (s : Renaming) (m : Collection) (old new : Renamed) where
 -- with one more definition there are more, and what was made still is
 module _ (old mid new : Renamed) (d e : DefinedTypeId) (same : mid.defined ≡ old.defined) (stay : StayMade old.made mid.made) where
   is_some_more : (put : HasDefinedToo mid d e new) (k : DefinedTypeId) → IsSome (defined_in old k) → IsSome (defined_in new k)
-  is_some_more put k h = subst IsSome (sym (put.defined k)) (by (nat_eq d.0 k.0) (subst (λ x. IsSome (get (λ a b. nat_eq a.0 b.0) x k)) (sym same) h)) where
+  is_some_more put k h = subst IsSome (sym (put.defined k)) (by (nat_eq d.0 k.0) (subst (λ x. IsSome (defined_at x k)) (sym same) h)) where
     by : (b : Bool) → IsSome (defined_in mid k) → IsSome (cond b (Some e) (defined_in mid k))
     by true h = refl
     by false h = h

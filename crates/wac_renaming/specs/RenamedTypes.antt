@@ -1,12 +1,13 @@
 -- Types while they are renamed, and what they became. Private functions alone cite this.
-use Rattle.std.specs.Prelude.{ℕ, ◌≡◌, nat_eq, Option, Some}
-use Rattle.std.specs.HashMap.{get}
+use Rattle.std.specs.Prelude.{ℕ, ◌≡◌, List, Option, Some}
+use Rattle.std.specs.Option.{option_map}
 use Rattle.wac_collection.specs.Collection.{Collection}
 use Rattle.wac_shapes.specs.declared.component.ResourceId.{ResourceId}
 use Rattle.wac_shapes.specs.declared.component.DefinedTypeId.{DefinedTypeId}
 use Rattle.wac_shapes.specs.declared.component.FuncTypeId.{FuncTypeId}
 use Rattle.wac_shapes.specs.declared.component.«Type».TheVariants as ty
 use Rattle.wac_shapes.specs.declared.component.ValueType.TheVariants as val
+use Rattle.wac_entries.specs.Numbers.{number_at}
 use Rattle.wac_terms.specs.Unions.{AreAround, IsPart}
 use Rattle.wac_terms.specs.Became.{AreBoundParts, became}
 use Rattle.wac_renaming.specs.declared.became.Became.{Became}
@@ -37,12 +38,19 @@ pub record CanRenameAll (m c : Collection) (b : Became) : Type 0 where
   pub outward : AreOutward b.parts.now b.bound.now b.outward.now
   pub around : AreAround b.parts.now
 
--- what definitions and function types became
+-- what a definition and a function type became, by the positions of what all became
+abbrev pub defined_at : List (Option ℕ) → DefinedTypeId → Option DefinedTypeId
+defined_at ns d = option_map (λ n. record { 0 = n }) (number_at ns d.0)
+
+abbrev pub func_at : List (Option ℕ) → FuncTypeId → Option FuncTypeId
+func_at ns f = option_map (λ n. record { 0 = n }) (number_at ns f.0)
+
+-- so in a memo
 abbrev pub defined_in : Renamed → DefinedTypeId → Option DefinedTypeId
-defined_in memo d = get (λ a b. nat_eq a.0 b.0) memo.defined d
+defined_in memo d = defined_at memo.defined d
 
 abbrev pub func_in : Renamed → FuncTypeId → Option FuncTypeId
-func_in memo f = get (λ a b. nat_eq a.0 b.0) memo.funcs f
+func_in memo f = func_at memo.funcs f
 
 -- all that became something was renamed, and what was made is under its ids
 pub record AreRenamed (m : Collection) (s : Renaming) (memo : Renamed) : Type 0 where

@@ -23,11 +23,11 @@ ghost use Rattle.wac_renaming.specs.declared.renamer.Renaming.{Renaming as ARena
 use crate::became::Became;
 use crate::made::Made;
 use std::alloc::{AllocError, Global};
-use std::collections::HashMap;
 use wac_collection::{
     DefinedType, DefinedTypeId, Enum, Flags, FuncType, FuncTypeId, Labels, Named, Record,
     ResourceId, ShapeError, Types, ValueType, Variant,
 };
+use wac_entries::rounds::Numbers;
 use wac_entries::tasks::{Task, open_fields, open_optional, open_parts, open_value};
 use wac_subtyping::laws::trees_are_whole;
 
@@ -59,8 +59,10 @@ impl<'a> Renaming<'a> {
 
 /// What definitions and function types became in a part, and what was made of definitions in all.
 pub struct Renamed {
-    defined: HashMap<DefinedTypeId, DefinedTypeId>,
-    funcs: HashMap<FuncTypeId, FuncTypeId>,
+    /// The position of what a definition became, by the position of that.
+    defined: Numbers,
+    /// That of what a function type became.
+    funcs: Numbers,
     made: Made,
 }
 
@@ -124,53 +126,49 @@ impl Renamed {
         ensures made { (m : Collection) → AreMade m result.made }
     {
         Renamed {
-            defined: HashMap::new(alloc),
-            funcs: HashMap::new(alloc),
+            defined: Numbers::new(alloc),
+            funcs: Numbers::new(alloc),
             made: Made::new(alloc),
         }
     }
 
     /// Forgets what became another, since another part comes next. What was made stays.
-    pub fn forget(&mut self, alloc: Global)
+    pub fn forget(&mut self)
         ensures right { (m : Collection) (s : ARenaming) → AreMade m self.old.made → AreRenamed m s self.new }
         ensures made { self.new.made ≡ self.old.made }
     {
-        self.defined = HashMap::new(alloc);
-        self.funcs = HashMap::new(alloc);
+        self.defined.clear();
+        self.funcs.clear();
     }
 
     /// What a definition became.
     fn defined(&self, id: DefinedTypeId) -> Option<DefinedTypeId>
         ensures { result ≡ defined_in self.now id }
     {
-        self.defined.get(&id).copied()
+        let position = self.defined.get(id.0)?;
+        Some(DefinedTypeId(position))
     }
 
     /// What a function type became.
     fn func_type(&self, id: FuncTypeId) -> Option<FuncTypeId>
         ensures { result ≡ func_in self.now id }
     {
-        self.funcs.get(&id).copied()
+        let position = self.funcs.get(id.0)?;
+        Some(FuncTypeId(position))
     }
 
     /// A definition became another.
     fn put_defined(&mut self, id: DefinedTypeId, became: DefinedTypeId) -> Result<(), AllocError>
         ensures { OnOk result (HasDefinedToo self.old id became self.new) }
     {
-        match self.defined.insert(id, became) {
-            Ok(_) => Ok(()),
-            Err(_) => Err(AllocError),
-        }
+        self.defined.put(id.0, became.0)
     }
 
     /// A function type became another.
     fn put_func(&mut self, id: FuncTypeId, became: FuncTypeId) -> Result<(), AllocError>
         ensures { OnOk result (HasFuncToo self.old id became self.new) }
     {
-        match self.funcs.insert(id, became) {
-            Ok(_) => Ok(()),
-            Err(_) => Err(AllocError),
-        }
+        self.funcs.put(id.0, became.0)
     }
 
     /// What a value type becomes, where its definition became something if it has one.

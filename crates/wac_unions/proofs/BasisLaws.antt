@@ -1,5 +1,5 @@
 -- What follows from what a merge is written from.
-use Rattle.std.proofs.Common.{◌≡◌, ℕ, List, subst}
+use Rattle.std.proofs.Common.{ℕ, List, subst}
 use Rattle.wac_collection.specs.Collection.{Collection, IsWellFormed}
 use Rattle.wac_collection.specs.Uses.{IsSound}
 use Rattle.wac_entries.specs.Agreement.{AllMembersAgree}

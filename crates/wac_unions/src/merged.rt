@@ -223,7 +223,7 @@ fn class_kind(
         became,
         part: None,
     };
-    renamed.forget(alloc);
+    renamed.forget();
     let inner = interface_at(written, number);
     write_kind(
         merged,

@@ -172,13 +172,13 @@ fn write_export(
 }
 
 /// Nothing was renamed yet in a part, where another was before it.
-fn begin(alloc: Global, renamed: &mut Renamed, part: &mut Option<usize>, next: usize)
+fn begin(renamed: &mut Renamed, part: &mut Option<usize>, next: usize)
     ensures part { part.new ≡ Some next }
     ensures made { renamed.new.made ≡ renamed.old.made }
     ensures right { (c m : Collection) (b : ABecame) → AreMade m renamed.old.made → AreRenamedIn c m b part.old renamed.old → AreRenamedIn c m b part.new renamed.new }
 {
     if *part != Some(next) {
-        renamed.forget(alloc);
+        renamed.forget();
         *part = Some(next);
     }
 }
@@ -223,11 +223,11 @@ fn write_exports<'a>(
     let exports = &unions.unions[union].exports;
     exports.law();
     let mut items = Named::with_capacity(alloc, exports.len())?;
-    renamed.forget(alloc);
+    renamed.forget();
     let mut part = None;
     for i in 0..exports.len() {
         let (name, export) = exports.entry_at(i);
-        begin(alloc, renamed, &mut part, export.part);
+        begin(renamed, &mut part, export.part);
         let here = Renaming {
             alloc,
             types,

@@ -1,17 +1,17 @@
-use Rattle.std.proofs.Common.{◌≡◌, [], List, length, take, rules, ap, sym, ◌∙◌, subst, arith}
+use Rattle.std.proofs.Common.{◌≡◌, [], List, length, take, rules, refl, ap, sym, ◌∙◌, subst, arith}
 use Rattle.std.proofs.Math.Seq.{take-length}
 use Rattle.wac_primitives.specs.Name.{Name}
 use Rattle.wac_shapes.specs.declared.component.ItemKind.{ItemKind}
 use Rattle.wac_entries.specs.declared.nodes.Item.{Item}
 use Rattle.wac_entries.specs.declared.nodes.Item.TheVariants as item
+use Rattle.wac_entries.proofs.Telling.{Borrowed}
 use Rattle.wac_coding.specs.Coding.{source_tree}
 use Rattle.wac_coding.proofs.CodingListing.{as_many}
-use Rattle.wac_coding.proofs.CodingModules.{Text}
 use Rattle.wac_coding.proofs.SortedEntries.{AreEntries, entries_next, lists_sorted, sorted_by_name}
 use Rattle.wac_coding.proofs.listing.entries.Goals as goal
 
 pub loop-i-init : goal.loop-i-init
-loop-i-init c = subst (λ (es : List (Text × Item)). AreEntries c.args.nodes.now (source_tree c.args.source.now) [] es) (sym c.in_ok-entries.ensures.items) tt
+loop-i-init c = subst (λ (es : List (Borrowed × Item)). AreEntries c.args.nodes.now (source_tree c.args.source.now) [] es) (sym c.in_ok-entries.ensures.items) tt
 
 pub bounds-items-i : goal.bounds-items-i
 bounds-items-i c =
@@ -20,8 +20,8 @@ bounds-items-i c =
 
 pub loop-i-preserved : goal.loop-i-preserved
 loop-i-preserved c =
-    entries_next c.args.nodes.now (source_tree c.args.source.now) c.args.kinds.now c.args.items.now c.loop-i.i c.name_at.result.now (item.«Type» 0) c.in_ok-name.name c.loop-i.entries.items c.push.new.self.items
-    c.name_at.ensures c.requires c.in_ok-name.ensures.ok c.in_ok-push.ensures.items c.loop-i.invariant
+    entries_next c.args.nodes.now (source_tree c.args.source.now) c.args.kinds.now c.args.items.now c.loop-i.i c.name_at.result.now (item.«Type» 0) c.name_at.result c.loop-i.entries.items c.push.new.self.items
+    c.name_at.ensures c.requires refl c.in_ok-push.ensures.items c.loop-i.invariant
 
 pub returns : goal.returns
 returns c =

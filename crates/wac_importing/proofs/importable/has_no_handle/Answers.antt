@@ -1,17 +1,35 @@
-use Rattle.std.proofs.Common.{◌≡◌, true, false, sym, subst}
+use Rattle.std.proofs.Common.{List, ◌≡◌, true, false, ◌⊎◌, inl, inr, refl, sym, subst}
+use Rattle.wac_shapes.specs.declared.component.ResourceId.{ResourceId}
+use Rattle.wac_shapes.specs.declared.component.«Type».{«Type» as AnyType}
 use Rattle.wac_shapes.specs.declared.component.«Type».TheVariants as ty
-use Rattle.wac_reach.specs.Reach.{IsIn}
+use Rattle.wac_collection.specs.Collection.{Collection}
+use Rattle.wac_reach.specs.Reach.{IsIn, Reaches}
+use Rattle.wac_importing.specs.Looked.{HasNoResource}
+use Rattle.wac_importing.proofs.Lists.{known_none}
 use Rattle.wac_importing.proofs.Handles.{none_reached, reached_none}
 use Rattle.wac_importing.proofs.importable.has_no_handle.Goals as goal
+
+pub holds_no_resource-requires : goal.holds_no_resource-requires
+holds_no_resource-requires c = known_none _ c.as_slice-known.result.now c.args.looked.now c.as_slice.result.now c.reach_from.new.self refl c.as_slice-known.ensures.types c.as_slice.ensures.types c.in_ok-reach_from.ensures.behind c.requires.free.1
 
 pub returns-clause-none : goal.returns-clause-none
 returns-clause-none c h =
     let is : c.holds_no_resource.result ≡ true = cc in
     none_reached c.args.types.now c.law.ensures c.args.ty c.requires.of_values c.requires.held
-    (λ r reached. c.holds_no_resource.ensures.none is r (subst (IsIn (ty.Resource r)) (sym c.as_slice.ensures.types) ((c.in_ok-reached.ensures (ty.Resource r)).1 reached)))
+    (λ r reached. c.holds_no_resource.ensures.none is r (subst (IsIn (ty.Resource r)) (sym c.as_slice.ensures.types) ((c.in_ok-reach_from.ensures.reached (ty.Resource r)).1 (inr reached))))
+
+-- no resource was there, and none is reached
+neither : (old : List AnyType) (c : Collection) (a : AnyType) (r : ResourceId) → (IsIn (ty.Resource r) old → ⊥) → (Reaches c a (ty.Resource r) → ⊥) → IsIn (ty.Resource r) old ⊎ Reaches c a (ty.Resource r) → ⊥
+neither old c a r before reached (inl h) = before h
+neither old c a r before reached (inr h) = reached h
 
 pub returns-clause-some : goal.returns-clause-some
 returns-clause-some c h free =
     let is : c.holds_no_resource.result ≡ false = cc in
     c.holds_no_resource.ensures.some is
-    (λ r w. reached_none c.args.types.now c.law.ensures c.args.ty c.requires.of_values c.requires.held free r ((c.in_ok-reached.ensures (ty.Resource r)).0 (subst (IsIn (ty.Resource r)) c.as_slice.ensures.types w)))
+    (λ r w. neither c.args.looked.now c.args.types.now c.args.ty r (c.requires.free.1 r) (reached_none c.args.types.now c.law.ensures c.args.ty c.requires.of_values c.requires.held free r) ((c.in_ok-reach_from.ensures.reached (ty.Resource r)).0 (subst (IsIn (ty.Resource r)) c.as_slice.ensures.types w)))
+
+pub returns-clause-free : goal.returns-clause-free
+returns-clause-free c h =
+    let is : c.holds_no_resource.result ≡ true = cc in
+    (c.in_ok-reach_from.ensures.closed, subst HasNoResource c.as_slice.ensures.types (c.holds_no_resource.ensures.none is))

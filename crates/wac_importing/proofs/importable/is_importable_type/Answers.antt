@@ -10,13 +10,13 @@ pub has_no_handle-requires-clause-of_values : goal.has_no_handle-requires-clause
 has_no_handle-requires-clause-of_values c = is_of_values c.args.ty c.in-Value.is
 
 pub returns-in-Value-clause-plain : goal.returns-in-Value-clause-plain
-returns-in-Value-clause-plain c h = free_lists c.args.types.now c.law.ensures c.args.ty (is_of_values c.args.ty c.in-Value.is) c.requires (c.has_no_handle.ensures.none h)
+returns-in-Value-clause-plain c h = free_lists c.args.types.now c.law.ensures c.args.ty (is_of_values c.args.ty c.in-Value.is) c.requires.held (c.has_no_handle.ensures.none h)
 
 pub returns-in-Value-clause-not : goal.returns-in-Value-clause-not
 returns-in-Value-clause-not c h so = c.has_no_handle.ensures.some h (values_importable c.args.types.now c.args.ty (is_of_values c.args.ty c.in-Value.is) so)
 
 pub returns-in_default : goal.returns-in_default
-returns-in_default c = record { plain = λ h. cc; not = λ h. type_not_importable c.args.types.now c.law.ensures c.args.ty c.requires (not_of_values c.args.ty c.in_default.not-Value c.in_default.not-Func) c.in_default.not-Interface c.in_default.not-World }
+returns-in_default c = record { plain = λ h. cc; free = λ h. cc; not = λ h. type_not_importable c.args.types.now c.law.ensures c.args.ty c.requires.held (not_of_values c.args.ty c.in_default.not-Value c.in_default.not-Func) c.in_default.not-Interface c.in_default.not-World }
 
 pub returns-in-Interface-clause-plain : goal.returns-in-Interface-clause-plain
 returns-in-Interface-clause-plain c h = subst (λ (a : AnyType). ListsPlain c.args.types.now (kind.TypeItem a)) (sym c.in-Interface.is) (c.has_plain_items.ensures.plain h)

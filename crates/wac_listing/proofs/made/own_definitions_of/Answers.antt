@@ -7,8 +7,8 @@ use Rattle.wac_listing.proofs.Making.{if-ok, at-definition, listed-held}
 use Rattle.wac_listing.proofs.Owning.{own-of-interface}
 use Rattle.wac_listing.proofs.made.own_definitions_of.Goals as goal
 
-pub own_found-requires : goal.own_found-requires
-own_found-requires c = listed-held c.args.types.now c.law.ensures c.args.interface c.index.result.now c.index.ensures c.requires
+pub found_among-requires : goal.found_among-requires
+found_among-requires c = listed-held c.args.types.now c.law.ensures c.args.interface c.index.result.now c.index.ensures c.requires
 
 pub returns-clause-held : goal.returns-clause-held
 returns-clause-held c =

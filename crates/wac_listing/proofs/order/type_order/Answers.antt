@@ -3,8 +3,8 @@ use Rattle.wac_listing.specs.Before.{AreReached}
 use Rattle.wac_listing.proofs.Owning.{own-reached}
 use Rattle.wac_listing.proofs.order.type_order.Goals as goal
 
-pub own_found-requires : goal.own_found-requires
-own_found-requires c = c.requires
+pub found_among-requires : goal.found_among-requires
+found_among-requires c = c.requires
 
 pub returns-in_err-found : goal.returns-in_err-found
 returns-in_err-found c = search rules

@@ -1,4 +1,4 @@
-use Rattle.std.proofs.Common.{List, map, slice_get, string_bytes, ap, sym, ◌∙◌}
+use Rattle.std.proofs.Common.{map, slice_get, string_bytes, ap, sym, ◌∙◌}
 use Rattle.std.specs.Option.{option_map}
 use Rattle.std.proofs.lemmas.Result.{IfOk-weaker}
 use Rattle.wac_terms.specs.Merge.{import_entries}

@@ -4,7 +4,7 @@ use Rattle.wac_coding.specs.declared.coder.Meaning.{Meaning}
 use Rattle.wac_entries.specs.Nodes.{Node}
 use Rattle.wac_coding.specs.CallsView.{names_in}
 use Rattle.wac_coding.specs.Coding.{source_tree, values_of, HasTree, IsGrown, Means}
-use Rattle.wac_coding.proofs.CodingGrowth.{grown_not, grown_twice, right_grown, tree_same, moved_by}
+use Rattle.wac_coding.proofs.CodingGrowth.{grown_none, grown_not, grown_twice, right_grown, tree_same, moved_by}
 use Rattle.wac_coding.proofs.CodingMemo.{defined_put}
 use Rattle.wac_entries.proofs.TaskLemmas.{defined_values_hold}
 use Rattle.wac_coding.proofs.CodingTrees.{defined_is}
@@ -36,3 +36,12 @@ returns-clause-right c =
     ] in
     let g = grown_twice old mid new c.meaning.ensures.grown h.1 in
     defined_put t new c.args.self.now c.put_defined.new.self d n c.put_defined.result c.put_defined.ensures (right_grown t c.args.self.now old new g c.requires.right) (tree_same new _ _ n (sym e) h.0)
+
+pub returns-clause-grown : goal.returns-clause-grown
+returns-clause-grown c =
+    let mid = c.meaning.new.nodes in
+    let new : List Node = c.match-branch-2.nodes in
+    grown_twice c.args.nodes.now mid new c.meaning.ensures.grown (elim c.match-branch-2.branch [
+      | in-New+in_ok-number-in-New w ↦ subst (λ (ns : List Node). IsGrown mid ns) (sym w.nodes-is) w.add.ensures.grown
+      | in-Same w ↦ grown_none mid new w.nodes-is
+    ])

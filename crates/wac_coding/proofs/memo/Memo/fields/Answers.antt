@@ -1,4 +1,4 @@
-use Rattle.std.proofs.Common.{◌≡◌, true, ap}
+use Rattle.std.proofs.Common.{◌≡◌, true, ap, refl}
 use Rattle.std.specs.Option.{option_map}
 use Rattle.wac_collection.specs.Collection.{holds_value}
 use Rattle.wac_coding.specs.Coding.{source_tree, values_of, IsReady}
@@ -16,8 +16,8 @@ part-requires-clause-right c = right_grown (source_tree c.args.source.now) c.arg
 pub loop-i-preserved : goal.loop-i-preserved
 loop-i-preserved c = record {
   grown = grown_twice c.args.nodes.now c.loop-i.nodes c.part.new.nodes c.loop-i.invariant.grown c.part.ensures.grown;
-  numbers = fields_more (values_of (source_tree c.args.source.now)) c.loop-i.nodes c.part.new.nodes c.part.ensures.grown c.args.fields.now c.loop-i.i c.entry_at.result.0.now c.entry_at.result.1.now c.loop-i.numbers.items c.push.new.self.items c.in_ok-name.name c.in_ok-number.number
-      (ap (option_map (λ e. e.0)) c.entry_at.ensures) (ap (option_map (λ e. e.1)) c.entry_at.ensures) c.in_ok-push.ensures.items c.in_ok-name.ensures.ok c.loop-i.invariant.numbers c.in_ok-number.ensures.number;
+  numbers = fields_more (values_of (source_tree c.args.source.now)) c.loop-i.nodes c.part.new.nodes c.part.ensures.grown c.args.fields.now c.loop-i.i c.entry_at.result.0.now c.entry_at.result.1.now c.loop-i.numbers.items c.push.new.self.items c.entry_at.result.0 c.in_ok-number.number
+      (ap (option_map (λ e. e.0)) c.entry_at.ensures) (ap (option_map (λ e. e.1)) c.entry_at.ensures) c.in_ok-push.ensures.items refl c.loop-i.invariant.numbers c.in_ok-number.ensures.number;
 }
 
 pub part-requires-clause-held : goal.part-requires-clause-held

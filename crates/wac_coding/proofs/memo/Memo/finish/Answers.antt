@@ -3,6 +3,7 @@ use Rattle.std.specs.List.{AllByRecursion}
 use Rattle.wac_entries.specs.declared.tasks.Task.{Task}
 use Rattle.wac_entries.specs.Tasks.{tasks_weight, IsHeldTask}
 use Rattle.wac_coding.specs.Coding.{source_tree, AreCovered, IsUnderWay}
+use Rattle.wac_coding.proofs.CodingMemo.{same_done, same_right}
 use Rattle.wac_coding.proofs.CodingTasks.{may_be_done, less_to_do, still_under_way, under_way, all_done}
 use Rattle.wac_entries.proofs.TaskLemmas.{all_last}
 use Rattle.wac_coding.proofs.memo.Memo.finish.Goals as goal
@@ -40,5 +41,9 @@ returns-clause-done c =
     let tree = source_tree c.args.source.now in
     let rest : c.pop.new.self.items ≡ [] = c.in_default.ensures.rest ∙ ap (λ k. take (k - 1) c.loop-task.tasks.items) c.in_default.ensures.cases.0 in
     let none : c.loop-task.tasks.items ≡ [] = c.in_default.ensures.items ∙ ap (λ (ts : List Task). ts ++ []) rest in
-    all_done s tree c.args.nodes.now c.loop-task.nodes c.args.tasks.items c.loop-task.self
-    (subst (λ (ts : List Task). IsUnderWay s tree c.args.nodes.now c.args.tasks.items c.loop-task.nodes c.loop-task.self ts) none c.loop-task.invariant)
+    same_done c.loop-task.self c.keep_tasks.new.self c.args.tasks.items c.keep_tasks.ensures
+    (all_done s tree c.args.nodes.now c.loop-task.nodes c.args.tasks.items c.loop-task.self
+    (subst (λ (ts : List Task). IsUnderWay s tree c.args.nodes.now c.args.tasks.items c.loop-task.nodes c.loop-task.self ts) none c.loop-task.invariant))
+
+pub returns-clause-right : goal.returns-clause-right
+returns-clause-right c = same_right (source_tree c.args.source.now) c.loop-task.nodes c.loop-task.self c.keep_tasks.new.self c.keep_tasks.ensures c.loop-task.invariant.right

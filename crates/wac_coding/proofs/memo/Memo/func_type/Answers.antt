@@ -7,7 +7,7 @@ use Rattle.wac_coding.specs.CallsView.{names_in}
 use Rattle.wac_entries.specs.Tasks.{IsHeldTask, IsOpening}
 use Rattle.wac_coding.specs.Coding.{source_tree, values_of, IsReady, IsDone}
 use Rattle.wac_coding.proofs.CodingGrowth.{grown_twice, right_grown, tree_same, fields_grown}
-use Rattle.wac_coding.proofs.CodingMemo.{func_right}
+use Rattle.wac_coding.proofs.CodingMemo.{func_right, same_right}
 use Rattle.wac_entries.proofs.TaskOpenings.{first_of, openings_two, rest_of}
 use Rattle.wac_coding.proofs.CodingShapes.{fits_function}
 use Rattle.wac_coding.proofs.CodingTasks.{ready_values}
@@ -21,14 +21,17 @@ returns-in-Some-clause-number c = c.requires.right.funcs c.args.id c.in-Some.num
 pub finish-requires-clause-held : goal.finish-requires-clause-held
 finish-requires-clause-held c =
     let x = c.index-func.result.now in
-    let is = openings_two x.result (seconds x.params) c.new-tasks.result.items c.open_optional.new.tasks.items c.open_fields.new.tasks.items c.new-tasks.ensures.items c.in_ok-open_optional.ensures c.in_ok-open_fields.ensures in
+    let is = openings_two x.result (seconds x.params) c.take_tasks-tasks.result.items c.open_optional.new.tasks.items c.open_fields.new.tasks.items c.take_tasks-tasks.ensures.none c.in_ok-open_optional.ensures c.in_ok-open_fields.ensures in
     subst (λ (ts : List Task). AllByRecursion (IsHeldTask c.args.source.now.types.now) ts) (sym is) (func_held c.args.source.now.types.now c.law.ensures c.args.id x c.index-func.ensures)
 
 pub finish-requires-clause-opened : goal.finish-requires-clause-opened
 finish-requires-clause-opened c =
     let x = c.index-func.result.now in
-    let is = openings_two x.result (seconds x.params) c.new-tasks.result.items c.open_optional.new.tasks.items c.open_fields.new.tasks.items c.new-tasks.ensures.items c.in_ok-open_optional.ensures c.in_ok-open_fields.ensures in
+    let is = openings_two x.result (seconds x.params) c.take_tasks-tasks.result.items c.open_optional.new.tasks.items c.open_fields.new.tasks.items c.take_tasks-tasks.ensures.none c.in_ok-open_optional.ensures c.in_ok-open_fields.ensures in
     subst (λ (ts : List Task). AllByRecursion IsOpening ts) (sym is) (all_openings c.args.source.now.types.now (func_values x))
+
+pub finish-requires-clause-right : goal.finish-requires-clause-right
+finish-requires-clause-right c = same_right (source_tree c.args.source.now) c.args.nodes.now c.args.self.now c.take_tasks-tasks.new.self c.take_tasks-tasks.ensures.same c.requires.right
 
 pub fields-requires-clause-held : goal.fields-requires-clause-held
 fields-requires-clause-held c =
@@ -46,7 +49,7 @@ pub fields-requires-clause-ready : goal.fields-requires-clause-ready
 fields-requires-clause-ready c =
     let x = c.index-func.result.now in
     let memo = c.finish.new.self in
-    let is = openings_two x.result (seconds x.params) c.new-tasks.result.items c.open_optional.new.tasks.items c.open_fields.new.tasks.items c.new-tasks.ensures.items c.in_ok-open_optional.ensures c.in_ok-open_fields.ensures in
+    let is = openings_two x.result (seconds x.params) c.take_tasks-tasks.result.items c.open_optional.new.tasks.items c.open_fields.new.tasks.items c.take_tasks-tasks.ensures.none c.in_ok-open_optional.ensures c.in_ok-open_fields.ensures in
     rest_of (IsReady memo) x.result (seconds x.params) (ready_values memo (func_values x) (subst (λ (ts : List Task). AllByRecursion (IsDone memo) ts) is c.in_ok-finish.ensures.done))
 
 pub optional-requires-clause-right : goal.optional-requires-clause-right

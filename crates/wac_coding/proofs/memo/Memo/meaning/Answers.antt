@@ -1,7 +1,8 @@
-use Rattle.std.proofs.Common.{List, map, string_bytes, sym, subst}
+use Rattle.std.proofs.Common.{List, map, sym, subst}
 use Rattle.wac_shapes.specs.declared.component.DefinedType.{DefinedType}
 use Rattle.wac_shapes.specs.declared.component.ValueType.{ValueType}
 use Rattle.wac_entries.specs.Nodes.{Node}
+use Rattle.wac_entries.proofs.Telling.{bytes}
 use Rattle.wac_coding.specs.Coding.{source_tree, values_of, IsGrown, AreParts}
 use Rattle.wac_coding.proofs.CodingGrowth.{grown_none}
 use Rattle.wac_coding.proofs.CodingShapes.{fits_tuple, fits_list, fits_fixed, fits_option, fits_stream, fits_future, fits_record, fits_variant, fits_flags, fits_enum, fits_by}
@@ -40,8 +41,8 @@ returns-clause-meaning c =
       | in-Result+in_ok-node-in-Result w ↦ let k = w.in_ok-node-in-Result in let ns : List Node = w.outcome.new.nodes in fits_by t new ns d _ x _ w.nodes-is w.in-Result.is w.node-is k.ensures.fits
       | in-Variant+in_ok-cases-in-Variant w ↦ let k = w.in_ok-cases-in-Variant in let ns : List Node = w.cases.new.nodes in fits_by t new ns d _ x _ w.nodes-is w.in-Variant.is w.node-is (fits_variant t ns w.in-Variant.variant.cases k.field-0.items k.ensures.numbers)
       | in-Record+in_ok-fields-in-Record w ↦ let k = w.in_ok-fields-in-Record in let ns : List Node = w.fields.new.nodes in fits_by t new ns d _ x _ w.nodes-is w.in-Record.is w.node-is (fits_record t ns w.in-Record.record.fields k.field-0.items k.ensures.numbers)
-      | in-Flags+in_ok-names-in-Flags w ↦ let k = w.in_ok-names-in-Flags in let ns : List Node = c.args.nodes.now in fits_by t new ns d _ x _ w.nodes-is w.in-Flags.is w.node-is (fits_flags t ns (map string_bytes k.field-0.items) w.in-Flags.flags.0 k.ensures)
-      | in-Enum+in_ok-names-in-Enum w ↦ let k = w.in_ok-names-in-Enum in let ns : List Node = c.args.nodes.now in fits_by t new ns d _ x _ w.nodes-is w.in-Enum.is w.node-is (fits_enum t ns (map string_bytes k.field-0.items) w.in-Enum.cases.0 k.ensures)
+      | in-Flags+in_ok-names-in-Flags w ↦ let k = w.in_ok-names-in-Flags in let ns : List Node = c.args.nodes.now in fits_by t new ns d _ x _ w.nodes-is w.in-Flags.is w.node-is (fits_flags t ns (map bytes k.field-0.items) w.in-Flags.flags.0 k.ensures)
+      | in-Enum+in_ok-names-in-Enum w ↦ let k = w.in_ok-names-in-Enum in let ns : List Node = c.args.nodes.now in fits_by t new ns d _ x _ w.nodes-is w.in-Enum.is w.node-is (fits_enum t ns (map bytes k.field-0.items) w.in-Enum.cases.0 k.ensures)
       | in-Stream+in_ok-optional-in-Stream w ↦ let k = w.in_ok-optional-in-Stream in let ns : List Node = w.optional.new.nodes in fits_by t new ns d _ x _ w.nodes-is w.in-Stream.is w.node-is (fits_stream t ns w.in-Stream.value k.field-0 k.ensures.number)
       | in-Future+in_ok-optional-in-Future w ↦ let k = w.in_ok-optional-in-Future in let ns : List Node = w.optional-in-Future.new.nodes in fits_by t new ns d _ x _ w.nodes-is w.in-Future.is w.node-is (fits_future t ns w.in-Future.value k.field-0 k.ensures.number)
     ]

@@ -3,6 +3,7 @@ use Rattle.wac_shapes.specs.declared.component.ValueType.{ValueType}
 use Rattle.wac_shapes.specs.declared.component.«Type».TheVariants as ty
 use Rattle.wac_coding.specs.Coding.{source_tree, HasTree, IsRight}
 use Rattle.wac_coding.proofs.CodingGrowth.{on_ok, right_grown}
+use Rattle.wac_coding.proofs.CodingMemo.{same_right}
 use Rattle.wac_coding.proofs.memo.Memo.value.Goals as goal
 
 pub returns-in-Some-clause-number : goal.returns-in-Some-clause-number
@@ -14,3 +15,6 @@ pub returns-clause-right : goal.returns-clause-right
 returns-clause-right c =
     let t = source_tree c.args.source.now in
     on_ok (IsRight t c.finish.new.self c.part.new.nodes) c.part.result (right_grown t c.finish.new.self c.finish.new.nodes c.part.new.nodes c.part.ensures.grown c.in_ok-finish.ensures.right)
+
+pub finish-requires-clause-right : goal.finish-requires-clause-right
+finish-requires-clause-right c = same_right (source_tree c.args.source.now) c.args.nodes.now c.args.self.now c.take_tasks-tasks.new.self c.take_tasks-tasks.ensures.same c.requires.right

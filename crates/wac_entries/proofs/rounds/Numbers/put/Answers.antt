@@ -1,8 +1,8 @@
 use Rattle.std.proofs.Common.{◌<◌, nat_eq, cond, length, Some, refl, ap, ◌∙◌, arith}
-use Rattle.wac_coding.specs.Numbers.{number_at, number_in}
-use Rattle.wac_coding.specs.declared.numbers.Put.{Put}
-use Rattle.wac_coding.proofs.CodingNumbers.{map_length, put_at}
-use Rattle.wac_coding.proofs.numbers.Numbers.put.Goals as goal
+use Rattle.wac_entries.specs.Numbers.{number_at, number_in}
+use Rattle.wac_entries.specs.declared.rounds.Put.{Put}
+use Rattle.wac_entries.proofs.PutNumbers.{map_length, put_at}
+use Rattle.wac_entries.proofs.rounds.Numbers.put.Goals as goal
 
 pub returns : goal.returns
 returns c =

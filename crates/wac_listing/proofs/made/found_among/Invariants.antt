@@ -1,11 +1,11 @@
 use Rattle.std.proofs.Common.{◌-◌, length}
 use Rattle.wac_reach.proofs.Universe.{types_of}
-use Rattle.wac_listing.specs.Made.{own_items}
+use Rattle.wac_listing.specs.Found.{items_among}
 use Rattle.wac_listing.proofs.Making.{AreFound}
-use Rattle.wac_listing.proofs.made.own_found.Given as goal
+use Rattle.wac_listing.proofs.made.found_among.Given as goal
 
 abbrev pub invariant-loop-place : goal.invariant-loop-place
-invariant-loop-place l = AreFound l.types (own_items l.items) l.found.keys l.place
+invariant-loop-place l = AreFound l.types (items_among l.fn.among l.items) l.found.keys l.place
 
 abbrev pub decreases-loop-place : goal.decreases-loop-place
 decreases-loop-place l = length (types_of l.types) - l.place

@@ -4,8 +4,8 @@ use Rattle.std.specs.Prelude.{slice_get}
 use Rattle.std.proofs.Math.ListN.{set}
 use Rattle.std.proofs.lemmas.Bool.{cases_Bool, eqb-true}
 use Rattle.wac_primitives.specs.Name.{option_case}
-use Rattle.wac_coding.specs.declared.numbers.Put.{Put}
-use Rattle.wac_coding.specs.Numbers.{number_at, number_in, IsTimely}
+use Rattle.wac_entries.specs.declared.rounds.Put.{Put}
+use Rattle.wac_entries.specs.Numbers.{number_at, number_in, IsTimely}
 
 at_map : (v : Put → Option ℕ) (puts : List Put) (k : ℕ) → number_at (map v puts) k ≡ option_case (slice_get puts k) None v
 at_map v [] k = refl

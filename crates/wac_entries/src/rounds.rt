@@ -3,7 +3,7 @@
 //! Beside each number stands the round in which it was put. A number of an earlier round counts as none, so a new round
 //! begins without a walk over them, and their memory is used again.
 ghost use Rattle.std.specs.Prelude.{◌≡◌, ◌<◌, ℕ, [], None, Some, cond, nat_eq, length, OnOk};
-ghost use Rattle.wac_coding.specs.Numbers.{number_at};
+ghost use Rattle.wac_entries.specs.Numbers.{number_at};
 
 use std::alloc::{AllocError, Global};
 use std::marker::Model;
@@ -25,7 +25,7 @@ pub struct Numbers {
 
 impl Model for Numbers {
     ghost use Rattle.std.specs.Prelude.{List, ℕ, Option, map};
-    ghost use Rattle.wac_coding.specs.Numbers.{IsTimely, number_in};
+    ghost use Rattle.wac_entries.specs.Numbers.{IsTimely, number_in};
 
     ghost Value = { List (Option ℕ) };
 

@@ -1,7 +1,7 @@
 -- Numbers at positions. Private functions alone cite this.
 use Rattle.std.specs.Prelude.{ℕ, ◌≡◌, ◌<◌, ◌≤◌, cond, nat_eq, List, Option, Some, None, slice_get}
 use Rattle.wac_primitives.specs.Name.{option_case}
-use Rattle.wac_coding.specs.declared.numbers.Put.{Put}
+use Rattle.wac_entries.specs.declared.rounds.Put.{Put}
 
 -- the number at a position
 abbrev pub number_at : List (Option ℕ) → ℕ → Option ℕ

@@ -5,12 +5,11 @@ use Rattle.wac_shapes.specs.Kinds.{kind_type}
 use Rattle.wac_shapes.specs.declared.component.ItemKind.{ItemKind}
 use Rattle.wac_collection.specs.Collection.{holds_type}
 use Rattle.wac_reach.proofs.Lists.{drop_second}
-use Rattle.wac_listing.specs.Made.{own_items}
-use Rattle.wac_listing.specs.Found.{items_ends}
+use Rattle.wac_listing.specs.Found.{items_ends, items_among}
 use Rattle.wac_listing.proofs.Making.{second-at}
 use Rattle.wac_listing.proofs.Owning.{own-more, own-passed}
-use Rattle.wac_listing.proofs.made.put_own_items.Goals as goal
-use Rattle.wac_listing.proofs.made.put_own_items.Goals.{then-is_own+in_ok-put_item, else-is_own}
+use Rattle.wac_listing.proofs.made.put_among.Goals as goal
+use Rattle.wac_listing.proofs.made.put_among.Goals.{then-contains+in_ok-put_item, else-contains}
 
 pub put_item-requires : goal.put_item-requires
 put_item-requires c =
@@ -22,8 +21,8 @@ loop-i-preserved c =
     let t = c.args.types.now in
     let (n, is) = drop_second c.args.items.now c.loop-i.i c.value_at-item.result.now c.value_at-item.ensures in
     let rest = drop (c.loop-i.i + 1) c.args.items.now in
-    let before = sym (ap (λ (xs : List (Name × ItemKind)). items_ends t c.loop-i.found.keys (own_items xs)) is) ∙ c.loop-i.invariant in
-    elim c.if-is_own.branch [
-      | then-is_own+in_ok-put_item w ↦ ap (λ v. items_ends t v.keys (own_items rest)) w.found-is ∙ own-more t (n, c.value_at-item.result.now) rest c.loop-i.found.keys w.put_item.new.found.keys (sym c.is_own.ensures ∙ w.if-is_own.true) w.in_ok-put_item.ensures ∙ before
-      | else-is_own w ↦ ap (λ v. items_ends t v.keys (own_items rest)) w.found-is ∙ own-passed t (n, c.value_at-item.result.now) rest c.loop-i.found.keys (sym c.is_own.ensures ∙ w.if-is_own.false) ∙ before
+    let before = sym (ap (λ (xs : List (Name × ItemKind)). items_ends t c.loop-i.found.keys (items_among c.args.among xs)) is) ∙ c.loop-i.invariant in
+    elim c.if-contains.branch [
+      | then-contains+in_ok-put_item w ↦ ap (λ v. items_ends t v.keys (items_among c.args.among rest)) w.found-is ∙ own-more c.args.among t (n, c.value_at-item.result.now) rest c.loop-i.found.keys w.put_item.new.found.keys (sym c.contains.ensures ∙ w.if-contains.true) w.in_ok-put_item.ensures ∙ before
+      | else-contains w ↦ ap (λ v. items_ends t v.keys (items_among c.args.among rest)) w.found-is ∙ own-passed c.args.among t (n, c.value_at-item.result.now) rest c.loop-i.found.keys (sym c.contains.ensures ∙ w.if-contains.false) ∙ before
     ]

@@ -1,7 +1,7 @@
 use Rattle.std.proofs.Common.{rules, ◌≤◌, length, refl, ap, ◌∙◌}
-use Rattle.wac_coding.specs.Numbers.{number_at}
-use Rattle.wac_coding.proofs.CodingNumbers.{same_room}
-use Rattle.wac_coding.proofs.numbers.Numbers.make_room.Goals as goal
+use Rattle.wac_entries.specs.Numbers.{number_at}
+use Rattle.wac_entries.proofs.PutNumbers.{same_room}
+use Rattle.wac_entries.proofs.rounds.Numbers.make_room.Goals as goal
 
 pub returns-clause-same : goal.returns-clause-same
 returns-clause-same c =
