@@ -8,6 +8,8 @@ pub mod Opening
 pub mod CalledViews
 pub mod Nodes
 pub mod NodeViews
+pub mod ItemHash
+pub mod NodeHash
 pub mod Places
 pub mod Bindings
 pub mod Walking

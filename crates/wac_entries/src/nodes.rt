@@ -1,17 +1,20 @@
 //! Types as nodes of a table, each once.
-ghost use Rattle.std.specs.Prelude.{◌≡◌, ◌<◌, ℕ, [], length, Some, slice_get, OnOk, OnErr, IfOk};
+ghost use Rattle.std.specs.Prelude.{◌≡◌, ◌<◌, ℕ, [], fold, length, Some, slice_get, OnOk, OnErr, IfOk};
 ghost use Rattle.std.specs.List.{AllByRecursion};
 ghost use Rattle.wac_entries.specs.Nodes.{mentions, tree_at, Added, IsSorted, IsTable};
 ghost use Rattle.wac_entries.specs.NodeViews.{node_view};
+ghost use Rattle.wac_entries.specs.ItemHash.{item_writes, item_alike};
+ghost use Rattle.wac_entries.specs.NodeHash.{node_writes, node_alike, number_writes};
 
 use crate::called::Called;
 use indexmap::IndexSet;
 use std::alloc::{AllocError, Global};
+use std::hash::{Hash, Hasher};
 use std::marker::Model;
 use wac_collection::{CoreRefType, CoreType, PrimitiveType};
 
 /// What an instance or a component lists under a name: its sort, and the number of its type.
-#[derive(Clone, Copy, PartialEq, Eq, Hash)]
+#[derive(Clone, Copy, PartialEq, Eq)]
 pub enum Item {
     /// A type.
     Type(usize),
@@ -25,6 +28,24 @@ pub enum Item {
     Module(usize),
     /// A value.
     Value(usize),
+}
+
+/// The number of an item's type is hashed, and not its sort, in one write.
+impl Hash for Item {
+    ghost hash_input = { item_writes };
+
+    ghost respects_eq = { λ a b e. item_alike a b e };
+
+    fn hash<H: Hasher>(&self, state: &mut H) {
+        match self {
+            Item::Type(number) => number.hash(state),
+            Item::Func(number) => number.hash(state),
+            Item::Instance(number) => number.hash(state),
+            Item::Component(number) => number.hash(state),
+            Item::Module(number) => number.hash(state),
+            Item::Value(number) => number.hash(state),
+        }
+    }
 }
 
 /// What a core module imports or exports.
@@ -44,7 +65,7 @@ pub enum Core {
 
 /// A type that mentions other types by their numbers in a table. Its names are borrowed, from the collection that holds the type;
 /// those of core modules are its own.
-#[derive(PartialEq, Eq, Hash, Drop)]
+#[derive(PartialEq, Eq, Drop)]
 pub enum Node<'a> {
     /// A resource.
     Resource(Called),
@@ -84,6 +105,55 @@ pub enum Node<'a> {
     Component(Vec<(&'a str, Item)>, Vec<(&'a str, Item)>),
     /// A core module: its imports by module and name, and its exports, each sorted by name.
     Module(Vec<(String, Vec<(String, Core)>)>, Vec<(String, Core)>),
+}
+
+/// The parts of a node are hashed, and not its sort, so that a list or an option is one write.
+impl<'a> Hash for Node<'a> {
+    ghost hash_input = { node_writes };
+
+    ghost respects_eq = { λ a b e. node_alike a b e };
+
+    fn hash<H: Hasher>(&self, state: &mut H) {
+        match self {
+            Node::Resource(called) => called.hash(state),
+            Node::Primitive(primitive) => primitive.hash(state),
+            Node::Own(called) => called.hash(state),
+            Node::Borrow(called) => called.hash(state),
+            Node::Record(fields) => fields.hash(state),
+            Node::Variant(cases) => cases.hash(state),
+            Node::List(part) => part.hash(state),
+            Node::FixedSizeList(part, _) => part.hash(state),
+            Node::Tuple(parts) => parts.hash(state),
+            Node::Flags(names) => names.hash(state),
+            Node::Enum(names) => names.hash(state),
+            Node::Option(part) => part.hash(state),
+            Node::Result(ok, err) => {
+                ok.hash(state);
+                err.hash(state);
+            }
+            Node::Stream(part) => hash_number(*part, state),
+            Node::Future(part) => hash_number(*part, state),
+            Node::Func(_, params, result) => {
+                params.hash(state);
+                hash_number(*result, state);
+            }
+            Node::Instance(exports) => exports.hash(state),
+            Node::Component(imports, exports) => {
+                imports.hash(state);
+                exports.hash(state);
+            }
+            Node::Module(_, exports) => exports.hash(state),
+        }
+    }
+}
+
+/// Hashes a number where there is one.
+fn hash_number<H: Hasher>(number: Option<usize>, state: &mut H)
+    ensures { state.new ≡ fold H.write state.old (number_writes number) }
+{
+    if let Some(number) = number {
+        number.hash(state);
+    }
 }
 
 /// Nodes, each once, which mention lower ones.
