@@ -158,8 +158,7 @@ pub const REDEFINED: &[Case] = &[
         want: Parts(&[
             LISTS_T,
             IMPORTS_I,
-            "0705016d010162",
-            "0703017001",
+            "0707026d0101627001", // the other enum, and the list over it
             "0b0701000164030200",
         ]),
     },
