@@ -12,3 +12,4 @@ pub mod DefinitionRows
 pub mod PlugExample
 pub mod BeginningRows
 pub mod KindRows
+pub mod ListingRows
