@@ -3,6 +3,7 @@ pub mod Leading
 pub mod Descending
 pub mod KeySets
 pub mod Reaching
+pub mod Flagging
 pub mod Resting
 pub mod Joined
 pub mod Kinded

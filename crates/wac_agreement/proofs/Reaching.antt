@@ -264,7 +264,7 @@ in_all k [] m h w = absurd w
 in_all k (n ∷ ns) m h (inl is) = let low : n < k = h.0 in omega (arith, is)
 in_all k (n ∷ ns) m h (inr w) = in_all k ns m h.1 w
 
-parts_low : (k : ℕ) (n : Node) (m : ℕ) → AllByRecursion (λ x. x < k) (mentions n) → In (parts n) m → m < k
+pub parts_low : (k : ℕ) (n : Node) (m : ℕ) → AllByRecursion (λ x. x < k) (mentions n) → In (parts n) m → m < k
 parts_low k (of_component imports exports) m h w = absurd w
 parts_low k n m h w = in_all k (mentions n) m h w
 

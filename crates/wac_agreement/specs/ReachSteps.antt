@@ -1,7 +1,8 @@
 -- How the classes that a type reaches are found. Private functions alone cite this.
-use Rattle.std.specs.Prelude.{ℕ, ◌<◌, ◌⊎◌, List, [], Option, Some, None, length, fold}
+use Rattle.std.specs.Prelude.{ℕ, ◌≡◌, ◌<◌, ◌⊎◌, ◌↔◌, Bool, true, false, List, [], Option, Some, None, length, fold, slice_get}
 use Rattle.std.specs.Ordering.{nat_cmp}
 use Rattle.std.specs.BTreeSet.{insert_key}
+use Rattle.wac_primitives.specs.Name.{option_case}
 use Rattle.wac_cycles.specs.Numbers.{Has}
 use Rattle.wac_subtyping.specs.Called.{Called, of_class}
 use Rattle.wac_entries.specs.Nodes.{Node, of_resource, of_own, of_borrow, of_component, mentions, tree_at}
@@ -27,6 +28,14 @@ node_class _ = None
 -- numbers in order, and more of them
 abbrev pub with_all : List ℕ → List ℕ → List ℕ
 with_all = fold (insert_key nat_cmp)
+
+-- the flag of a node, where it was looked at
+abbrev pub flag_of : List Bool → ℕ → Bool
+flag_of fs i = option_case (slice_get fs i) false (λ b. b)
+
+-- the nodes that were looked at have their flags where they reach a resource of a class, and nowhere else
+pub record AreFlags (ns : List Node) (fs : List Bool) : Type 0 where
+  pub flagged : (i : ℕ) → i < length fs → (flag_of fs i ≡ true) ↔ ((b : ℕ) × Reaches (IsOfClass b) (tree_at ns i))
 
 -- What the node of a number reaches are the classes that were found, and what the nodes reach that are still to be looked at.
 pub record AreReached (ns : List Node) (number : ℕ) (classes pending : List ℕ) : Type 0 where

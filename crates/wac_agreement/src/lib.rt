@@ -5,6 +5,7 @@
 
 pub mod apart;
 pub mod compared;
+pub mod flags;
 pub mod order;
 pub mod reach;
 pub mod rests;

@@ -6,24 +6,31 @@ ghost use Rattle.wac_entries.specs.CalledViews.{called_view};
 ghost use Rattle.wac_entries.specs.Nodes.{and_optional, optionals, seconds, tree_at, type_of, types_of};
 ghost use Rattle.wac_entries.specs.NodeViews.{node_view, named, listed, item_view};
 ghost use Rattle.wac_agreement.specs.Reach.{Reaches, IsOfClass};
-ghost use Rattle.wac_agreement.specs.ReachSteps.{class_of, node_class, parts, with_all};
+ghost use Rattle.wac_agreement.specs.ReachSteps.{AreFlags, class_of, node_class, parts, with_all};
 
+use crate::flags::flag_of;
 use std::alloc::{AllocError, Global};
 use std::collections::BTreeSet;
 use wac_entries::called::Called;
 use wac_entries::nodes::{Item, Node, Nodes};
 
-/// The classes whose resources a node mentions, anywhere but in components.
+/// The classes whose resources a node mentions, anywhere but in components. Nothing is walked where its flag is none.
 pub fn classes_reached(
     alloc: Global,
     nodes: &Nodes,
+    flags: &[bool],
     number: usize,
 ) -> Result<BTreeSet<usize>, AllocError>
-    requires { number < length nodes.now }
+    requires there { number < length nodes.now }
+    requires flags { AreFlags nodes.now flags.now }
+    requires flagged { number < length flags.now }
     ensures { IfOk result (λ s. (b : ℕ) → ((set.contains nat_cmp s b ≡ true) ↔ Reaches (IsOfClass b) (tree_at nodes.now number))) }
 {
-    nodes.table_law();
     let mut classes = BTreeSet::new(alloc);
+    if !flag_of(number, flags) {
+        return Ok(classes);
+    }
+    nodes.table_law();
     let mut pending = BTreeSet::new(alloc);
     put(&mut pending, number)?;
     while let Some(next) = pending.pop_last() {
@@ -35,7 +42,7 @@ pub fn classes_reached(
 }
 
 /// The class of the resource that a node names itself.
-fn node_class(node: &Node) -> Option<usize>
+pub fn node_class(node: &Node) -> Option<usize>
     ensures { result ≡ node_class (node_view node.now) }
 {
     match node {

@@ -13,9 +13,10 @@ ghost use Rattle.wac_entries.specs.Nodes.{tree_at, type_of as type_in};
 ghost use Rattle.wac_entries.specs.NodeViews.{item_view};
 ghost use Rattle.wac_agreement.specs.Reach.{IsOfClass, Reaches};
 ghost use Rattle.wac_cycles.specs.Numbers.{Has};
-ghost use Rattle.wac_agreement.specs.ReachSteps.{with_all};
+ghost use Rattle.wac_agreement.specs.ReachSteps.{AreFlags, with_all};
 ghost use Rattle.wac_agreement.specs.Resting.{Gains, ItemLeads, classes_used, first_class, interface_class, used_classes};
 
+use crate::flags::flag_through;
 use crate::reach::{classes_reached, put, put_optional, type_of};
 use std::alloc::{AllocError, Global};
 use std::collections::BTreeSet;
@@ -56,8 +57,8 @@ fn put_used(
 
 /// The classes to which an instance leads: those whose resources it means, and those from which it uses types.
 fn instance_leads(
-    alloc: Global,
     nodes: &Nodes,
+    flags: &[bool],
     types: &Types,
     classes: &Classes,
     id: InterfaceId,
@@ -65,10 +66,12 @@ fn instance_leads(
 ) -> Result<BTreeSet<usize>, AllocError>
     requires held { holds_type types.now (kind_type (kind_of.Instance id)) ≡ true }
     requires there { type_in (item_view item) < length nodes.now }
+    requires flags { AreFlags nodes.now flags.now }
+    requires flagged { type_in (item_view item) < length flags.now }
     ensures { IfOk result (λ s. (b : ℕ) → (Has s.keys b ↔ (Reaches (IsOfClass b) (tree_at nodes.now (type_in (item_view item))) ⊎ Has (classes_used types.now classes.now.names id) b))) }
 {
     types.law();
-    let mut numbers = classes_reached(alloc, nodes, type_of(item))?;
+    let mut numbers = classes_reached(types.allocator(), nodes, flags, type_of(item))?;
     put_used(&mut numbers, types, classes, &types[id].uses)?;
     Ok(numbers)
 }
@@ -97,8 +100,8 @@ fn resource_leads(
 
 /// The classes to which an item leads.
 fn item_leads(
-    alloc: Global,
     nodes: &Nodes,
+    flags: &[bool],
     types: &Types,
     classes: &Classes,
     bindings: &Bindings,
@@ -107,12 +110,15 @@ fn item_leads(
 ) -> Result<BTreeSet<usize>, AllocError>
     requires held { holds_type types.now (kind_type kind) ≡ true }
     requires there { type_in (item_view item) < length nodes.now }
+    requires flags { AreFlags nodes.now flags.now }
+    requires flagged { type_in (item_view item) < length flags.now }
     ensures { IfOk result (λ s. (b : ℕ) → (Has s.keys b ↔ ItemLeads nodes.now types.now classes.now.names bindings.now kind (item_view item) b)) }
 {
+    let alloc = types.allocator();
     match kind {
-        ItemKind::Instance(id) => instance_leads(alloc, nodes, types, classes, id, item),
+        ItemKind::Instance(id) => instance_leads(nodes, flags, types, classes, id, item),
         ItemKind::TypeItem(Type::Resource(id)) => resource_leads(alloc, types, bindings, id),
-        _ => classes_reached(alloc, nodes, type_of(item)),
+        _ => classes_reached(alloc, nodes, flags, type_of(item)),
     }
 }
 
@@ -153,9 +159,12 @@ pub fn rests(
 {
     let numbers = classes.numbers();
     let mut rests = empty_sets(alloc, classes.positions().len())?;
+    let mut flags = Vec::new(alloc);
     for i in 0..entries.len() {
         let kind = entries[i].kind();
-        let leads = item_leads(alloc, nodes, types, classes, bindings, kind, items[i])?;
+        flag_through(nodes, &mut flags, type_of(items[i]))?;
+        let flags = flags.as_slice();
+        let leads = item_leads(nodes, flags, types, classes, bindings, kind, items[i])?;
         put_others(&mut rests[numbers[i]], numbers[i], &leads)?;
     }
     Ok(rests)

@@ -15,6 +15,7 @@ use Rattle.wac_entries.specs.Classes.{Entry, by_names, class_names}
 use Rattle.wac_entries.specs.NodeViews.{item_view}
 use Rattle.wac_cycles.specs.Numbers.{Has}
 use Rattle.wac_agreement.specs.Resting.{EntryLeads, ItemLeads}
+use Rattle.wac_agreement.proofs.Flagging.{no_flags}
 use Rattle.wac_agreement.proofs.RestLinks.{entries_rest}
 use Rattle.wac_agreement.proofs.RestSets.{leads_next, none_leads}
 use Rattle.wac_agreement.proofs.rests.rests.Goals as goal
@@ -22,8 +23,19 @@ use Rattle.wac_agreement.proofs.rests.rests.Goals as goal
 pub loop-i-init : goal.loop-i-init
 loop-i-init c = record {
   counted = c.in_ok-rests.ensures.counted ∙ (ap length c.positions.ensures ∙ c.requires.classes.positioned);
+  flags = no_flags c.args.nodes.now c.new-flags.result.items c.new-flags.ensures.items;
   leads = none_leads c.args.nodes.now c.args.types.now c.args.entries.now (map item_view c.args.items.now) c.args.classes.now.numbers.items c.args.classes.now.names c.args.bindings.now c.in_ok-rests.rests.items c.in_ok-rests.ensures.empty;
 }
+
+pub flag_through-requires-clause-there : goal.flag_through-requires-clause-there
+flag_through-requires-clause-there c =
+    let e : Entry = c.index-entries-i.result in
+    let at = slice_get_read c.args.entries.now (length c.args.entries.now) c.loop-i.i e refl c.loop-i-test.true c.index-entries-i.is in
+    let low : c.loop-i.i < length c.args.items.now = omega (arith, c.requires.counted, c.loop-i-test.true) in
+    rw (c.type_of.ensures) ((c.requires.items c.loop-i.i e _ at (get_map item_view c.args.items.now c.loop-i.i _ (slice_get-get_or c.args.items.now c.loop-i.i _ low))).there)
+
+pub flag_through-requires-clause-flags : goal.flag_through-requires-clause-flags
+flag_through-requires-clause-flags c = c.loop-i.invariant.flags
 
 pub item_leads-requires-clause-held : goal.item_leads-requires-clause-held
 item_leads-requires-clause-held c =
@@ -69,6 +81,7 @@ loop-i-preserved c =
     let known : slice_get sets k ≡ Some m = slice_get_read sets (length sets) k m refl (omega (arith, within, c.loop-i.invariant.counted)) c.index_mut.ensures.value in
     record {
       counted = length-set sets k new ∙ c.loop-i.invariant.counted;
+      flags = c.in_ok-flag_through.ensures.flags;
       leads = rw add-one
           (leads_next c.args.nodes.now c.args.types.now c.args.entries.now (map item_view c.args.items.now) c.args.classes.now.numbers.items c.args.classes.now.names c.args.bindings.now i k e (item_view x) sets m new more at
           (get_map item_view c.args.items.now i x (slice_get-get_or c.args.items.now i (item.«Type» 0) low)) number known
