@@ -174,7 +174,7 @@ impl Scope {
     pub fn is_listed(&self, id: DefinedTypeId) -> bool
         ensures { result ≡ is_some (listed_at self.now id) }
     {
-        self.listed.contains_key(&id)
+        !self.listed.is_empty() && self.listed.contains_key(&id)
     }
 
     /// Writes an alias of the type item as which a definition is listed, by the first imported instance that lists it or in the scope around,
