@@ -18,12 +18,14 @@ use crate::parts::part_at;
 use crate::places::is_value_type;
 use indexmap::IndexSet;
 use std::alloc::{AllocError, Global};
+use std::hash::BuildHasherDefault;
 use wac_collection::{
     DefinedTypeId, FuncType, InterfaceId, ItemKind, Named, Type, Types, ValueType,
 };
+use wac_reach::TypeSet;
 
 /// Puts the definition in which a value type ends, where it does.
-fn put_end(types: &Types, found: &mut IndexSet<Type>, value: ValueType) -> Result<(), AllocError>
+fn put_end(types: &Types, found: &mut TypeSet, value: ValueType) -> Result<(), AllocError>
     ensures { OnOk result (found.new.keys ≡ with_ends types.now found.old.keys (value ∷ [])) }
 {
     let end = types.resolve_value_type(value);
@@ -34,11 +36,7 @@ fn put_end(types: &Types, found: &mut IndexSet<Type>, value: ValueType) -> Resul
 }
 
 /// The same of one that may be missing.
-fn put_maybe(
-    types: &Types,
-    found: &mut IndexSet<Type>,
-    value: Option<ValueType>,
-) -> Result<(), AllocError>
+fn put_maybe(types: &Types, found: &mut TypeSet, value: Option<ValueType>) -> Result<(), AllocError>
     ensures { OnOk result (found.new.keys ≡ with_ends types.now found.old.keys (and_maybe value [])) }
 {
     match value {
@@ -50,7 +48,7 @@ fn put_maybe(
 /// The same of the parameters of a function.
 fn put_fields(
     types: &Types,
-    found: &mut IndexSet<Type>,
+    found: &mut TypeSet,
     fields: &Named<ValueType>,
 ) -> Result<(), AllocError>
     ensures { OnOk result (found.new.keys ≡ with_ends types.now found.old.keys (seconds fields.now)) }
@@ -62,7 +60,7 @@ fn put_fields(
 }
 
 /// The same of a function type.
-fn put_func(types: &Types, found: &mut IndexSet<Type>, func: &FuncType) -> Result<(), AllocError>
+fn put_func(types: &Types, found: &mut TypeSet, func: &FuncType) -> Result<(), AllocError>
     ensures { OnOk result (found.new.keys ≡ func_ends types.now found.old.keys func.now) }
 {
     put_fields(types, found, &func.params)?;
@@ -70,7 +68,7 @@ fn put_func(types: &Types, found: &mut IndexSet<Type>, func: &FuncType) -> Resul
 }
 
 /// The same of an item, and the interface of an instance.
-fn put_item(types: &Types, found: &mut IndexSet<Type>, item: ItemKind) -> Result<(), AllocError>
+fn put_item(types: &Types, found: &mut TypeSet, item: ItemKind) -> Result<(), AllocError>
     requires { holds_type types.now (kind_type item) ≡ true }
     ensures { OnOk result (found.new.keys ≡ item_ends types.now found.old.keys item) }
 {
@@ -85,7 +83,7 @@ fn put_item(types: &Types, found: &mut IndexSet<Type>, item: ItemKind) -> Result
 }
 
 /// Puts an interface.
-fn put_interface(found: &mut IndexSet<Type>, interface: InterfaceId) -> Result<(), AllocError>
+fn put_interface(found: &mut TypeSet, interface: InterfaceId) -> Result<(), AllocError>
     ensures { OnOk result (found.new.keys ≡ with_all found.old.keys (ty.Interface interface ∷ [])) }
 {
     found.insert(Type::Interface(interface))?;
@@ -93,11 +91,7 @@ fn put_interface(found: &mut IndexSet<Type>, interface: InterfaceId) -> Result<(
 }
 
 /// The same of items.
-fn put_items(
-    types: &Types,
-    found: &mut IndexSet<Type>,
-    items: &Named<ItemKind>,
-) -> Result<(), AllocError>
+fn put_items(types: &Types, found: &mut TypeSet, items: &Named<ItemKind>) -> Result<(), AllocError>
     requires { (k : ℕ) (e : List ℕ × AnyItem) → slice_get items.now k ≡ Some e → holds_type types.now (kind_type e.1) ≡ true }
     ensures { OnOk result (found.new.keys ≡ items_ends types.now found.old.keys items.now) }
 {
@@ -131,7 +125,7 @@ impl Among {
 /// The same of the items that are looked at.
 fn put_among(
     types: &Types,
-    found: &mut IndexSet<Type>,
+    found: &mut TypeSet,
     items: &Named<ItemKind>,
     among: Among,
 ) -> Result<(), AllocError>
@@ -148,7 +142,7 @@ fn put_among(
 }
 
 /// The same of the parts of a definition.
-fn put_parts(types: &Types, found: &mut IndexSet<Type>, id: DefinedTypeId) -> Result<(), AllocError>
+fn put_parts(types: &Types, found: &mut TypeSet, id: DefinedTypeId) -> Result<(), AllocError>
     requires { HasDefined types.now id }
     ensures { OnOk result ((x : AnyDefined) → item_at types.now.defined id.0 ≡ Some x → found.new.keys ≡ with_ends types.now found.old.keys (somes (parts x))) }
 {
@@ -162,7 +156,7 @@ fn put_parts(types: &Types, found: &mut IndexSet<Type>, id: DefinedTypeId) -> Re
 }
 
 /// Puts what a type mentions that was found: a definition in its parts, an interface in its items.
-fn put_type(types: &Types, found: &mut IndexSet<Type>, ty: Type) -> Result<(), AllocError>
+fn put_type(types: &Types, found: &mut TypeSet, ty: Type) -> Result<(), AllocError>
     requires { holds_type types.now ty ≡ true }
     ensures { OnOk result (found.new.keys ≡ found_ends types.now found.old.keys ty) }
 {
@@ -211,7 +205,7 @@ pub fn definitions_of(
 {
     types.law();
     let alloc = types.allocator();
-    let mut found = IndexSet::new(alloc);
+    let mut found = IndexSet::with_hasher(alloc, BuildHasherDefault::new());
     put_items(types, &mut found, &types[interface].exports)?;
     let mut next = 0;
     while next < found.len() {
@@ -227,13 +221,13 @@ pub(crate) fn found_among(
     types: &Types,
     items: &Named<ItemKind>,
     among: Among,
-) -> Result<IndexSet<Type>, AllocError>
+) -> Result<TypeSet, AllocError>
     requires { (k : ℕ) (e : List ℕ × AnyItem) → slice_get items.now k ≡ Some e → holds_type types.now (kind_type e.1) ≡ true }
     ensures held { IfOk result (λ found. (d : AnId) → IsIn (ty.Value (val.Defined d)) found.keys → HasDefined types.now d) }
     ensures made { IfOk result (λ found. AreMadeOf types.now (items_among among items.now) (definitions_in found.keys)) }
 {
     types.law();
-    let mut found = IndexSet::new(types.allocator());
+    let mut found = IndexSet::with_hasher(types.allocator(), BuildHasherDefault::new());
     put_among(types, &mut found, items, among)?;
     let mut place = 0;
     while place < found.len() {

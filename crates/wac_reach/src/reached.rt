@@ -5,14 +5,16 @@ ghost use Rattle.wac_shapes.specs.declared.component.«Type».{«Type» as AnyTy
 ghost use Rattle.wac_reach.specs.Reach.{IsIn, Reaches, AreClosed};
 ghost use Rattle.wac_reach.specs.Found.{NoneTwice};
 
+use crate::hasher::TypeSet;
 use indexmap::IndexSet;
 use std::alloc::{AllocError, Global};
+use std::hash::BuildHasherDefault;
 use std::marker::Model;
 use wac_collection::{Type, Types};
 
 /// Types, each once, in the order in which they were found.
 pub struct Reached {
-    pub(crate) types: IndexSet<Type>,
+    pub(crate) types: TypeSet,
 }
 
 /// The types are let go of here, and not anew at each place where they go out of scope.
@@ -37,12 +39,12 @@ impl Reached {
         ensures { result ≡ [] }
     {
         Reached {
-            types: IndexSet::new(alloc),
+            types: IndexSet::with_hasher(alloc, BuildHasherDefault::new()),
         }
     }
 
     /// These types.
-    pub fn of(types: IndexSet<Type>) -> Reached
+    pub fn of(types: TypeSet) -> Reached
         ensures { result ≡ types.keys }
     {
         Reached { types }

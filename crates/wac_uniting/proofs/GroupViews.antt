@@ -1,77 +1,81 @@
 -- What is grouped by name, as a map holds it.
-use Rattle.std.proofs.Common.{◌≡◌, ℕ, zero, suc, true, cond, List, [], ◌∷◌, ◌++◌, map, slice_get, Some, None, string_bytes, Vec, inl, inr, refl, sym, ap, ◌∙◌}
+use Rattle.std.proofs.Common.{◌≡◌, ℕ, suc, Bool, false, not, cond, ◌+◌, List, [], ◌∷◌, ◌++◌, Option, Some, None, slice_get, inl, inr, refl, sym, ap, ◌∙◌, subst, arith}
+use Rattle.std.specs.Borrow.{Bor}
+use Rattle.std.specs.List.{position_or_len}
+use Rattle.std.specs.Map.{lookup, keys_of}
 use Rattle.std.proofs.lemmas.Bool.{cases_Bool}
-use Rattle.std.proofs.lemmas.List.{map-append}
-use Rattle.std.specs.declared.string.String.{String}
-use Rattle.std.specs.Map.{values_of}
-use Rattle.indexmap.specs.IndexMap.{set_value_at}
+use Rattle.indexmap.specs.IndexMap.{insert_entry, set_value_at}
 use Rattle.wac_primitives.specs.Name.{Name, same_name, find_name}
-use Rattle.wac_shapes.specs.Named.{by_bytes, NoNameTwice, names_of}
+use Rattle.wac_shapes.specs.Named.{NoNameTwice}
 use Rattle.wac_shapes.specs.declared.component.ItemKind.{ItemKind}
-use Rattle.wac_shapes.proofs.Names.{same_name-true, found_at, by_bytes-at}
-use Rattle.wac_uniting.specs.GroupViews.{groups_of}
+use Rattle.wac_shapes.proofs.Names.{same_name-sym, none_behind}
+use Rattle.wac_uniting.specs.declared.grouped.Listed.{Listed}
+use Rattle.wac_uniting.specs.GroupViews.{listed_items, groups_of}
 use Rattle.wac_uniting.specs.UnionSteps.{with_listed}
-use Rattle.wac_uniting.proofs.UnionLists.{some-same, get_map}
+use Rattle.wac_uniting.proofs.UnionLists.{get_map}
 
-abbrev Listing : Type 0 → Type 0
-Listing B = Vec (ℕ × ItemKind) B
+abbrev Entries : Type 0
+Entries = List (Bor (List ℕ) × Listed)
 
-abbrev Entries : Type 0 → Type 0 → Type 0
-Entries A B = List (String A × Listing B)
+-- what is listed, where something is
+abbrev pub items_or : Option Listed → List (ℕ × ItemKind)
+items_or None = []
+items_or (Some v) = listed_items v
 
-pub viewed_at : {A B : Type 0} (es : Entries A B) (i : ℕ) (k : String A) (v : Listing B) → slice_get es i ≡ Some (k, v) → slice_get (groups_of es) i ≡ Some (string_bytes k, v.items)
-viewed_at es i k v at = get_map (λ (e : Name × Listing _). (e.0, e.1.items)) (by_bytes es) i (string_bytes k, v) (by_bytes-at es i k v at)
-
-pub value_at : {A B : Type 0} (es : Entries A B) (i : ℕ) (k : String A) (v : Listing B) → slice_get es i ≡ Some (k, v) → slice_get (values_of es) i ≡ Some v
-value_at [] i k v at = cc
-value_at (e ∷ es) zero k v at = ap (λ x. Some x.1) (some-same e (k, v) at)
-value_at (e ∷ es) (suc i) k v at = value_at es i k v at
-
--- the names are those of the entries
-pub names_viewed : {A B : Type 0} (es : Entries A B) → names_of (groups_of es) ≡ names_of (by_bytes es)
-names_viewed [] = refl
-names_viewed (e ∷ es) = ap (λ ns. string_bytes e.0 ∷ ns) (names_viewed es)
+pub viewed_at : (es : Entries) (i : ℕ) (k : Bor (List ℕ)) (v : Listed) → slice_get es i ≡ Some (k, v) → slice_get (groups_of es) i ≡ Some (k.now, listed_items v)
+viewed_at es i k v at = get_map (λ (e : Bor (List ℕ) × Listed). (e.0.now, listed_items e.1)) es i (k, v) at
 
 -- one more behind what is under a name
-pub put_at : {A B : Type 0} (es : Entries A B) (i : ℕ) (k : String A) (v w : Listing B) (n : Name) (l : ℕ × ItemKind) → NoNameTwice (by_bytes es) → slice_get es i ≡ Some (k, v) → same_name n (string_bytes k) ≡ true
-    → w.items ≡ v.items ++ l ∷ [] → groups_of (set_value_at es i w) ≡ with_listed (groups_of es) n l
-put_at [] i k v w n l once at same is = cc
-put_at (e ∷ es) zero k v w n l once at same is =
-    let first : e ≡ (k, v) = some-same e (k, v) at in
-    let t : same_name n (string_bytes e.0) ≡ true = ap (λ x. same_name n (string_bytes x.0)) first ∙ same in
-    ap (λ x. (string_bytes e.0, x) ∷ groups_of es) (is ∙ ap (λ x. x.1.items ++ l ∷ []) (sym first))
-    ∙ sym (ap (λ b. cond b ((string_bytes e.0, e.1.items ++ l ∷ []) ∷ groups_of es) ((string_bytes e.0, e.1.items) ∷ with_listed (groups_of es) n l)) t)
-put_at (e ∷ es) (suc i) k v w n l once at same is = elim (cases_Bool (same_name n (string_bytes e.0))) [
-  | inl t ↦
-      let name : string_bytes k ≡ string_bytes e.0 = sym (same_name-true n (string_bytes k) same) ∙ same_name-true n (string_bytes e.0) t in
-      absurd (found_at (by_bytes es) i (string_bytes k) v (by_bytes-at es i k v at) (ap (find_name (by_bytes es)) name ∙ once.0))
-  | inr f ↦
-      ap (λ r. (string_bytes e.0, e.1.items) ∷ r) (put_at es i k v w n l once.1 at same is)
-      ∙ sym (ap (λ b. cond b ((string_bytes e.0, e.1.items ++ l ∷ []) ∷ groups_of es) ((string_bytes e.0, e.1.items) ∷ with_listed (groups_of es) n l)) f)
-]
+module _ (E : Bor (List ℕ) → Bor (List ℕ) → Bool) (tells : (a b : Bor (List ℕ)) → E a b ≡ same_name a.now b.now) (k : Bor (List ℕ)) (w : Listed) where
+  pub put_listed : (es : Entries) (l : ℕ × ItemKind) → listed_items w ≡ items_or (lookup (E k) es) ++ l ∷ [] → groups_of (insert_entry E es k w) ≡ with_listed (groups_of es) k.now l
+  put_listed [] l is = ap (λ x. (k.now, x) ∷ []) is
+  put_listed (e ∷ es) l is = elim (cases_Bool (E k e.0)) [
+    | inl t ↦
+        let items : listed_items w ≡ listed_items e.1 ++ l ∷ [] = is ∙ ap (λ b. items_or (cond b (Some e.1) (lookup (E k) es)) ++ l ∷ []) t in
+        ap (λ b. groups_of (cond b ((e.0, w) ∷ es) (e ∷ insert_entry E es k w))) t
+        ∙ ap (λ x. (e.0.now, x) ∷ groups_of es) items
+        ∙ sym (ap (λ b. cond b ((e.0.now, listed_items e.1 ++ l ∷ []) ∷ groups_of es) ((e.0.now, listed_items e.1) ∷ with_listed (groups_of es) k.now l)) (sym (tells k e.0) ∙ t))
+    | inr f ↦
+        let items : listed_items w ≡ items_or (lookup (E k) es) ++ l ∷ [] = is ∙ ap (λ b. items_or (cond b (Some e.1) (lookup (E k) es)) ++ l ∷ []) f in
+        ap (λ b. groups_of (cond b ((e.0, w) ∷ es) (e ∷ insert_entry E es k w))) f
+        ∙ ap (λ r. (e.0.now, listed_items e.1) ∷ r) (put_listed es l items)
+        ∙ sym (ap (λ b. cond b ((e.0.now, listed_items e.1 ++ l ∷ []) ∷ groups_of es) ((e.0.now, listed_items e.1) ∷ with_listed (groups_of es) k.now l)) (sym (tells k e.0) ∙ f))
+  ]
 
-none_viewed : {B : Type 0} (es : List (Name × Listing B)) (n : Name) → find_name es n ≡ None → find_name (map (λ e. (e.0, e.1.items)) es) n ≡ None
-none_viewed [] n h = refl
-none_viewed (e ∷ es) n h = elim (cases_Bool (same_name n e.0)) [
-  | inl t ↦ let some : Some e.1 ≡ None = sym (ap (λ b. cond b (Some e.1) (find_name es n)) t) ∙ h in cc
-  | inr f ↦
-      ap (λ b. cond b (Some e.1.items) (find_name (map (λ e. (e.0, e.1.items)) es) n)) f
-      ∙ none_viewed es n (sym (ap (λ b. cond b (Some e.1) (find_name es n)) f) ∙ h)
-]
+  -- what is put under a name and then written there is what was put under it
+  pub written_there : (es : Entries) (v : Listed) → set_value_at (insert_entry E es k v) (position_or_len (E k) (keys_of es)) w ≡ insert_entry E es k w
+  written_there [] v = refl
+  written_there (e ∷ es) v = elim (cases_Bool (E k e.0)) [
+    | inl t ↦
+        ap (λ b. set_value_at (cond b ((e.0, v) ∷ es) (e ∷ insert_entry E es k v)) (cond (not b) (1 + position_or_len (E k) (keys_of es)) 0) w) t
+        ∙ sym (ap (λ b. cond b ((e.0, w) ∷ es) (e ∷ insert_entry E es k w)) t)
+    | inr f ↦
+        let next : 1 + position_or_len (E k) (keys_of es) ≡ suc (position_or_len (E k) (keys_of es)) = omega arith in
+        ap (λ b. set_value_at (cond b ((e.0, v) ∷ es) (e ∷ insert_entry E es k v)) (cond (not b) (1 + position_or_len (E k) (keys_of es)) 0) w) f
+        ∙ ap (λ n. set_value_at (e ∷ insert_entry E es k v) n w) next
+        ∙ ap (λ r. e ∷ r) (written_there es v)
+        ∙ sym (ap (λ b. cond b ((e.0, w) ∷ es) (e ∷ insert_entry E es k w)) f)
+  ]
 
-new_listed : (gs : List (Name × List (ℕ × ItemKind))) (n : Name) (l : ℕ × ItemKind) → find_name gs n ≡ None → with_listed gs n l ≡ gs ++ (n, l ∷ []) ∷ []
-new_listed [] n l h = refl
-new_listed (g ∷ gs) n l h = elim (cases_Bool (same_name n g.0)) [
-  | inl t ↦ let some : Some g.1 ≡ None = sym (ap (λ b. cond b (Some g.1) (find_name gs n)) t) ∙ h in cc
-  | inr f ↦
-      ap (λ b. cond b ((g.0, g.1 ++ l ∷ []) ∷ gs) (g ∷ with_listed gs n l)) f
-      ∙ ap (λ r. g ∷ r) (new_listed gs n l (sym (ap (λ b. cond b (Some g.1) (find_name gs n)) f) ∙ h))
-]
+  -- no name stands twice then
+  other_put : (es : Entries) (m : Name) → same_name m k.now ≡ false → find_name (groups_of es) m ≡ None → find_name (groups_of (insert_entry E es k w)) m ≡ None
+  other_put [] m other h = ap (λ b. cond b (Some (listed_items w)) None) other
+  other_put (e ∷ es) m other h =
+      let (apart, rest) = none_behind (e.0.now, listed_items e.1) (groups_of es) m h in
+      elim (cases_Bool (E k e.0)) [
+        | inl t ↦
+            ap (λ b. find_name (groups_of (cond b ((e.0, w) ∷ es) (e ∷ insert_entry E es k w))) m) t
+            ∙ ap (λ b. cond b (Some (listed_items w)) (find_name (groups_of es) m)) apart ∙ rest
+        | inr f ↦
+            ap (λ b. find_name (groups_of (cond b ((e.0, w) ∷ es) (e ∷ insert_entry E es k w))) m) f
+            ∙ ap (λ b. cond b (Some (listed_items e.1)) (find_name (groups_of (insert_entry E es k w)) m)) apart ∙ other_put es m other rest
+      ]
 
--- the first under a new name
-pub put_new : {A B : Type 0} (es fs : Entries A B) (n : Name) (w : Listing B) (l : ℕ × ItemKind) → by_bytes fs ≡ by_bytes es ++ (n, w) ∷ [] → w.items ≡ l ∷ [] → find_name (by_bytes es) n ≡ None → groups_of fs ≡ with_listed (groups_of es) n l
-put_new es fs n w l is items none =
-    ap (map (λ (e : Name × Listing _). (e.0, e.1.items))) is
-    ∙ map-append (λ (e : Name × Listing _). (e.0, e.1.items)) (by_bytes es) ((n, w) ∷ [])
-    ∙ ap (λ x. groups_of es ++ (n, x) ∷ []) items
-    ∙ sym (new_listed (groups_of es) n l (none_viewed (by_bytes es) n none))
+  pub once_put : (es : Entries) → NoNameTwice (groups_of es) → NoNameTwice (groups_of (insert_entry E es k w))
+  once_put [] once = (refl, tt)
+  once_put (e ∷ es) once = elim (cases_Bool (E k e.0)) [
+    | inl t ↦ subst (λ b. NoNameTwice (groups_of (cond b ((e.0, w) ∷ es) (e ∷ insert_entry E es k w)))) (sym t) once
+    | inr f ↦
+        subst (λ b. NoNameTwice (groups_of (cond b ((e.0, w) ∷ es) (e ∷ insert_entry E es k w)))) (sym f)
+        (other_put es e.0.now (same_name-sym k.now e.0.now (sym (tells k e.0) ∙ f)) once.0, once_put es once.1)
+  ]

@@ -1,9 +1,16 @@
 -- The view of what is grouped by name.
-use Rattle.std.specs.Prelude.{List, map, Vec}
-use Rattle.std.specs.declared.string.String.{String}
+use Rattle.std.specs.Prelude.{ℕ, List, [], ◌∷◌, map}
+use Rattle.std.specs.Borrow.{Bor}
 use Rattle.wac_primitives.specs.Name.{Name}
-use Rattle.wac_shapes.specs.Named.{by_bytes}
+use Rattle.wac_shapes.specs.declared.component.ItemKind.{ItemKind}
+use Rattle.wac_uniting.specs.declared.grouped.Listed.{Listed}
+use Rattle.wac_uniting.specs.declared.grouped.Listed.TheVariants as listed
+
+-- what is listed under a name
+abbrev pub listed_items : Listed → List (ℕ × ItemKind)
+listed_items (listed.One l) = l ∷ []
+listed_items (listed.Several ls) = ls.items
 
 -- lists under names, each name as its bytes
-abbrev pub groups_of : {A B V : Type 0} → List (String A × Vec V B) → List (Name × List V)
-groups_of es = map (λ e. (e.0, e.1.items)) (by_bytes es)
+abbrev pub groups_of : List (Bor (List ℕ) × Listed) → List (Name × List (ℕ × ItemKind))
+groups_of es = map (λ e. (e.0.now, listed_items e.1)) es

@@ -1,26 +1,65 @@
 //! What interfaces list, by name.
-ghost use Rattle.std.specs.Prelude.{◌≡◌, ◌<◌, [], length, Some, IfOk, OnOk, slice_get};
+ghost use Rattle.std.specs.Prelude.{◌≡◌, ◌<◌, [], ◌∷◌, ◌++◌, length, Some, IfOk, OnOk, slice_get};
 ghost use Rattle.std.specs.List.{AllByRecursion};
 ghost use Rattle.wac_shapes.specs.Named.{NoNameTwice};
 ghost use Rattle.wac_uniting.specs.UnionSteps.{grouped, IsHeldPart, with_all_listed, with_listed};
 ghost use Rattle.wac_terms.specs.Unions.{part_lists};
+ghost use Rattle.wac_uniting.specs.GroupViews.{listed_items};
 
 use indexmap::IndexMap;
 use std::alloc::{AllocError, Global};
 use std::marker::Model;
+use std::slice;
 use wac_collection::{ItemKind, Named, Types};
 use wac_terms::parts::Part;
 
-/// What interfaces list under each name, in order of first appearance: which of them, and what.
+/// What is listed under a name, and by which part: most often by one alone, which takes no memory of its own.
 #[derive(Drop)]
-pub(crate) struct Grouped {
-    entries: IndexMap<String, Vec<(usize, ItemKind)>>,
+pub(crate) enum Listed {
+    /// One lists this.
+    One((usize, ItemKind)),
+    /// Several list these.
+    Several(Vec<(usize, ItemKind)>),
 }
 
-impl Model for Grouped {
+impl Listed {
+    /// What is listed, in order.
+    fn as_slice(&self) -> &[(usize, ItemKind)]
+        ensures { result.now ≡ listed_items self.now }
+    {
+        match self {
+            Listed::One(first) => slice::from_ref(first),
+            Listed::Several(listed) => listed.as_slice(),
+        }
+    }
+
+    /// Puts one more behind the others.
+    fn push(&mut self, alloc: Global, more: (usize, ItemKind)) -> Result<(), AllocError>
+        ensures { OnOk result (listed_items self.new ≡ listed_items self.old ++ more ∷ []) }
+    {
+        match self {
+            Listed::Several(listed) => listed.push(more)?,
+            Listed::One(first) => {
+                let mut listed = Vec::with_capacity(alloc, 2)?;
+                listed.push(*first)?;
+                listed.push(more)?;
+                *self = Listed::Several(listed);
+            }
+        }
+        Ok(())
+    }
+}
+
+/// What interfaces list under each name, in order of first appearance. The names are borrowed from the collection.
+#[derive(Drop)]
+pub(crate) struct Grouped<'a> {
+    entries: IndexMap<&'a str, Listed>,
+}
+
+impl<'a> Model for Grouped<'a> {
     ghost use Rattle.std.specs.Prelude.{List, ℕ};
     ghost use Rattle.wac_primitives.specs.Name.{Name};
-    ghost use Rattle.wac_shapes.specs.Named.{by_bytes, NoNameTwice};
+    ghost use Rattle.wac_shapes.specs.Named.{NoNameTwice};
     ghost use Rattle.wac_shapes.specs.declared.component.ItemKind.{ItemKind};
     ghost use Rattle.wac_uniting.specs.GroupViews.{groups_of};
 
@@ -28,17 +67,17 @@ impl Model for Grouped {
 
     ghost view = { λ g. groups_of g.entries.entries };
 
-    ghost invariant = { λ g. NoNameTwice (by_bytes g.entries.entries) };
+    ghost invariant = { λ g. NoNameTwice (groups_of g.entries.entries) };
 }
 
-impl Grouped {
+impl<'a> Grouped<'a> {
     /// What the parts of a union list.
     pub(crate) fn new(
         alloc: Global,
-        types: &Types,
+        types: &'a Types,
         parts: &[Part],
         members: &[usize],
-    ) -> Result<Grouped, AllocError>
+    ) -> Result<Grouped<'a>, AllocError>
         requires { AllByRecursion (IsHeldPart types.now parts.now) members.now }
         ensures grouped { IfOk result (λ g. g ≡ grouped types.now parts.now [] members.now) }
         ensures names { OnOk result (AllByRecursion (λ p. NoNameTwice (part_lists types.now parts.now p)) members.now) }
@@ -75,31 +114,27 @@ impl Grouped {
         ensures { slice_get self.now index ≡ Some (result.0.now, result.1.now) }
     {
         let (name, listed) = self.entries.get_index(index).unwrap();
-        (name.as_str(), listed.as_slice())
+        (*name, listed.as_slice())
     }
 
     /// Puts what a part lists under a name behind what others list there.
     fn put(
         &mut self,
         alloc: Global,
-        name: &str,
+        name: &'a str,
         part: usize,
         kind: ItemKind,
     ) -> Result<(), AllocError>
         ensures { OnOk result (self.new ≡ with_listed self.old name.now (part, kind)) }
     {
-        if let Some((index, _, _)) = self.entries.get_full(name) {
+        // What others list there is put back, with one more behind it.
+        let (index, others) = self.entries.insert_full(name, Listed::One((part, kind)))?;
+        if let Some(others) = others {
             let listed = self.entries.get_index_mut(index).unwrap();
-            listed.push((part, kind))?;
-            return Ok(());
+            *listed = others;
+            listed.push(alloc, (part, kind))?;
         }
-        let mut listed = Vec::new(alloc);
-        listed.push((part, kind))?;
-        let key = String::from_str(alloc, name)?;
-        match self.entries.insert(key, listed) {
-            Ok(_) => Ok(()),
-            Err(_) => Err(AllocError),
-        }
+        Ok(())
     }
 
     /// Puts all that a part lists.
@@ -107,7 +142,7 @@ impl Grouped {
         &mut self,
         alloc: Global,
         part: usize,
-        exports: &Named<ItemKind>,
+        exports: &'a Named<ItemKind>,
     ) -> Result<(), AllocError>
         ensures { OnOk result (self.new ≡ with_all_listed self.old part exports.now) }
     {

@@ -217,7 +217,7 @@ impl Unions {
         alloc: Global,
         types: &Types,
         position: usize,
-        grouped: &Grouped,
+        grouped: &Grouped<'_>,
     ) -> Result<Named<Export>, AllocError>
         requires formed { IsWellFormed types.now }
         requires within { position < length self.old.unions.items }

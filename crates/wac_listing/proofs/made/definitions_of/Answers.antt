@@ -14,7 +14,7 @@ put_items-requires c = listed-held c.args.types.now c.law.ensures c.args.interfa
 pub loop-next-init : goal.loop-next-init
 loop-next-init c =
     of-one c.args.types.now c.args.interface c.index.result.now c.put_items.new.found.keys 0 c.index.ensures
-    (subst (λ (ts : List AnyType). AreFound c.args.types.now c.index.result.now.exports ts 0) (sym (c.in_ok-put_items.ensures ∙ ap (λ (ts : List AnyType). items_ends c.args.types.now ts c.index.result.now.exports) c.new-found.ensures.empty))
+    (subst (λ (ts : List AnyType). AreFound c.args.types.now c.index.result.now.exports ts 0) (sym (c.in_ok-put_items.ensures ∙ ap (λ (ts : List AnyType). items_ends c.args.types.now ts c.index.result.now.exports) c.with_hasher-found.ensures.empty))
     (found-first c.args.types.now c.law.ensures c.index.result.now.exports (listed-held c.args.types.now c.law.ensures c.args.interface c.index.result.now c.index.ensures c.requires)))
 
 pub put_type-requires : goal.put_type-requires

@@ -14,7 +14,7 @@ pub loop-place-init : goal.loop-place-init
 loop-place-init c =
     let t = c.args.types.now in
     let es = items_among c.args.among c.args.items.now in
-    subst (λ (ts : List AnyType). AreFound t es ts 0) (sym (c.in_ok-put_among.ensures ∙ ap (λ (ts : List AnyType). items_ends t ts es) c.new-found.ensures.empty))
+    subst (λ (ts : List AnyType). AreFound t es ts 0) (sym (c.in_ok-put_among.ensures ∙ ap (λ (ts : List AnyType). items_ends t ts es) c.with_hasher-found.ensures.empty))
     (found-first t c.law.ensures es (own-held c.args.among t c.args.items.now c.requires))
 
 pub put_type-requires : goal.put_type-requires

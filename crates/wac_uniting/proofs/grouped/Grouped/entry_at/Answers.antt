@@ -10,4 +10,4 @@ returns c =
     let i = c.args.index in
     let p = c.unwrap.result in
     let at : slice_get es i ≡ Some (p.0.now, p.1.now) = sym c.get_index.ensures.entry ∙ ap (option_map deref_pair) c.unwrap.ensures in
-    ap (λ gs. slice_get gs i) (sym c.self.view_is) ∙ viewed_at es i p.0.now p.1.now at ∙ (λ t. Some (sym c.as_str.ensures.value t, sym c.as_slice.ensures.value t))
+    ap (λ gs. slice_get gs i) (sym c.self.view_is) ∙ viewed_at es i p.0.now p.1.now at ∙ ap (λ l. Some (p.0.now.now, l)) (sym c.as_slice.ensures)

@@ -1,0 +1,53 @@
+//! How types are hashed: by the numbers that they are made of, with a step for each.
+ghost use Rattle.std.specs.Prelude.{◌≡◌};
+ghost use Rattle.wac_reach.specs.Hashing.{step, fed};
+
+use indexmap::IndexSet;
+use std::hash::{BuildHasherDefault, Hasher};
+use wac_collection::Type;
+
+const MULTIPLIER: u64 = 0x9e37_79b9_7f4a_7c15;
+
+/// A hasher of few small numbers, which are not chosen to collide: sorts, and positions in a collection.
+#[derive(Clone, Copy, Default)]
+pub struct TypeHasher(u64);
+
+impl TypeHasher {
+    #[inline(always)]
+    fn put(&mut self, number: u64)
+        ensures { self.new ≡ step self.old number }
+    {
+        self.0 = (self.0.rotate_left(5) ^ number).wrapping_mul(MULTIPLIER);
+    }
+}
+
+impl Hasher for TypeHasher {
+    ghost write = { fed };
+
+    ghost finish = { λ h. h.0 };
+
+    #[inline(always)]
+    fn finish(&self) -> u64 {
+        self.0
+    }
+
+    fn write(&mut self, bytes: &[u8]) {
+        if bytes.len() == 8 {
+            self.put(u64::from_le_bytes([
+                bytes[0], bytes[1], bytes[2], bytes[3], bytes[4], bytes[5], bytes[6], bytes[7],
+            ]));
+            return;
+        }
+        for byte in bytes {
+            self.put(u64::from(*byte));
+        }
+    }
+
+    #[inline(always)]
+    fn write_usize(&mut self, i: usize) {
+        self.put(i as u64);
+    }
+}
+
+/// Types, each once.
+pub type TypeSet = IndexSet<Type, BuildHasherDefault<TypeHasher>>;
