@@ -4,7 +4,7 @@ use Rattle.std.proofs.lemmas.Bool.{cases_Bool, eqb-true}
 use Rattle.std.proofs.lemmas.List.{map-append}
 use Rattle.std.specs.Cmp.Lexicographic.{pointwise, pointwise_decides}
 use Rattle.std.specs.HashMap.{get, get_by}
-use Rattle.std.specs.Option.{option_eq}
+use Rattle.std.specs.Option.{option_eq, unwrap_or}
 use Rattle.std.specs.Prelude.{slice_get, string_bytes}
 use denote.Enum.Bare.{same_true, true_same}
 use Rattle.wac_primitives.specs.Name.{Name}
@@ -215,15 +215,47 @@ module _ (old new : Made) (f : Form) (id : DefinedTypeId) (put : HasMadeToo old 
   pub put_there : (k : Form) → k.named ≡ f.named → shape_view k.shape ≡ shape_view f.shape → made_in new k ≡ Some id
   put_there k n v = put.ids k ∙ ap (λ b. cond b (Some id) (made_in old k)) (form_itself f k (sym n) (sym v))
 
-  put_stays_defined : ((e : DefinedTypeId) → made_in old f ≡ Some e → ⊥) → (k : Form) (e : DefinedTypeId) → made_in old k ≡ Some e → made_in new k ≡ Some e
-  put_stays_defined free k e is = elim (cases_Bool ((FormEq.ghosts).eq f k)) [
-    | inl same ↦ let (p, q) = form_there f k same in absurd (free e (made_alike old f k p q ∙ is))
+  put_stays_defined : ((e : DefinedTypeId) → made_in old f ≡ Some e → e ≡ id) → (k : Form) (e : DefinedTypeId) → made_in old k ≡ Some e → made_in new k ≡ Some e
+  put_stays_defined one k e is = elim (cases_Bool ((FormEq.ghosts).eq f k)) [
+    | inl same ↦ let (p, q) = form_there f k same in put.ids k ∙ ap (λ b. cond b (Some id) (made_in old k)) same ∙ ap Some (sym (one e (made_alike old f k p q ∙ is)))
     | inr other ↦ put.ids k ∙ ap (λ b. cond b (Some id) (made_in old k)) other ∙ is
   ]
 
-  pub put_stays : ((e : DefinedTypeId) → made_in old f ≡ Some e → ⊥) → StayMade old new
-  put_stays free (form k) n is = put_stays_defined free k (record { 0 = n }) is
-  put_stays free (func_form k) n is = ap (λ fs. get (FuncFormEq.ghosts).eq fs k) put.funcs ∙ is
+  -- where the key had that id, if one
+  pub put_stays : ((e : DefinedTypeId) → made_in old f ≡ Some e → e ≡ id) → StayMade old new
+  put_stays one (form k) n is = put_stays_defined one k (record { 0 = n }) is
+  put_stays one (func_form k) n is = ap (λ fs. get (FuncFormEq.ghosts).eq fs k) put.funcs ∙ is
+
+-- the id that was there, or else another, which was put there
+module _ (old new : Made) (f : Form) (id e : DefinedTypeId) (put : HasMadeToo old f e new) (is : e ≡ unwrap_or (made_in old f) id) where
+  which : (made_in old f ≡ Some e) ⊎ ((made_in old f ≡ None) × (e ≡ id))
+  which = by (made_in old f) refl is where
+    by : (o : Option DefinedTypeId) → made_in old f ≡ o → e ≡ unwrap_or o id → (made_in old f ≡ Some e) ⊎ ((made_in old f ≡ None) × (e ≡ id))
+    by None at same = inr (at, same)
+    by (Some k) at same = inl (at ∙ ap Some (sym same))
+
+  pub kept_defined : (m : Collection) → AreThere m old → item_at m.defined id.0 ≡ Some (shape_view f.shape) → item_at m.defined e.0 ≡ Some (shape_view f.shape)
+  kept_defined m are at = elim which [
+    | inl before ↦ are.defined f e before
+    | inr own ↦ subst (λ (x : DefinedTypeId). item_at m.defined x.0 ≡ Some (shape_view f.shape)) (sym own.1) at
+  ]
+
+  pub kept_apart : (c : Collection) (t : NamedTypes) → HasDefined c id → f.named ≡ named_type t id → AreApart c t old → AreApart c t new
+  kept_apart c t held named are = elim which [
+    | inl before ↦ apart_too old new f e put c t are (λ k at. are.one k f e at before) (λ h. are.own f e before h)
+    | inr own ↦
+        let is_named : f.named ≡ named_type t e = named ∙ ap (named_type t) (sym own.1) in
+        apart_too old new f e put c t are (λ k at. are.own k e at (subst (λ (x : DefinedTypeId). HasDefined c x) (sym own.1) held) ∙ sym is_named) (λ h. is_named)
+  ]
+
+  pub kept_stay : StayMade old new
+  kept_stay = put_stays old new f e put (λ k at. elim which [
+    | inl before ↦ one_some k e (sym at ∙ before)
+    | inr own ↦ cc (sym own.0 ∙ at)
+  ])
+
+  pub kept_itself : made_in old f ≡ None → e ≡ id
+  kept_itself none = is ∙ ap (λ o. unwrap_or o id) none
 
 -- ---- function types
 func_form_there : (a b : FuncForm) → (FuncFormEq.ghosts).eq a b ≡ true → (a.func ≡ b.func) × (a.params.items ≡ b.params.items) × (a.result ≡ b.result)

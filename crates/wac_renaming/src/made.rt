@@ -1,6 +1,7 @@
 //! Definitions and function types that were made in a merged collection: each definition once for the named type that it is, each
 //! function type once for the one that it was made of.
 ghost use Rattle.std.specs.Prelude.{◌≡◌, None, Some, IfOk, OnOk};
+ghost use Rattle.std.specs.Option.{unwrap_or};
 ghost use Rattle.wac_collection.specs.Collection.{Collection, HasDefined, defined_values, func_values, item_at, seconds};
 ghost use Rattle.wac_collection.specs.declared.collection.AddTypeError.TheVariants.{OutOfMemory};
 ghost use Rattle.wac_entries.specs.Tasks.{AreHeldValues};
@@ -124,6 +125,14 @@ impl Made {
         }
     }
 
+    /// The id under the key of a definition: that which is there, or else this one, which is put there.
+    fn get_or_put(&mut self, form: Form, id: DefinedTypeId) -> Result<DefinedTypeId, AllocError>
+        ensures put { IfOk result (λ e. HasMadeToo self.old form e self.new) }
+        ensures is { IfOk result (λ e. e ≡ unwrap_or (made_in self.old form) id) }
+    {
+        Ok(*self.ids.entry(form)?.or_insert(id))
+    }
+
     /// The id of a function type that was made.
     fn func(&self, form: &FuncForm) -> Option<FuncTypeId>
         ensures { result ≡ func_made_in self.now form.now }
@@ -195,11 +204,8 @@ impl Made {
     {
         let _ = merged;
         let form = Form::of(alloc, named, definition)?;
-        if let Some(made) = self.get(&form) {
-            return Ok(made);
-        }
-        self.put(form, id)?;
-        Ok(id)
+        let kept = self.get_or_put(form, id)?;
+        Ok(kept)
     }
 
     /// The id of a function type whose values are held, made of another that is called alike and is another: that under which

@@ -1,26 +1,42 @@
 use Rattle.std.proofs.Common.{Some, refl, sym, ◌∙◌, ap}
-use Rattle.wac_renaming.proofs.MadeForms.{apart_too, put_stays, put_there, there_too}
+use Rattle.wac_renaming.proofs.MadeForms.{kept_apart, kept_defined, kept_itself, kept_stay, put_there, there_too}
 use Rattle.wac_renaming.proofs.made.Made.keep.Goals as goal
 
-pub returns-in-Some-clause-there : goal.returns-in-Some-clause-there
-returns-in-Some-clause-there c = c.requires.made.defined c.in_ok-form.form c.in-Some.made (sym c.get.ensures ∙ c.in-Some.is) ∙ ap Some c.in_ok-form.ensures.shape
+pub returns-clause-there : goal.returns-clause-there
+returns-clause-there c =
+    let key = c.in_ok-form in
+    let kept = c.in_ok-kept in
+    kept_defined c.args.self.now c.get_or_put.new.self key.form c.args.id kept.kept kept.ensures.put kept.ensures.is c.args.merged.now c.requires.made (c.requires.there ∙ sym (ap Some key.ensures.shape)) ∙ ap Some key.ensures.shape
 
-pub returns-in-Some-clause-itself : goal.returns-in-Some-clause-itself
-returns-in-Some-clause-itself c none = cc (sym (none c.in_ok-form.form c.in_ok-form.ensures.named c.in_ok-form.ensures.shape) ∙ sym c.get.ensures ∙ c.in-Some.is)
+pub returns-clause-itself : goal.returns-clause-itself
+returns-clause-itself c none =
+    let key = c.in_ok-form in
+    let kept = c.in_ok-kept in
+    kept_itself c.args.self.now c.get_or_put.new.self key.form c.args.id kept.kept kept.ensures.put kept.ensures.is (none key.form key.ensures.named key.ensures.shape)
 
-pub returns-in-Some-clause-named : goal.returns-in-Some-clause-named
-returns-in-Some-clause-named c = (c.in_ok-form.form, c.in_ok-form.ensures.named, c.in_ok-form.ensures.shape, sym c.get.ensures ∙ c.in-Some.is)
+pub returns-clause-named : goal.returns-clause-named
+returns-clause-named c =
+    let key = c.in_ok-form in
+    let kept = c.in_ok-kept in
+    (key.form, key.ensures.named, key.ensures.shape, put_there c.args.self.now c.get_or_put.new.self key.form kept.kept kept.ensures.put key.form refl refl)
 
 pub returns-clause-made : goal.returns-clause-made
-returns-clause-made c = there_too c.args.self.now c.put.new.self c.in_ok-form.form c.args.id c.in_ok-put.ensures c.args.merged.now c.requires.made (c.requires.there ∙ sym (ap Some c.in_ok-form.ensures.shape))
+returns-clause-made c =
+    let key = c.in_ok-form in
+    let kept = c.in_ok-kept in
+    let old = c.args.self.now in
+    let new = c.get_or_put.new.self in
+    let at = kept_defined old new key.form c.args.id kept.kept kept.ensures.put kept.ensures.is c.args.merged.now c.requires.made (c.requires.there ∙ sym (ap Some key.ensures.shape)) in
+    there_too old new key.form kept.kept kept.ensures.put c.args.merged.now c.requires.made at
 
 pub returns-clause-apart : goal.returns-clause-apart
 returns-clause-apart c first t held named apart =
-    let is = c.in_ok-form.ensures.named ∙ named in
-    apart_too c.args.self.now c.put.new.self c.in_ok-form.form c.args.id c.in_ok-put.ensures first t apart (λ k at. apart.own k c.args.id at held ∙ sym is) (λ h. is)
-
-pub returns-clause-named : goal.returns-clause-named
-returns-clause-named c = (c.in_ok-form.form, c.in_ok-form.ensures.named, c.in_ok-form.ensures.shape, put_there c.args.self.now c.put.new.self c.in_ok-form.form c.args.id c.in_ok-put.ensures c.in_ok-form.form refl refl)
+    let key = c.in_ok-form in
+    let kept = c.in_ok-kept in
+    kept_apart c.args.self.now c.get_or_put.new.self key.form c.args.id kept.kept kept.ensures.put kept.ensures.is first t held (key.ensures.named ∙ named) apart
 
 pub returns-clause-stay : goal.returns-clause-stay
-returns-clause-stay c = put_stays c.args.self.now c.put.new.self c.in_ok-form.form c.args.id c.in_ok-put.ensures (λ e is. c.in_default.not-Some e (c.get.ensures ∙ is))
+returns-clause-stay c =
+    let key = c.in_ok-form in
+    let kept = c.in_ok-kept in
+    kept_stay c.args.self.now c.get_or_put.new.self key.form c.args.id kept.kept kept.ensures.put kept.ensures.is

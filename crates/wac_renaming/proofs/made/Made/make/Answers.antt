@@ -60,7 +60,7 @@ returns-in_ok-put-in-Ok-clause-once c f n v =
 pub returns-in_ok-put-in-Ok-clause-stay : goal.returns-in_ok-put-in-Ok-clause-stay
 returns-in_ok-put-in-Ok-clause-stay c =
     let form = c.in_ok-form.form in
-    put_stays c.args.self.now c.put.new.self form c.in-Ok.id c.in_ok-put-in-Ok.ensures (λ e is. c.in_default.not-Some e (c.get.ensures ∙ is))
+    put_stays c.args.self.now c.put.new.self form c.in-Ok.id c.in_ok-put-in-Ok.ensures (λ e is. absurd (c.in_default.not-Some e (c.get.ensures ∙ is)))
 
 pub returns-in-Some-clause-named : goal.returns-in-Some-clause-named
 returns-in-Some-clause-named c =
