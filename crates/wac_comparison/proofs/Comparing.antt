@@ -138,9 +138,6 @@ module _ (c d : Collection) (a b : ItemKind) (o asked : Asked) (i : ℕ) (q : Qu
         forth = λ h. w.forth (all_left (IsYes p) o.questions.keys t.added (subst Y t.grown h));
       }
 
-pub compares_refuses : (c d : Collection) (a b : ItemKind) (o : Asked) (i : ℕ) (q : Question) → slice_get o.questions.keys i ≡ Some q → Compares c d a b o i → (IsYes (c, d) q → ⊥) → IsSubtype c a d b → ⊥
-compares_refuses c d a b o i q at w n e = n (all_index (IsYes (c, d)) o.questions.keys i q (w.back e) at)
-
 pub compares_last : (c d : Collection) (a b : ItemKind) (o : Asked) (i : ℕ) → length o.questions.keys ≤ i → Compares c d a b o i → IsSubtype c a d b
 compares_last c d a b o i le w =
     w.forth (all_every (c, d) o.questions.keys (λ k.
@@ -164,33 +161,3 @@ turned_round c d q o k t u v e f g h s =
     let V : Collection → Type 0 = λ v. RestsOn true d v q.first q.second o k (Sub (type_tree d q.first) (type_tree v q.second)) in
     let P : Bool → Type 0 = λ t. (n : ℕ) → (type_weight (first_of_pair t p) q.first ≤ n) ⊎ (type_weight (second_of_pair t p) q.second ≤ n) → Settles p n o k (Sub (type_tree (first_of_pair t p) q.first) (type_tree (second_of_pair t p) q.second)) in
     subst P (sym e) (subst V h (subst U g (subst T f s))).settles
-
-pub no_ahead : (c d : Collection) (q : Question) → q.turned ≡ false → (Sub (type_tree c q.first) (type_tree d q.second) → ⊥) → IsYes (c, d) q → ⊥
-no_ahead c d q e n =
-    let p : Collection × Collection = (c, d) in
-    let P : Bool → Type 0 = λ t. Sub (type_tree (first_of_pair t p) q.first) (type_tree (second_of_pair t p) q.second) → ⊥ in
-    subst P (sym e) n
-
-pub no_turned : (c d : Collection) (q : Question) (u v : Collection) → q.turned ≡ true → u ≡ d → v ≡ c → (Sub (type_tree u q.first) (type_tree v q.second) → ⊥) → IsYes (c, d) q → ⊥
-no_turned c d q u v e g h n =
-    let p : Collection × Collection = (c, d) in
-    let U : Collection → Type 0 = λ u. Sub (type_tree u q.first) (type_tree v q.second) → ⊥ in
-    let V : Collection → Type 0 = λ v. Sub (type_tree d q.first) (type_tree v q.second) → ⊥ in
-    let P : Bool → Type 0 = λ t. Sub (type_tree (first_of_pair t p) q.first) (type_tree (second_of_pair t p) q.second) → ⊥ in
-    subst P (sym e) (subst V h (subst U g n))
-
--- the types of the next question are held, and no aliases
-pub held_ahead : (c d : Collection) (a b : ItemKind) (o : Asked) (i : ℕ) (q : Question) → slice_get o.questions.keys i ≡ Some q → Compares c d a b o i → q.turned ≡ false → IsAskable c q.first × IsAskable d q.second
-held_ahead c d a b o i q at w e =
-    let p : Collection × Collection = (c, d) in
-    let P : Bool → Type 0 = λ t. IsAskable (first_of_pair t p) q.first × IsAskable (second_of_pair t p) q.second in
-    subst P e (all_index (IsAskableQuestion p) o.questions.keys i q w.held at)
-
-pub held_turned : (c d : Collection) (a b : ItemKind) (o : Asked) (i : ℕ) (q : Question) (u v : Collection) → slice_get o.questions.keys i ≡ Some q → Compares c d a b o i → q.turned ≡ true → u ≡ d → v ≡ c → IsAskable u q.first × IsAskable v q.second
-held_turned c d a b o i q u v at w e g h =
-    let p : Collection × Collection = (c, d) in
-    let P : Bool → Type 0 = λ t. IsAskable (first_of_pair t p) q.first × IsAskable (second_of_pair t p) q.second in
-    let U : Collection → Type 0 = λ z. IsAskable z q.first in
-    let V : Collection → Type 0 = λ z. IsAskable z q.second in
-    let r = subst P e (all_index (IsAskableQuestion p) o.questions.keys i q w.held at) in
-    (subst U (sym g) r.0, subst V (sym h) r.1)

@@ -157,12 +157,6 @@ module _ {L : Type 0} where
   future_inj : (a b : TypeTree L) → future_of a ≡ future_of b → a ≡ b
   future_inj a b e = cc
 
-  flags_inj : (a b : List Name) → (let f : List Name → TypeTree L = flags_of in f a ≡ f b) → a ≡ b
-  flags_inj a b e = cc
-
-  enum_inj : (a b : List Name) → (let f : List Name → TypeTree L = enum_of in f a ≡ f b) → a ≡ b
-  enum_inj a b e = cc
-
   result_inj : (a b c d : TypeTree L) → result_of a b ≡ result_of c d → (a ≡ c) × (b ≡ d)
   result_inj a b c d e = let f : a ≡ c = cc in let g : b ≡ d = cc in (f, g)
 

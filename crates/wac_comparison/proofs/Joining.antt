@@ -180,11 +180,6 @@ node_at [] i u l e = cc
 node_at (x ∷ es) zero u l e = ap (λ y. Some y.0) (same_some x (u, l) e)
 node_at (x ∷ es) (suc i) u l e = node_at es i u l e
 
-link_at : (es : List (Node × Link)) (i : ℕ) (u : Node) → slice_get (nodes es) i ≡ Some u → (l : Link) × (slice_get es i ≡ Some (u, l))
-link_at [] i u e = cc
-link_at (x ∷ es) zero u e = let s : x.0 ≡ u = same_some x.0 u e in (x.1, (λ i. Some (s i, x.1)))
-link_at (x ∷ es) (suc i) u e = link_at es i u e
-
 get_left : {A : Type 0} (xs ys : List A) (i : ℕ) (x : A) → slice_get xs i ≡ Some x → slice_get (xs ++ ys) i ≡ Some x
 get_left [] ys i x e = cc
 get_left (z ∷ xs) ys zero x e = e
@@ -238,15 +233,6 @@ adds_keeps old new u i s j v at = by s.grown
     by : (new ≡ old) ⊎ (new ≡ old ++ (u, record { above = length old; size = 1 }) ∷ []) → slice_get (nodes new) j ≡ Some v
     by (inl e) = ap (λ es. slice_get (nodes es) j) e ∙ at
     by (inr e) = ap (λ es. slice_get (nodes es) j) e ∙ ap (λ ns. slice_get ns j) (nodes_both old _) ∙ get_left (nodes old) _ j v at
-
-pub within_nodes : (es : List (Node × Link)) (i : ℕ) (u : Node) → slice_get (nodes es) i ≡ Some u → i < length es
-within_nodes [] i u e = cc
-within_nodes (x ∷ es) zero u e = omega arith
-within_nodes (x ∷ es) (suc i) u e = let r = within_nodes es i u e in omega (arith, r)
-
--- a node leads to itself, and to the one above where it leads to
-pub leads_itself : (es : List (Node × Link)) (i : ℕ) → LeadsTo es i i
-leads_itself es i p qs h u at = (u, at, same_itself p qs u)
 
 -- the link at a position is that of a node
 has_link : (es : List (Node × Link)) (i : ℕ) (l : Link) → HasLink es i l → (u : Node) × (slice_get es i ≡ Some (u, l))

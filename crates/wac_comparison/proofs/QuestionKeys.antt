@@ -64,14 +64,6 @@ value_itself (val.Own r) = eq-eqb r.0 r.0 refl
 value_itself (val.Borrow r) = eq-eqb r.0 r.0 refl
 value_itself (val.Defined r) = eq-eqb r.0 r.0 refl
 
--- what `!=` tells apart is not the same
-pub values_differ : (r : Bool) (a b : ValueType) → r ≡ not ((ValueEq.ghosts).eq a b) → r ≡ true → a ≡ b → ⊥
-values_differ r a b e t same =
-    let P : ValueType → Type 0 = λ u. (ValueEq.ghosts).eq a u ≡ true in
-    let h = subst P same (value_itself a) in
-    let no : false ≡ true = sym (ap not h) ∙ sym e ∙ t in
-    cc
-
 type_itself : (v : AnyType) → (TypeEq.ghosts).eq v v ≡ true
 type_itself (ty.Resource r) = eq-eqb r.0 r.0 refl
 type_itself (ty.Func r) = eq-eqb r.0 r.0 refl

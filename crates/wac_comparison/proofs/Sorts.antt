@@ -64,14 +64,6 @@ sub_sort a b (Sub.instance_items _ _ s) = refl
 sub_sort a b (Sub.component_items _ _ s) = refl
 sub_sort a b (Sub.module_items _ _ s) = refl
 
-pub kind_tree_sort : (c : Collection) (k : ItemKind) → tree_sort (kind_tree c k) ≡ kind_sort k
-kind_tree_sort c (kind.TypeItem t) = refl
-kind_tree_sort c (kind.Func f) = refl
-kind_tree_sort c (kind.Instance i) = refl
-kind_tree_sort c (kind.Component w) = refl
-kind_tree_sort c (kind.Module m) = refl
-kind_tree_sort c (kind.Value v) = refl
-
 name_there : (P : Option Name → Type 0) (xs : List (Held Resource)) (i : ℕ) → ((n : Name) → P (Some n)) → nat_lt i (length xs) ≡ true → P (held_name (slice_get xs i))
 name_there P [] i f h = absurd (grind arith)
 name_there P (x ∷ xs) zero f h = f x.item.name
@@ -140,9 +132,6 @@ are_there c wf n ts = all_map (IsBefore c n) (λ t. type_tree c t ≢ absent) (�
 -- types of different sorts are no subtypes
 pub sorts_differ : (c d : Collection) → IsWellFormed c → IsWellFormed d → (a b : AnyType) → holds_type c a ≡ true → holds_type d b ≡ true → (type_sort a ≡ type_sort b → ⊥) → Sub (type_tree c a) (type_tree d b) → ⊥
 sorts_differ c d wc wd a b ha hb n s = n (sym (type_tree_sort c wc a ha) ∙ sub_sort _ _ s ∙ type_tree_sort d wd b hb)
-
-pub kinds_differ : (c d : Collection) (a b : ItemKind) → (kind_sort a ≡ kind_sort b → ⊥) → Sub (kind_tree c a) (kind_tree d b) → ⊥
-kinds_differ c d a b n s = n (sym (kind_tree_sort c a) ∙ sub_sort _ _ s ∙ kind_tree_sort d b)
 
 pub resolved_less : (c : Collection) → IsWellFormed c → (r : ResourceId) → holds_type c (ty.Resource r) ≡ true → (resolved c r).0 < length c.resources
 resolved_less c wf r h = let k = resolved_held c wf r h in less (resolved c r).0 (length c.resources) k

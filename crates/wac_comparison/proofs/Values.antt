@@ -91,18 +91,6 @@ pub optionals_none : (t : Bool) (x y : Collection) (v w : Option ValueType) (o :
     → Asks t x y (value_types (and_maybe v [])) (value_types (and_maybe w [])) o o (optional_in x v ≡ optional_in y w)
 optionals_none t x y v w o e f = asks_now (ap (optional_in x) e ∙ sym (ap (optional_in y) f))
 
-pub optionals_some : (t : Bool) (x y : Collection) (v w : Option ValueType) (a b : ValueType) (o k : Asked) → v ≡ Some a → w ≡ Some b
-    → Asks t x y (ty.Value a ∷ []) (ty.Value b ∷ []) o k (value_in x a ≡ value_in y b)
-    → Asks t x y (value_types (and_maybe v [])) (value_types (and_maybe w [])) o k (optional_in x v ≡ optional_in y w)
-optionals_some t x y v w a b o k e f s =
-    let P : Option ValueType → Type 0 = λ u. Asks t x y (value_types (and_maybe u [])) (value_types (and_maybe w [])) o k (optional_in x u ≡ optional_in y w) in
-    let Q : Option ValueType → Type 0 = λ u. Asks t x y (ty.Value a ∷ []) (value_types (and_maybe u [])) o k (value_in x a ≡ optional_in y u) in
-    subst P (sym e) (subst Q (sym f) s)
-
-pub optionals_differ : (x y : Collection) (v w : Option ValueType) (a b : ValueType) → v ≡ Some a → w ≡ Some b → (value_in x a ≡ value_in y b → ⊥)
-    → Refutes x y (value_types (and_maybe v [])) (value_types (and_maybe w [])) (optional_in x v ≡ optional_in y w)
-optionals_differ x y v w a b e f n = record { refutes = λ hx hy q. n (sym (ap (optional_in x) e) ∙ q ∙ ap (optional_in y) f) }
-
 pub first_lacks : (x y : Collection) (v w : Option ValueType) (b : ValueType) → v ≡ None → w ≡ Some b → Refutes x y (value_types (and_maybe v [])) (value_types (and_maybe w [])) (optional_in x v ≡ optional_in y w)
 first_lacks x y v w b e f = record {
   refutes = λ hx hy q.

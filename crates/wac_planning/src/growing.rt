@@ -10,8 +10,9 @@ ghost use Rattle.wac_planning.specs.Planning.{source_at, innermost, IsOutward, T
 use crate::plan::Place;
 use std::alloc::{AllocError, Global};
 use std::collections::HashMap;
+use std::hash::BuildHasherDefault;
 use wac_collection::{DefinedTypeId, InterfaceId};
-use wac_scopes::Scope;
+use wac_scopes::{Scope, TypeHash};
 
 /// What is done next while a plan is made.
 #[derive(Clone, Copy)]
@@ -28,7 +29,7 @@ pub(crate) struct Growing {
     pub places: Vec<Place>,
     /// The innermost place at which each definition has a name, of those around what is looked at; none where that is the scope
     /// around the outermost.
-    pub named: HashMap<DefinedTypeId, Option<usize>>,
+    pub named: HashMap<DefinedTypeId, Option<usize>, TypeHash>,
     pub visits: Vec<Visit>,
 }
 
@@ -87,7 +88,7 @@ impl Growing {
             interface,
             around,
             taken: Vec::new(alloc),
-            inside: HashMap::new(alloc),
+            inside: HashMap::with_hasher(alloc, BuildHasherDefault::new()),
         })?;
         if let Some(outer) = around {
             self.places[outer].contain(interface, place)?;

@@ -11,7 +11,7 @@ use crate::planner::Planner;
 use std::alloc::AllocError;
 use std::collections::HashMap;
 use wac_collection::{DefinedTypeId, InterfaceId, Types};
-use wac_scopes::Scope;
+use wac_scopes::{Scope, TypeHash};
 
 /// An interface at the place where it is written.
 #[derive(Drop)]
@@ -23,7 +23,7 @@ pub(crate) struct Place {
     /// The definitions that it takes from around.
     pub taken: Vec<DefinedTypeId>,
     /// The places of the interfaces of which it lists instances.
-    pub inside: HashMap<InterfaceId, usize>,
+    pub inside: HashMap<InterfaceId, usize, TypeHash>,
 }
 
 /// The places of the interfaces inside an interface, that itself first.

@@ -17,6 +17,7 @@ use crate::listed::listed_definition;
 use crate::plan::Plan;
 use std::alloc::AllocError;
 use std::collections::HashMap;
+use std::hash::BuildHasherDefault;
 use wac_collection::{InterfaceId, ItemKind, Types};
 use wac_listing::own_definitions_of;
 use wac_scopes::Scope;
@@ -38,7 +39,7 @@ impl<'a> Planner<'a> {
         let alloc = self.types.allocator();
         let mut growing = Growing {
             places: Vec::new(alloc),
-            named: HashMap::new(alloc),
+            named: HashMap::with_hasher(alloc, BuildHasherDefault::new()),
             visits: Vec::new(alloc),
         };
         self.enter(&mut growing, interface, None)?;

@@ -25,7 +25,7 @@ use Rattle.wac_subtyping.specs.TreeLaws.{GrowthKeepsTrees, IsKeptBy}
 use Rattle.wac_terms.specs.Became.{AreFresh, IsNew, became}
 use Rattle.wac_entries.specs.Bindings.{ClassBindings}
 use Rattle.wac_terms.specs.Renaming.{AreEnds, IsExtended, IsRenamed}
-use Rattle.wac_renaming.specs.Made.{AreMade, IsFuncMadeOf, IsOfForm}
+use Rattle.wac_renaming.specs.Made.{AreMade, AreThere, IsFuncMadeOf, IsOfForm}
 use Rattle.wac_renaming.specs.Shapes.{shape_view}
 use Rattle.wac_renaming.specs.declared.made.FuncForm.{FuncForm}
 use Rattle.wac_renaming.specs.declared.made.Made.{Made}
@@ -36,6 +36,7 @@ use Rattle.wac_terms.specs.declared.fresh.Fresh.{Fresh}
 use Rattle.wac_renaming.specs.declared.renamer.Renamed.{Renamed}
 use Rattle.wac_renaming.specs.declared.renamer.Renaming.{Renaming}
 use Rattle.wac_terms.specs.declared.parts.Union.{Union}
+use Rattle.wac_values.specs.declared.named.NamedTypes.{NamedTypes}
 
 -- ---- lists of which the one keeps what the other has
 abbrev pub Keeps : {A : Type 0} → List A → List A → Type 0
@@ -283,22 +284,37 @@ module _ (m more : Collection) (x : IsExtended m more) where
     named = x.trees.0 u r.held ∙ r.named;
   }
 
-  pub still_made : (made : Made) → AreMade m made → AreMade more made
-  still_made made are = record {
-    there = λ f e is. kept_item m.defined more.defined x.kept.defined e.0 (shape_view f.shape) (are.there f e is);
-    apart = are.apart;
+  -- a function type that is another than one there still is
+  pub still_changed : (f : FuncTypeId) (b y : FuncType) → item_at m.funcs f.0 ≡ Some b → (item_at m.funcs f.0 ≡ Some y → ⊥) → item_at more.funcs f.0 ≡ Some y → ⊥
+  still_changed f b y at changed is =
+      let kept = kept_item m.funcs more.funcs x.kept.funcs f.0 b at in
+      changed (at ∙ sym kept ∙ is)
+
+  pub still_there : (made : Made) → AreThere m made → AreThere more made
+  still_there made are = record {
+    defined = λ f e is. kept_item m.defined more.defined x.kept.defined e.0 (shape_view f.shape) (are.defined f e is);
     funcs = λ k g is. still_of_form k g (are.funcs k g is);
   } where
     still_of_form : (k : FuncForm) (g : FuncTypeId) → IsOfForm m k g → IsOfForm more k g
     still_of_form k g of =
         let (b, at, alike) = of.alike in
-        record { after = of.after; is = kept_item m.funcs more.funcs x.kept.funcs g.0 of.after of.is; alike = (b, kept_item m.funcs more.funcs x.kept.funcs k.func.0 b at, alike); params = of.params; result = of.result }
+        record {
+          after = of.after;
+          is = kept_item m.funcs more.funcs x.kept.funcs g.0 of.after of.is;
+          alike = (b, kept_item m.funcs more.funcs x.kept.funcs k.func.0 b at, alike);
+          changed = still_changed k.func b of.after at of.changed;
+          params = of.params;
+          result = of.result;
+        }
+
+  pub still_made : (c : Collection) (t : NamedTypes) (made : Made) → AreMade c t m made → AreMade c t more made
+  still_made c t made are = record { there = still_there made are.there; apart = are.apart }
 
   pub still_all_renamed : (s : Renaming) (memo : Renamed) → AreRenamed m s memo → AreRenamed more s memo
   still_all_renamed s memo r = record {
     defined = λ d e is. still_renamed s.types.now (becomes s) _ _ (r.defined d e is);
     funcs = λ f g is. still_renamed s.types.now (becomes s) _ _ (r.funcs f g is);
-    made = still_made memo.made r.made;
+    made = still_made s.types.now s.became.now.named.now memo.made r.made;
     once = r.once;
     once_funcs = λ f g is. still_made_func f g (r.once_funcs f g is);
   } where

@@ -6,6 +6,7 @@ pub mod RenamingLoops
 pub mod Outlines
 pub mod OneIds
 pub mod RenamingMemo
+pub mod Staying
 pub mod RenamingTasks
 pub mod BecameWalks
 pub mod Ways

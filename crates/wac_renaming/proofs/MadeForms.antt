@@ -4,7 +4,7 @@ use Rattle.std.proofs.lemmas.Bool.{cases_Bool, eqb-true}
 use Rattle.std.proofs.lemmas.List.{map-append}
 use Rattle.std.specs.Cmp.Lexicographic.{pointwise, pointwise_decides}
 use Rattle.std.specs.HashMap.{get, get_by}
-use Rattle.std.specs.Option.{option_eq}
+use Rattle.std.specs.Option.{option_eq, unwrap_or}
 use Rattle.std.specs.Prelude.{slice_get, string_bytes}
 use denote.Enum.Bare.{same_true, true_same}
 use Rattle.wac_primitives.specs.Name.{Name}
@@ -18,7 +18,7 @@ use Rattle.wac_shapes.specs.declared.component.FuncTypeId.{FuncTypeId}
 use Rattle.wac_shapes.specs.declared.component.ValueType.{ValueType}
 use Rattle.wac_shapes.specs.declared.component.ValueType.TheVariants as val
 use Rattle.wac_shapes.proofs.Names.{take_at}
-use Rattle.wac_collection.specs.Collection.{Collection, item_at, seconds}
+use Rattle.wac_collection.specs.Collection.{Collection, HasDefined, item_at, seconds}
 use Rattle.wac_entries.proofs.Telling.{Tells, both, and_true, list_itself, list_same, Text, text_eq, text_tells}
 use Rattle.wac_entries.proofs.TaskOpenings.{labels_take}
 use Rattle.wac_renaming.specs.contracts.made.FormPartialEq.TheImpl as FormEq
@@ -29,10 +29,12 @@ use Rattle.wac_renaming.specs.declared.made.FuncForm.{FuncForm}
 use Rattle.wac_renaming.specs.declared.made.Made.{Made}
 use Rattle.wac_renaming.specs.declared.shapes.Shape.{Shape}
 use Rattle.wac_renaming.specs.declared.shapes.Shape.TheVariants as shape
-use Rattle.wac_renaming.specs.Made.{AreCalledAlike, AreMade, HasMadeFuncToo, HasMadeToo, IsCalledAlike, IsOfForm, StayMade, form, func_form, func_made_in, made_in}
+use Rattle.wac_renaming.specs.Made.{AreApart, AreCalledAlike, AreThere, HasMadeFuncToo, HasMadeToo, IsCalledAlike, IsOfForm, StayMade, form, func_form, func_made_in, made_in}
 use Rattle.wac_renaming.specs.Shapes.{pairs, shape_view}
+use Rattle.wac_values.specs.NamedTypes.{named_type}
+use Rattle.wac_values.specs.declared.named.NamedTypes.{NamedTypes}
 
-abbrev value_eq : ValueType → ValueType → Bool
+abbrev pub value_eq : ValueType → ValueType → Bool
 value_eq = (ValueEq.ghosts).eq
 
 same_value : (v w : ValueType) → value_eq v w ≡ true → v ≡ w
@@ -48,7 +50,7 @@ value_itself (val.Own r) = eq-eqb r.0 r.0 refl
 value_itself (val.Borrow r) = eq-eqb r.0 r.0 refl
 value_itself (val.Defined r) = eq-eqb r.0 r.0 refl
 
-value_tells : (v w : ValueType) → (value_eq v w ≡ true → v ≡ w) × (v ≡ w → value_eq v w ≡ true)
+pub value_tells : (v w : ValueType) → (value_eq v w ≡ true → v ≡ w) × (v ≡ w → value_eq v w ≡ true)
 value_tells v w = (same_value v w, λ e. subst (λ u. value_eq v u ≡ true) e (value_itself v))
 
 optional_tells : (x y : Option ValueType) → (option_eq value_eq x y ≡ true → x ≡ y) × (x ≡ y → option_eq value_eq x y ≡ true)
@@ -168,7 +170,7 @@ made_alike made a b n v = λ i. get_by (λ k. alike a b n v k i) made.ids
 -- ---- one more definition
 
 -- what was made stays so with one more definition
-module _ (m : Collection) (old new : Made) (f : Form) (id : DefinedTypeId) (put : HasMadeToo old f id new) (are : AreMade m old) (at : item_at m.defined id.0 ≡ Some (shape_view f.shape)) (free : (k : Form) → made_in old k ≡ Some id → ⊥) where
+module _ (old new : Made) (f : Form) (id : DefinedTypeId) (put : HasMadeToo old f id new) where
   -- what is looked up is the new one, or was there
   looked_up : (k : Form) (e : DefinedTypeId) → made_in new k ≡ Some e → ((f.named ≡ k.named) × (shape_view f.shape ≡ shape_view k.shape) × (id ≡ e)) ⊎ (made_in old k ≡ Some e)
   looked_up k e is = elim (cases_Bool ((FormEq.ghosts).eq f k)) [
@@ -176,40 +178,84 @@ module _ (m : Collection) (old new : Made) (f : Form) (id : DefinedTypeId) (put 
     | inr other ↦ inr (sym (put.ids k ∙ ap (λ b. cond b (Some id) (made_in old k)) other) ∙ is)
   ]
 
-  is_there : (k : Form) (e : DefinedTypeId) → made_in new k ≡ Some e → item_at m.defined e.0 ≡ Some (shape_view k.shape)
-  is_there k e is = elim (looked_up k e is) [
-    | inl new ↦ subst (λ (x : DefinedTypeId). item_at m.defined x.0 ≡ Some (shape_view k.shape)) new.2 (at ∙ ap Some new.1)
-    | inr before ↦ are.there k e before
-  ]
-
-  is_apart : (g k : Form) (e : DefinedTypeId) → made_in new g ≡ Some e → made_in new k ≡ Some e → g.named ≡ k.named
-  is_apart g k e p q = elim (looked_up g e p) [
-    | inl one ↦ elim (looked_up k e q) [
-      | inl other ↦ sym one.0 ∙ other.0
-      | inr before ↦ absurd (free k (before ∙ ap Some (sym one.2)))
+  module _ (m : Collection) (are : AreThere m old) (at : item_at m.defined id.0 ≡ Some (shape_view f.shape)) where
+    is_there : (k : Form) (e : DefinedTypeId) → made_in new k ≡ Some e → item_at m.defined e.0 ≡ Some (shape_view k.shape)
+    is_there k e is = elim (looked_up k e is) [
+      | inl new ↦ subst (λ (x : DefinedTypeId). item_at m.defined x.0 ≡ Some (shape_view k.shape)) new.2 (at ∙ ap Some new.1)
+      | inr before ↦ are.defined k e before
     ]
-    | inr before ↦ elim (looked_up k e q) [
-      | inl other ↦ absurd (free g (before ∙ ap Some (sym other.2)))
-      | inr both ↦ are.apart g k e before both
-    ]
-  ]
 
-  pub made_too : AreMade m new
-  made_too = record { there = is_there; apart = is_apart; funcs = λ k g is. are.funcs k g (ap (λ fs. get (FuncFormEq.ghosts).eq fs k) (sym put.funcs) ∙ is) }
+    pub there_too : AreThere m new
+    there_too = record { defined = is_there; funcs = λ k g is. are.funcs k g (ap (λ fs. get (FuncFormEq.ghosts).eq fs k) (sym put.funcs) ∙ is) }
+
+  -- where each key that has the id is of the same named type
+  module _ (c : Collection) (t : NamedTypes) (are : AreApart c t old) (alone : (k : Form) → made_in old k ≡ Some id → k.named ≡ f.named) (own : HasDefined c id → f.named ≡ named_type t id) where
+    is_one : (g k : Form) (e : DefinedTypeId) → made_in new g ≡ Some e → made_in new k ≡ Some e → g.named ≡ k.named
+    is_one g k e p q = elim (looked_up g e p) [
+      | inl one ↦ elim (looked_up k e q) [
+        | inl other ↦ sym one.0 ∙ other.0
+        | inr before ↦ sym one.0 ∙ sym (alone k (before ∙ ap Some (sym one.2)))
+      ]
+      | inr before ↦ elim (looked_up k e q) [
+        | inl other ↦ alone g (before ∙ ap Some (sym other.2)) ∙ other.0
+        | inr both ↦ are.one g k e before both
+      ]
+    ]
+
+    is_own : (k : Form) (e : DefinedTypeId) → made_in new k ≡ Some e → HasDefined c e → k.named ≡ named_type t e
+    is_own k e is held = elim (looked_up k e is) [
+      | inl now ↦ sym now.0 ∙ (own (subst (λ (x : DefinedTypeId). HasDefined c x) (sym now.2) held) ∙ ap (named_type t) now.2)
+      | inr before ↦ are.own k e before held
+    ]
+
+    pub apart_too : AreApart c t new
+    apart_too = record { one = is_one; own = is_own }
 
 module _ (old new : Made) (f : Form) (id : DefinedTypeId) (put : HasMadeToo old f id new) where
   pub put_there : (k : Form) → k.named ≡ f.named → shape_view k.shape ≡ shape_view f.shape → made_in new k ≡ Some id
   put_there k n v = put.ids k ∙ ap (λ b. cond b (Some id) (made_in old k)) (form_itself f k (sym n) (sym v))
 
-  put_stays_defined : ((e : DefinedTypeId) → made_in old f ≡ Some e → ⊥) → (k : Form) (e : DefinedTypeId) → made_in old k ≡ Some e → made_in new k ≡ Some e
-  put_stays_defined free k e is = elim (cases_Bool ((FormEq.ghosts).eq f k)) [
-    | inl same ↦ let (p, q) = form_there f k same in absurd (free e (made_alike old f k p q ∙ is))
+  put_stays_defined : ((e : DefinedTypeId) → made_in old f ≡ Some e → e ≡ id) → (k : Form) (e : DefinedTypeId) → made_in old k ≡ Some e → made_in new k ≡ Some e
+  put_stays_defined one k e is = elim (cases_Bool ((FormEq.ghosts).eq f k)) [
+    | inl same ↦ let (p, q) = form_there f k same in put.ids k ∙ ap (λ b. cond b (Some id) (made_in old k)) same ∙ ap Some (sym (one e (made_alike old f k p q ∙ is)))
     | inr other ↦ put.ids k ∙ ap (λ b. cond b (Some id) (made_in old k)) other ∙ is
   ]
 
-  pub put_stays : ((e : DefinedTypeId) → made_in old f ≡ Some e → ⊥) → StayMade old new
-  put_stays free (form k) n is = put_stays_defined free k (record { 0 = n }) is
-  put_stays free (func_form k) n is = ap (λ fs. get (FuncFormEq.ghosts).eq fs k) put.funcs ∙ is
+  -- where the key had that id, if one
+  pub put_stays : ((e : DefinedTypeId) → made_in old f ≡ Some e → e ≡ id) → StayMade old new
+  put_stays one (form k) n is = put_stays_defined one k (record { 0 = n }) is
+  put_stays one (func_form k) n is = ap (λ fs. get (FuncFormEq.ghosts).eq fs k) put.funcs ∙ is
+
+-- the id that was there, or else another, which was put there
+module _ (old new : Made) (f : Form) (id e : DefinedTypeId) (put : HasMadeToo old f e new) (is : e ≡ unwrap_or (made_in old f) id) where
+  which : (made_in old f ≡ Some e) ⊎ ((made_in old f ≡ None) × (e ≡ id))
+  which = by (made_in old f) refl is where
+    by : (o : Option DefinedTypeId) → made_in old f ≡ o → e ≡ unwrap_or o id → (made_in old f ≡ Some e) ⊎ ((made_in old f ≡ None) × (e ≡ id))
+    by None at same = inr (at, same)
+    by (Some k) at same = inl (at ∙ ap Some (sym same))
+
+  pub kept_defined : (m : Collection) → AreThere m old → item_at m.defined id.0 ≡ Some (shape_view f.shape) → item_at m.defined e.0 ≡ Some (shape_view f.shape)
+  kept_defined m are at = elim which [
+    | inl before ↦ are.defined f e before
+    | inr own ↦ subst (λ (x : DefinedTypeId). item_at m.defined x.0 ≡ Some (shape_view f.shape)) (sym own.1) at
+  ]
+
+  pub kept_apart : (c : Collection) (t : NamedTypes) → HasDefined c id → f.named ≡ named_type t id → AreApart c t old → AreApart c t new
+  kept_apart c t held named are = elim which [
+    | inl before ↦ apart_too old new f e put c t are (λ k at. are.one k f e at before) (λ h. are.own f e before h)
+    | inr own ↦
+        let is_named : f.named ≡ named_type t e = named ∙ ap (named_type t) (sym own.1) in
+        apart_too old new f e put c t are (λ k at. are.own k e at (subst (λ (x : DefinedTypeId). HasDefined c x) (sym own.1) held) ∙ sym is_named) (λ h. is_named)
+  ]
+
+  pub kept_stay : StayMade old new
+  kept_stay = put_stays old new f e put (λ k at. elim which [
+    | inl before ↦ one_some k e (sym at ∙ before)
+    | inr own ↦ cc (sym own.0 ∙ at)
+  ])
+
+  pub kept_itself : made_in old f ≡ None → e ≡ id
+  kept_itself none = is ∙ ap (λ o. unwrap_or o id) none
 
 -- ---- function types
 func_form_there : (a b : FuncForm) → (FuncFormEq.ghosts).eq a b ≡ true → (a.func ≡ b.func) × (a.params.items ≡ b.params.items) × (a.result ≡ b.result)
@@ -261,20 +307,29 @@ is_of_form m k g y of (b, at, alike) v r =
 
 module _ (m : Collection) (old new : Made) (f : FuncForm) (id : FuncTypeId) (put : HasMadeFuncToo old f id new) where
   of_form_alike : (k : FuncForm) → f.func ≡ k.func → f.params.items ≡ k.params.items → f.result ≡ k.result → IsOfForm m f id → IsOfForm m k id
-  of_form_alike k p q r of = record { after = of.after; is = of.is; alike = subst (λ (x : FuncTypeId). IsCalledAlike m x of.after) p of.alike; params = of.params ∙ q; result = of.result ∙ r }
+  of_form_alike k p q r of = record {
+    after = of.after;
+    is = of.is;
+    alike = subst (λ (x : FuncTypeId). IsCalledAlike m x of.after) p of.alike;
+    changed = subst (λ (x : FuncTypeId). item_at m.funcs x.0 ≡ Some of.after → ⊥) p of.changed;
+    params = of.params ∙ q;
+    result = of.result ∙ r;
+  }
 
-  of_form : AreMade m old → IsOfForm m f id → (k : FuncForm) (g : FuncTypeId) → func_made_in new k ≡ Some g → IsOfForm m k g
+  of_form : AreThere m old → IsOfForm m f id → (k : FuncForm) (g : FuncTypeId) → func_made_in new k ≡ Some g → IsOfForm m k g
   of_form are of k g is = elim (cases_Bool ((FuncFormEq.ghosts).eq f k)) [
     | inl same ↦ let (p, q, r) = func_form_there f k same in subst (λ (x : FuncTypeId). IsOfForm m k x) (one_some id g (sym (put.funcs k ∙ ap (λ b. cond b (Some id) (func_made_in old k)) same) ∙ is)) (of_form_alike k p q r of)
     | inr other ↦ are.funcs k g (sym (put.funcs k ∙ ap (λ b. cond b (Some id) (func_made_in old k)) other) ∙ is)
   ]
 
   -- with one more function type
-  pub func_made_too : AreMade m old → IsOfForm m f id → AreMade m new
-  func_made_too are of = record {
-    there = λ k e is. are.there k e (ap (λ fs. get (FormEq.ghosts).eq fs k) (sym put.ids) ∙ is);
-    apart = λ g k e p q. are.apart g k e (ap (λ fs. get (FormEq.ghosts).eq fs g) (sym put.ids) ∙ p) (ap (λ fs. get (FormEq.ghosts).eq fs k) (sym put.ids) ∙ q);
-    funcs = of_form are of;
+  pub func_there_too : AreThere m old → IsOfForm m f id → AreThere m new
+  func_there_too are of = record { defined = λ k e is. are.defined k e (ap (λ fs. get (FormEq.ghosts).eq fs k) (sym put.ids) ∙ is); funcs = of_form are of }
+
+  pub func_apart_too : (c : Collection) (t : NamedTypes) → AreApart c t old → AreApart c t new
+  func_apart_too c t are = record {
+    one = λ g k e p q. are.one g k e (ap (λ fs. get (FormEq.ghosts).eq fs g) (sym put.ids) ∙ p) (ap (λ fs. get (FormEq.ghosts).eq fs k) (sym put.ids) ∙ q);
+    own = λ k e is held. are.own k e (ap (λ fs. get (FormEq.ghosts).eq fs k) (sym put.ids) ∙ is) held;
   }
 
   pub func_there : func_made_in new f ≡ Some id

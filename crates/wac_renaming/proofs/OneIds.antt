@@ -1,5 +1,5 @@
 -- What was made for the named types that value types are, and what stays of it.
-use Rattle.std.proofs.Common.{◌≡◌, ℕ, zero, suc, List, [], ◌∷◌, map, Option, Some, None, refl, sym, subst}
+use Rattle.std.proofs.Common.{◌≡◌, ℕ, zero, suc, List, [], ◌∷◌, map, Option, Some, None, ◌⊎◌, inl, inr, refl, sym, subst}
 use Rattle.std.specs.Prelude.{slice_get}
 use Rattle.std.specs.List.{AllZip}
 use Rattle.wac_primitives.specs.Name.{Name}
@@ -17,7 +17,7 @@ use Rattle.wac_shapes.specs.declared.component.«Type».TheVariants as ty
 use Rattle.wac_values.specs.declared.named.NamedTypes.{NamedTypes}
 use Rattle.wac_terms.specs.Renaming.{IsExtended}
 use Rattle.wac_renaming.specs.Made.{IsFuncMadeFor, IsFuncMadeOf, IsKindMadeOf, IsMadeFor, IsMadeOf, StayMade, alias, anew, form, func_form, other_name, plain}
-use Rattle.wac_renaming.specs.RenamingSteps.{CasesGoTogether, FieldsGoTogether, GoTogether, HaveOneShape, IsRenamedIn, aliases, enums, fixed_lists, flags, futures, lists, options, records, results, streams, tuples, variants}
+use Rattle.wac_renaming.specs.RenamingSteps.{CasesGoTogether, FieldsGoTogether, GoTogether, HaveOneFuncShape, HaveOneShape, IsRenamedIn, aliases, enums, fixed_lists, flags, futures, lists, options, records, results, streams, tuples, variants}
 use Rattle.wac_renaming.specs.declared.made.Made.{Made}
 use Rattle.wac_renaming.specs.declared.renamer.Renaming.{Renaming}
 use Rattle.wac_renaming.proofs.Extending.{kept_item}
@@ -89,8 +89,12 @@ module _ (c : Collection) (t : NamedTypes) (old new : Made) (stay : StayMade old
   still_for : (n : Option DefinedTypeId) (x : DefinedType) (e : DefinedTypeId) → IsMadeFor old n x e → IsMadeFor new n x e
   still_for n x e (f, p, q, is) = (f, p, q, stay (form f) e.0 is)
 
-  pub still_func_for : (f : FuncTypeId) (x : FuncType) (g : FuncTypeId) → IsFuncMadeFor old f x g → IsFuncMadeFor new f x g
+  still_func_for : (f : FuncTypeId) (x : FuncType) (g : FuncTypeId) → IsFuncMadeFor old f x g → IsFuncMadeFor new f x g
   still_func_for f x g (k, p, q, r, is) = (k, p, q, r, stay (func_form k) g.0 is)
+
+  still_once : (f g : FuncTypeId) (x : FuncType) → (g ≡ f) ⊎ IsFuncMadeFor old f x g → (g ≡ f) ⊎ IsFuncMadeFor new f x g
+  still_once f g x (inl same) = inl same
+  still_once f g x (inr made) = inr (still_func_for f x g made)
 
   pub still_of : (v w : ValueType) → IsMadeOf c t old v w → IsMadeOf c t new v w
   still_of v w (plain _ _ none itself) = plain v w none itself
@@ -106,7 +110,7 @@ module _ (c : Collection) (t : NamedTypes) (old new : Made) (stay : StayMade old
       became = kept_item m.funcs more.funcs x.kept.funcs g.0 r.after r.became;
       outlined = r.outlined;
       values = λ i a b p q. still_of a b (r.values i a b p q);
-      once = still_func_for f r.after g r.once;
+      once = still_once f g r.after r.once;
     }
 
     pub still_kind_of : (k l : ItemKind) → IsKindMadeOf c m t old k l → IsKindMadeOf c more t new k l
@@ -122,15 +126,15 @@ module _ (c : Collection) (t : NamedTypes) (old new : Made) (stay : StayMade old
     still_kind_of k l h = tt
 
 -- what a function type mentions was made where its parameters and its result were
-pub func_once : (s : Renaming) (m more : Collection) (made new : Made) (stay : StayMade made new) (f g : FuncTypeId) (x y : FuncType) → item_at s.types.now.funcs f.0 ≡ Some x → item_at more.funcs g.0 ≡ Some y → IsFuncMadeFor new f y g
-    → FieldsGoTogether (IsRenamedIn s m made) x.params y.params → GoTogether (IsRenamedIn s m made) x.result y.result → y.is_async ≡ x.is_async → IsFuncMadeOf s.types.now more s.became.now.named.now new f g
-func_once s m more made new stay f g x y at there once fields result async = record {
+pub func_once : (s : Renaming) (m more : Collection) (made new : Made) (stay : StayMade made new) (f g : FuncTypeId) (x y : FuncType) → item_at s.types.now.funcs f.0 ≡ Some x → item_at more.funcs g.0 ≡ Some y → (g ≡ f) ⊎ IsFuncMadeFor new f y g
+    → HaveOneFuncShape (IsRenamedIn s m made) x y → IsFuncMadeOf s.types.now more s.became.now.named.now new f g
+func_once s m more made new stay f g x y at there once shape = record {
   before = x;
   after = y;
   is = at;
   became = there;
-  outlined = func_outlined (IsRenamedIn s m made) x y fields result async;
-  values = λ i a b p q. still_of s.types.now s.became.now.named.now made new stay a b (func_pairs (IsRenamedIn s m made) x y fields result i a b p q).1;
+  outlined = func_outlined (IsRenamedIn s m made) x y shape.params shape.result shape.sort;
+  values = λ i a b p q. still_of s.types.now s.became.now.named.now made new stay a b (func_pairs (IsRenamedIn s m made) x y shape.params shape.result i a b p q).1;
   once = once;
 }
 

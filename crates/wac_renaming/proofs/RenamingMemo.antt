@@ -1,5 +1,5 @@
 -- One more definition, or function type, that became another.
-use Rattle.std.proofs.Common.{◌≡◌, Bool, true, false, cond, nat_eq, Some, Result, Ok, Err, OnOk, refl, ap, sym, ◌∙◌, subst}
+use Rattle.std.proofs.Common.{◌≡◌, Bool, true, false, cond, nat_eq, None, Some, Result, Ok, Err, OnOk, refl, ap, sym, ◌∙◌, subst}
 use Rattle.std.proofs.lemmas.Bool.{eqb-true}
 use Rattle.std.specs.Prelude.{IsSome}
 use Rattle.std.specs.declared.alloc.AllocError.{AllocError}
@@ -11,17 +11,19 @@ use Rattle.wac_shapes.specs.declared.component.FuncTypeId.{FuncTypeId}
 use Rattle.wac_shapes.specs.declared.component.ValueType.{ValueType}
 use Rattle.wac_shapes.specs.declared.component.ValueType.TheVariants as val
 use Rattle.wac_shapes.specs.declared.component.«Type».TheVariants as ty
-use Rattle.wac_renaming.specs.Made.{AreMade, IsFuncMadeOf, IsMadeOf, StayMade}
+use Rattle.wac_renaming.specs.Made.{AreApart, AreMade, AreThere, IsFuncMadeOf, IsMadeFor, IsMadeOf, StayMade, anew, other_name}
 use Rattle.wac_renaming.specs.declared.made.Made.{Made}
 use Rattle.wac_renaming.specs.RenamedTypes.{AreRenamed, becomes, defined_at, defined_in, func_at, func_in}
 use Rattle.wac_terms.specs.Renaming.{IsExtended, IsRenamed}
-use Rattle.wac_renaming.specs.RenamingSteps.{FieldsGoTogether, GoTogether, HasDefinedToo, HasFuncToo, HaveOneShape, IsDefinedBehind, IsFuncBehind, IsMore, IsRenamedIn, IsRenamedValue}
+use Rattle.wac_renaming.specs.RenamingSteps.{HasDefinedToo, HasFuncToo, HaveOneFuncShape, HaveOneShape, IsDefinedBehind, IsFuncBehind, IsMore, IsRenamedIn, IsRenamedValue}
 use Rattle.wac_renaming.specs.declared.renamer.Renamed.{Renamed}
 use Rattle.wac_renaming.specs.declared.renamer.Renaming.{Renaming}
 use Rattle.wac_renaming.proofs.Extending.{still_all_renamed, still_renamed}
-use Rattle.wac_renaming.proofs.OneIds.{still_func_of, still_of}
+use Rattle.wac_renaming.proofs.OneIds.{shape_pairs, still_func_of, still_of}
+use Rattle.wac_renaming.proofs.Outlines.{outlined}
 use Rattle.wac_renaming.proofs.RenamingShapes.{fields_more, option_more, shape_more}
 use Rattle.wac_renaming.proofs.RenamingTrees.{AreWhole, defined_renamed, func_renamed}
+use Rattle.wac_values.specs.NamedTypes.{named_type}
 
 same_defined : (a b : DefinedTypeId) → nat_eq a.0 b.0 ≡ true → a ≡ b
 same_defined a b e = rw (eqb-true a.0 b.0 e) refl
@@ -45,7 +47,7 @@ module _ (s : Renaming) (m : Collection) (old new : Renamed) where
     defined_right r h = record {
       defined = λ k i is. (became_now r h k i is).0;
       funcs = λ f i is. r.funcs f i (ap (λ x. func_at x f) (sym put.funcs) ∙ is);
-      made = subst (AreMade m) (sym put.made) r.made;
+      made = subst (AreMade s.types.now s.became.now.named.now m) (sym put.made) r.made;
       once = λ k i is. subst (λ (made : Made). IsMadeOf s.types.now s.became.now.named.now made (val.Defined k) (val.Defined i)) (sym put.made) (became_now r h k i is).1;
       once_funcs = λ f i is. subst (λ (made : Made). IsFuncMadeOf s.types.now m s.became.now.named.now made f i) (sym put.made) (r.once_funcs f i (ap (λ x. func_at x f) (sym put.funcs) ∙ is));
     }
@@ -59,7 +61,7 @@ module _ (s : Renaming) (m : Collection) (old new : Renamed) where
     func_right r h o = record {
       defined = λ d i is. r.defined d i (ap (λ x. defined_at x d) (sym put.defined) ∙ is);
       funcs = λ k i is. split_func (λ a b. IsRenamed s.types.now m (becomes s) (ty.Func a) (ty.Func b)) r.funcs h k i (nat_eq f.0 k.0) refl (sym (put.funcs k) ∙ is);
-      made = subst (AreMade m) (sym put.made) r.made;
+      made = subst (AreMade s.types.now s.became.now.named.now m) (sym put.made) r.made;
       once = λ d i is. subst (λ (made : Made). IsMadeOf s.types.now s.became.now.named.now made (val.Defined d) (val.Defined i)) (sym put.made) (r.once d i (ap (λ x. defined_at x d) (sym put.defined) ∙ is));
       once_funcs = λ k i is. subst (λ (made : Made). IsFuncMadeOf s.types.now m s.became.now.named.now made k i) (sym put.made)
           (split_func (λ a b. IsFuncMadeOf s.types.now m s.became.now.named.now old.made a b) r.once_funcs o k i (nat_eq f.0 k.0) refl (sym (put.funcs k) ∙ is));
@@ -83,14 +85,14 @@ module _ (old mid new : Renamed) (d e : DefinedTypeId) (same : mid.defined ≡ o
   more_put (Err _) put = put
 
 -- where more was made, and the collection grew
-pub still_with : (s : Renaming) (m more : Collection) (x : IsExtended m more) (memo : Renamed) (new : Made) → StayMade memo.made new → AreMade more new → AreRenamed m s memo → AreRenamed more s (record { defined = memo.defined; funcs = memo.funcs; made = new })
-still_with s m more x memo new stay made r =
+pub still_with : (s : Renaming) (m more : Collection) (x : IsExtended m more) (memo : Renamed) (new : Made) → StayMade memo.made new → AreThere more new → AreApart s.types.now s.became.now.named.now new → AreRenamed m s memo → AreRenamed more s (record { defined = memo.defined; funcs = memo.funcs; made = new })
+still_with s m more x memo new stay there apart r =
     let t = s.became.now.named.now in
     let still = still_all_renamed m more x s memo r in
     record {
       defined = still.defined;
       funcs = still.funcs;
-      made = made;
+      made = record { there = there; apart = apart };
       once = λ d e is. still_of s.types.now t memo.made new stay (val.Defined d) (val.Defined e) (still.once d e is);
       once_funcs = λ f g is. still_func_of s.types.now t memo.made new stay m more x f g (r.once_funcs f g is);
     }
@@ -104,9 +106,20 @@ module _ (s : Renaming) (m more : Collection) (wc : AreWhole s.types.now) (wm : 
   defined_closed d e x y at behind shape =
       defined_renamed s.types.now more (becomes s) wc wm d e x y at behind.there (shape_more (IsRenamedIn s m made) (IsRenamedValue s.types.now more (becomes s)) (on behind.extended) x y shape)
 
-  pub func_closed : (f g : FuncTypeId) (x y : FuncType) → item_at s.types.now.funcs f.0 ≡ Some x → IsFuncBehind m more y g → FieldsGoTogether (IsRenamedIn s m made) x.params y.params → GoTogether (IsRenamedIn s m made) x.result y.result → y.is_async ≡ x.is_async
-      → IsRenamed s.types.now more (becomes s) (ty.Func f) (ty.Func g)
-  func_closed f g x y at behind fields result same =
+  pub func_closed : (f g : FuncTypeId) (x y : FuncType) → item_at s.types.now.funcs f.0 ≡ Some x → IsFuncBehind m more y g → HaveOneFuncShape (IsRenamedIn s m made) x y → IsRenamed s.types.now more (becomes s) (ty.Func f) (ty.Func g)
+  func_closed f g x y at behind shape =
       let R = IsRenamedIn s m made in
       let S = IsRenamedValue s.types.now more (becomes s) in
-      func_renamed s.types.now more (becomes s) wc wm f g x y at behind.there (fields_more R S (on behind.extended) x.params y.params fields) (option_more R S (on behind.extended) x.result y.result result) same
+      func_renamed s.types.now more (becomes s) wc wm f g x y at behind.there (fields_more R S (on behind.extended) x.params y.params shape.params) (option_more R S (on behind.extended) x.result y.result shape.result) shape.sort
+
+-- a definition that is no other name became what was made of it
+pub closed : (s : Renaming) (m more : Collection) → AreWhole s.types.now → AreWhole more → (memo : Renamed) (made : Made) (new : Renamed) (d e : DefinedTypeId) (x y : DefinedType) → item_at s.types.now.defined d.0 ≡ Some x → other_name x ≡ None → IsDefinedBehind m more y e
+    → IsMadeFor made (named_type s.became.now.named.now d) y e → StayMade memo.made made → AreThere more made → AreApart s.types.now s.became.now.named.now made → HaveOneShape (IsRenamedIn s m memo.made) x y → AreRenamed m s memo
+    → (r : Result (Unit {0}) AllocError) → OnOk r (HasDefinedToo (record { defined = memo.defined; funcs = memo.funcs; made = made }) d e new) → OnOk r (AreRenamed more s new)
+closed s m more wc wm memo made new d e x y at other behind made_for stay there apart shape right r put =
+    let t = s.became.now.named.now in
+    let R = IsRenamedIn s m memo.made in
+    let mid : Renamed = record { defined = memo.defined; funcs = memo.funcs; made = made } in
+    let once : IsMadeOf s.types.now t made (val.Defined d) (val.Defined e) =
+    anew (val.Defined d) (val.Defined e) d e x y refl refl at other made_for (outlined R x y shape) (λ i a b p q. still_of s.types.now t memo.made made stay a b (shape_pairs R x y shape i a b p q).1) in
+    defined_put s more mid new d e r put (still_with s m more behind.extended memo made stay there apart right) (defined_closed s m more wc wm memo.made d e x y at behind shape, once)

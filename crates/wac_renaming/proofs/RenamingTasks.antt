@@ -173,6 +173,11 @@ ready_values memo (val.Own p ∷ vs) h = (tt, ready_values memo vs h)
 ready_values memo (val.Borrow p ∷ vs) h = (tt, ready_values memo vs h)
 ready_values memo (val.Defined d ∷ vs) h = (h.0, ready_values memo vs h.1)
 
+-- so they are where what was opened was done
+pub ready_after : (memo : Renamed) (vs : List ValueType) (ts : List Task) (r : Result (Unit {0}) AllocError) → ts ≡ openings vs → OnOk r (AllByRecursion (IsDone memo) ts) → OnOk r (AreReady memo vs)
+ready_after memo vs ts (Ok _) is done = ready_values memo vs (subst (λ (l : List Task). AllByRecursion (IsDone memo) l) is done)
+ready_after memo vs ts (Err _) is done = done
+
 -- a definition is put off behind its parts
 pub did_put_off : (c : Collection) (t : Task) (d : DefinedTypeId) (x : DefinedType) (memo : Renamed) (left mid now : List Task) (r : Result (Unit {0}) AllocError) → t ≡ Open d → item_at c.defined d.0 ≡ Some x → mid ≡ left ++ Close d ∷ []
     → OnOk r (now ≡ mid ++ openings (defined_values x)) → OnOk r (Did c t memo memo left now)

@@ -1,5 +1,6 @@
 pub mod FreshSteps
 pub mod Shapes
+pub mod ShapeHash
 pub mod Ways
 pub mod Made
 pub mod RenamedTypes

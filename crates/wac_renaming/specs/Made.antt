@@ -1,5 +1,5 @@
 -- Definitions and function types that were made in a merged collection. Private functions alone cite this.
-use Rattle.std.specs.Prelude.{ℕ, ◌≡◌, cond, List, map, Option, Some, None, slice_get}
+use Rattle.std.specs.Prelude.{ℕ, ◌≡◌, ◌⊎◌, cond, List, map, Option, Some, None, slice_get}
 use Rattle.std.specs.HashMap.{get}
 use Rattle.wac_shapes.specs.declared.component.DefinedType.{DefinedType}
 use Rattle.wac_shapes.specs.declared.component.DefinedType.TheVariants as def
@@ -12,7 +12,7 @@ use Rattle.wac_primitives.specs.declared.component.PrimitiveType.{PrimitiveType}
 use Rattle.wac_shapes.specs.declared.component.ValueType.{ValueType}
 use Rattle.wac_shapes.specs.declared.component.ValueType.TheVariants as val
 use Rattle.wac_shapes.specs.declared.component.«Type».TheVariants as ty
-use Rattle.wac_collection.specs.Collection.{Collection, defined_values, func_values, item_at, seconds}
+use Rattle.wac_collection.specs.Collection.{Collection, HasDefined, defined_values, func_values, item_at, seconds}
 use Rattle.wac_terms.specs.Values.{definition}
 use Rattle.wac_values.specs.NamedTypes.{named_type}
 use Rattle.wac_values.specs.declared.named.NamedTypes.{NamedTypes}
@@ -39,19 +39,29 @@ AreCalledAlike x y = (y.is_async ≡ x.is_async) × (map (λ e. e.0) y.params �
 abbrev pub IsCalledAlike : Collection → FuncTypeId → FuncType → Type 0
 IsCalledAlike m f y = (x : FuncType) × (item_at m.funcs f.0 ≡ Some x) × AreCalledAlike x y
 
--- a function type of a collection that was made of another: it is called as that, and has these parameters and this result
+-- a function type of a collection that was made of another, which it is not: it is called as that, and has these parameters and this result
 pub record IsOfForm (m : Collection) (k : FuncForm) (g : FuncTypeId) : Type 0 where
   pub after : FuncType
   pub is : item_at m.funcs g.0 ≡ Some after
   pub alike : IsCalledAlike m k.func after
+  pub changed : item_at m.funcs k.func.0 ≡ Some after → ⊥
   pub params : seconds after.params ≡ k.params.items
   pub result : after.result ≡ k.result
 
--- each id is that of its definition, and of one named type; or of its function type
-pub record AreMade (m : Collection) (made : Made) : Type 0 where
-  pub there : (f : Form) (e : DefinedTypeId) → made_in made f ≡ Some e → item_at m.defined e.0 ≡ Some (shape_view f.shape)
-  pub apart : (f g : Form) (e : DefinedTypeId) → made_in made f ≡ Some e → made_in made g ≡ Some e → f.named ≡ g.named
+-- each id is that of its definition, or of its function type
+pub record AreThere (m : Collection) (made : Made) : Type 0 where
+  pub defined : (f : Form) (e : DefinedTypeId) → made_in made f ≡ Some e → item_at m.defined e.0 ≡ Some (shape_view f.shape)
   pub funcs : (k : FuncForm) (g : FuncTypeId) → func_made_in made k ≡ Some g → IsOfForm m k g
+
+-- each id of a definition is of one named type, and that of one of the first collection of the one that it is there
+pub record AreApart (c : Collection) (t : NamedTypes) (made : Made) : Type 0 where
+  pub one : (f g : Form) (e : DefinedTypeId) → made_in made f ≡ Some e → made_in made g ≡ Some e → f.named ≡ g.named
+  pub own : (f : Form) (e : DefinedTypeId) → made_in made f ≡ Some e → HasDefined c e → f.named ≡ named_type t e
+
+-- both, where the collection begins with the first
+pub record AreMade (c : Collection) (t : NamedTypes) (m : Collection) (made : Made) : Type 0 where
+  pub there : AreThere m made
+  pub apart : AreApart c t made
 
 -- with one more definition, or function type
 pub record HasMadeToo (old : Made) (f : Form) (e : DefinedTypeId) (new : Made) : Type 0 where
@@ -127,7 +137,7 @@ pub data IsMadeOf (c : Collection) (t : NamedTypes) (made : Made) : ValueType �
 abbrev pub AreMadeOf : Collection → NamedTypes → Made → List ValueType → List ValueType → Type 0
 AreMadeOf c t made vs ws = (i : ℕ) (a b : ValueType) → slice_get vs i ≡ Some a → slice_get ws i ≡ Some b → IsMadeOf c t made a b
 
--- so did what a function type mentions, and what it became has its outline and was made of it once
+-- so did what a function type mentions, and what it became has its outline and is itself, or was made of it once
 pub record IsFuncMadeOf (c m : Collection) (t : NamedTypes) (made : Made) (f g : FuncTypeId) : Type 0 where
   pub before : FuncType
   pub after : FuncType
@@ -135,7 +145,7 @@ pub record IsFuncMadeOf (c m : Collection) (t : NamedTypes) (made : Made) (f g :
   pub became : item_at m.funcs g.0 ≡ Some after
   pub outlined : func_outline after ≡ func_outline before
   pub values : AreMadeOf c t made (func_values before) (func_values after)
-  pub once : IsFuncMadeFor made f after g
+  pub once : (g ≡ f) ⊎ IsFuncMadeFor made f after g
 
 -- so did what an item mentions, where it became no resource
 abbrev pub IsKindMadeOf : Collection → Collection → NamedTypes → Made → ItemKind → ItemKind → Type 0

@@ -2,10 +2,12 @@
 use Rattle.std.specs.Prelude.{ℕ, ◌≡◌, List, Option, Some}
 use Rattle.std.specs.Option.{option_map}
 use Rattle.wac_collection.specs.Collection.{Collection}
+use Rattle.wac_collection.specs.Held.{resolved}
 use Rattle.wac_shapes.specs.declared.component.ResourceId.{ResourceId}
 use Rattle.wac_shapes.specs.declared.component.DefinedTypeId.{DefinedTypeId}
 use Rattle.wac_shapes.specs.declared.component.FuncTypeId.{FuncTypeId}
 use Rattle.wac_shapes.specs.declared.component.«Type».TheVariants as ty
+use Rattle.wac_shapes.specs.declared.component.ValueType.{ValueType}
 use Rattle.wac_shapes.specs.declared.component.ValueType.TheVariants as val
 use Rattle.wac_entries.specs.Numbers.{number_at}
 use Rattle.wac_terms.specs.Unions.{AreAround, IsPart}
@@ -52,11 +54,18 @@ defined_in memo d = defined_at memo.defined d
 abbrev pub func_in : Renamed → FuncTypeId → Option FuncTypeId
 func_in memo f = func_at memo.funcs f
 
+-- what a value type became: a handle that of what its resource becomes, a definition what that became
+abbrev pub value_in : Renaming → Renamed → ValueType → Option ValueType
+value_in s memo (val.Primitive p) = Some (val.Primitive p)
+value_in s memo (val.Own r) = Some (val.Own (becomes s (resolved s.types.now r)))
+value_in s memo (val.Borrow r) = Some (val.Borrow (becomes s (resolved s.types.now r)))
+value_in s memo (val.Defined d) = option_map val.Defined (defined_in memo d)
+
 -- all that became something was renamed, and what was made is under its ids
 pub record AreRenamed (m : Collection) (s : Renaming) (memo : Renamed) : Type 0 where
   pub defined : (d e : DefinedTypeId) → defined_in memo d ≡ Some e → IsRenamed s.types.now m (becomes s) (ty.Value (val.Defined d)) (ty.Value (val.Defined e))
   pub funcs : (f g : FuncTypeId) → func_in memo f ≡ Some g → IsRenamed s.types.now m (becomes s) (ty.Func f) (ty.Func g)
-  pub made : AreMade m memo.made
+  pub made : AreMade s.types.now s.became.now.named.now m memo.made
   -- what became another has the id that was made for the named type that it is
   pub once : (d e : DefinedTypeId) → defined_in memo d ≡ Some e → IsMadeOf s.types.now s.became.now.named.now memo.made (val.Defined d) (val.Defined e)
   pub once_funcs : (f g : FuncTypeId) → func_in memo f ≡ Some g → IsFuncMadeOf s.types.now m s.became.now.named.now memo.made f g

@@ -1,8 +1,8 @@
 -- The steps in which types are renamed. Private functions alone cite this.
-use Rattle.std.specs.Prelude.{ℕ, ◌≡◌, ◌++◌, ◌⊎◌, cond, nat_eq, List, ◌∷◌, [], Option, Some, None, IsSome}
+use Rattle.std.specs.Prelude.{ℕ, ◌≡◌, ◌++◌, ◌⊎◌, true, cond, nat_eq, List, ◌∷◌, [], Option, Some, None, IsSome}
 use Rattle.std.specs.List.{AllByRecursion, AllZip}
 use Rattle.wac_primitives.specs.Name.{Name}
-use Rattle.wac_collection.specs.Collection.{Collection, item_at}
+use Rattle.wac_collection.specs.Collection.{Collection, holds_value, item_at}
 use Rattle.wac_shapes.specs.declared.component.DefinedType.{DefinedType}
 use Rattle.wac_shapes.specs.declared.component.DefinedType.TheVariants as def
 use Rattle.wac_shapes.specs.declared.component.DefinedTypeId.{DefinedTypeId}
@@ -16,7 +16,7 @@ use Rattle.wac_shapes.specs.declared.component.ValueType.{ValueType}
 use Rattle.wac_shapes.specs.declared.component.ValueType.TheVariants as val
 use Rattle.wac_shapes.specs.declared.component.Variant.{Variant}
 use Rattle.wac_shapes.specs.declared.component.«Type».TheVariants as ty
-use Rattle.wac_renaming.specs.RenamedTypes.{AreRenamed, becomes, defined_in, func_in}
+use Rattle.wac_renaming.specs.RenamedTypes.{AreRenamed, becomes, defined_in, func_in, value_in}
 use Rattle.wac_renaming.specs.Made.{IsMadeOf, StayMade}
 use Rattle.wac_renaming.specs.declared.made.Made.{Made}
 use Rattle.wac_terms.specs.Renaming.{IsExtended, IsRenamed}
@@ -33,6 +33,18 @@ IsRenamedValue c m f v w = IsRenamed c m f (ty.Value v) (ty.Value w)
 -- so it does in a renaming, where the collection is this and this was made
 abbrev pub IsRenamedIn : Renaming → Collection → Made → ValueType → ValueType → Type 0
 IsRenamedIn s m made v w = IsRenamedValue s.types.now m (becomes s) v w × IsMadeOf s.types.now s.became.now.named.now made v w
+
+-- a held value type became this
+abbrev pub IsBecome : Renaming → Renamed → ValueType → ValueType → Type 0
+IsBecome s memo v w = (holds_value s.types.now v ≡ true) × (value_in s memo v ≡ Some w)
+
+-- a value type became itself
+abbrev pub Stays : Renaming → Renamed → ValueType → Type 0
+Stays s memo v = value_in s memo v ≡ Some v
+
+-- each did
+abbrev pub AllStay : Renaming → Renamed → List ValueType → Type 0
+AllStay s memo vs = AllByRecursion (Stays s memo) vs
 
 -- with one more definition, or function type, that became another
 pub record HasDefinedToo (old : Renamed) (d e : DefinedTypeId) (new : Renamed) : Type 0 where
@@ -72,6 +84,12 @@ pub data HaveOneShape (R : ValueType → ValueType → Type 0) (d e : DefinedTyp
   aliases : (v w : ValueType) → d ≡ def.Alias v → e ≡ def.Alias w → R v w → HaveOneShape R d e
   streams : (v w : Option ValueType) → d ≡ def.Stream v → e ≡ def.Stream w → GoTogether R v w → HaveOneShape R d e
   futures : (v w : Option ValueType) → d ≡ def.Future v → e ≡ def.Future w → GoTogether R v w → HaveOneShape R d e
+
+-- function types of one shape, whose value types go together
+pub record HaveOneFuncShape (R : ValueType → ValueType → Type 0) (x y : FuncType) : Type 0 where
+  pub params : FieldsGoTogether R x.params y.params
+  pub result : GoTogether R x.result y.result
+  pub sort : y.is_async ≡ x.is_async
 
 -- a definition, and a function type, that was put behind what is there
 pub record IsDefinedBehind (c m : Collection) (d : DefinedType) (id : DefinedTypeId) : Type 0 where

@@ -1,14 +1,17 @@
 //! Definitions and function types that were made in a merged collection: each definition once for the named type that it is, each
 //! function type once for the one that it was made of.
-ghost use Rattle.std.specs.Prelude.{◌≡◌, Some, IfOk, OnOk};
-ghost use Rattle.wac_collection.specs.Collection.{Collection, defined_values, func_values, seconds};
+ghost use Rattle.std.specs.Prelude.{◌≡◌, None, Some, IfOk, OnOk};
+ghost use Rattle.std.specs.Option.{unwrap_or};
+ghost use Rattle.wac_collection.specs.Collection.{Collection, HasDefined, defined_values, func_values, item_at, seconds};
 ghost use Rattle.wac_collection.specs.declared.collection.AddTypeError.TheVariants.{OutOfMemory};
 ghost use Rattle.wac_entries.specs.Tasks.{AreHeldValues};
-ghost use Rattle.wac_renaming.specs.Made.{AreMade, HasMadeFuncToo, HasMadeToo, IsCalledAlike, IsFuncMadeFor, IsMadeFor, StayMade, func_made_in, made_in};
+ghost use Rattle.wac_renaming.specs.Made.{AreApart, AreMade, AreThere, HasMadeFuncToo, HasMadeToo, IsCalledAlike, IsFuncMadeFor, IsMadeFor, StayMade, func_made_in, made_in};
 ghost use Rattle.wac_renaming.specs.RenamingSteps.{IsDefinedBehind, IsFuncBehind};
 ghost use Rattle.wac_renaming.specs.Shapes.{shape_view};
 ghost use Rattle.wac_renaming.specs.declared.made.Form.{Form as AForm};
 ghost use Rattle.wac_terms.specs.Renaming.{IsExtended};
+ghost use Rattle.wac_values.specs.NamedTypes.{named_type};
+ghost use Rattle.wac_values.specs.declared.named.NamedTypes.{NamedTypes as ANamedTypes};
 
 use crate::shapes::Shape;
 use std::alloc::{AllocError, Global};
@@ -79,10 +82,25 @@ fn add_func(merged: &mut Types, func: FuncType) -> Result<FuncTypeId, AllocError
     }
 }
 
+impl Form {
+    /// The key of a definition.
+    fn of(
+        alloc: Global,
+        named: Option<DefinedTypeId>,
+        definition: &DefinedType,
+    ) -> Result<Form, AllocError>
+        ensures named { IfOk result (λ f. f.named ≡ named) }
+        ensures shape { IfOk result (λ f. shape_view f.shape ≡ definition.now) }
+    {
+        let shape = Shape::of(alloc, definition)?;
+        Ok(Form { named, shape })
+    }
+}
+
 impl Made {
     /// Nothing was made yet.
     pub fn new(alloc: Global) -> Made
-        ensures { (m : Collection) → AreMade m result }
+        ensures { (c m : Collection) (t : ANamedTypes) → AreMade c t m result }
     {
         Made {
             ids: HashMap::new(alloc),
@@ -105,6 +123,14 @@ impl Made {
             Ok(_) => Ok(()),
             Err(_) => Err(AllocError),
         }
+    }
+
+    /// The id under the key of a definition: that which is there, or else this one, which is put there.
+    fn get_or_put(&mut self, form: Form, id: DefinedTypeId) -> Result<DefinedTypeId, AllocError>
+        ensures put { IfOk result (λ e. HasMadeToo self.old form e self.new) }
+        ensures is { IfOk result (λ e. e ≡ unwrap_or (made_in self.old form) id) }
+    {
+        Ok(*self.ids.entry(form)?.or_insert(id))
     }
 
     /// The id of a function type that was made.
@@ -134,16 +160,16 @@ impl Made {
         definition: DefinedType,
     ) -> Result<DefinedTypeId, AllocError>
         requires held { AreHeldValues merged.old (defined_values definition) }
-        requires made { AreMade merged.old self.old }
+        requires made { AreThere merged.old self.old }
         ensures extended { IsExtended merged.old merged.new }
-        ensures made { OnOk result (AreMade merged.new self.new) }
+        ensures made { OnOk result (AreThere merged.new self.new) }
+        ensures apart { OnOk result ((c : Collection) (t : ANamedTypes) → IsExtended c merged.old → AreApart c t self.old → AreApart c t self.new) }
         ensures added { IfOk result (λ id. IsDefinedBehind merged.old merged.new definition id) }
         ensures once { IfOk result (λ id. (f : AForm) → f.named ≡ named → shape_view f.shape ≡ definition → made_in self.new f ≡ Some id) }
         ensures named { IfOk result (λ id. IsMadeFor self.new named definition id) }
         ensures stay { OnOk result (StayMade self.old self.new) }
     {
-        let shape = Shape::of(alloc, &definition)?;
-        let form = Form { named, shape };
+        let form = Form::of(alloc, named, &definition)?;
         if let Some(id) = self.get(&form) {
             return Ok(id);
         }
@@ -157,8 +183,33 @@ impl Made {
         }
     }
 
-    /// The id of a function type whose values are held, made of another that is called alike: that under which it was made of
-    /// this one before, or else a new one, behind what is there.
+    /// The id of a definition of which each part stays what it is: that under which one was made for the same named type, or
+    /// else its own.
+    pub fn keep(
+        &mut self,
+        alloc: Global,
+        merged: &Types,
+        named: Option<DefinedTypeId>,
+        definition: &DefinedType,
+        id: DefinedTypeId,
+    ) -> Result<DefinedTypeId, AllocError>
+        requires there { item_at merged.now.defined id.0 ≡ Some definition.now }
+        requires made { AreThere merged.now self.old }
+        ensures made { OnOk result (AreThere merged.now self.new) }
+        ensures apart { OnOk result ((c : Collection) (t : ANamedTypes) → HasDefined c id → named ≡ named_type t id → AreApart c t self.old → AreApart c t self.new) }
+        ensures there { IfOk result (λ e. item_at merged.now.defined e.0 ≡ Some definition.now) }
+        ensures itself { IfOk result (λ e. ((f : AForm) → f.named ≡ named → shape_view f.shape ≡ definition.now → made_in self.old f ≡ None) → e ≡ id) }
+        ensures named { IfOk result (λ e. IsMadeFor self.new named definition.now e) }
+        ensures stay { OnOk result (StayMade self.old self.new) }
+    {
+        let _ = merged;
+        let form = Form::of(alloc, named, definition)?;
+        let kept = self.get_or_put(form, id)?;
+        Ok(kept)
+    }
+
+    /// The id of a function type whose values are held, made of another that is called alike and is another: that under which
+    /// it was made of this one before, or else a new one, behind what is there.
     pub fn make_func(
         &mut self,
         alloc: Global,
@@ -168,9 +219,11 @@ impl Made {
     ) -> Result<FuncTypeId, AllocError>
         requires held { AreHeldValues merged.old (func_values func) }
         requires alike { IsCalledAlike merged.old of func }
-        requires made { AreMade merged.old self.old }
+        requires changed { item_at merged.old.funcs of.0 ≡ Some func → ⊥ }
+        requires made { AreThere merged.old self.old }
         ensures extended { IsExtended merged.old merged.new }
-        ensures made { OnOk result (AreMade merged.new self.new) }
+        ensures made { OnOk result (AreThere merged.new self.new) }
+        ensures apart { OnOk result ((c : Collection) (t : ANamedTypes) → AreApart c t self.old → AreApart c t self.new) }
         ensures added { IfOk result (λ id. IsFuncBehind merged.old merged.new func id) }
         ensures once { IfOk result (λ id. IsFuncMadeFor self.new of func id) }
         ensures stay { OnOk result (StayMade self.old self.new) }

@@ -2,10 +2,10 @@
 //!
 //! A definition whose parts are not renamed yet waits in a list of tasks, below its parts, so that no chain of definitions is
 //! too long. Each is opened once and renamed once.
-ghost use Rattle.std.specs.Prelude.{◌≡◌, ◌++◌, ◌∷◌, [], true, None, IfOk, IfSome, OnOk};
+ghost use Rattle.std.specs.Prelude.{◌≡◌, ◌↔◌, ◌++◌, ◌∷◌, [], true, None, IfOk, IfSome, IsTrue, OnOk};
 ghost use Rattle.std.specs.List.{AllByRecursion, AllZip};
 ghost use Rattle.wac_renaming.specs.Made.{AreMade, IsFuncMadeOf, IsMadeOf, StayMade, other_name};
-ghost use Rattle.wac_collection.specs.Collection.{Collection, HasDefined, HasFunc, and_maybe, case_values, defined_values, holds_value, seconds};
+ghost use Rattle.wac_collection.specs.Collection.{Collection, HasDefined, HasFunc, and_maybe, case_values, defined_values, func_values, holds_value, seconds};
 ghost use Rattle.wac_collection.specs.Held.{resolved};
 ghost use Rattle.wac_primitives.specs.Name.{find_name};
 ghost use Rattle.wac_shapes.specs.declared.component.DefinedType.TheVariants as def;
@@ -15,10 +15,11 @@ ghost use Rattle.wac_terms.specs.Became.{AreBoundParts};
 ghost use Rattle.wac_renaming.specs.RenamedTypes.{AreRenamed, CanRename, becomes, defined_in, func_in};
 ghost use Rattle.wac_terms.specs.Renaming.{IsExtended, IsRenamed};
 ghost use Rattle.wac_renaming.specs.Ways.{AreOutward};
-ghost use Rattle.wac_renaming.specs.RenamingSteps.{AreReady, CasesGoTogether, Did, FieldsGoTogether, GoTogether, HasDefinedToo, HasFuncToo, HaveOneShape, IsDone, IsMore, IsReady, IsRenamedIn, MayBeDone};
+ghost use Rattle.wac_renaming.specs.RenamingSteps.{AllStay, AreReady, CasesGoTogether, Did, FieldsGoTogether, GoTogether, HasDefinedToo, HasFuncToo, HaveOneFuncShape, HaveOneShape, IsBecome, IsDone, IsMore, IsReady, MayBeDone, Stays};
 ghost use Rattle.wac_entries.specs.Tasks.{IsHeldTask, IsOpening, parts_of, AreHeldValues};
 ghost use Rattle.wac_terms.specs.Unions.{AreAround, IsPart};
 ghost use Rattle.wac_renaming.specs.declared.renamer.Renaming.{Renaming as ARenaming};
+ghost use Rattle.wac_values.specs.declared.named.NamedTypes.{NamedTypes as ANamedTypes};
 
 use crate::became::Became;
 use crate::made::Made;
@@ -123,7 +124,7 @@ impl Renamed {
     /// Nothing became another yet.
     pub fn new(alloc: Global) -> Renamed
         ensures right { (m : Collection) (s : ARenaming) → AreRenamed m s result }
-        ensures made { (m : Collection) → AreMade m result.made }
+        ensures made { (c m : Collection) (t : ANamedTypes) → AreMade c t m result.made }
     {
         Renamed {
             defined: Numbers::new(alloc),
@@ -134,7 +135,7 @@ impl Renamed {
 
     /// Forgets what became another, since another part comes next. What was made stays.
     pub fn forget(&mut self)
-        ensures right { (m : Collection) (s : ARenaming) → AreMade m self.old.made → AreRenamed m s self.new }
+        ensures right { (m : Collection) (s : ARenaming) → AreMade s.types.now s.became.now.named.now m self.old.made → AreRenamed m s self.new }
         ensures made { self.new.made ≡ self.old.made }
     {
         self.defined.clear();
@@ -176,8 +177,7 @@ impl Renamed {
         requires held { holds_value renaming.now.types.now value ≡ true }
         requires ready { IsReady self.now value }
         requires known { CanRename merged.now renaming.now }
-        requires right { AreRenamed merged.now renaming.now self.now }
-        ensures { IsRenamedIn renaming.now merged.now self.now.made value result }
+        ensures { IsBecome renaming.now self.now value result }
     {
         let _ = merged;
         match value {
@@ -198,8 +198,7 @@ impl Renamed {
         requires held { AreHeldValues renaming.now.types.now (and_maybe value []) }
         requires ready { AreReady self.now (and_maybe value []) }
         requires known { CanRename merged.now renaming.now }
-        requires right { AreRenamed merged.now renaming.now self.now }
-        ensures { GoTogether (IsRenamedIn renaming.now merged.now self.now.made) value result }
+        ensures { GoTogether (IsBecome renaming.now self.now) value result }
     {
         match value {
             Some(value) => Some(self.part(merged, renaming, value)),
@@ -217,8 +216,7 @@ impl Renamed {
         requires held { AreHeldValues renaming.now.types.now values.now }
         requires ready { AreReady self.now values.now }
         requires known { CanRename merged.now renaming.now }
-        requires right { AreRenamed merged.now renaming.now self.now }
-        ensures { IfOk result (λ ws. AllZip (IsRenamedIn renaming.now merged.now self.now.made) values.now ws.items) }
+        ensures { IfOk result (λ ws. AllZip (IsBecome renaming.now self.now) values.now ws.items) }
     {
         let mut renamed = Vec::new(renaming.alloc);
         for i in 0..values.len() {
@@ -237,8 +235,7 @@ impl Renamed {
         requires held { AreHeldValues renaming.now.types.now (seconds fields.now) }
         requires ready { AreReady self.now (seconds fields.now) }
         requires known { CanRename merged.now renaming.now }
-        requires right { AreRenamed merged.now renaming.now self.now }
-        ensures { IfOk result (λ es. FieldsGoTogether (IsRenamedIn renaming.now merged.now self.now.made) fields.now es) }
+        ensures { IfOk result (λ es. FieldsGoTogether (IsBecome renaming.now self.now) fields.now es) }
     {
         fields.law();
         let mut renamed = Named::with_capacity(renaming.alloc, fields.len())?;
@@ -260,8 +257,7 @@ impl Renamed {
         requires held { AreHeldValues renaming.now.types.now (case_values cases.now) }
         requires ready { AreReady self.now (case_values cases.now) }
         requires known { CanRename merged.now renaming.now }
-        requires right { AreRenamed merged.now renaming.now self.now }
-        ensures { IfOk result (λ es. CasesGoTogether (IsRenamedIn renaming.now merged.now self.now.made) cases.now es) }
+        ensures { IfOk result (λ es. CasesGoTogether (IsBecome renaming.now self.now) cases.now es) }
     {
         cases.law();
         let mut renamed = Named::with_capacity(renaming.alloc, cases.len())?;
@@ -283,8 +279,7 @@ impl Renamed {
         requires held { AreHeldValues renaming.now.types.now values.now }
         requires ready { AreReady self.now values.now }
         requires known { CanRename merged.now renaming.now }
-        requires right { AreRenamed merged.now renaming.now self.now }
-        ensures { IfOk result (λ d. HaveOneShape (IsRenamedIn renaming.now merged.now self.now.made) (def.Tuple values.now) d) }
+        ensures { IfOk result (λ d. HaveOneShape (IsBecome renaming.now self.now) (def.Tuple values.now) d) }
     {
         let parts = self.parts(merged, renaming, values)?;
         DefinedType::tuple(renaming.alloc, parts.as_slice())
@@ -300,8 +295,7 @@ impl Renamed {
         requires held { AreHeldValues renaming.now.types.now (defined_values definition.now) }
         requires ready { AreReady self.now (defined_values definition.now) }
         requires known { CanRename merged.now renaming.now }
-        requires right { AreRenamed merged.now renaming.now self.now }
-        ensures { IfOk result (λ d. HaveOneShape (IsRenamedIn renaming.now merged.now self.now.made) definition.now d) }
+        ensures { IfOk result (λ d. HaveOneShape (IsBecome renaming.now self.now) definition.now d) }
     {
         let alloc = renaming.alloc;
         let renamed = match definition {
@@ -331,6 +325,150 @@ impl Renamed {
         Ok(renamed)
     }
 
+    /// What a function type becomes whose parts are renamed.
+    fn function(
+        &self,
+        merged: &Types,
+        renaming: &Renaming<'_>,
+        func: &FuncType,
+    ) -> Result<FuncType, AllocError>
+        requires held { AreHeldValues renaming.now.types.now (func_values func.now) }
+        requires ready { AreReady self.now (func_values func.now) }
+        requires known { CanRename merged.now renaming.now }
+        ensures { IfOk result (HaveOneFuncShape (IsBecome renaming.now self.now) func.now) }
+    {
+        Ok(FuncType {
+            params: self.fields(merged, renaming, &func.params)?,
+            result: self.optional(merged, renaming, func.result),
+            is_async: func.is_async,
+        })
+    }
+
+    /// Whether a value type became itself.
+    fn stays(&self, merged: &Types, renaming: &Renaming<'_>, value: ValueType) -> bool
+        requires held { holds_value renaming.now.types.now value ≡ true }
+        requires ready { IsReady self.now value }
+        requires known { CanRename merged.now renaming.now }
+        ensures { IsTrue result ↔ Stays renaming.now self.now value }
+    {
+        self.part(merged, renaming, value) == value
+    }
+
+    /// Whether an optional value type did.
+    fn optional_stays(
+        &self,
+        merged: &Types,
+        renaming: &Renaming<'_>,
+        value: Option<ValueType>,
+    ) -> bool
+        requires held { AreHeldValues renaming.now.types.now (and_maybe value []) }
+        requires ready { AreReady self.now (and_maybe value []) }
+        requires known { CanRename merged.now renaming.now }
+        ensures { IsTrue result ↔ AllStay renaming.now self.now (and_maybe value []) }
+    {
+        match value {
+            Some(value) => self.stays(merged, renaming, value),
+            None => true,
+        }
+    }
+
+    /// Whether values did.
+    fn parts_stay(&self, merged: &Types, renaming: &Renaming<'_>, values: &[ValueType]) -> bool
+        requires held { AreHeldValues renaming.now.types.now values.now }
+        requires ready { AreReady self.now values.now }
+        requires known { CanRename merged.now renaming.now }
+        ensures { IsTrue result ↔ AllStay renaming.now self.now values.now }
+    {
+        for i in 0..values.len() {
+            if !self.stays(merged, renaming, values[i]) {
+                return false;
+            }
+        }
+        true
+    }
+
+    /// Whether those of fields or parameters did.
+    fn fields_stay(
+        &self,
+        merged: &Types,
+        renaming: &Renaming<'_>,
+        fields: &Named<ValueType>,
+    ) -> bool
+        requires held { AreHeldValues renaming.now.types.now (seconds fields.now) }
+        requires ready { AreReady self.now (seconds fields.now) }
+        requires known { CanRename merged.now renaming.now }
+        ensures { IsTrue result ↔ AllStay renaming.now self.now (seconds fields.now) }
+    {
+        for i in 0..fields.len() {
+            if !self.stays(merged, renaming, *fields.value_at(i)) {
+                return false;
+            }
+        }
+        true
+    }
+
+    /// Whether those of cases did.
+    fn cases_stay(
+        &self,
+        merged: &Types,
+        renaming: &Renaming<'_>,
+        cases: &Named<Option<ValueType>>,
+    ) -> bool
+        requires held { AreHeldValues renaming.now.types.now (case_values cases.now) }
+        requires ready { AreReady self.now (case_values cases.now) }
+        requires known { CanRename merged.now renaming.now }
+        ensures { IsTrue result ↔ AllStay renaming.now self.now (case_values cases.now) }
+    {
+        for i in 0..cases.len() {
+            if !self.optional_stays(merged, renaming, *cases.value_at(i)) {
+                return false;
+            }
+        }
+        true
+    }
+
+    /// Whether each part of a definition did.
+    fn definition_stays(
+        &self,
+        merged: &Types,
+        renaming: &Renaming<'_>,
+        definition: &DefinedType,
+    ) -> bool
+        requires held { AreHeldValues renaming.now.types.now (defined_values definition.now) }
+        requires ready { AreReady self.now (defined_values definition.now) }
+        requires known { CanRename merged.now renaming.now }
+        ensures { IsTrue result ↔ AllStay renaming.now self.now (defined_values definition.now) }
+    {
+        match definition {
+            DefinedType::Tuple(parts) => self.parts_stay(merged, renaming, parts.as_slice()),
+            DefinedType::List(value) => self.stays(merged, renaming, *value),
+            DefinedType::FixedSizeList(value, _) => self.stays(merged, renaming, *value),
+            DefinedType::Option(value) => self.stays(merged, renaming, *value),
+            DefinedType::Result { ok, err } => {
+                self.optional_stays(merged, renaming, *ok)
+                    && self.optional_stays(merged, renaming, *err)
+            }
+            DefinedType::Variant(variant) => self.cases_stay(merged, renaming, &variant.cases),
+            DefinedType::Record(record) => self.fields_stay(merged, renaming, &record.fields),
+            DefinedType::Flags(_) => true,
+            DefinedType::Enum(_) => true,
+            DefinedType::Alias(value) => self.stays(merged, renaming, *value),
+            DefinedType::Stream(of) => self.optional_stays(merged, renaming, *of),
+            DefinedType::Future(of) => self.optional_stays(merged, renaming, *of),
+        }
+    }
+
+    /// Whether each parameter of a function type and its result did.
+    fn func_stays(&self, merged: &Types, renaming: &Renaming<'_>, func: &FuncType) -> bool
+        requires held { AreHeldValues renaming.now.types.now (func_values func.now) }
+        requires ready { AreReady self.now (func_values func.now) }
+        requires known { CanRename merged.now renaming.now }
+        ensures { IsTrue result ↔ AllStay renaming.now self.now (func_values func.now) }
+    {
+        self.optional_stays(merged, renaming, func.result)
+            && self.fields_stay(merged, renaming, &func.params)
+    }
+
     /// Renames a definition whose parts are renamed.
     fn close(
         &mut self,
@@ -354,8 +492,15 @@ impl Renamed {
             let became = self.defined(end).unwrap();
             return self.put_defined(id, became);
         }
-        let definition = self.definition(merged, renaming, definition)?;
         let named = renaming.became.named.of(id);
+        if self.definition_stays(merged, renaming, definition) {
+            let kept = self
+                .made
+                .keep(renaming.alloc, merged, named, definition, id)?;
+            trees_are_whole(merged);
+            return self.put_defined(id, kept);
+        }
+        let definition = self.definition(merged, renaming, definition)?;
         let became = self.made.make(renaming.alloc, merged, named, definition)?;
         trees_are_whole(merged);
         self.put_defined(id, became)
@@ -413,6 +558,27 @@ impl Renamed {
         Ok(())
     }
 
+    /// Renames the definitions that a function type reaches.
+    fn reach(
+        &mut self,
+        merged: &mut Types,
+        renaming: &Renaming<'_>,
+        func: &FuncType,
+    ) -> Result<(), AllocError>
+        requires held { AreHeldValues renaming.now.types.now (func_values func.now) }
+        requires known { CanRename merged.old renaming.now }
+        requires right { AreRenamed merged.old renaming.now self.old }
+        ensures extended { IsExtended merged.old merged.new }
+        ensures right { OnOk result (AreRenamed merged.new renaming.now self.new) }
+        ensures ready { OnOk result (AreReady self.new (func_values func.now)) }
+        ensures stay { OnOk result (StayMade self.old.made self.new.made) }
+    {
+        let mut tasks = Vec::new(renaming.alloc);
+        open_optional(&mut tasks, func.result)?;
+        open_fields(&mut tasks, &func.params)?;
+        self.finish(merged, renaming, tasks)
+    }
+
     /// What a value type becomes in a merged collection, behind what is there. A definition is renamed once, and without recursion.
     pub fn value(
         &mut self,
@@ -464,15 +630,13 @@ impl Renamed {
         trees_are_whole(renaming.types);
         merged.law();
         let func = &renaming.types[id];
-        let mut tasks = Vec::new(renaming.alloc);
-        open_optional(&mut tasks, func.result)?;
-        open_fields(&mut tasks, &func.params)?;
-        self.finish(merged, renaming, tasks)?;
-        let renamed = FuncType {
-            params: self.fields(merged, renaming, &func.params)?,
-            result: self.optional(merged, renaming, func.result),
-            is_async: func.is_async,
-        };
+        self.reach(merged, renaming, func)?;
+        if self.func_stays(merged, renaming, func) {
+            trees_are_whole(merged);
+            self.put_func(id, id)?;
+            return Ok(id);
+        }
+        let renamed = self.function(merged, renaming, func)?;
         let became = self.made.make_func(renaming.alloc, merged, id, renamed)?;
         trees_are_whole(merged);
         self.put_func(id, became)?;

@@ -1,12 +1,14 @@
 //! Definitions as keys.
-ghost use Rattle.std.specs.Prelude.{◌≡◌, IfOk, map, string_bytes};
+ghost use Rattle.std.specs.Prelude.{◌≡◌, IfOk, fold, map, flat_map, string_bytes};
+ghost use Rattle.wac_renaming.specs.ShapeHash.{optional_writes, shape_alike, shape_writes, value_writes};
 ghost use Rattle.wac_renaming.specs.Shapes.{pairs, shape_view};
 
 use std::alloc::{AllocError, Global};
+use std::hash::{Hash, Hasher};
 use wac_collection::{DefinedType, Labels, Named, ValueType};
 
 /// A definition, in memory of its own.
-#[derive(PartialEq, Eq, Hash, Drop)]
+#[derive(PartialEq, Eq, Drop)]
 pub enum Shape {
     /// A tuple.
     Tuple(Vec<ValueType>),
@@ -32,6 +34,63 @@ pub enum Shape {
     Stream(Option<ValueType>),
     /// A future.
     Future(Option<ValueType>),
+}
+
+/// The parts of a definition are hashed, and not its sort, so that a list or an option is one write.
+impl Hash for Shape {
+    ghost hash_input = { shape_writes };
+
+    ghost respects_eq = { λ a b e. shape_alike a b e };
+
+    fn hash<H: Hasher>(&self, state: &mut H) {
+        match self {
+            Shape::Tuple(parts) => hash_values(parts, state),
+            Shape::List(value) => hash_value(*value, state),
+            Shape::FixedSizeList(value, _) => hash_value(*value, state),
+            Shape::Option(value) => hash_value(*value, state),
+            Shape::Result(ok, err) => {
+                hash_optional(*ok, state);
+                hash_optional(*err, state);
+            }
+            Shape::Variant(cases) => cases.hash(state),
+            Shape::Record(fields) => fields.hash(state),
+            Shape::Flags(names) => names.hash(state),
+            Shape::Enum(names) => names.hash(state),
+            Shape::Alias(value) => hash_value(*value, state),
+            Shape::Stream(value) => hash_optional(*value, state),
+            Shape::Future(value) => hash_optional(*value, state),
+        }
+    }
+}
+
+/// Hashes a primitive, or the position of what a value type names, in one write.
+fn hash_value<H: Hasher>(value: ValueType, state: &mut H)
+    ensures { state.new ≡ fold H.write state.old (value_writes value) }
+{
+    match value {
+        ValueType::Primitive(primitive) => primitive.hash(state),
+        ValueType::Borrow(id) => id.0.hash(state),
+        ValueType::Own(id) => id.0.hash(state),
+        ValueType::Defined(id) => id.0.hash(state),
+    }
+}
+
+/// Hashes a value type where there is one.
+fn hash_optional<H: Hasher>(value: Option<ValueType>, state: &mut H)
+    ensures { state.new ≡ fold H.write state.old (optional_writes value) }
+{
+    if let Some(value) = value {
+        hash_value(value, state);
+    }
+}
+
+/// Hashes value types, one after another.
+fn hash_values<H: Hasher>(values: &[ValueType], state: &mut H)
+    ensures { state.new ≡ fold H.write state.old (flat_map value_writes values.now) }
+{
+    for value in values {
+        hash_value(*value, state);
+    }
 }
 
 /// Names in order.

@@ -10,7 +10,7 @@ pub mod side;
 pub use encodable::Encodable;
 pub use fault::{EncodeFault, WriteFault};
 pub use laws::rooted_law;
-pub use scope::Scope;
+pub use scope::{Scope, TypeHash};
 pub use side::Side;
 pub use wac_stacks::{
     alias_law, beside_law, closing_law, inside_law, instance_law, listing_law, module_law,

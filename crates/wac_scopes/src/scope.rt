@@ -23,12 +23,17 @@ use crate::laws::rooted_law;
 use crate::side::Side;
 use std::alloc::{AllocError, Global};
 use std::collections::HashMap;
+use std::hash::BuildHasherDefault;
 use wac_builder::{
     BinaryFault, ComponentType, ComponentValType, DefinedType, Description, FuncType, InstanceType,
     ModuleType, Sort,
 };
 use wac_collection::{DefinedTypeId, FuncTypeId, InterfaceId, PrimitiveType, Text, ValueType};
+use wac_reach::TypeHasher;
 use wac_stacks::{listing_law, module_law, root_law, step_law};
+
+/// Types are hashed by their positions in a collection.
+pub type TypeHash = BuildHasherDefault<TypeHasher>;
 
 /// Where a definition is written.
 #[derive(Clone, Copy)]
@@ -54,13 +59,13 @@ pub struct Scope {
     /// What is written.
     content: Encodable,
     /// Where each definition is that is written.
-    values: HashMap<DefinedTypeId, Place>,
+    values: HashMap<DefinedTypeId, Place, TypeHash>,
     /// That of each function type.
-    funcs: HashMap<FuncTypeId, u32>,
+    funcs: HashMap<FuncTypeId, u32, TypeHash>,
     /// That of the instance type of each interface.
-    interfaces: HashMap<InterfaceId, u32>,
+    interfaces: HashMap<InterfaceId, u32, TypeHash>,
     /// Where each definition is listed that an imported instance lists, by the first of them, or that has a name in the scope around.
-    listed: HashMap<DefinedTypeId, Listed>,
+    listed: HashMap<DefinedTypeId, Listed, TypeHash>,
 }
 
 /// What is written is let go of here, and not anew at each place where a scope goes out of scope.
@@ -85,10 +90,10 @@ impl Scope {
     {
         Scope {
             content,
-            values: HashMap::new(alloc),
-            funcs: HashMap::new(alloc),
-            interfaces: HashMap::new(alloc),
-            listed: HashMap::new(alloc),
+            values: HashMap::with_hasher(alloc, BuildHasherDefault::new()),
+            funcs: HashMap::with_hasher(alloc, BuildHasherDefault::new()),
+            interfaces: HashMap::with_hasher(alloc, BuildHasherDefault::new()),
+            listed: HashMap::with_hasher(alloc, BuildHasherDefault::new()),
         }
     }
 
@@ -174,7 +179,7 @@ impl Scope {
     pub fn is_listed(&self, id: DefinedTypeId) -> bool
         ensures { result ≡ is_some (listed_at self.now id) }
     {
-        self.listed.contains_key(&id)
+        !self.listed.is_empty() && self.listed.contains_key(&id)
     }
 
     /// Writes an alias of the type item as which a definition is listed, by the first imported instance that lists it or in the scope around,

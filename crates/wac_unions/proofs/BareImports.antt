@@ -84,7 +84,7 @@ module _ (c m more : Collection) (x : IsExtended m more) (wf : IsWellFormed m) (
   pub still-once : (t : NamedTypes) (positions : List ℕ) → AreMadeOnce c m es us ps bs f t positions order imports → AreMadeOnce c more es us ps bs f t positions order imports
   still-once t positions o = record {
     made = o.made;
-    are = still_made m more x o.made o.are;
+    are = still_made m more x c t o.made o.are;
     written = record {
       ids = o.written.ids;
       ws = o.written.ws;

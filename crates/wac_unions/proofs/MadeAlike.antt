@@ -1,5 +1,5 @@
 -- What became of one type twice is one type: of value types without handles, of functions of such, and of function types that became the same.
-use Rattle.std.proofs.Common.{◌≡◌, ℕ, List, slice_get, Some, sym, ap, ◌∙◌, subst}
+use Rattle.std.proofs.Common.{◌≡◌, ℕ, List, slice_get, Some, ◌⊎◌, inl, inr, sym, ap, ◌∙◌, subst}
 use Rattle.wac_shapes.specs.declared.component.DefinedType.{DefinedType}
 use Rattle.wac_shapes.specs.declared.component.DefinedType.TheVariants as def
 use Rattle.wac_shapes.specs.declared.component.DefinedTypeId.{DefinedTypeId}
@@ -21,7 +21,7 @@ use Rattle.wac_terms.specs.declared.parts.Union.{Union}
 use Rattle.wac_terms.proofs.Found.{one_some, some_same}
 use Rattle.wac_values.specs.NamedTypes.{named_type}
 use Rattle.wac_values.specs.declared.named.NamedTypes.{NamedTypes}
-use Rattle.wac_renaming.specs.Made.{IsFuncMadeOf, IsKindMadeOf, IsMadeOf, alias, anew, func_outline, other_name, outline, plain}
+use Rattle.wac_renaming.specs.Made.{AreThere, IsFuncMadeFor, IsFuncMadeOf, IsKindMadeOf, IsMadeOf, alias, anew, func_outline, other_name, outline, plain}
 use Rattle.wac_renaming.specs.declared.made.Made.{Made}
 use Rattle.wac_renaming.proofs.MadeForms.{func_made_alike, made_alike}
 use Rattle.wac_renaming.proofs.Outlines.{AreBesideAlike, func_outline_many, func_outline_same, outline_many, outline_same}
@@ -87,23 +87,32 @@ module _ (c : Collection) (t : NamedTypes) (made : Made) where
       defined-of w e into ∙ (ap val.Defined ids ∙ sym (defined-of z g to_this))
 
   module _ (m : Collection) where
-    -- a function type that became the same twice became one
-    pub func-alike : (f g h : FuncTypeId) (one : IsFuncMadeOf c m t made f g) (two : IsFuncMadeOf c m t made f h) → one.after ≡ two.after → g ≡ h
-    func-alike f g h one two same =
-        let (k, of, params, result, found) = one.once in
-        let (l, of_too, params_too, result_too, found_too) = two.once in
-        one_some _ g h found
-        (sym (func_made_alike made l k (of_too ∙ sym of) (params_too ∙ ap (λ (x : FuncType). seconds x.params) (sym same) ∙ sym params) (result_too ∙ ap (λ (x : FuncType). x.result) (sym same) ∙ sym result)) ∙ found_too)
+    -- what was made of a function type is another than it
+    made-another : AreThere m made → (f g h : FuncTypeId) (x y : FuncType) → g ≡ f → item_at m.funcs g.0 ≡ Some x → item_at m.funcs h.0 ≡ Some y → x ≡ y → IsFuncMadeFor made f y h → ⊥
+    made-another are f g h x y itself at_g at_h same (k, of, params, result, found) =
+        let form = are.funcs k h found in
+        form.changed (ap (λ (z : FuncTypeId). item_at m.funcs z.0) (of ∙ sym itself) ∙ at_g ∙ ap Some same ∙ sym at_h ∙ form.is)
 
-    pub func-once : (f g h : FuncTypeId) → ((x : FuncType) → item_at c.funcs f.0 ≡ Some x → (i : ℕ) (v : ValueType) → slice_get (func_values x) i ≡ Some v → HasNoHandle c v) → IsFuncMadeOf c m t made f g → IsFuncMadeOf c m t made f h → g ≡ h
-    func-once f g h none one two =
+    -- a function type that became the same twice became one
+    pub func-alike : AreThere m made → (f g h : FuncTypeId) (one : IsFuncMadeOf c m t made f g) (two : IsFuncMadeOf c m t made f h) → one.after ≡ two.after → g ≡ h
+    func-alike are f g h one two same = by one.once two.once where
+      by : (g ≡ f) ⊎ IsFuncMadeFor made f one.after g → (h ≡ f) ⊎ IsFuncMadeFor made f two.after h → g ≡ h
+      by (inl p) (inl q) = p ∙ sym q
+      by (inl p) (inr q) = absurd (made-another are f g h one.after two.after p one.became two.became same q)
+      by (inr p) (inl q) = absurd (made-another are f h g two.after one.after q two.became one.became (sym same) p)
+      by (inr (k, of, params, result, found)) (inr (l, of_too, params_too, result_too, found_too)) =
+          one_some _ g h found
+          (sym (func_made_alike made l k (of_too ∙ sym of) (params_too ∙ ap (λ (x : FuncType). seconds x.params) (sym same) ∙ sym params) (result_too ∙ ap (λ (x : FuncType). x.result) (sym same) ∙ sym result)) ∙ found_too)
+
+    pub func-once : AreThere m made → (f g h : FuncTypeId) → ((x : FuncType) → item_at c.funcs f.0 ≡ Some x → (i : ℕ) (v : ValueType) → slice_get (func_values x) i ≡ Some v → HasNoHandle c v) → IsFuncMadeOf c m t made f g → IsFuncMadeOf c m t made f h → g ≡ h
+    func-once are f g h none one two =
         let before : two.before ≡ one.before = one_some (item_at c.funcs f.0) two.before one.before two.is one.is in
         let out : func_outline two.after ≡ func_outline one.before = two.outlined ∙ ap func_outline before in
         let values : AreBesideAlike (func_values one.after) (func_values two.after) =
         λ i a b at_a at_b.
         let (r, at_r) = func_outline_many one.after one.before one.outlined i a at_a in
         value-once r a b (none one.before one.is i r at_r) (one.values i r a at_r at_a) (two.values i r b (ap (λ (x : FuncType). slice_get (func_values x) i) before ∙ at_r) at_b) in
-        func-alike f g h one two (func_outline_same one.after two.after (one.outlined ∙ sym out) values)
+        func-alike are f g h one two (func_outline_same one.after two.after (one.outlined ∙ sym out) values)
 
     kind-func : (k l : ItemKind) (f g : FuncTypeId) → func_of k ≡ Some f → func_of l ≡ Some g → IsKindMadeOf c m t made k l → IsFuncMadeOf c m t made f g
     kind-func (kind.Func a) (kind.Func b) f g p q h = subst (λ (x : FuncTypeId). IsFuncMadeOf c m t made x g) (some_same a f p) (subst (λ (x : FuncTypeId). IsFuncMadeOf c m t made a x) (some_same b g q) h)
@@ -126,4 +135,4 @@ module _ (c m : Collection) (es : List Entry) (us : List Union) (ps : List Part)
   one-func a g h x p q at_g at_h =
       let one = mention-func a g p in
       let two = mention-func a h q in
-      func-alike c t once.made m a g h one two (one_some (item_at m.funcs g.0) one.after x one.became at_g ∙ sym (one_some (item_at m.funcs h.0) two.after x two.became at_h))
+      func-alike c t once.made m once.are.there a g h one two (one_some (item_at m.funcs g.0) one.after x one.became at_g ∙ sym (one_some (item_at m.funcs h.0) two.after x two.became at_h))

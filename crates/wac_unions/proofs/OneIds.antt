@@ -202,7 +202,7 @@ module _ (c m : Collection) (es : List Entry) (us : List Union) (ps : List Part)
       let a = made-anew c m t once.made (val.Defined d) (val.Defined e) d e refl refl none (mention-made (val.Defined d) (val.Defined e) before) in
       let same_y : y ≡ a.before = one-some y a.before (sym at ∙ a.is) in
       let (form, n, s, is) = a.made_for in
-      let same_x : x ≡ a.after = one-some x a.after (sym there ∙ once.are.there form e is ∙ ap Some s) in
+      let same_x : x ≡ a.after = one-some x a.after (sym there ∙ once.are.there.defined form e is ∙ ap Some s) in
       a.parts v w (subst (λ (z : DefinedType). AreBeside (defined_values z) (defined_values a.after) v w) same_y (subst (λ (z : DefinedType). AreBeside (defined_values y) (defined_values z) v w) same_x beside))
 
   for-mention : (d a : DefinedTypeId) → Mention (val.Defined d) (val.Defined a) → another c d ≡ None → IsAnew c m t once.made d a
@@ -213,11 +213,11 @@ module _ (c m : Collection) (es : List Entry) (us : List Union) (ps : List Part)
       let (p, np, sp, ip) = (for-mention d a one end_d).made_for in
       let (q, nq, sq, iq) = (for-mention e b other end_e).made_for in
       let named = np ∙ alike ∙ sym nq in
-      let shapes = one-some _ _ (sym (once.are.there p a ip) ∙ at_a ∙ sym at_b ∙ once.are.there q b iq) in
+      let shapes = one-some _ _ (sym (once.are.there.defined p a ip) ∙ at_a ∙ sym at_b ∙ once.are.there.defined q b iq) in
       one-some a b (sym ip ∙ made_alike once.made p q named shapes ∙ iq)
 
   pub apart-named : (d e a : DefinedTypeId) → Mention (val.Defined d) (val.Defined a) → Mention (val.Defined e) (val.Defined a) → another c d ≡ None → another c e ≡ None → named_type t d ≡ named_type t e
   apart-named d e a one other end_d end_e =
       let (p, np, sp, ip) = (for-mention d a one end_d).made_for in
       let (q, nq, sq, iq) = (for-mention e a other end_e).made_for in
-      sym np ∙ once.are.apart p q a ip iq ∙ nq
+      sym np ∙ once.are.apart.one p q a ip iq ∙ nq

@@ -36,7 +36,7 @@ use Rattle.wac_uniting.proofs.UnionLists.{contains_at}
 use Rattle.wac_uses.specs.KeptUses.{instances, uses_of, with_instance}
 use Rattle.wac_uses.specs.Using.{AreUsing, StaysBare}
 use Rattle.wac_values.specs.declared.named.NamedTypes.{NamedTypes}
-use Rattle.wac_renaming.specs.Made.{IsFuncMadeOf, IsKindMadeOf, IsMadeOf}
+use Rattle.wac_renaming.specs.Made.{AreThere, IsFuncMadeOf, IsKindMadeOf, IsMadeOf}
 use Rattle.wac_renaming.specs.declared.made.Made.{Made}
 use Rattle.wac_unions.specs.MergedClasses.{first_id}
 use Rattle.wac_unions.specs.OneId.{AreMadeOnce}
@@ -185,12 +185,12 @@ module _ (c m : Collection) (ps : List Part) (cs : ClassBindings) (f : Fresh) (w
       let here = plain-sort c e.1.kind a.1 (one-sort u e.0 e.1 a.0 a.1 p.0.2 p.0.3 h.0).1 in
       ap (λ b. b || list_any (λ (z : Name × ItemKind). is_instance z.1) ks) here ∙ no-instance u es fs ks p.1 h.1
 
-  module _ (t : NamedTypes) (made : Made) where
+  module _ (t : NamedTypes) (made : Made) (are : AreThere m made) where
     kind-once : (k l a b : ItemKind) → k ≡ l → IsPlainItem c k → AreOneSort k a → AreOneSort l b → IsKindMadeOf c m t made k a → IsKindMadeOf c m t made l b → a ≡ b
     kind-once k l a b same plain (funcs x y kx ay) (funcs g z lg bz) one two =
         let first : IsFuncMadeOf c m t made x y = subst (λ (q : ItemKind). IsKindMadeOf c m t made q (kind.Func y)) kx (subst (IsKindMadeOf c m t made k) ay one) in
         let second : IsFuncMadeOf c m t made x z = subst (λ (q : ItemKind). IsKindMadeOf c m t made q (kind.Func z)) (sym same ∙ kx) (subst (IsKindMadeOf c m t made l) bz two) in
-        ay ∙ (ap kind.Func (func-once c t made m x y z (subst (IsPlainItem c) kx plain) first second) ∙ sym bz)
+        ay ∙ (ap kind.Func (func-once c t made m are x y z (subst (IsPlainItem c) kx plain) first second) ∙ sym bz)
     kind-once k l a b same plain (values x y kx ay) (values g z lg bz) one two =
         let first : IsMadeOf c t made x y = subst (λ (q : ItemKind). IsKindMadeOf c m t made q (kind.TypeItem (ty.Value y))) kx (subst (IsKindMadeOf c m t made k) ay one) in
         let second : IsMadeOf c t made x z = subst (λ (q : ItemKind). IsKindMadeOf c m t made q (kind.TypeItem (ty.Value z))) (sym same ∙ kx) (subst (IsKindMadeOf c m t made l) bz two) in
@@ -300,7 +300,7 @@ module _ (c m : Collection) (es : List Entry) (roots : List (List InterfaceId)) 
       one_some (slice_get ids u) one.1.id a.id one.5 a.named ∙ (sym a.alone.own ∙ (b.alone.own ∙ sym (one_some (slice_get ids v) two.1.id b.id two.5 b.named))) in
       let uses : one.1.uses ≡ two.1.uses = one.4 ∙ sym two.4 in
       let exports : one.1.exports ≡ two.1.exports =
-      items-once c m ps bs f ws t made.made u v a.union.exports b.union.exports one.1.exports two.1.exports (all-plain c roots us ps all.merged.unions i plain ids u v a b) one.6 two.6 items_x items_y in
+      items-once c m ps bs f ws t made.made made.are.there u v a.union.exports b.union.exports one.1.exports two.1.exports (all-plain c roots us ps all.merged.unions i plain ids u v a b) one.6 two.6 items_x items_y in
       let same : one.1 ≡ two.1 = (λ j. record { id = id j; uses = uses j; exports = exports j }) in
       sym is_x ∙ (same ∙ is_y)
 

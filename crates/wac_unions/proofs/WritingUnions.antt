@@ -19,7 +19,7 @@ use Rattle.wac_shapes.specs.declared.component.ValueType.TheVariants as val
 use Rattle.wac_shapes.specs.declared.component.«Type».TheVariants as ty
 use Rattle.wac_shapes.proofs.Names.{find_position}
 use Rattle.wac_terms.specs.Became.{IsNew, became, own_in}
-use Rattle.wac_renaming.specs.Made.{IsFuncMadeOf, IsMadeOf}
+use Rattle.wac_renaming.specs.Made.{AreMade, IsFuncMadeOf, IsMadeOf}
 use Rattle.wac_renaming.specs.RenamedTypes.{AreRenamed, CanRename, CanRenameAll}
 use Rattle.wac_terms.specs.Renaming.{IsExtended, IsRenamed}
 use Rattle.wac_terms.specs.Unions.{AreUnions, IsExport, IsInner, IsPart, listed_under, part_lists, united}
@@ -139,7 +139,7 @@ renamed-alike m memo s t x y z are = record {
   defined = λ d e at.
       along (λ c b p. IsRenamed c m (became c b.parts.now b.bindings.now b.fresh.now p) (ty.Value (val.Defined d)) (ty.Value (val.Defined e))) s t x y z (are.defined d e at);
   funcs = λ f g at. along (λ c b p. IsRenamed c m (became c b.parts.now b.bindings.now b.fresh.now p) (ty.Func f) (ty.Func g)) s t x y z (are.funcs f g at);
-  made = are.made;
+  made = along (λ c b p. AreMade c b.named.now m memo.made) s t x y z are.made;
   once = λ d e at. along (λ c b p. IsMadeOf c b.named.now memo.made (val.Defined d) (val.Defined e)) s t x y z (are.once d e at);
   once_funcs = λ f g at. along (λ c b p. IsFuncMadeOf c m b.named.now memo.made f g) s t x y z (are.once_funcs f g at);
 }

@@ -74,7 +74,7 @@ pub data FuncBecame (c m : Collection) (es imports : List Entry) (us : List Unio
 -- the merged types are those that were made, each once for the named type that it is, and the merged interfaces are shared
 pub record AreMadeOnce (c m : Collection) (es : List Entry) (us : List Union) (ps : List Part) (bs : ClassBindings) (f : Fresh) (t : NamedTypes) (positions order : List ℕ) (imports : List Entry) : Type 0 where
   pub made : Made
-  pub are : AreMade m made
+  pub are : AreMade c t m made
   pub written : AreWrittenImports c m es us ps bs f order imports
   pub shared : AreSharedUnions c m us ps written.ids written.ws
   pub unions : AreUnionsMadeOf c m t made us written.ws

@@ -207,9 +207,9 @@ fn class_kind(
     requires held { holds_type types.now (kind_type entry.now.kind) ≡ true }
     requires known { CanRenameAll merged.old types.now became.now }
     requires given { IsGiven merged.old entry.now.kind (slice_get written.now number) }
-    requires made { AreMade merged.old renamed.old.made }
+    requires made { AreMade types.now became.now.named.now merged.old renamed.old.made }
     ensures extended { IsExtended merged.old merged.new }
-    ensures made { OnOk result (AreMade merged.new renamed.new.made) }
+    ensures made { OnOk result (AreMade types.now became.now.named.now merged.new renamed.new.made) }
     ensures kind { IfOk result (λ k. IsClassKind types.now merged.new became.now.parts.now became.now.bindings.now became.now.fresh.now written.now number entry.now k) }
     ensures once { IfOk result (λ k. IsKindMadeOf types.now merged.new became.now.named.now renamed.new.made entry.now.kind k) }
     ensures stay { OnOk result (StayMade renamed.old.made renamed.new.made) }
@@ -253,9 +253,9 @@ fn class_imports(
     requires given { (i k : ℕ) (class : AName) (e : AnEntry) → slice_get entries.now i ≡ Some e → slice_get (class_names by_names entries.now) k ≡ Some class → same_class by_names entries.now class e.name ≡ true → IsGiven merged.old e.kind (slice_get written.now k) }
     requires each { (k : ℕ) → Contains order.now k → k < length (class_names by_names entries.now) }
     requires once { (i j k : ℕ) → slice_get order.now i ≡ Some k → slice_get order.now j ≡ Some k → i ≡ j }
-    requires made { AreMade merged.old renamed.old.made }
+    requires made { AreMade types.now became.now.named.now merged.old renamed.old.made }
     ensures extended { IsExtended merged.old merged.new }
-    ensures made { OnOk result (AreMade merged.new renamed.new.made) }
+    ensures made { OnOk result (AreMade types.now became.now.named.now merged.new renamed.new.made) }
     ensures imports { IfOk result (λ is. AreImports types.now merged.new entries.now became.now.parts.now became.now.bindings.now became.now.fresh.now written.now order.now (import_entries is)) }
     ensures once { IfOk result (λ is. AreImportsMadeOf types.now merged.new became.now.named.now renamed.new.made entries.now classes.now.positions.items order.now (import_entries is)) }
     ensures stay { OnOk result (StayMade renamed.old.made renamed.new.made) }

@@ -175,7 +175,7 @@ fn write_export(
 fn begin(renamed: &mut Renamed, part: &mut Option<usize>, next: usize)
     ensures part { part.new ≡ Some next }
     ensures made { renamed.new.made ≡ renamed.old.made }
-    ensures right { (c m : Collection) (b : ABecame) → AreMade m renamed.old.made → AreRenamedIn c m b part.old renamed.old → AreRenamedIn c m b part.new renamed.new }
+    ensures right { (c m : Collection) (b : ABecame) → AreMade c b.named.now m renamed.old.made → AreRenamedIn c m b part.old renamed.old → AreRenamedIn c m b part.new renamed.new }
 {
     if *part != Some(next) {
         renamed.forget();
@@ -212,9 +212,9 @@ fn write_exports<'a>(
     union: usize,
 ) -> Result<Named<ItemKind>, AllocError>
     requires writing { CanWrite types.now merged.old unions.now.unions.items became.now written.now union }
-    requires made { AreMade merged.old renamed.old.made }
+    requires made { AreMade types.now became.now.named.now merged.old renamed.old.made }
     ensures extended { IsExtended merged.old merged.new }
-    ensures made { OnOk result (AreMade merged.new renamed.new.made) }
+    ensures made { OnOk result (AreMade types.now became.now.named.now merged.new renamed.new.made) }
     ensures written { IfOk result (λ ks. (x : AUnion) → slice_get unions.now.unions.items union ≡ Some x → AreWrittenItems types.now merged.new became.now (length unions.now.unions.items) written.now union x.exports ks) }
     ensures once { IfOk result (λ ks. (x : AUnion) → slice_get unions.now.unions.items union ≡ Some x → AreItemsMadeOf types.now merged.new became.now.named.now renamed.new.made x.exports ks) }
     ensures stay { OnOk result (StayMade renamed.old.made renamed.new.made) }
@@ -282,10 +282,10 @@ fn write_union<'a>(
 ) -> Result<InterfaceId, AllocError>
     requires writing { CanWrite types.now merged.old unions.now.unions.items became.now written.now union }
     requires parts { became.now.parts.now ≡ unions.now.parts.items }
-    requires made { AreMade merged.old renamed.old.made }
+    requires made { AreMade types.now became.now.named.now merged.old renamed.old.made }
     requires there { (i v : AnId) → first_in shared.old i ≡ Some v → HasInterface merged.old v }
     ensures extended { IsExtended merged.old merged.new }
-    ensures made { OnOk result (AreMade merged.new renamed.new.made) }
+    ensures made { OnOk result (AreMade types.now became.now.named.now merged.new renamed.new.made) }
     ensures shared { IfOk result (λ w. (x : AUnion) → slice_get unions.now.unions.items union ≡ Some x → Shares (IsAloneIn types.now unions.now.parts.items (option_map string_bytes id.now) x.parts.items) merged.old merged.new (first_in shared.old) (first_in shared.new) w) }
     ensures written { IfOk result (λ w. (x : AUnion) → slice_get unions.now.unions.items union ≡ Some x → IsWrittenUnion types.now merged.new became.now (length unions.now.unions.items) written.now union x (option_map string_bytes id.now) w) }
     ensures once { IfOk result (λ w. (x : AUnion) → slice_get unions.now.unions.items union ≡ Some x → IsUnionMadeOf types.now merged.new became.now.named.now renamed.new.made x w) }
@@ -315,9 +315,9 @@ pub fn write_unions<'a>(
     requires counted { length ids.now ≡ length unions.now.unions.items }
     requires fresh { AreFresh types.now unions.now.unions.items became.now.bindings.now became.now.fresh.now merged.old }
     requires known { CanRenameAll merged.old types.now became.now }
-    requires made { AreMade merged.old renamed.old.made }
+    requires made { AreMade types.now became.now.named.now merged.old renamed.old.made }
     ensures extended { IsExtended merged.old merged.new }
-    ensures made { OnOk result (AreMade merged.new renamed.new.made) }
+    ensures made { OnOk result (AreMade types.now became.now.named.now merged.new renamed.new.made) }
     ensures written { IfOk result (λ ws. AreWritten types.now merged.new unions.now.unions.items unions.now.parts.items became.now.bindings.now became.now.fresh.now (map (option_map string_bytes) ids.now) ws.items) }
     ensures shared { IfOk result (λ ws. AreSharedUnions types.now merged.new unions.now.unions.items unions.now.parts.items (map (option_map string_bytes) ids.now) ws.items) }
     ensures once { IfOk result (λ ws. AreUnionsMadeOf types.now merged.new became.now.named.now renamed.new.made unions.now.unions.items ws.items) }

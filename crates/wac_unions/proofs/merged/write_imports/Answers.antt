@@ -3,6 +3,7 @@ use Rattle.std.specs.Option.{option_map}
 use Rattle.std.proofs.lemmas.Result.{IfOk-weaker}
 use Rattle.wac_terms.specs.Merge.{import_entries}
 use Rattle.wac_terms.specs.Writing.{AreWritten}
+use Rattle.wac_renaming.specs.Made.{AreMade}
 use Rattle.wac_unions.specs.MergedClasses.{AreImports}
 use Rattle.wac_unions.specs.WritingSteps.{AreImportsMadeOf, IsUnionMadeOf}
 use Rattle.wac_unions.proofs.AssembledMerge.{still-written-all, written-given}
@@ -76,7 +77,7 @@ returns-clause-once c =
     if-four c.class_imports.result
     (λ are stay is imported once. record {
       made = made;
-      are = are;
+      are = by-basis (λ p bs f n. AreMade t n m made) x c.args.bindings.now b c.became-became.ensures are;
       written = record {
         ids = ids;
         ws = c.as_slice-written.result.now;
@@ -93,3 +94,6 @@ returns-clause-once c =
       imported = by-basis (λ p bs f n. AreImportsMadeOf t m n made es c.args.classes.now.positions.items c.args.order.now (import_entries is)) x c.args.bindings.now b c.became-became.ensures once;
     })
     c.class_imports.ensures.made c.class_imports.ensures.stay c.class_imports.ensures.imports c.class_imports.ensures.once
+
+pub write_unions-requires-clause-made : goal.write_unions-requires-clause-made
+write_unions-requires-clause-made c = c.new-memo.ensures.made c.args.types.now c.args.merged.now c.became-became.result.named.now

@@ -5,7 +5,9 @@ use Rattle.wac_primitives.specs.Name.{Name}
 use Rattle.wac_shapes.specs.Named.{names_of}
 use Rattle.wac_shapes.specs.declared.component.ItemKind.{ItemKind}
 use Rattle.wac_shapes.proofs.Names.{find_name-at, none_before, take_at}
-use Rattle.wac_renaming.specs.Made.{StayMade}
+use Rattle.wac_collection.specs.Collection.{Collection}
+use Rattle.wac_renaming.specs.Made.{AreMade, StayMade}
+use Rattle.wac_renaming.specs.declared.became.Became.{Became}
 use Rattle.wac_renaming.specs.declared.made.Made.{Made}
 use Rattle.wac_renaming.proofs.OneIds.{stay_twice}
 use Rattle.wac_unions.specs.WritingSteps.{AreItemsMadeOf, AreWrittenItems}
@@ -28,7 +30,9 @@ loop-i-init c =
     let count = length c.args.unions.now.unions.items in
     record {
       extended = extended_none m;
-      right = λ s p q r. c.forget.ensures.right m s c.requires.made;
+      right = λ s p q r.
+          let memo = c.args.renamed.now.made in
+          c.forget.ensures.right m s (subst (λ (a : Collection). AreMade a s.became.now.named.now m memo) (sym p) (subst (λ (z : Became). AreMade t z.named.now m memo) (sym q) c.requires.made));
       written = subst (λ (ks : List (Name × ItemKind)). AreWrittenItems t m b count c.args.written.now c.args.union [] ks) (sym c.in_ok-items.ensures.empty) (items-none t m b count c.args.written.now c.args.union);
       once = subst (λ (ks : List (Name × ItemKind)). AreItemsMadeOf t m b.named.now c.forget.new.self.made [] ks) (sym c.in_ok-items.ensures.empty) tt;
       stay = subst (StayMade c.args.renamed.now.made) (sym c.forget.ensures.made) (λ f e is. is);

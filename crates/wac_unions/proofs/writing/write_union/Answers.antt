@@ -51,7 +51,7 @@ returns-clause-extended c = extended_twice c.args.merged.now c.write_exports.new
 
 pub returns-clause-made : goal.returns-clause-made
 returns-clause-made c =
-    always c.write.result (still_made c.write_exports.new.merged c.write.new.merged c.write.ensures.extended c.write_exports.new.renamed.made c.in_ok-exports.ensures.made)
+    always c.write.result (still_made c.write_exports.new.merged c.write.new.merged c.write.ensures.extended c.args.types.now c.args.became.now.named.now c.write_exports.new.renamed.made c.in_ok-exports.ensures.made)
 
 pub returns-clause-written : goal.returns-clause-written
 returns-clause-written c =

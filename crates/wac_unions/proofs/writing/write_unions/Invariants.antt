@@ -13,7 +13,7 @@ use Rattle.wac_unions.proofs.writing.write_unions.Given as goal
 abbrev pub invariant-loop-done : goal.invariant-loop-done
 invariant-loop-done l = record {
   extended : IsExtended l.initial.merged l.merged;
-  made : AreMade l.merged l.renamed.made;
+  made : AreMade l.types l.became.named.now l.merged l.renamed.made;
   counted : length l.written.items ≡ l.done;
   held : (j : ℕ) (w : InterfaceId) → slice_get l.written.items j ≡ Some w → HasInterface l.merged w;
   once : (j u : ℕ) (w : InterfaceId) (x : Union) → slice_get l.written.items j ≡ Some w → j + u + 1 ≡ length l.unions.unions.items → slice_get l.unions.unions.items u ≡ Some x → IsUnionMadeOf l.types l.merged l.became.named.now l.renamed.made x w;

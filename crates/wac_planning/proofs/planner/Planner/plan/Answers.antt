@@ -10,15 +10,15 @@ use Rattle.wac_planning.proofs.planner.Planner.plan.Goals as goal
 
 pub enter-requires-clause-grown : goal.enter-requires-clause-grown
 enter-requires-clause-grown c =
-    let g : Growing = record { places = c.new.result; named = c.new-2.result; visits = c.new-3.result } in
-    ([], grown-none c.args.self.now.types.now c.args.self.now.around.now g c.new.ensures.items (λ d. ap (λ es. lookup (λ b. nat_eq d.0 b.0) es) c.new-2.ensures.empty), refl, tt)
+    let g : Growing = record { places = c.new.result; named = c.with_hasher.result; visits = c.new-3.result } in
+    ([], grown-none c.args.self.now.types.now c.args.self.now.around.now g c.new.ensures.items (λ d. ap (λ es. lookup (λ b. nat_eq d.0 b.0) es) c.with_hasher.ensures.empty), refl, tt)
 
 pub loop-visit-init : goal.loop-visit-init
 loop-visit-init c =
     let t = c.args.self.now.types.now in
     let s = c.args.self.now.around.now in
-    let g : Growing = record { places = c.new.result; named = c.new-2.result; visits = c.new-3.result } in
-    let grown = grown-none t s g c.new.ensures.items (λ d. ap (λ es. lookup (λ b. nat_eq d.0 b.0) es) c.new-2.ensures.empty) in
+    let g : Growing = record { places = c.new.result; named = c.with_hasher.result; visits = c.new-3.result } in
+    let grown = grown-none t s g c.new.ensures.items (λ d. ap (λ es. lookup (λ b. nat_eq d.0 b.0) es) c.with_hasher.ensures.empty) in
     going-starts t c.law.ensures s c.args.interface g c.enter.new.growing c.requires c.new.ensures.items c.new-3.ensures.items (c.in_ok-enter.ensures [] grown refl tt)
 
 pub visit-requires : goal.visit-requires

@@ -2,9 +2,8 @@ use Rattle.std.proofs.Common.{Some, refl, sym, ◌∙◌, ap, arith}
 use Rattle.wac_collection.specs.Collection.{defined_values}
 use Rattle.wac_shapes.specs.declared.component.DefinedTypeId.{DefinedTypeId}
 use Rattle.wac_renaming.specs.Shapes.{shape_view}
-use Rattle.wac_renaming.specs.declared.made.Form.{Form}
-use Rattle.wac_renaming.proofs.Extending.{extended_none, still_made}
-use Rattle.wac_renaming.proofs.MadeForms.{made_alike, made_too, put_stays, put_there}
+use Rattle.wac_renaming.proofs.Extending.{extended_none, still_defined, still_there}
+use Rattle.wac_renaming.proofs.MadeForms.{apart_too, made_alike, put_stays, put_there, there_too}
 use Rattle.wac_renaming.proofs.RenamingLoops.{defined_behind, memory_alone}
 use Rattle.wac_renaming.proofs.RenamingTrees.{within_held}
 use Rattle.wac_renaming.proofs.made.Made.make.Goals as goal
@@ -14,10 +13,10 @@ returns-in-Some-clause-extended c = extended_none c.args.merged.now
 
 pub returns-in-Some-clause-added : goal.returns-in-Some-clause-added
 returns-in-Some-clause-added c =
-    let form : Form = record { named = c.args.named; shape = c.in_ok-shape.shape } in
+    let form = c.in_ok-form.form in
     record {
       extended = extended_none c.args.merged.now;
-      there = c.requires.made.there form c.in-Some.id (sym c.get.ensures ∙ c.in-Some.is) ∙ ap Some c.in_ok-shape.ensures;
+      there = c.requires.made.defined form c.in-Some.id (sym c.get.ensures ∙ c.in-Some.is) ∙ ap Some c.in_ok-form.ensures.shape;
     }
 
 pub out_of_memory-requires : goal.out_of_memory-requires
@@ -35,32 +34,40 @@ returns-in_ok-put-in-Ok-clause-added c = defined_behind c.args.merged.now c.add_
 pub returns-in_ok-put-in-Ok-clause-made : goal.returns-in_ok-put-in-Ok-clause-made
 returns-in_ok-put-in-Ok-clause-made c =
     let new = c.add_defined_type.new.self in
-    let form : Form = record { named = c.args.named; shape = c.in_ok-shape.shape } in
+    let form = c.in_ok-form.form in
     let behind = defined_behind c.args.merged.now new c.args.definition c.in-Ok.id c.growth_keeps_trees.ensures c.in-Ok.ensures.added.0 c.in-Ok.ensures.added.1 in
-    made_too new c.args.self.now c.put.new.self form c.in-Ok.id c.in_ok-put-in-Ok.ensures (still_made c.args.merged.now new behind.extended c.args.self.now c.requires.made) (behind.there ∙ sym (ap Some c.in_ok-shape.ensures))
-    (λ k is. let low = within_held c.args.merged.now.defined c.in-Ok.id.0 (shape_view k.shape) (c.requires.made.there k c.in-Ok.id is) in let at = c.in-Ok.ensures.added.0 in omega (arith, low, at))
+    there_too c.args.self.now c.put.new.self form c.in-Ok.id c.in_ok-put-in-Ok.ensures new (still_there c.args.merged.now new behind.extended c.args.self.now c.requires.made) (behind.there ∙ sym (ap Some c.in_ok-form.ensures.shape))
+
+pub returns-in_ok-put-in-Ok-clause-apart : goal.returns-in_ok-put-in-Ok-clause-apart
+returns-in_ok-put-in-Ok-clause-apart c first t begins apart =
+    let m = c.args.merged.now in
+    let form = c.in_ok-form.form in
+    let at = c.in-Ok.ensures.added.0 in
+    apart_too c.args.self.now c.put.new.self form c.in-Ok.id c.in_ok-put-in-Ok.ensures first t apart
+    (λ k is. let low = within_held m.defined c.in-Ok.id.0 (shape_view k.shape) (c.requires.made.defined k c.in-Ok.id is) in absurd (omega (arith, low, at)))
+    (λ held. let low = still_defined first m begins c.in-Ok.id held in absurd (omega (arith, low, at)))
 
 pub returns-in-Some-clause-once : goal.returns-in-Some-clause-once
 returns-in-Some-clause-once c f n v =
-    let form : Form = record { named = c.args.named; shape = c.in_ok-shape.shape } in
-    made_alike c.args.self.now f form n (v ∙ sym c.in_ok-shape.ensures) ∙ sym c.get.ensures ∙ c.in-Some.is
+    let form = c.in_ok-form.form in
+    made_alike c.args.self.now f form (n ∙ sym c.in_ok-form.ensures.named) (v ∙ sym c.in_ok-form.ensures.shape) ∙ sym c.get.ensures ∙ c.in-Some.is
 
 pub returns-in_ok-put-in-Ok-clause-once : goal.returns-in_ok-put-in-Ok-clause-once
 returns-in_ok-put-in-Ok-clause-once c f n v =
-    let form : Form = record { named = c.args.named; shape = c.in_ok-shape.shape } in
-    put_there c.args.self.now c.put.new.self form c.in-Ok.id c.in_ok-put-in-Ok.ensures f n (v ∙ sym c.in_ok-shape.ensures)
+    let form = c.in_ok-form.form in
+    put_there c.args.self.now c.put.new.self form c.in-Ok.id c.in_ok-put-in-Ok.ensures f (n ∙ sym c.in_ok-form.ensures.named) (v ∙ sym c.in_ok-form.ensures.shape)
 
 pub returns-in_ok-put-in-Ok-clause-stay : goal.returns-in_ok-put-in-Ok-clause-stay
 returns-in_ok-put-in-Ok-clause-stay c =
-    let form : Form = record { named = c.args.named; shape = c.in_ok-shape.shape } in
-    put_stays c.args.self.now c.put.new.self form c.in-Ok.id c.in_ok-put-in-Ok.ensures (λ e is. c.in_default.not-Some e (c.get.ensures ∙ is))
+    let form = c.in_ok-form.form in
+    put_stays c.args.self.now c.put.new.self form c.in-Ok.id c.in_ok-put-in-Ok.ensures (λ e is. absurd (c.in_default.not-Some e (c.get.ensures ∙ is)))
 
 pub returns-in-Some-clause-named : goal.returns-in-Some-clause-named
 returns-in-Some-clause-named c =
-    let form : Form = record { named = c.args.named; shape = c.in_ok-shape.shape } in
-    (form, refl, c.in_ok-shape.ensures, sym c.get.ensures ∙ c.in-Some.is)
+    let form = c.in_ok-form.form in
+    (form, c.in_ok-form.ensures.named, c.in_ok-form.ensures.shape, sym c.get.ensures ∙ c.in-Some.is)
 
 pub returns-in_ok-put-in-Ok-clause-named : goal.returns-in_ok-put-in-Ok-clause-named
 returns-in_ok-put-in-Ok-clause-named c =
-    let form : Form = record { named = c.args.named; shape = c.in_ok-shape.shape } in
-    (form, refl, c.in_ok-shape.ensures, put_there c.args.self.now c.put.new.self form c.in-Ok.id c.in_ok-put-in-Ok.ensures form refl refl)
+    let form = c.in_ok-form.form in
+    (form, c.in_ok-form.ensures.named, c.in_ok-form.ensures.shape, put_there c.args.self.now c.put.new.self form c.in-Ok.id c.in_ok-put-in-Ok.ensures form refl refl)

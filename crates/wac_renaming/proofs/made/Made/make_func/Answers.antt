@@ -1,8 +1,8 @@
 use Rattle.std.proofs.Common.{refl, sym, ◌∙◌}
 use Rattle.wac_renaming.specs.Made.{IsOfForm}
 use Rattle.wac_renaming.specs.declared.made.FuncForm.{FuncForm}
-use Rattle.wac_renaming.proofs.Extending.{extended_none, kept_item, still_made}
-use Rattle.wac_renaming.proofs.MadeForms.{func_made_too, func_put_stays, func_there, is_of_form}
+use Rattle.wac_renaming.proofs.Extending.{extended_none, kept_item, still_changed, still_there}
+use Rattle.wac_renaming.proofs.MadeForms.{func_apart_too, func_put_stays, func_there, func_there_too, is_of_form}
 use Rattle.wac_renaming.proofs.made.Made.make_func.Goals as goal
 
 pub returns-in-Some-clause-extended : goal.returns-in-Some-clause-extended
@@ -32,10 +32,16 @@ returns-clause-made c =
       after = c.args.func;
       is = c.in_ok-id.ensures.added.there;
       alike = (b, kept_item old.funcs new.funcs x.kept.funcs c.args.of.0 b at, alike);
+      changed = still_changed old new x c.args.of b c.args.func at c.requires.changed;
       params = sym c.in_ok-params.ensures;
       result = refl;
     } in
-    func_made_too new c.args.self.now c.put_func.new.self k c.in_ok-id.id c.in_ok-put_func.ensures (still_made old new x c.args.self.now c.requires.made) of
+    func_there_too new c.args.self.now c.put_func.new.self k c.in_ok-id.id c.in_ok-put_func.ensures (still_there old new x c.args.self.now c.requires.made) of
+
+pub returns-clause-apart : goal.returns-clause-apart
+returns-clause-apart c first t apart =
+    let k : FuncForm = record { func = c.args.of; params = c.in_ok-params.params; result = c.args.func.result } in
+    func_apart_too c.args.merged.now c.args.self.now c.put_func.new.self k c.in_ok-id.id c.in_ok-put_func.ensures first t apart
 
 pub returns-clause-once : goal.returns-clause-once
 returns-clause-once c =

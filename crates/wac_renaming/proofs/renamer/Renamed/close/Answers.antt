@@ -4,49 +4,72 @@ use Rattle.wac_collection.specs.Collection.{defined_values}
 use Rattle.wac_shapes.specs.declared.component.DefinedType.TheVariants as def
 use Rattle.wac_shapes.specs.declared.component.ValueType.{ValueType}
 use Rattle.wac_shapes.specs.declared.component.ValueType.TheVariants as val
-use Rattle.wac_renaming.specs.RenamedTypes.{AreRenamed, becomes}
-use Rattle.wac_renaming.specs.Made.{IsMadeFor, IsMadeOf, alias, anew}
-use Rattle.wac_renaming.specs.RenamingSteps.{AreReady, IsRenamedIn, IsRenamedValue}
+use Rattle.wac_renaming.specs.RenamedTypes.{becomes}
+use Rattle.wac_renaming.specs.Made.{IsMadeFor, IsMadeOf, alias}
+use Rattle.wac_renaming.specs.RenamingSteps.{AreReady, HaveOneShape, IsBecome, IsRenamedIn, IsRenamedValue}
 use Rattle.wac_renaming.specs.declared.renamer.Renamed.{Renamed}
 use Rattle.wac_entries.proofs.TaskLemmas.{defined_values_hold}
-use Rattle.wac_renaming.proofs.OneIds.{shape_pairs, still_of}
-use Rattle.wac_renaming.proofs.Outlines.{outlined}
-use Rattle.wac_renaming.proofs.RenamingMemo.{defined_closed, defined_put, more_put, still_with}
+use Rattle.wac_renaming.proofs.Extending.{extended_none, kept_item}
+use Rattle.wac_renaming.proofs.RenamingMemo.{closed, defined_put, more_put}
 use Rattle.wac_renaming.proofs.RenamingShapes.{shape_more}
 use Rattle.wac_renaming.proofs.RenamingTrees.{alias_renamed, shape_held}
+use Rattle.wac_renaming.proofs.Staying.{become_renamed, shape_stays}
 use Rattle.wac_renaming.proofs.renamer.Renamed.close.Goals as goal
 
 pub definition-requires-clause-held : goal.definition-requires-clause-held
 definition-requires-clause-held c = defined_values_hold c.args.renaming.now.types.now c.law.ensures c.args.id c.index-definition.result.now c.index-definition.ensures
 
+pub definition_stays-requires-clause-held : goal.definition_stays-requires-clause-held
+definition_stays-requires-clause-held c = defined_values_hold c.args.renaming.now.types.now c.law.ensures c.args.id c.index-definition.result.now c.index-definition.ensures
+
 pub make-requires-clause-held : goal.make-requires-clause-held
 make-requires-clause-held c =
     let s = c.args.renaming.now in
-    shape_held s.types.now c.args.merged.now (becomes s) c.index-definition.result.now c.in_ok-definition.definition
-    (shape_more (IsRenamedIn s c.args.merged.now c.args.self.now.made) (IsRenamedValue s.types.now c.args.merged.now (becomes s)) (λ v w r. r.0) c.index-definition.result.now c.in_ok-definition.definition c.in_ok-definition.ensures)
+    let m = c.args.merged.now in
+    let memo = c.args.self.now in
+    shape_held s.types.now m (becomes s) c.index-definition.result.now c.in_ok-definition.definition
+    (shape_more (IsBecome s memo) (IsRenamedValue s.types.now m (becomes s)) (λ v w r. (become_renamed s m memo c.requires.known c.requires.right v w r).0) c.index-definition.result.now c.in_ok-definition.definition c.in_ok-definition.ensures)
+
+pub make-requires-clause-made : goal.make-requires-clause-made
+make-requires-clause-made c = c.requires.right.made.there
 
 pub returns-clause-right : goal.returns-clause-right
 returns-clause-right c =
     let s = c.args.renaming.now in
     let old = c.args.merged.now in
     let new = c.make.new.merged in
-    let behind = c.in_ok-became.ensures.added in
-    let mid : Renamed = record { defined = c.args.self.now.defined; funcs = c.args.self.now.funcs; made = c.make.new.self } in
-    let t = s.became.now.named.now in
-    let stay = c.in_ok-became.ensures.stay in
+    let memo = c.args.self.now in
+    let made = c.in_ok-became.ensures in
     let x = c.index-definition.result.now in
     let y = c.in_ok-definition.definition in
-    let made : AreRenamed new s mid = still_with s old new behind.extended c.args.self.now c.make.new.self stay c.in_ok-became.ensures.made c.requires.right in
-    let once : IsMadeOf s.types.now t c.make.new.self (val.Defined c.args.id) (val.Defined c.in_ok-became.became) =
-    anew (val.Defined c.args.id) (val.Defined c.in_ok-became.became) c.args.id c.in_ok-became.became x y refl refl c.index-definition.ensures (sym c.alias_end.ensures.named ∙ c.in_default.is)
-    (subst (λ n. IsMadeFor c.make.new.self n y c.in_ok-became.became) c.of-named.ensures c.in_ok-became.ensures.named)
-    (outlined (IsRenamedIn s old c.args.self.now.made) x y c.in_ok-definition.ensures)
-    (λ i a b p q. still_of s.types.now t c.args.self.now.made c.make.new.self stay a b (shape_pairs (IsRenamedIn s old c.args.self.now.made) x y c.in_ok-definition.ensures i a b p q).1) in
-    defined_put s new mid c.put_defined-2.new.self c.args.id c.in_ok-became.became c.put_defined-2.result c.put_defined-2.ensures made (
-      defined_closed s old new (record { named = c.trees_are_whole.ensures.named; placed = c.trees_are_whole.ensures.placed }) (record { named = c.trees_are_whole-2.ensures.named; placed = c.trees_are_whole-2.ensures.placed }) c.args.self.now.made
-          c.args.id c.in_ok-became.became x y c.index-definition.ensures behind c.in_ok-definition.ensures,
-      once,
-    )
+    let R = IsRenamedIn s old memo.made in
+    let shape : HaveOneShape R x y = shape_more (IsBecome s memo) R (become_renamed s old memo c.requires.known c.requires.right) x y c.in_ok-definition.ensures in
+    closed s old new (record { named = c.trees_are_whole.ensures.named; placed = c.trees_are_whole.ensures.placed }) (record { named = c.trees_are_whole-2.ensures.named; placed = c.trees_are_whole-2.ensures.placed }) memo c.make.new.self c.put_defined-2.new.self
+    c.args.id c.in_ok-became.became x y c.index-definition.ensures (sym c.alias_end.ensures.named ∙ c.in_default.is) made.added
+    (subst (λ n. IsMadeFor c.make.new.self n y c.in_ok-became.became) c.of-named.ensures made.named) made.stay made.made (made.apart s.types.now s.became.now.named.now c.requires.known.extended c.requires.right.made.apart) shape c.requires.right
+    c.put_defined-2.result c.put_defined-2.ensures
+
+pub keep-requires-clause-there : goal.keep-requires-clause-there
+keep-requires-clause-there c = kept_item c.args.renaming.now.types.now.defined c.args.merged.now.defined c.requires.known.extended.kept.defined c.args.id.0 c.index-definition.result.now c.index-definition.ensures
+
+pub keep-requires-clause-made : goal.keep-requires-clause-made
+keep-requires-clause-made c = c.requires.right.made.there
+
+pub returns-then-definition_stays-clause-right : goal.returns-then-definition_stays-clause-right
+returns-then-definition_stays-clause-right c =
+    let s = c.args.renaming.now in
+    let m = c.args.merged.now in
+    let memo = c.args.self.now in
+    let made = c.in_ok-kept.ensures in
+    let x = c.index-definition.result.now in
+    let R = IsRenamedIn s m memo.made in
+    let held = defined_values_hold s.types.now c.law.ensures c.args.id x c.index-definition.ensures in
+    let stay = c.definition_stays.ensures.0 c.if-definition_stays.true in
+    let shape : HaveOneShape R x x = shape_more (IsBecome s memo) R (become_renamed s m memo c.requires.known c.requires.right) x x (shape_stays s memo x held stay) in
+    closed s m m (record { named = c.trees_are_whole.ensures.named; placed = c.trees_are_whole.ensures.placed }) (record { named = c.trees_are_whole-then-definition_stays.ensures.named; placed = c.trees_are_whole-then-definition_stays.ensures.placed }) memo c.keep.new.self c.put_defined-then-definition_stays.new.self
+    c.args.id c.in_ok-kept.kept x x c.index-definition.ensures (sym c.alias_end.ensures.named ∙ c.in_default.is) (record { extended = extended_none m; there = made.there })
+    (subst (λ n. IsMadeFor c.keep.new.self n x c.in_ok-kept.kept) c.of-named.ensures made.named) made.stay made.made (made.apart s.types.now s.became.now.named.now c.requires.held c.of-named.ensures c.requires.right.made.apart) shape c.requires.right
+    c.put_defined-then-definition_stays.result c.put_defined-then-definition_stays.ensures
 
 pub unwrap-became-requires : goal.unwrap-became-requires
 unwrap-became-requires c =
@@ -70,6 +93,11 @@ pub returns-clause-more : goal.returns-clause-more
 returns-clause-more c =
     let mid : Renamed = record { defined = c.args.self.now.defined; funcs = c.args.self.now.funcs; made = c.make.new.self } in
     more_put c.args.self.now mid c.put_defined-2.new.self c.args.id c.in_ok-became.became refl c.in_ok-became.ensures.stay c.put_defined-2.result c.put_defined-2.ensures
+
+pub returns-then-definition_stays-clause-more : goal.returns-then-definition_stays-clause-more
+returns-then-definition_stays-clause-more c =
+    let mid : Renamed = record { defined = c.args.self.now.defined; funcs = c.args.self.now.funcs; made = c.keep.new.self } in
+    more_put c.args.self.now mid c.put_defined-then-definition_stays.new.self c.args.id c.in_ok-kept.kept refl c.in_ok-kept.ensures.stay c.put_defined-then-definition_stays.result c.put_defined-then-definition_stays.ensures
 
 pub returns-in-Some-clause-more : goal.returns-in-Some-clause-more
 returns-in-Some-clause-more c = more_put c.args.self.now c.args.self.now c.put_defined.new.self c.args.id c.unwrap-became.result refl (λ f e is. is) c.put_defined.result c.put_defined.ensures

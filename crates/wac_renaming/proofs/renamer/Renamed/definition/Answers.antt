@@ -1,13 +1,13 @@
 use Rattle.std.proofs.Common.{ap, sym, ◌∙◌, subst}
 use Rattle.wac_shapes.specs.declared.component.DefinedType.{DefinedType}
 use Rattle.wac_shapes.specs.declared.component.DefinedType.TheVariants as def
-use Rattle.wac_renaming.specs.RenamingSteps.{HaveOneShape, IsRenamedIn, aliases, enums, fixed_lists, flags, futures, lists, options, records, results, streams, variants}
+use Rattle.wac_renaming.specs.RenamingSteps.{HaveOneShape, IsBecome, aliases, enums, fixed_lists, flags, futures, lists, options, records, results, streams, variants}
 use Rattle.wac_renaming.proofs.renamer.Renamed.definition.Goals as goal
 use Rattle.wac_renaming.proofs.renamer.Renamed.definition.Goals.{in-Tuple+in_ok-renamed-in-Tuple, in-List, in-FixedSizeList, in-Option, in-Result, in-Variant+in_ok-cases-in-Variant, in-Record+in_ok-fields-in-Record, in-Flags+in_ok-copied-in-Flags, in-Enum+in_ok-copied-in-Enum, in-Alias, in-Stream, in-Future}
 
 pub returns : goal.returns
 returns c =
-    let R = IsRenamedIn c.args.renaming.now c.args.merged.now c.args.self.now.made in
+    let R = IsBecome c.args.renaming.now c.args.self.now in
     elim c.match-definition.branch [
       | in-Tuple+in_ok-renamed-in-Tuple w ↦
           subst (λ (e : DefinedType). HaveOneShape R c.args.definition.now e) (sym w.renamed-is)

@@ -1,6 +1,6 @@
 use Rattle.std.proofs.Common.{take}
-use Rattle.wac_renaming.specs.RenamingSteps.{FieldsGoTogether, IsRenamedIn}
+use Rattle.wac_renaming.specs.RenamingSteps.{FieldsGoTogether, IsBecome}
 use Rattle.wac_renaming.proofs.renamer.Renamed.fields.Given as goal
 
 abbrev pub invariant-loop-i : goal.invariant-loop-i
-invariant-loop-i l = FieldsGoTogether (IsRenamedIn l.renaming l.merged l.self.made) (take l.i l.fields) l.renamed
+invariant-loop-i l = FieldsGoTogether (IsBecome l.renaming l.self) (take l.i l.fields) l.renamed

@@ -3,7 +3,7 @@ use Rattle.std.proofs.Common.{◌≡◌, List, Result, Ok, Err, IfOk, refl, sym,
 use Rattle.wac_shapes.specs.declared.component.DefinedType.{DefinedType}
 use Rattle.wac_shapes.specs.declared.component.DefinedType.TheVariants as def
 use Rattle.wac_shapes.specs.declared.component.ValueType.{ValueType}
-use Rattle.wac_renaming.specs.RenamingSteps.{HaveOneShape, IsRenamedIn, tuples}
+use Rattle.wac_renaming.specs.RenamingSteps.{HaveOneShape, IsBecome, tuples}
 use Rattle.wac_renaming.proofs.renamer.Renamed.tuple.Goals as goal
 
 -- a tuple of parts that go together
@@ -13,6 +13,6 @@ tuple-ok R vs ws (Err e) zip is = tt
 
 pub returns : goal.returns
 returns c =
-    let R = IsRenamedIn c.args.renaming.now c.args.merged.now c.args.self.now.made in
+    let R = IsBecome c.args.renaming.now c.args.self.now in
     let slice = c.as_slice.result.now in
     tuple-ok R c.args.values.now slice c.tuple.result (subst (λ (ws : List ValueType). AllZip R c.args.values.now ws) (sym c.as_slice.ensures.value) c.in_ok-parts.ensures) c.tuple.ensures

@@ -1,11 +1,13 @@
-use Rattle.std.proofs.Common.{sym, ◌∙◌, subst}
+use Rattle.std.proofs.Common.{◌≡◌, sym, ◌∙◌, subst}
 use Rattle.wac_shapes.specs.declared.component.ValueType.{ValueType}
 use Rattle.wac_shapes.specs.declared.component.ValueType.TheVariants as val
 use Rattle.wac_renaming.specs.Made.{IsMadeOf}
 use Rattle.wac_renaming.specs.RenamedTypes.{becomes}
-use Rattle.wac_renaming.specs.RenamingSteps.{IsRenamedValue}
+use Rattle.wac_renaming.specs.RenamingSteps.{IsBecome, IsRenamedIn, IsRenamedValue}
 use Rattle.wac_renaming.proofs.Extending.{extended_none, still_can}
+use Rattle.wac_renaming.proofs.Staying.{become_renamed}
 use Rattle.wac_renaming.proofs.renamer.Renamed.value.Goals as goal
+use Rattle.wac_renaming.proofs.renamer.Renamed.value.Goals.{in-Defined+in_default-defined, in_default}
 
 pub returns-in-Some-clause-extended : goal.returns-in-Some-clause-extended
 returns-in-Some-clause-extended c = extended_none c.args.merged.now
@@ -26,3 +28,25 @@ pub returns-in-Some-clause-once : goal.returns-in-Some-clause-once
 returns-in-Some-clause-once c =
     let s = c.args.renaming.now in
     subst (λ (v : ValueType). IsMadeOf s.types.now s.became.now.named.now c.args.self.now.made v (val.Defined c.in-Some.became)) (sym c.in-Defined.is) (c.requires.right.once c.in-Defined.id c.in-Some.became (sym c.defined.ensures ∙ c.in-Some.is))
+
+-- what the value became is renamed
+abbrev renamed-value : goal.After-part → Type 0
+renamed-value c = IsRenamedIn c.args.renaming.now c.finish.new.merged c.finish.new.self.made c.args.value c.part.result
+
+is-renamed : (c : goal.After-part) → renamed-value c
+is-renamed c =
+    let s = c.args.renaming.now in
+    let m = c.finish.new.merged in
+    let same : c.match-value.value ≡ c.args.value =
+    elim c.match-value.branch [
+      | in-Defined+in_default-defined w ↦ w.value-is ∙ sym w.in-Defined.is
+      | in_default w ↦ w.value-is
+    ] in
+    become_renamed s m c.finish.new.self (still_can c.args.merged.now m c.finish.ensures.extended c.law.ensures s c.requires.known) c.in_ok-finish.ensures.right c.args.value c.part.result
+    (subst (λ (v : ValueType). IsBecome s c.finish.new.self v c.part.result) same c.part.ensures)
+
+pub returns-clause-value : goal.returns-clause-value
+returns-clause-value c = (is-renamed c).0
+
+pub returns-clause-once : goal.returns-clause-once
+returns-clause-once c = (is-renamed c).1

@@ -1,0 +1,20 @@
+use Rattle.std.proofs.Common.{◌≡◌, ℕ, List, [], Option, Some, sym, ap, ◌∙◌}
+use Rattle.wac_shapes.specs.declared.component.DefinedTypeId.{DefinedTypeId}
+use Rattle.wac_shapes.specs.declared.component.FuncTypeId.{FuncTypeId}
+use Rattle.wac_renaming.specs.RenamedTypes.{defined_at, func_at}
+use Rattle.wac_renaming.proofs.renamer.Renamed.new.Goals as goal
+
+none_defined : (ns : List (Option ℕ)) (d e : DefinedTypeId) → ns ≡ [] → defined_at ns d ≡ Some e → ⊥
+none_defined ns d e none is = cc (sym (ap (λ l. defined_at l d) none) ∙ is)
+
+no_func : (ns : List (Option ℕ)) (f g : FuncTypeId) → ns ≡ [] → func_at ns f ≡ Some g → ⊥
+no_func ns f g none is = cc (sym (ap (λ l. func_at l f) none) ∙ is)
+
+pub returns-clause-right : goal.returns-clause-right
+returns-clause-right c m s = record {
+  defined = λ d e is. absurd (none_defined c.new.result d e c.new.ensures is);
+  funcs = λ f g is. absurd (no_func c.new-2.result f g c.new-2.ensures is);
+  made = c.new-3.ensures s.types.now m s.became.now.named.now;
+  once = λ d e is. absurd (none_defined c.new.result d e c.new.ensures is);
+  once_funcs = λ f g is. absurd (no_func c.new-2.result f g c.new-2.ensures is);
+}
