@@ -1,6 +1,7 @@
 pub mod FreshSteps
 pub mod Shapes
 pub mod ShapeHash
+pub mod FormHash
 pub mod Ways
 pub mod Made
 pub mod RenamedTypes

@@ -1,5 +1,5 @@
 -- What the hash of a definition takes in. Private functions alone cite this.
-use Rattle.std.proofs.Common.{◌≡◌, ◌++◌, ◌&&◌, Bool, true, false, ℕ, List, [], ◌∷◌, Option, Some, None, nat_eq, pos, flat_map, ap, refl, rules}
+use Rattle.std.proofs.Common.{◌≡◌, ◌++◌, ◌&&◌, true, List, [], ◌∷◌, Option, Some, None, nat_eq, pos, flat_map, ap, refl, rules}
 use Rattle.std.proofs.lemmas.Bool.{eqb-true}
 use Rattle.std.specs.Global.{Global}
 use Rattle.std.specs.Prelude.{string_bytes}
@@ -90,13 +90,13 @@ value_alike (val.Own a) (val.Own b) e = ap fed.usize (eqb-true a.0 b.0 e)
 value_alike (val.Defined a) (val.Defined b) e = ap fed.usize (eqb-true a.0 b.0 e)
 value_alike _ _ e = cc e
 
-optional_alike : (a b : Option ValueType) → option_eq (ValueEq.ghosts).eq a b ≡ true → optional_writes a ≡ optional_writes b
+pub optional_alike : (a b : Option ValueType) → option_eq (ValueEq.ghosts).eq a b ≡ true → optional_writes a ≡ optional_writes b
 optional_alike None None e = refl
 optional_alike None (Some b) e = cc e
 optional_alike (Some a) None e = cc e
 optional_alike (Some a) (Some b) e = value_alike a b e
 
-values_alike : (vs ws : List ValueType) → pointwise (ValueEq.ghosts).eq vs ws ≡ true → flat_map value_writes vs ≡ flat_map value_writes ws
+pub values_alike : (vs ws : List ValueType) → pointwise (ValueEq.ghosts).eq vs ws ≡ true → flat_map value_writes vs ≡ flat_map value_writes ws
 values_alike [] [] e = refl
 values_alike [] (w ∷ ws) e = cc e
 values_alike (v ∷ vs) [] e = cc e

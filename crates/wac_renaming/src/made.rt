@@ -8,21 +8,23 @@ ghost use Rattle.wac_entries.specs.Tasks.{AreHeldValues};
 ghost use Rattle.wac_renaming.specs.Made.{AreApart, AreMade, AreThere, HasMadeFuncToo, HasMadeToo, IsCalledAlike, IsFuncMadeFor, IsMadeFor, StayMade, func_made_in, made_in};
 ghost use Rattle.wac_renaming.specs.RenamingSteps.{IsDefinedBehind, IsFuncBehind};
 ghost use Rattle.wac_renaming.specs.Shapes.{shape_view};
+ghost use Rattle.wac_renaming.specs.FormHash.{form_alike, form_writes, func_form_alike, func_form_writes};
 ghost use Rattle.wac_renaming.specs.declared.made.Form.{Form as AForm};
 ghost use Rattle.wac_terms.specs.Renaming.{IsExtended};
 ghost use Rattle.wac_values.specs.NamedTypes.{named_type};
 ghost use Rattle.wac_values.specs.declared.named.NamedTypes.{NamedTypes as ANamedTypes};
 
-use crate::shapes::Shape;
+use crate::shapes::{Shape, hash_optional, hash_values};
 use std::alloc::{AllocError, Global};
 use std::collections::HashMap;
+use std::hash::{Hash, Hasher};
 use wac_collection::{
     AddTypeError, DefinedType, DefinedTypeId, FuncType, FuncTypeId, Named, Types, ValueType,
 };
 use wac_subtyping::laws::growth_keeps_trees;
 
 /// A definition, and the named type that it is, if it is one.
-#[derive(PartialEq, Eq, Hash, Drop)]
+#[derive(PartialEq, Eq, Drop)]
 pub struct Form {
     /// The named type.
     pub named: Option<DefinedTypeId>,
@@ -31,7 +33,7 @@ pub struct Form {
 }
 
 /// A function type, and the types of the parameters and of the result of one that is made of it.
-#[derive(PartialEq, Eq, Hash, Drop)]
+#[derive(PartialEq, Eq, Drop)]
 pub struct FuncForm {
     /// The function type.
     pub func: FuncTypeId,
@@ -39,6 +41,33 @@ pub struct FuncForm {
     pub params: Vec<ValueType>,
     /// The type of the result.
     pub result: Option<ValueType>,
+}
+
+/// The named type is hashed where there is one, and the definition.
+impl Hash for Form {
+    ghost hash_input = { form_writes };
+
+    ghost respects_eq = { λ a b e. form_alike a b e };
+
+    fn hash<H: Hasher>(&self, state: &mut H) {
+        if let Some(named) = self.named {
+            named.0.hash(state);
+        }
+        self.shape.hash(state);
+    }
+}
+
+/// The function type is hashed, and each type in one write.
+impl Hash for FuncForm {
+    ghost hash_input = { func_form_writes };
+
+    ghost respects_eq = { λ a b e. func_form_alike a b e };
+
+    fn hash<H: Hasher>(&self, state: &mut H) {
+        self.func.0.hash(state);
+        hash_values(self.params.as_slice(), state);
+        hash_optional(self.result, state);
+    }
 }
 
 /// What was made.

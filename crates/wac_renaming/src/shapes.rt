@@ -76,7 +76,7 @@ fn hash_value<H: Hasher>(value: ValueType, state: &mut H)
 }
 
 /// Hashes a value type where there is one.
-fn hash_optional<H: Hasher>(value: Option<ValueType>, state: &mut H)
+pub(crate) fn hash_optional<H: Hasher>(value: Option<ValueType>, state: &mut H)
     ensures { state.new ≡ fold H.write state.old (optional_writes value) }
 {
     if let Some(value) = value {
@@ -85,7 +85,7 @@ fn hash_optional<H: Hasher>(value: Option<ValueType>, state: &mut H)
 }
 
 /// Hashes value types, one after another.
-fn hash_values<H: Hasher>(values: &[ValueType], state: &mut H)
+pub(crate) fn hash_values<H: Hasher>(values: &[ValueType], state: &mut H)
     ensures { state.new ≡ fold H.write state.old (flat_map value_writes values.now) }
 {
     for value in values {

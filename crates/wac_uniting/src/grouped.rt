@@ -40,7 +40,7 @@ impl Listed {
         match self {
             Listed::Several(listed) => listed.push(more)?,
             Listed::One(first) => {
-                let mut listed = Vec::with_capacity(alloc, 2)?;
+                let mut listed = Vec::with_capacity(alloc, 4)?;
                 listed.push(*first)?;
                 listed.push(more)?;
                 *self = Listed::Several(listed);
