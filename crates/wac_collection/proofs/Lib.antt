@@ -1,5 +1,6 @@
 pub mod Growth
 pub mod Mentioned
+pub mod Numbered
 pub mod Chains
 pub mod Ends
 pub mod Steady

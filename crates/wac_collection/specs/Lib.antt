@@ -6,6 +6,7 @@ pub mod Uses
 pub mod Lawful
 pub mod Ends
 pub mod Interfaces
+pub mod Items
 pub mod Package
 pub mod KeyLaws
 pub mod HeldTrees

@@ -8,7 +8,7 @@ ghost use Rattle.wac_shapes.specs.declared.component.ValueType.TheVariants as va
 ghost use Rattle.wac_collection.specs.declared.collection.AddTypeError.TheVariants.{OutOfMemory};
 ghost use Rattle.wac_collection.specs.Uses.{AnswersBy, mention_fault, interface_fault, world_fault, IsSound};
 
-use crate::shared::{Shared, hold};
+use crate::shared::{Items, hold};
 use std::alloc::{AllocError, Global};
 use std::marker::Model;
 use std::ops::Index;
@@ -53,16 +53,16 @@ pub struct Held<T> {
 /// A collection of types. Each item mentions only items added before it.
 pub struct Types {
     alloc: Global,
-    resources: Vec<Shared<Resource>>,
+    resources: Items<Resource>,
     /// For each resource the one at the end of its aliases.
     resource_ends: Vec<ResourceId>,
-    funcs: Vec<Shared<FuncType>>,
-    defined: Vec<Shared<DefinedType>>,
+    funcs: Items<FuncType>,
+    defined: Items<DefinedType>,
     /// For each definition the value type at the end of its aliases.
     value_ends: Vec<ValueType>,
-    interfaces: Vec<Shared<Interface>>,
-    worlds: Vec<Shared<World>>,
-    modules: Vec<Shared<ModuleType>>,
+    interfaces: Items<Interface>,
+    worlds: Items<World>,
+    modules: Items<ModuleType>,
 }
 
 /// Each item is let go of here, and not anew by each program that drops a collection.
@@ -89,21 +89,21 @@ impl Model for Types {
     ghost Value = { Collection };
 
     ghost view = { λ t. record {
-      resources = t.resources.items;
-      funcs = t.funcs.items;
-      defined = t.defined.items;
-      interfaces = t.interfaces.items;
-      worlds = t.worlds.items;
-      modules = t.modules.items;
+      resources = t.resources;
+      funcs = t.funcs;
+      defined = t.defined;
+      interfaces = t.interfaces;
+      worlds = t.worlds;
+      modules = t.modules;
     } };
 
     ghost invariant = { λ t. HasEnds (record {
-      resources = t.resources.items;
-      funcs = t.funcs.items;
-      defined = t.defined.items;
-      interfaces = t.interfaces.items;
-      worlds = t.worlds.items;
-      modules = t.modules.items;
+      resources = t.resources;
+      funcs = t.funcs;
+      defined = t.defined;
+      interfaces = t.interfaces;
+      worlds = t.worlds;
+      modules = t.modules;
     }) t.resource_ends.items t.value_ends.items };
 }
 
@@ -141,14 +141,14 @@ impl Types {
     {
         Types {
             alloc,
-            resources: Vec::new(alloc),
+            resources: Items::new(),
             resource_ends: Vec::new(alloc),
-            funcs: Vec::new(alloc),
-            defined: Vec::new(alloc),
+            funcs: Items::new(),
+            defined: Items::new(),
             value_ends: Vec::new(alloc),
-            interfaces: Vec::new(alloc),
-            worlds: Vec::new(alloc),
-            modules: Vec::new(alloc),
+            interfaces: Items::new(),
+            worlds: Items::new(),
+            modules: Items::new(),
         }
     }
 
@@ -353,39 +353,30 @@ impl Types {
     }
 
     // The interfaces, as they are held.
-    pub(crate) fn all_interfaces(&self) -> &[Shared<Interface>]
+    pub(crate) fn all_interfaces(&self) -> &Items<Interface>
         ensures { result.now ≡ self.now.interfaces }
     {
-        self.interfaces.as_slice()
+        &self.interfaces
     }
 
     // What is held under an id; none where it isn't held.
     pub(crate) fn find_resource(&self, id: ResourceId) -> Option<&Resource>
         ensures { option_copied result ≡ item_at self.now.resources id.0 }
     {
-        match self.resources.get(id.0) {
-            Some(held) => Some(held.item()),
-            None => None,
-        }
+        self.resources.get(id.0)
     }
 
     /// The definition under an id; none where the id isn't held.
     pub fn find_defined(&self, id: DefinedTypeId) -> Option<&DefinedType>
         ensures { option_copied result ≡ item_at self.now.defined id.0 }
     {
-        match self.defined.get(id.0) {
-            Some(held) => Some(held.item()),
-            None => None,
-        }
+        self.defined.get(id.0)
     }
 
     pub(crate) fn find_interface(&self, id: InterfaceId) -> Option<&Interface>
         ensures { option_copied result ≡ item_at self.now.interfaces id.0 }
     {
-        match self.interfaces.get(id.0) {
-            Some(held) => Some(held.item()),
-            None => None,
-        }
+        self.interfaces.get(id.0)
     }
 }
 
@@ -399,7 +390,7 @@ impl Index<FuncTypeId> for Types {
     ghost index_gives = { λ c id func. item_at c.funcs id.0 ≡ Some func };
 
     fn index(&self, id: FuncTypeId) -> &FuncType {
-        self.funcs[id.0].item()
+        self.funcs.item(id.0)
     }
 }
 
@@ -413,7 +404,7 @@ impl Index<InterfaceId> for Types {
     ghost index_gives = { λ c id interface. item_at c.interfaces id.0 ≡ Some interface };
 
     fn index(&self, id: InterfaceId) -> &Interface {
-        self.interfaces[id.0].item()
+        self.interfaces.item(id.0)
     }
 }
 
@@ -427,7 +418,7 @@ impl Index<WorldId> for Types {
     ghost index_gives = { λ c id world. item_at c.worlds id.0 ≡ Some world };
 
     fn index(&self, id: WorldId) -> &World {
-        self.worlds[id.0].item()
+        self.worlds.item(id.0)
     }
 }
 
@@ -441,7 +432,7 @@ impl Index<ResourceId> for Types {
     ghost index_gives = { λ c id item. item_at c.resources id.0 ≡ Some item };
 
     fn index(&self, id: ResourceId) -> &Resource {
-        self.resources[id.0].item()
+        self.resources.item(id.0)
     }
 }
 
@@ -455,7 +446,7 @@ impl Index<DefinedTypeId> for Types {
     ghost index_gives = { λ c id item. item_at c.defined id.0 ≡ Some item };
 
     fn index(&self, id: DefinedTypeId) -> &DefinedType {
-        self.defined[id.0].item()
+        self.defined.item(id.0)
     }
 }
 
@@ -469,6 +460,6 @@ impl Index<ModuleTypeId> for Types {
     ghost index_gives = { λ c id item. item_at c.modules id.0 ≡ Some item };
 
     fn index(&self, id: ModuleTypeId) -> &ModuleType {
-        self.modules[id.0].item()
+        self.modules.item(id.0)
     }
 }

@@ -3,14 +3,14 @@ ghost use Rattle.std.specs.Prelude.{◌≡◌};
 ghost use Rattle.wac_collection.specs.Interfaces.{numbered};
 
 use crate::collection::Types;
-use crate::shared::Shared;
+use crate::shared::Items;
 use std::marker::Model;
 use wac_shapes::{Interface, InterfaceId};
 
 /// The interfaces of a collection that are still to come, each with its id.
 #[derive(Drop)]
 pub struct Interfaces<'a> {
-    held: &'a [Shared<Interface>],
+    held: &'a Items<Interface>,
     position: usize,
 }
 
@@ -35,10 +35,13 @@ impl<'a> Iterator for Interfaces<'a> {
     ghost remaining = { item_count (λ s. s) };
 
     fn next(&mut self) -> Option<(InterfaceId, &'a Interface)> {
-        let held = self.held.get(self.position)?;
+        if self.position >= self.held.len() {
+            return None;
+        }
         let id = InterfaceId(self.position);
+        let interface = self.held.item(self.position);
         self.position += 1;
-        Some((id, held.item()))
+        Some((id, interface))
     }
 }
 

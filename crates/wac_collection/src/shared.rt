@@ -1,5 +1,8 @@
 //! The items of a collection, which its clones share.
-ghost use Rattle.std.specs.Prelude.{◌≡◌, ◌++◌, ◌∷◌, [], IfErr, OnErr, OnOk};
+ghost use Rattle.std.specs.Prelude.{◌≡◌, ◌<◌, ◌++◌, ◌∷◌, [], Some, IfErr, IfOk, OnErr, OnOk, length};
+ghost use Rattle.std.specs.Option.{option_copied};
+ghost use Rattle.wac_collection.specs.Collection.{item_at};
+ghost use Rattle.wac_collection.specs.Items.{entries};
 ghost use Rattle.wac_collection.specs.declared.collection.AddTypeError.TheVariants.{OutOfMemory};
 
 use crate::collection::AddTypeError;
@@ -9,7 +12,7 @@ use std::sync::Arc;
 
 /// An item, and how many items were there before it. A clone has the same item, in the same memory.
 #[derive(Drop)]
-pub(crate) struct Shared<T> {
+struct Shared<T> {
     item: Arc<T>,
     before: usize,
 }
@@ -35,29 +38,204 @@ impl<T: Drop> Clone for Shared<T> {
 
 impl<T> Shared<T> {
     /// The item.
-    pub(crate) fn item(&self) -> &T
+    fn item(&self) -> &T
         ensures { result.now ≡ self.now.item }
     {
         &self.item
     }
 }
 
+/// Items in two lists. A clone has the same lists, and what is put behind them then stands in a list of its own; so no item is looked at
+/// to clone many.
+#[derive(Drop)]
+struct Lists<T> {
+    // Those that clones had too when the first of the rest was put.
+    first: Option<Arc<Vec<Shared<T>>>>,
+    rest: Option<Arc<Vec<Shared<T>>>>,
+}
+
+impl<T> Model for Lists<T> {
+    ghost use Rattle.std.specs.Prelude.{List, ◌++◌};
+    ghost use Rattle.wac_collection.specs.declared.collection.Held.{Held};
+    ghost use Rattle.wac_collection.specs.Items.{entries};
+
+    ghost Value = { List (Held T) };
+
+    ghost view = { λ s. entries s.first ++ entries s.rest };
+}
+
+/// Items in order, which clones share.
+#[derive(Drop)]
+pub(crate) struct Items<T> {
+    lists: Lists<T>,
+    len: usize,
+}
+
+impl<T> Model for Items<T> {
+    ghost use Rattle.std.specs.Prelude.{List, ◌≡◌, length};
+    ghost use Rattle.wac_collection.specs.declared.collection.Held.{Held};
+
+    ghost Value = { List (Held T) };
+
+    ghost view = { λ s. s.lists };
+
+    ghost invariant = { λ s. s.len ≡ length s.lists };
+}
+
+impl<T: Drop> Clone for Items<T> {
+    ghost is_clone = { λ a b. b ≡ a };
+
+    fn clone(&self) -> Result<Items<T>, AllocError> {
+        let first = same_list(&self.lists.first)?;
+        let rest = same_list(&self.lists.rest)?;
+        Ok(Items {
+            lists: Lists { first, rest },
+            len: self.len,
+        })
+    }
+}
+
+/// The same list, if there is one.
+fn same_list<T: Drop>(
+    list: &Option<Arc<Vec<Shared<T>>>>,
+) -> Result<Option<Arc<Vec<Shared<T>>>>, AllocError>
+    ensures { IfOk result (λ r. entries r ≡ entries list.now) }
+{
+    match list {
+        Some(list) => Ok(Some(list.clone()?)),
+        None => Ok(None),
+    }
+}
+
+impl<T: Drop> Lists<T> {
+    /// The item at a position.
+    fn get(&self, index: usize) -> Option<&T>
+        ensures { option_copied result ≡ item_at self.now index }
+    {
+        let mut index = index;
+        if let Some(first) = &self.first {
+            if index < first.len() {
+                return Some(first[index].item());
+            }
+            index -= first.len();
+        }
+        match &self.rest {
+            Some(rest) => Some(rest.get(index)?.item()),
+            None => None,
+        }
+    }
+
+    /// Puts an item behind the others. Answers `AllocError` where memory ran out; then nothing has changed.
+    fn put(&mut self, alloc: Global, item: Shared<T>) -> Result<(), AllocError>
+        ensures put { OnOk result (self.new ≡ self.old ++ item ∷ []) }
+        ensures kept { OnErr result (self.new ≡ self.old) }
+    {
+        if let Some(rest) = &mut self.rest {
+            if let Some(own) = Arc::get_mut(rest) {
+                own.push(item)?;
+                return Ok(());
+            }
+        }
+        self.put_apart(alloc, item)
+    }
+
+    /// The same where clones have the rest too, or there is none: it is kept as the first list, or copied where there is one already.
+    fn put_apart(&mut self, alloc: Global, item: Shared<T>) -> Result<(), AllocError>
+        ensures put { OnOk result (self.new ≡ self.old ++ item ∷ []) }
+        ensures kept { OnErr result (self.new ≡ self.old) }
+    {
+        self.keep();
+        let mut own = copied(alloc, &self.rest)?;
+        own.push(item)?;
+        self.rest = Some(Arc::new(alloc, own)?);
+        Ok(())
+    }
+
+    /// Keeps the rest as the first list, where there is none yet.
+    fn keep(&mut self)
+        ensures { self.new ≡ self.old }
+    {
+        if self.first.is_none() {
+            self.first = self.rest.take();
+        }
+    }
+}
+
+/// A copy of a list, in memory of its own.
+fn copied<T: Drop>(
+    alloc: Global,
+    list: &Option<Arc<Vec<Shared<T>>>>,
+) -> Result<Vec<Shared<T>>, AllocError>
+    ensures { IfOk result (λ own. own.items ≡ entries list.now) }
+{
+    match list {
+        Some(list) => Ok(Vec::clone(list)?),
+        None => Ok(Vec::new(alloc)),
+    }
+}
+
+impl<T: Drop> Items<T> {
+    /// No item.
+    pub(crate) fn new() -> Items<T>
+        ensures { result ≡ [] }
+    {
+        Items {
+            lists: Lists {
+                first: None,
+                rest: None,
+            },
+            len: 0,
+        }
+    }
+
+    /// How many there are.
+    pub(crate) fn len(&self) -> usize
+        ensures { result ≡ length self.now }
+    {
+        self.len
+    }
+
+    /// The item at a position.
+    pub(crate) fn get(&self, index: usize) -> Option<&T>
+        ensures { option_copied result ≡ item_at self.now index }
+    {
+        self.lists.get(index)
+    }
+
+    /// The item at a position at which there is one.
+    pub(crate) fn item(&self, index: usize) -> &T
+        requires { index < length self.now }
+        ensures { item_at self.now index ≡ Some result.now }
+    {
+        match self.get(index) {
+            Some(item) => item,
+            None => unreachable!(),
+        }
+    }
+}
+
 /// Puts an item behind the others. Answers `OutOfMemory` where memory ran out; then nothing has changed.
 pub(crate) fn hold<T: Drop>(
     alloc: Global,
-    items: &mut Vec<Shared<T>>,
+    items: &mut Items<T>,
     item: T,
     before: usize,
 ) -> Result<(), AddTypeError>
-    ensures held { OnOk result (items.new.items ≡ items.old.items ++ record { item = item; before = before } ∷ []) }
-    ensures refused { OnErr result (items.new.items ≡ items.old.items) }
+    ensures held { OnOk result (items.new ≡ items.old ++ record { item = item; before = before } ∷ []) }
+    ensures refused { OnErr result (items.new ≡ items.old) }
     ensures fault { IfErr result (λ e. e ≡ OutOfMemory) }
 {
+    let Some(len) = items.len.checked_add(1) else {
+        return Err(AddTypeError::OutOfMemory);
+    };
     let Ok(item) = Arc::new(alloc, item) else {
         return Err(AddTypeError::OutOfMemory);
     };
-    match items.push(Shared { item, before }) {
-        Ok(()) => Ok(()),
+    match items.lists.put(alloc, Shared { item, before }) {
+        Ok(()) => {
+            items.len = len;
+            Ok(())
+        }
         Err(_) => Err(AddTypeError::OutOfMemory),
     }
 }

@@ -154,6 +154,32 @@ fn a_clone_grows_on_its_own(rt: HostRuntime) {
     assert_told(&rt, clone_grows_on_its_own(&types), "a clone");
 }
 
+fn clone_of_a_clone_grows_on_its_own(types: &Types) -> Result<bool, Refusal> {
+    let mut copy = types.clone()?;
+    let before = add(&mut copy, Adding::Func(&[], Some(T), false))?;
+    let mut second = copy.clone()?;
+    let own = add(&mut copy, Adding::Func(&[], None, false))?;
+    let other = add(&mut second, Adding::Func(&[], Some(T), false))?;
+    let (Type::Func(id), Type::Func(same)) = (own, other) else {
+        return Ok(false);
+    };
+    if !copy.contains(Type::Func(id)) || !second.contains(Type::Func(same)) {
+        return Ok(false);
+    }
+    let grown = copy[id].result.is_none() && second[same].result.is_some();
+    Ok(id == same && grown && copy.contains(before) && second.contains(before))
+}
+
+#[test]
+fn a_clone_of_a_clone_grows_on_its_own(rt: HostRuntime) {
+    let types = made(&rt, GIVEN);
+    assert_told(
+        &rt,
+        clone_of_a_clone_grows_on_its_own(&types),
+        "a clone of a clone",
+    );
+}
+
 const ADD_FAULTS: &[(AddTypeError, &str)] = &[
     (AddTypeError::NotHeld, "NotHeld"),
     (AddTypeError::UsedInterfaceUnnamed, "UsedInterfaceUnnamed"),

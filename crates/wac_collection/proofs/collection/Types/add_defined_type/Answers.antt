@@ -12,7 +12,7 @@ invariant_of-self-2 c =
     (rw c.unwrap.ensures at c.push.ensures.items ∙ ap (λ xs. xs ++ c.match-defined.end ∷ []) c.reserve.ensures.items)
     (elim c.match-defined.branch [
       | in-Alias w ↦ w.end-is ∙ w.value_end-end.ensures ∙ sym (ap (λ x. new_value_end c.args.self.now (length c.args.self.now.defined) (aliased x)) w.in-Alias.is)
-      | in_default w ↦ w.end-is ∙ at (c.len.ensures ∙ c.self.inside.defined.ok.0 ∙ ap (λ x. length x.defined) c.self.view_is) ∙ sym (ap (new_value_end c.args.self.now (length c.args.self.now.defined)) (no_alias c.args.defined w.in_default.not-Alias))
+      | in_default w ↦ w.end-is ∙ at (c.len.ensures ∙ ap (λ x. length x.defined) c.self.view_is) ∙ sym (ap (new_value_end c.args.self.now (length c.args.self.now.defined)) (no_alias c.args.defined w.in_default.not-Alias))
     ])
   where
     at : {m n : ℕ} → m ≡ n → val.Defined (record { 0 = m }) ≡ new_value_end c.args.self.now n None

@@ -10,7 +10,7 @@ invariant_of-self-2 c =
     (rw c.unwrap.ensures at c.push.ensures.items ∙ ap (λ xs. xs ++ c.match-resource.end ∷ []) c.reserve.ensures.items)
     (elim c.match-resource.branch [
       | in-Some w ↦ w.end-is ∙ w.resource_end-end.ensures ∙ sym (ap (new_end c.args.self.now (length c.args.self.now.resources)) w.in-Some.is)
-      | in-None w ↦ w.end-is ∙ at (c.len.ensures ∙ c.self.inside.resources.ok.0 ∙ ap (λ x. length x.resources) c.self.view_is) ∙ sym (ap (new_end c.args.self.now (length c.args.self.now.resources)) w.in-None.is)
+      | in-None w ↦ w.end-is ∙ at (c.len.ensures ∙ ap (λ x. length x.resources) c.self.view_is) ∙ sym (ap (new_end c.args.self.now (length c.args.self.now.resources)) w.in-None.is)
     ])
   where
     at : {m n : ℕ} → m ≡ n → record { 0 = m } ≡ new_end c.args.self.now n None
