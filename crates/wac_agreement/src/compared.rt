@@ -50,7 +50,7 @@ fn source_item<'a>(
         let calls = source.calls.at(0);
         let inside = source.with(&calls);
         let items = listings[0].as_slice();
-        let number = scope_instance(nodes, &inside, Opener::Interface(id), items)?;
+        let number = scope_instance(memo, nodes, &inside, Opener::Interface(id), items)?;
         return Ok(Item::Instance(number));
     }
     memo.clear();

@@ -1,5 +1,5 @@
 -- Entries that a sort puts in the order of their names, where no name stands twice.
-use Rattle.std.proofs.Common.{◌≡◌, ℕ, zero, suc, ◌+◌, ◌<◌, Bool, true, false, if◌then◌else◌, List, [], ◌∷◌, ◌++◌, length, map, take, get_or, Some, None, inl, inr, ◌⊎◌, refl, ap, sym, ◌∙◌, subst, add-one, arith}
+use Rattle.std.proofs.Common.{◌≡◌, ℕ, zero, suc, ◌+◌, ◌<◌, Bool, true, false, if◌then◌else◌, List, [], ◌∷◌, ◌++◌, length, map, take, drop, get_or, Some, None, inl, inr, ◌⊎◌, refl, ap, sym, ◌∙◌, subst, add-one, arith}
 use denote.Param.Members.{Mut}
 use Rattle.std.specs.Fn.{Called}
 use Rattle.std.proofs.lemmas.Fn.{always_returns_same}
@@ -15,7 +15,8 @@ use Rattle.std.specs.Cmp.Lexicographic.{nat_list_cmp_total}
 use Rattle.std.specs.FinMap.{nat_cmp-IsAntisymmetric, slice_cmp-IsAntisymmetric}
 use Rattle.std.specs.Map.{keys_of}
 use Rattle.std.proofs.lemmas.Bool.{cases_Bool, false≢true}
-use Rattle.std.proofs.lemmas.List.Sorted.{IsPermutation-map, IsPermutation-sym, Contains-permutation, ranks_by}
+use Rattle.std.proofs.lemmas.List.Sorted.{IsPermutation-map, IsPermutation-refl, IsPermutation-sym, Contains-permutation, ranks_by}
+use Rattle.std.proofs.Math.Seq.{take-append_seam}
 use Rattle.std.proofs.lemmas.Map.Keys.{IsDistinct-IsPermutation}
 use Rattle.wac_primitives.specs.Name.{Name, same_name, find_name}
 use Rattle.wac_shapes.specs.Named.{NoNameTwice}
@@ -33,6 +34,14 @@ use Rattle.wac_entries.proofs.Lists.{zip_push}
 use Rattle.wac_entries.proofs.TaskOpenings.{each_value}
 use Rattle.wac_coding.specs.ItemCoding.{HasItem, AreItems, Lists, listing_under}
 use Rattle.wac_coding.proofs.CodingListing.{borrowed_cmp, borrowed_total, look, item_there, kind_there, item_seen, IsLow, lists}
+
+-- where nothing changes places
+pub none_moved : {X : Type 0} (xs : List X) → IsPermutation xs xs
+none_moved xs = IsPermutation-refl xs
+
+-- what was written through a slice of a whole list
+pub written_back : {A : Type 0} (n : ℕ) (xs ys : List A) → length xs ≡ length ys → n ≡ length ys → take n (xs ++ drop (length xs) ys) ≡ xs
+written_back n xs ys same is = ap (λ k. take k (xs ++ drop (length xs) ys)) (is ∙ sym same) ∙ take-append_seam xs (drop (length xs) ys)
 
 -- texts of the same name
 abbrev pub alike : Borrowed → Borrowed → Bool

@@ -4,7 +4,7 @@
 //! too long. Each is opened once and numbered once.
 ghost use Rattle.std.specs.Prelude.{◌≡◌, ◌<◌, ◌↔◌, [], length, map, true, IsTrue, IfOk, OnOk};
 ghost use Rattle.std.specs.List.{AllByRecursion};
-ghost use Rattle.wac_collection.specs.Collection.{and_maybe, HasDefined, HasFunc, holds_value, defined_values, case_values, seconds};
+ghost use Rattle.wac_collection.specs.Collection.{and_maybe, HasDefined, HasFunc, HasResource, holds_value, defined_values, case_values, seconds};
 ghost use Rattle.wac_collection.specs.Held.{defined_tree};
 ghost use Rattle.wac_shapes.specs.declared.component.DefinedType.TheVariants as def;
 ghost use Rattle.wac_shapes.specs.declared.component.ValueType.TheVariants as val;
@@ -18,7 +18,9 @@ ghost use Rattle.wac_coding.specs.Coding.{only_part, source_tree, values_of, IsG
 use crate::calls::Calls;
 use crate::memo::Memo;
 use std::alloc::{AllocError, Global};
-use wac_collection::{DefinedType, DefinedTypeId, FuncTypeId, Labels, Named, Types, ValueType};
+use wac_collection::{
+    DefinedType, DefinedTypeId, FuncTypeId, Labels, Named, ResourceId, Types, ValueType,
+};
 use wac_entries::nodes::{Node, Nodes};
 use wac_entries::tasks::{Task, open_fields, open_optional, open_parts, open_value};
 use wac_subtyping::laws::trees_are_whole;
@@ -97,6 +99,28 @@ fn only_part(definition: &DefinedType) -> Option<ValueType>
     }
 }
 
+/// The number of a handle to a resource that is owned.
+fn owned(nodes: &mut Nodes, source: &Source, id: ResourceId) -> Result<usize, AllocError>
+    requires held { HasResource source.now.types.now id }
+    requires named { AreNamed source.now.types.now source.now.calls.now }
+    ensures grown { IsGrown nodes.old nodes.new }
+    ensures number { IfOk result (λ n. HasTree nodes.new (source_tree source.now (ty.Value (val.Own id))) n) }
+{
+    let called = source.calls.called(source.alloc, source.types, id)?;
+    add(nodes, Node::Own(called))
+}
+
+/// The number of a handle to a resource that is lent.
+fn lent(nodes: &mut Nodes, source: &Source, id: ResourceId) -> Result<usize, AllocError>
+    requires held { HasResource source.now.types.now id }
+    requires named { AreNamed source.now.types.now source.now.calls.now }
+    ensures grown { IsGrown nodes.old nodes.new }
+    ensures number { IfOk result (λ n. HasTree nodes.new (source_tree source.now (ty.Value (val.Borrow id))) n) }
+{
+    let called = source.calls.called(source.alloc, source.types, id)?;
+    add(nodes, Node::Borrow(called))
+}
+
 impl Memo {
     /// Whether a value type has a number, where it is a definition.
     fn is_ready(&self, value: ValueType) -> bool
@@ -126,14 +150,8 @@ impl Memo {
     {
         match value {
             ValueType::Primitive(primitive) => add(nodes, Node::Primitive(primitive)),
-            ValueType::Own(id) => {
-                let called = source.calls.called(source.alloc, source.types, id)?;
-                add(nodes, Node::Own(called))
-            }
-            ValueType::Borrow(id) => {
-                let called = source.calls.called(source.alloc, source.types, id)?;
-                add(nodes, Node::Borrow(called))
-            }
+            ValueType::Own(id) => owned(nodes, source, id),
+            ValueType::Borrow(id) => lent(nodes, source, id),
             ValueType::Defined(id) => Ok(self.defined(id).unwrap()),
         }
     }
@@ -186,7 +204,7 @@ impl Memo {
     /// The numbers of fields or parameters, under their names.
     fn fields<'a>(
         &self,
-        nodes: &mut Nodes,
+        nodes: &mut Nodes<'a>,
         source: &Source,
         fields: &'a Named<ValueType>,
     ) -> Result<Vec<(&'a str, usize)>, AllocError>
@@ -197,7 +215,7 @@ impl Memo {
         ensures grown { IsGrown nodes.old nodes.new }
         ensures numbers { IfOk result (λ es. AreFields nodes.new (values_of (source_tree source.now)) fields.now es.items) }
     {
-        let mut numbers = Vec::with_capacity(source.alloc, fields.len())?;
+        let mut numbers = nodes.take_fields(source.alloc);
         for i in 0..fields.len() {
             let (name, value) = fields.entry_at(i);
             let number = self.part(nodes, source, *value)?;

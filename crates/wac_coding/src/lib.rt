@@ -10,3 +10,4 @@ pub mod listing;
 pub mod listings;
 pub mod memo;
 pub mod modules;
+mod order;

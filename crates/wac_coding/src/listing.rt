@@ -5,10 +5,12 @@ ghost use Rattle.wac_entries.specs.Scopes.{listed_in, opener_type, scope_tree};
 ghost use Rattle.wac_primitives.specs.Tree.{instance};
 ghost use Rattle.wac_entries.specs.NodeViews.{listed};
 ghost use Rattle.wac_coding.specs.CallsView.{names_in};
-ghost use Rattle.wac_coding.specs.Coding.{source_tree, IsGrown, HasTree};
+ghost use Rattle.wac_coding.specs.Coding.{source_tree, IsGrown, HasSame, HasTree};
 ghost use Rattle.wac_coding.specs.ItemCoding.{AreItems, Lists, listing_under, component_tree};
 
 use crate::coder::{Source, add};
+use crate::memo::Memo;
+use crate::order::{exchange_all, renew};
 use std::alloc::AllocError;
 use wac_collection::{ItemKind, Named, Types, WorldId};
 use wac_entries::nodes::{Item, Node, Nodes};
@@ -16,13 +18,15 @@ use wac_entries::scopes::Opener;
 
 /// Items under their names, sorted by name.
 fn entries<'a>(
+    memo: &mut Memo,
     nodes: &Nodes,
     source: &Source,
     kinds: &'a Named<ItemKind>,
     items: &[Item],
 ) -> Result<Vec<(&'a str, Item)>, AllocError>
     requires { AreItems nodes.now (source_tree source.now) kinds.now items.now }
-    ensures { IfOk result (λ v. Lists nodes.now (source_tree source.now) kinds.now (listed v.items)) }
+    ensures same { HasSame memo.old memo.new }
+    ensures lists { IfOk result (λ v. Lists nodes.now (source_tree source.now) kinds.now (listed v.items)) }
 {
     let _ = nodes;
     kinds.law();
@@ -30,22 +34,26 @@ fn entries<'a>(
     for i in 0..kinds.len() {
         entries.push((kinds.name_at(i), items[i]))?;
     }
+    exchange_all(entries.as_mut_slice(), memo.exchanges.as_slice());
+    renew(source.alloc, &mut memo.exchanges, kinds, entries.as_slice())?;
     entries.sort_unstable_by(|a, b| a.0.cmp(b.0));
     Ok(entries)
 }
 
 /// The number of the instance that lists these items under their names.
 fn listing<'a>(
+    memo: &mut Memo,
     nodes: &mut Nodes<'a>,
     source: &Source,
     kinds: &'a Named<ItemKind>,
     items: &[Item],
 ) -> Result<usize, AllocError>
     requires { AreItems nodes.old (source_tree source.now) kinds.now items.now }
+    ensures same { HasSame memo.old memo.new }
     ensures grown { IsGrown nodes.old nodes.new }
     ensures number { IfOk result (λ n. HasTree nodes.new (instance (listing_under (source_tree source.now) kinds.now)) n) }
 {
-    let exports = entries(nodes, source, kinds, items)?;
+    let exports = entries(memo, nodes, source, kinds, items)?;
     add(nodes, Node::Instance(exports))
 }
 
@@ -63,6 +71,7 @@ pub fn listed_kinds(types: &Types, opener: Opener) -> &Named<ItemKind>
 
 /// The number of the instance that is listed in a scope, given what each of its items is listed as.
 pub fn scope_instance<'a>(
+    memo: &mut Memo,
     nodes: &mut Nodes<'a>,
     source: &Source<'a, '_>,
     opener: Opener,
@@ -70,14 +79,17 @@ pub fn scope_instance<'a>(
 ) -> Result<usize, AllocError>
     requires held { holds_type source.now.types.now (opener_type opener) ≡ true }
     requires items { AreItems nodes.old (source_tree source.now) (listed_in source.now.types.now opener) items.now }
+    ensures same { HasSame memo.old memo.new }
     ensures grown { IsGrown nodes.old nodes.new }
     ensures number { IfOk result (λ n. HasTree nodes.new (scope_tree source.now.types.now (names_in source.now.types.now source.now.calls.now) opener) n) }
 {
-    listing(nodes, source, listed_kinds(source.types, opener), items)
+    let kinds = listed_kinds(source.types, opener);
+    listing(memo, nodes, source, kinds, items)
 }
 
 /// The number of the component of a world, given what is listed on each of its sides.
 pub fn component<'a>(
+    memo: &mut Memo,
     nodes: &mut Nodes<'a>,
     id: WorldId,
     inside: &Source<'a, '_>,
@@ -89,10 +101,11 @@ pub fn component<'a>(
     requires outside { HasWorld outside.now.types.now id }
     requires imported { AreItems nodes.old (source_tree inside.now) (world_imports inside.now.types.now id) imported.now }
     requires exported { AreItems nodes.old (source_tree outside.now) (world_exports outside.now.types.now id) exported.now }
+    ensures same { HasSame memo.old memo.new }
     ensures grown { IsGrown nodes.old nodes.new }
     ensures number { IfOk result (λ n. HasTree nodes.new (component_tree (source_tree inside.now) (world_imports inside.now.types.now id) (source_tree outside.now) (world_exports outside.now.types.now id)) n) }
 {
-    let imports = entries(nodes, inside, &inside.types[id].imports, imported)?;
-    let exports = entries(nodes, outside, &outside.types[id].exports, exported)?;
+    let imports = entries(memo, nodes, inside, &inside.types[id].imports, imported)?;
+    let exports = entries(memo, nodes, outside, &outside.types[id].exports, exported)?;
     add(nodes, Node::Component(imports, exports))
 }

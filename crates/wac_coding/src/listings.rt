@@ -9,7 +9,7 @@ ghost use Rattle.wac_collection.specs.Collection.{holds_all, holds_type, kind_ty
 ghost use Rattle.wac_shapes.specs.Kinds.{kind_type};
 ghost use Rattle.wac_entries.specs.NodeViews.{item_view};
 ghost use Rattle.wac_coding.specs.CallsView.{AreNamed, names_in};
-ghost use Rattle.wac_coding.specs.Coding.{source_tree, tree_in, HasTree, IsGrown, IsRight};
+ghost use Rattle.wac_coding.specs.Coding.{source_tree, tree_in, HasSame, HasTree, IsGrown, IsRight};
 ghost use Rattle.wac_coding.specs.ItemCoding.{AreItems, HasItem};
 ghost use Rattle.wac_coding.specs.Listings.{at_scope, AreOpen, IsAround, AreListings, AreInnerListings};
 ghost use Rattle.wac_entries.specs.Scopes.{listed_in, opened, opened_by, opened_by_type};
@@ -37,6 +37,7 @@ fn opened_item(kind: ItemKind, number: usize) -> Item
 
 /// The number of the component of a world in a scope, where it is known what the scopes in it list.
 fn inner_component<'a>(
+    memo: &mut Memo,
     nodes: &mut Nodes<'a>,
     source: &Source<'a, '_>,
     id: WorldId,
@@ -48,6 +49,7 @@ fn inner_component<'a>(
     requires opened { AreOpen source.now.calls.now (opened_by_type (ty.World id)) }
     requires counted { length listings.now ≡ length source.now.calls.now.scopes.now }
     requires listings { AreInnerListings nodes.old source.now.types.now source.now.calls.now listings.now }
+    ensures same { HasSame memo.old memo.new }
     ensures grown { IsGrown nodes.old nodes.new }
     ensures number { IfOk result (λ n. HasTree nodes.new (source_tree source.now (ty.World id)) n) }
 {
@@ -60,7 +62,7 @@ fn inner_component<'a>(
     let outside = source.with(&calls);
     let imported = listings[imports].as_slice();
     let exported = listings[exports].as_slice();
-    component(nodes, id, &inside, imported, &outside, exported)
+    component(memo, nodes, id, &inside, imported, &outside, exported)
 }
 
 /// What an item of a scope is listed as, where it is known what the scopes in it list.
@@ -89,11 +91,11 @@ pub fn listed_item<'a>(
             let calls = source.calls.at(position);
             let inside = source.with(&calls);
             let items = listings[position].as_slice();
-            let number = scope_instance(nodes, &inside, Opener::Interface(id), items)?;
+            let number = scope_instance(memo, nodes, &inside, Opener::Interface(id), items)?;
             Ok(opened_item(kind, number))
         }
         Type::World(id) => {
-            let number = inner_component(nodes, source, id, listings)?;
+            let number = inner_component(memo, nodes, source, id, listings)?;
             Ok(opened_item(kind, number))
         }
         _ => memo.plain_item(nodes, source, kind),

@@ -16,6 +16,8 @@ pub struct Memo {
     funcs: Numbers,
     /// Memory for the tasks of a type. None is left between calls.
     tasks: Vec<Task>,
+    /// The exchanges of places that put the names of a listing in order: those of the last that needed others.
+    pub(crate) exchanges: Vec<(usize, usize)>,
 }
 
 /// The numbers are let go of here, and not anew at each place where they go out of scope.
@@ -25,6 +27,7 @@ impl Drop for Memo {
             defined: _,
             funcs: _,
             tasks: _,
+            exchanges: _,
         } = self;
     }
 }
@@ -39,6 +42,7 @@ impl Memo {
             defined: Numbers::new(alloc),
             funcs: Numbers::new(alloc),
             tasks: Vec::new(alloc),
+            exchanges: Vec::new(alloc),
         }
     }
 

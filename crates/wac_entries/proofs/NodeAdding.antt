@@ -1,9 +1,11 @@
 -- A table with one more node.
-use Rattle.std.proofs.Common.{◌≡◌, ℕ, zero, suc, ◌<◌, ◌||◌, Bool, true, false, List, [], ◌∷◌, ◌++◌, length, map, Option, Some, None, ◌⊎◌, inl, inr, refl, ap, sym, ◌∙◌, subst, arith}
+use Rattle.std.proofs.Common.{◌≡◌, ℕ, zero, suc, ◌<◌, ◌||◌, Bool, true, false, get_or, List, [], ◌∷◌, ◌++◌, length, map, Option, Some, None, ◌⊎◌, inl, inr, refl, ap, sym, ◌∙◌, subst, arith}
 use Rattle.std.specs.Prelude.{slice_get, if◌then◌else◌}
-use Rattle.std.specs.List.{AllByRecursion, list_any}
+use Rattle.std.proofs.lemmas.List.Quantifiers.{position-Some}
+use Rattle.std.specs.List.{AllByRecursion, list_any, position}
 use Rattle.indexmap.specs.IndexSet.{insert_key}
 use Rattle.wac_entries.specs.Nodes.{Node, mentions, IsSorted, IsTable, Added}
+use Rattle.wac_entries.specs.NotedNodes.{IsNoted}
 
 -- what stands in a list with one more
 get_push : (ns : List Node) (n m : Node) (i : ℕ) → slice_get (ns ++ n ∷ []) i ≡ Some m → ((i < length ns) × (slice_get ns i ≡ Some m)) ⊎ ((i ≡ length ns) × (m ≡ n))
@@ -40,6 +42,26 @@ push_table ns n table ordered low new = record {
   once i j m (inl (_, is)) (inr (_, same)) = absurd (new i (is ∙ ap Some same))
   once i j m (inr (_, same)) (inl (_, also)) = absurd (new j (also ∙ ap Some same))
   once i j m (inr (last, _)) (inr (end, _)) = last ∙ sym end
+
+-- ---- what is noted
+still_at : (ns : List Node) (n m : Node) (i : ℕ) → slice_get ns i ≡ Some m → slice_get (ns ++ n ∷ []) i ≡ Some m
+still_at [] n m i is = cc
+still_at (x ∷ ns) n m zero is = is
+still_at (x ∷ ns) n m (suc i) is = still_at ns n m i is
+
+still_added : (old new : List Node) (n m : Node) (i j : ℕ) → Added old n new j → slice_get old i ≡ Some m → slice_get new i ≡ Some m
+still_added old new n m i j added is = elim added.1 [
+  | inl same ↦ subst (λ ns. slice_get ns i ≡ Some m) (sym same) is
+  | inr more ↦ subst (λ ns. slice_get ns i ≡ Some m) (sym more) (still_at old n m i is)
+]
+
+-- where a node was added
+noted_added : (old new : List Node) (n : Node) (j : ℕ) → Added old n new j → IsTable new → (lists options : List (Option ℕ)) → IsNoted old lists options → IsNoted new lists options
+noted_added old new n j added table lists options noted = record {
+  table = table;
+  lists = λ part i is. still_added old new n _ i j added (noted.lists part i is);
+  options = λ part i is. still_added old new n _ i j added (noted.options part i is);
+}
 
 module _ {R : Type 0} (view : R → Node) (eq : R → R → Bool) (same : (a b : R) → eq a b ≡ true → view a ≡ view b) (itself : (a b : R) → view a ≡ view b → eq a b ≡ true) where
   or_first : (a b : Bool) → (a || b) ≡ false → a ≡ false
@@ -87,3 +109,22 @@ module _ {R : Type 0} (view : R → Node) (eq : R → R → Bool) (same : (a b :
       | true ↦ inl refl
       | false ↦ inr (map_push ks k)
     ]
+
+  there : (ks : List R) (i : ℕ) (d : R) → i < length ks → slice_get ks i ≡ Some (get_or ks i d)
+  there [] i d lt = absurd (omega (arith, lt))
+  there (x ∷ ks) zero d lt = refl
+  there (x ∷ ks) (suc i) d lt = there ks i d (omega (arith, lt))
+
+  -- a node that is found stands where it was found
+  pub found_at : (ks : List R) (k : R) (i : ℕ) → position (eq k) ks ≡ Some i → slice_get (map view ks) i ≡ Some (view k)
+  found_at ks k i is =
+      let (low, one, _) = position-Some (eq k) ks i k is in
+      get_map ks i (get_or ks i k) (there ks i k low) ∙ ap Some (sym (same k (get_or ks i k) one))
+
+  -- where a node is put, what is noted stays so
+  pub inserted_noted : (ks : List R) (k : R) (i : ℕ) (x : R) (more : List R) → more ≡ insert_key eq ks k → slice_get more i ≡ Some x → eq k x ≡ true → (lists options : List (Option ℕ)) → IsNoted (map view ks) lists options → IsSorted (view k)
+      → AllByRecursion (λ m. m < length (map view ks)) (mentions (view k)) → IsNoted (map view more) lists options
+  inserted_noted ks k i x more keys is one lists options noted ordered low =
+      let added = inserted_added ks k i x (ap (λ l. slice_get l i) (sym keys) ∙ is) one in
+      subst (λ l. IsNoted (map view l) lists options) (sym keys)
+      (noted_added (map view ks) (map view (insert_key eq ks k)) (view k) i added (inserted_table ks k noted.table ordered low) lists options noted)

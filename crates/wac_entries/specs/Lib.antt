@@ -15,3 +15,4 @@ pub mod Bindings
 pub mod Walking
 pub mod Ways
 pub mod Tasks
+pub mod NotedNodes

@@ -1,16 +1,18 @@
 //! Types as nodes of a table, each once.
 ghost use Rattle.std.specs.Prelude.{◌≡◌, ◌<◌, ℕ, [], fold, length, Some, slice_get, OnOk, OnErr, IfOk};
 ghost use Rattle.std.specs.List.{AllByRecursion};
-ghost use Rattle.wac_entries.specs.Nodes.{mentions, tree_at, Added, IsSorted, IsTable};
+ghost use Rattle.wac_entries.specs.Nodes.{mentions, of_list, of_option, tree_at, Added, IsSorted, IsTable};
 ghost use Rattle.wac_entries.specs.NodeViews.{node_view};
 ghost use Rattle.wac_entries.specs.ItemHash.{item_writes, item_alike};
 ghost use Rattle.wac_entries.specs.NodeHash.{node_writes, node_alike, number_writes};
 
 use crate::called::Called;
+use crate::rounds::Numbers;
 use indexmap::IndexSet;
 use std::alloc::{AllocError, Global};
 use std::hash::{Hash, Hasher};
 use std::marker::Model;
+use std::mem::replace;
 use wac_collection::{CoreRefType, CoreType, PrimitiveType};
 
 /// What an instance or a component lists under a name: its sort, and the number of its type.
@@ -159,12 +161,23 @@ fn hash_number<H: Hasher>(number: Option<usize>, state: &mut H)
 /// Nodes, each once, which mention lower ones.
 pub struct Nodes<'a> {
     nodes: IndexSet<Node<'a>>,
+    /// The numbers of lists, by those of their parts: of those that were noted.
+    lists: Numbers,
+    /// The numbers of options, likewise.
+    options: Numbers,
+    /// Memory for fields.
+    fields: Vec<(&'a str, usize)>,
 }
 
 /// The nodes are let go of here, and not anew at each place where a table goes out of scope.
 impl<'a> Drop for Nodes<'a> {
     fn drop(self) {
-        let Nodes { nodes: _ } = self;
+        let Nodes {
+            nodes: _,
+            lists: _,
+            options: _,
+            fields: _,
+        } = self;
     }
 }
 
@@ -172,12 +185,13 @@ impl<'a> Model for Nodes<'a> {
     ghost use Rattle.std.specs.Prelude.{List, map};
     ghost use Rattle.wac_entries.specs.Nodes as table;
     ghost use Rattle.wac_entries.specs.NodeViews.{node_view};
+    ghost use Rattle.wac_entries.specs.NotedNodes.{IsNoted};
 
     ghost Value = { List table.Node };
 
     ghost view = { λ t. map node_view t.nodes.keys };
 
-    ghost invariant = { λ t. table.IsTable (map node_view t.nodes.keys) };
+    ghost invariant = { λ t. IsNoted (map node_view t.nodes.keys) t.lists t.options };
 }
 
 impl<'a> Nodes<'a> {
@@ -187,6 +201,9 @@ impl<'a> Nodes<'a> {
     {
         Nodes {
             nodes: IndexSet::new(alloc),
+            lists: Numbers::new(alloc),
+            options: Numbers::new(alloc),
+            fields: Vec::new(alloc),
         }
     }
 
@@ -212,8 +229,29 @@ impl<'a> Nodes<'a> {
         self.nodes.get_index(number).unwrap()
     }
 
-    /// The number of a node, which is put behind the others where it is not there. Where memory runs out nothing has changed.
-    pub fn add(&mut self, node: Node<'a>) -> Result<usize, AllocError>
+    /// Memory for the fields of a node, taken out: that of one which was there already. None is in it.
+    pub fn take_fields(&mut self, alloc: Global) -> Vec<(&'a str, usize)>
+        ensures none { result.items ≡ [] }
+        ensures same { self.new ≡ self.old }
+    {
+        let mut fields = replace(&mut self.fields, Vec::new(alloc));
+        fields.clear();
+        fields
+    }
+
+    /// Keeps the memory of the fields of a node.
+    fn keep_fields(&mut self, node: Node<'a>)
+        ensures { self.new ≡ self.old }
+    {
+        match node {
+            Node::Record(fields) => self.fields = fields,
+            Node::Func(_, params, _) => self.fields = params,
+            _ => {}
+        }
+    }
+
+    /// The number of a node, by its hash.
+    fn insert(&mut self, node: Node<'a>) -> Result<usize, AllocError>
         requires lower { AllByRecursion (λ m. m < length self.old) (mentions (node_view node)) }
         requires sorted { IsSorted (node_view node) }
         ensures added { OnOk result (IfOk result (λ i. Added self.old (node_view node.entry) self.new i)) }
@@ -223,5 +261,62 @@ impl<'a> Nodes<'a> {
             return Err(AllocError);
         };
         Ok(index)
+    }
+
+    /// The number of a list of a part.
+    fn add_list(&mut self, part: usize) -> Result<usize, AllocError>
+        requires { part < length self.old }
+        ensures added { OnOk result (IfOk result (λ i. Added self.old (of_list part) self.new i)) }
+        ensures refused { OnErr result (self.new ≡ self.old) }
+    {
+        if let Some(number) = self.lists.get(part) {
+            return Ok(number);
+        }
+        let number = self.insert(Node::List(part))?;
+        // Where memory runs out here, the list is found by its hash again.
+        let _ = self.lists.put(part, number);
+        Ok(number)
+    }
+
+    /// The number of an option of a part.
+    fn add_option(&mut self, part: usize) -> Result<usize, AllocError>
+        requires { part < length self.old }
+        ensures added { OnOk result (IfOk result (λ i. Added self.old (of_option part) self.new i)) }
+        ensures refused { OnErr result (self.new ≡ self.old) }
+    {
+        if let Some(number) = self.options.get(part) {
+            return Ok(number);
+        }
+        let number = self.insert(Node::Option(part))?;
+        let _ = self.options.put(part, number);
+        Ok(number)
+    }
+
+    /// The number of a node that is looked for first, so that the memory of its fields stays where it is there.
+    fn add_found(&mut self, node: Node<'a>) -> Result<usize, AllocError>
+        requires lower { AllByRecursion (λ m. m < length self.old) (mentions (node_view node)) }
+        requires sorted { IsSorted (node_view node) }
+        ensures added { OnOk result (IfOk result (λ i. Added self.old (node_view node.entry) self.new i)) }
+        ensures refused { OnErr result (self.new ≡ self.old) }
+    {
+        if let Some(number) = self.nodes.get_index_of(&node) {
+            self.keep_fields(node);
+            return Ok(number);
+        }
+        self.insert(node)
+    }
+
+    /// The number of a node, which is put behind the others where it is not there. Where memory runs out nothing has changed.
+    pub fn add(&mut self, node: Node<'a>) -> Result<usize, AllocError>
+        requires lower { AllByRecursion (λ m. m < length self.old) (mentions (node_view node)) }
+        requires sorted { IsSorted (node_view node) }
+        ensures added { OnOk result (IfOk result (λ i. Added self.old (node_view node.entry) self.new i)) }
+        ensures refused { OnErr result (self.new ≡ self.old) }
+    {
+        match node {
+            Node::List(part) => self.add_list(part),
+            Node::Option(part) => self.add_option(part),
+            _ => self.add_found(node),
+        }
     }
 }

@@ -2,7 +2,7 @@
 //!
 //! Beside each number stands the round in which it was put. A number of an earlier round counts as none, so a new round
 //! begins without a walk over them, and their memory is used again.
-ghost use Rattle.std.specs.Prelude.{◌≡◌, ◌<◌, ℕ, [], None, Some, cond, nat_eq, length, OnOk};
+ghost use Rattle.std.specs.Prelude.{◌≡◌, ◌<◌, ℕ, [], None, Some, cond, nat_eq, length, IfSome, OnOk, OnErr};
 ghost use Rattle.wac_entries.specs.Numbers.{number_at};
 
 use std::alloc::{AllocError, Global};
@@ -21,6 +21,16 @@ pub struct Numbers {
     puts: Vec<Put>,
     /// This round. No number was put in a later one, and none in the round 0.
     round: usize,
+}
+
+/// How many numbers there is to be room for up to a position: as many as there is memory for, if that is enough.
+fn room_for(position: usize, capacity: usize) -> Option<usize>
+    ensures { IfSome result (λ count. position < count) }
+{
+    if position < capacity {
+        return Some(capacity);
+    }
+    position.checked_add(1)
 }
 
 impl Model for Numbers {
@@ -74,12 +84,12 @@ impl Numbers {
     /// Makes room up to a position.
     fn make_room(&mut self, position: usize) -> Result<(), AllocError>
         ensures there { OnOk result (position < length self.new) }
-        ensures same { OnOk result ((k : ℕ) → number_at self.new k ≡ number_at self.old k) }
+        ensures same { (k : ℕ) → number_at self.new k ≡ number_at self.old k }
     {
         if position < self.puts.len() {
             return Ok(());
         }
-        let Some(count) = position.checked_add(1) else {
+        let Some(count) = room_for(position, self.puts.capacity()) else {
             return Err(AllocError);
         };
         self.puts.resize(
@@ -92,9 +102,10 @@ impl Numbers {
         Ok(())
     }
 
-    /// Puts a number at a position.
+    /// Puts a number at a position. Where memory runs out nothing has changed.
     pub fn put(&mut self, position: usize, number: usize) -> Result<(), AllocError>
-        ensures { OnOk result ((k : ℕ) → number_at self.new k ≡ cond (nat_eq position k) (Some number) (number_at self.old k)) }
+        ensures put { OnOk result ((k : ℕ) → number_at self.new k ≡ cond (nat_eq position k) (Some number) (number_at self.old k)) }
+        ensures refused { OnErr result ((k : ℕ) → number_at self.new k ≡ number_at self.old k) }
     {
         self.make_room(position)?;
         self.puts[position] = Put {

@@ -16,5 +16,5 @@ returns-clause-number c =
     let y = c.index-2.result.now in
     let imported : x.imports ≡ world_imports c.args.inside.now.types.now c.args.id = ap (λ o. option_case o [] (λ w. w.imports)) (sym c.index.ensures) in
     let exported : y.exports ≡ world_exports c.args.outside.now.types.now c.args.id = ap (λ o. option_case o [] (λ w. w.exports)) (sym c.index-2.ensures) in
-    let fits = fits_component c.args.nodes.now t u x.imports y.exports (listed c.in_ok-imports.imports.items) (listed c.in_ok-exports.exports.items) c.in_ok-imports.ensures c.in_ok-exports.ensures in
+    let fits = fits_component c.args.nodes.now t u x.imports y.exports (listed c.in_ok-imports.imports.items) (listed c.in_ok-exports.exports.items) c.in_ok-imports.ensures.lists c.in_ok-exports.ensures.lists in
     answer_same c.add.result c.add.new.nodes _ _ (fits.is ∙ (λ j. component_tree t (imported j) u (exported j))) c.add.ensures.number

@@ -6,5 +6,5 @@ use Rattle.wac_coding.proofs.listing.listing.Goals as goal
 
 pub returns-clause-number : goal.returns-clause-number
 returns-clause-number c =
-    let fits = fits_instance c.args.nodes.now (source_tree c.args.source.now) c.args.kinds.now (listed c.in_ok-exports.exports.items) c.in_ok-exports.ensures in
+    let fits = fits_instance c.args.nodes.now (source_tree c.args.source.now) c.args.kinds.now (listed c.in_ok-exports.exports.items) c.in_ok-exports.ensures.lists in
     answer_same c.add.result c.add.new.nodes _ _ fits.is c.add.ensures.number

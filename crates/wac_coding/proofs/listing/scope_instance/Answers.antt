@@ -10,5 +10,5 @@ use Rattle.wac_coding.proofs.listing.scope_instance.Goals as goal
 pub returns-clause-number : goal.returns-clause-number
 returns-clause-number c =
     let s = c.args.source.now in
-    let here = ap (λ ks. instance (listing_under (source_tree s) ks)) c.listed_kinds.ensures in
+    let here = ap (λ ks. instance (listing_under (source_tree s) ks)) c.listed_kinds-kinds.ensures in
     answer_same c.listing.result c.listing.new.nodes _ _ (here ∙ scope_is s.types.now (names_in s.types.now s.calls.now) c.args.opener) c.listing.ensures.number

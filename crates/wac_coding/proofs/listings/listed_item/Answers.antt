@@ -13,6 +13,7 @@ use Rattle.wac_coding.specs.Listings.{at_scope, AreOpen}
 use Rattle.wac_entries.specs.Scopes.{opened_by_type, scope_tree}
 use Rattle.wac_entries.proofs.Opening.{opened-kind}
 use Rattle.wac_coding.proofs.CodingGrowth.{right_grown, tree_same}
+use Rattle.wac_coding.proofs.CodingMemo.{same_right}
 use Rattle.wac_coding.proofs.Opened.{interface-is, inner-names, interface-listed, listed-within, listing-read, interface-opens, world-opens}
 use Rattle.wac_coding.proofs.listings.listed_item.Goals as goal
 
@@ -38,7 +39,8 @@ scope_instance-requires-clause-items c =
 
 pub returns-in_ok-number-in-Interface-clause-right : goal.returns-in_ok-number-in-Interface-clause-right
 returns-in_ok-number-in-Interface-clause-right c =
-    right_grown (source_tree c.args.source.now) c.args.memo.now c.args.nodes.now c.scope_instance.new.nodes c.scope_instance.ensures.grown c.requires.right
+    same_right (source_tree c.args.source.now) c.scope_instance.new.nodes c.args.memo.now c.scope_instance.new.memo c.scope_instance.ensures.same
+    (right_grown (source_tree c.args.source.now) c.args.memo.now c.args.nodes.now c.scope_instance.new.nodes c.scope_instance.ensures.grown c.requires.right)
 
 pub returns-in_ok-number-in-Interface-clause-item : goal.returns-in_ok-number-in-Interface-clause-item
 returns-in_ok-number-in-Interface-clause-item c =
@@ -64,7 +66,9 @@ pub inner_component-requires-clause-opened : goal.inner_component-requires-claus
 inner_component-requires-clause-opened c = subst (λ (os : List Opener). AreOpen c.args.source.now.calls.now os) (opened-kind c.args.kind ∙ ap opened_by_type (sym c.ty.ensures ∙ c.in-World.is)) c.requires.opened
 
 pub returns-in_ok-number-in-World-clause-right : goal.returns-in_ok-number-in-World-clause-right
-returns-in_ok-number-in-World-clause-right c = right_grown (source_tree c.args.source.now) c.args.memo.now c.args.nodes.now c.inner_component.new.nodes c.inner_component.ensures.grown c.requires.right
+returns-in_ok-number-in-World-clause-right c =
+    same_right (source_tree c.args.source.now) c.inner_component.new.nodes c.args.memo.now c.inner_component.new.memo c.inner_component.ensures.same
+    (right_grown (source_tree c.args.source.now) c.args.memo.now c.args.nodes.now c.inner_component.new.nodes c.inner_component.ensures.grown c.requires.right)
 
 pub returns-in_ok-number-in-World-clause-item : goal.returns-in_ok-number-in-World-clause-item
 returns-in_ok-number-in-World-clause-item c =

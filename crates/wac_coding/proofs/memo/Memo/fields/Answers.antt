@@ -1,8 +1,9 @@
-use Rattle.std.proofs.Common.{◌≡◌, true, ap, refl}
+use Rattle.std.proofs.Common.{◌≡◌, ℕ, [], List, true, ap, refl, sym, subst}
+use Rattle.std.specs.Borrow.{Bor}
 use Rattle.std.specs.Option.{option_map}
 use Rattle.wac_collection.specs.Collection.{holds_value}
-use Rattle.wac_coding.specs.Coding.{source_tree, values_of, IsReady}
-use Rattle.wac_coding.proofs.CodingGrowth.{grown_twice, right_grown}
+use Rattle.wac_coding.specs.Coding.{source_tree, values_of, AreFields, IsReady}
+use Rattle.wac_coding.proofs.CodingGrowth.{grown_none, grown_twice, right_grown}
 use Rattle.wac_coding.proofs.CodingLoops.{fields_more}
 use Rattle.wac_entries.proofs.TaskOpenings.{each_field}
 use Rattle.wac_coding.proofs.memo.Memo.fields.Goals as goal
@@ -22,3 +23,9 @@ loop-i-preserved c = record {
 
 pub part-requires-clause-held : goal.part-requires-clause-held
 part-requires-clause-held c = each_field (λ v. holds_value c.args.source.now.types.now v ≡ true) c.args.fields.now c.loop-i.i c.entry_at.result.1.now (ap (option_map (λ e. e.1)) c.entry_at.ensures) c.requires.held
+
+pub loop-i-init : goal.loop-i-init
+loop-i-init c = record {
+  grown = grown_none c.args.nodes.now c.take_fields-numbers.new.self c.take_fields-numbers.ensures.same;
+  numbers = subst (λ (es : List (Bor (List ℕ) × ℕ)). AreFields c.take_fields-numbers.new.self (values_of (source_tree c.args.source.now)) [] es) (sym c.take_fields-numbers.ensures.none) tt;
+}

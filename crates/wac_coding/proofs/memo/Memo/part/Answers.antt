@@ -1,11 +1,10 @@
 use Rattle.std.proofs.Common.{ap, sym, ◌∙◌, subst}
 use Rattle.wac_shapes.specs.declared.component.ValueType.{ValueType}
 use Rattle.wac_shapes.specs.declared.component.«Type».TheVariants as ty
-use Rattle.wac_entries.specs.CalledViews.{called_view}
 use Rattle.wac_coding.specs.CallsView.{names_in}
 use Rattle.wac_coding.specs.Coding.{source_tree, HasTree}
 use Rattle.wac_coding.proofs.CodingGrowth.{answer_same}
-use Rattle.wac_coding.proofs.CodingTrees.{primitive_is, own_is, borrow_is}
+use Rattle.wac_coding.proofs.CodingTrees.{primitive_is}
 use Rattle.wac_coding.proofs.memo.Memo.part.Goals as goal
 
 pub returns-in-Primitive-clause-number : goal.returns-in-Primitive-clause-number
@@ -14,18 +13,11 @@ returns-in-Primitive-clause-number c =
     let e = ap (λ (v : ValueType). source_tree s (ty.Value v)) c.in-Primitive.is ∙ primitive_is s.types.now (names_in s.types.now s.calls.now) c.in-Primitive.primitive in
     answer_same c.add.result c.add.new.nodes _ _ (sym e) c.add.ensures.number
 
-pub returns-in_ok-called-in-Own-clause-number : goal.returns-in_ok-called-in-Own-clause-number
-returns-in_ok-called-in-Own-clause-number c =
-    let s = c.args.source.now in
-    let e = ap (λ (v : ValueType). source_tree s (ty.Value v)) c.in-Own.is ∙ own_is s.types.now (names_in s.types.now s.calls.now) c.in-Own.id (called_view c.in_ok-called-in-Own.called) c.in_ok-called-in-Own.ensures in
-    answer_same c.add-in-Own.result c.add-in-Own.new.nodes _ _ (sym e) c.add-in-Own.ensures.number
+pub returns-in-Own-clause-number : goal.returns-in-Own-clause-number
+returns-in-Own-clause-number c = answer_same c.owned.result c.owned.new.nodes _ _ (ap (λ (v : ValueType). source_tree c.args.source.now (ty.Value v)) (sym c.in-Own.is)) c.owned.ensures.number
 
-pub returns-in_ok-called-in-Borrow-clause-number :
-    goal.returns-in_ok-called-in-Borrow-clause-number
-returns-in_ok-called-in-Borrow-clause-number c =
-    let s = c.args.source.now in
-    let e = ap (λ (v : ValueType). source_tree s (ty.Value v)) c.in-Borrow.is ∙ borrow_is s.types.now (names_in s.types.now s.calls.now) c.in-Borrow.id (called_view c.in_ok-called-in-Borrow.called) c.in_ok-called-in-Borrow.ensures in
-    answer_same c.add-in-Borrow.result c.add-in-Borrow.new.nodes _ _ (sym e) c.add-in-Borrow.ensures.number
+pub returns-in-Borrow-clause-number : goal.returns-in-Borrow-clause-number
+returns-in-Borrow-clause-number c = answer_same c.lent.result c.lent.new.nodes _ _ (ap (λ (v : ValueType). source_tree c.args.source.now (ty.Value v)) (sym c.in-Borrow.is)) c.lent.ensures.number
 
 pub returns-in-Defined-clause-number : goal.returns-in-Defined-clause-number
 returns-in-Defined-clause-number c =

@@ -4,4 +4,4 @@ use Rattle.wac_entries.proofs.NodeLaws.{one_tree}
 use Rattle.wac_entries.proofs.nodes.Nodes.law.Goals as goal
 
 pub returns : goal.returns
-returns c = one_tree c.args.self.now (subst (λ ns. IsTable ns) c.self.view_is c.self.invariant)
+returns c = one_tree c.args.self.now (subst (λ ns. IsTable ns) c.self.view_is c.self.invariant.table)

@@ -4,11 +4,11 @@ use Rattle.wac_entries.specs.declared.rounds.Put.{Put}
 use Rattle.wac_entries.proofs.PutNumbers.{map_length, put_at}
 use Rattle.wac_entries.proofs.rounds.Numbers.put.Goals as goal
 
-pub returns : goal.returns
-returns c =
+pub returns-clause-put : goal.returns-clause-put
+returns-clause-put c =
     let round = c.self.inside.round in
     let puts = c.self.inside.puts.items in
     let p : Put = record { round = round; number = c.args.number } in
     let long = ap length c.self.view_is in
     let within : c.args.position < length puts = omega (arith, c.in_ok-make_room.ensures.there, long, map_length (number_in round) puts) in
-    λ k. put_at round puts c.args.position p refl within k ∙ ap (λ o. cond (nat_eq c.args.position k) (Some c.args.number) o) (ap (λ l. number_at l k) c.self.view_is ∙ c.in_ok-make_room.ensures.same k)
+    λ k. put_at round puts c.args.position p refl within k ∙ ap (λ o. cond (nat_eq c.args.position k) (Some c.args.number) o) (ap (λ l. number_at l k) c.self.view_is ∙ c.make_room.ensures.same k)
