@@ -1,5 +1,5 @@
 -- The step of `import`.
-use Rattle.std.proofs.Common.{◌≡◌, ℕ, ap, ◌∙◌, sym, subst, refl, Option, Some, None, IfSome, IsSome, is_some, true, Ok, String, Global, string_bytes, [], ◌∷◌, ◌++◌}
+use Rattle.std.proofs.Common.{◌≡◌, ℕ, ap, ◌∙◌, sym, subst, Option, Some, None, IfSome, IsSome, is_some, true, false, Ok, String, Global, string_bytes, [], ◌∷◌, ◌++◌}
 use Rattle.std.specs.Map.{lookup}
 use Rattle.std.specs.Str.{bytes_eq}
 use Rattle.std.specs.String.{string_eq}
@@ -18,7 +18,7 @@ use Rattle.wac_edges.specs.declared.node.NodeId.{NodeId}
 use Rattle.wac_nodes.specs.declared.node.NodeKind.TheVariants as code
 use Rattle.wac_nodes.specs.Graph.{node_at, import_name, IsImportOf}
 use Rattle.wac_nodes.specs.ExternName.{IsImportName}
-use Rattle.wac_nodes.specs.Nodes.{node_of, names_of, kind_of}
+use Rattle.wac_nodes.specs.Nodes.{node_of, names_of, kind_of, satisfied}
 use Rattle.wac_fields.specs.Fields.{Fields, graph_of, Invariant}
 use Rattle.wac_nodes.specs.Steps.{Imports, IsFreeImport, AddsNode, import_node}
 use Rattle.wac_nodes.proofs.NodeLemmas.{get-nodes_of, lookup_text, text_last}
@@ -28,9 +28,12 @@ use Rattle.wac_fields.proofs.StepLemmas.{adds_node}
 abbrev Names : Type 0
 Names = HashMap (String Global) NodeId (BuildHasherDefault FoldHasher)
 
--- the node of a new import
-abbrev pub new_import : String Global → ItemKind → Node
-new_import own kind = record { kind = code.Import own; «package» = None; item_kind = kind; name = None; export_name = None; first_name = None }
+-- a new import is of its kind, with its text, and has no argument
+pub import_shape : (node : Node) (own : String Global) (name : Name) (kind : ItemKind) → node_of node ≡ import_node (string_bytes own) kind → string_bytes own ≡ name → node_of node ≡ import_node name kind
+import_shape node own name kind is own_is = is ∙ ap (λ t. import_node t kind) own_is
+
+pub import_bare : (node : Node) (own : String Global) → node.kind ≡ code.Import own → (i : ℕ) → satisfied node.kind i ≡ false
+import_bare node own is i = ap (λ k. satisfied k i) is
 
 module _ (a : Fields) (v : Invariant a) (name : Name) where
   -- the name is that of the node that is found
@@ -42,20 +45,17 @@ module _ (a : Fields) (v : Invariant a) (name : Name) where
     some_none : (o : Option NodeId) (x : NodeId) → o ≡ None → o ≡ Some x → ⊥
     some_none o x p q = cc
 
-  module _ (kind : ItemKind) (key own : String Global) (number : ℕ) (nodes : Slab Node) (names : Names) (key_is : string_bytes key ≡ name) (own_is : string_bytes own ≡ name)
-      (absent : lookup (λ k. bytes_eq name (string_bytes k)) a.imports.entries ≡ None) (vacant : get a.nodes number ≡ None) (u : Updates a.nodes nodes number (Some (new_import own kind))) where
-    shape : node_of (new_import own kind) ≡ import_node name kind
-    shape = ap (λ t. import_node t kind) own_is
-
+  module _ (kind : ItemKind) (key : String Global) (node : Node) (number : ℕ) (nodes : Slab Node) (names : Names) (key_is : string_bytes key ≡ name) (shape : node_of node ≡ import_node name kind)
+      (absent : lookup (λ k. bytes_eq name (string_bytes k)) a.imports.entries ≡ None) (vacant : get a.nodes number ≡ None) (u : Updates a.nodes nodes number (Some node)) where
     pub imported : number ≡ a.nodes.vacant_key → IsImportName name → Imports (graph_of a) name kind (Ok (record { 0 = number })) (graph_of (record a { nodes = nodes; imports = names }))
     imported next valid = (
       not_imported absent,
       valid,
-      subst (λ n. AddsNode (graph_of a) (record { 0 = number }) n (graph_of (record a { nodes = nodes; imports = names }))) shape (adds_node a nodes number (new_import own kind) next vacant u),
+      subst (λ n. AddsNode (graph_of a) (record { 0 = number }) n (graph_of (record a { nodes = nodes; imports = names }))) shape (adds_node a nodes number node next vacant u),
     )
 
-    pub invariant_imported : holds_type a.types (kind_type kind) ≡ true → names.entries ≡ insert_entry string_eq a.imports.entries key (record { 0 = number }) → Invariant (record a { nodes = nodes; imports = names })
-    invariant_imported held last = invariant_import a v nodes number (new_import own kind) vacant u (λ i. refl) name kind names shape held (sym_lookup ∙ absent) listed where
+    pub invariant_imported : ((i : ℕ) → satisfied node.kind i ≡ false) → holds_type a.types (kind_type kind) ≡ true → names.entries ≡ insert_entry string_eq a.imports.entries key (record { 0 = number }) → Invariant (record a { nodes = nodes; imports = names })
+    invariant_imported bare held last = invariant_import a v nodes number node vacant u bare name kind names shape held (sym_lookup ∙ absent) listed where
       sym_lookup : find_name (names_of a.imports.entries) name ≡ lookup (λ k. bytes_eq name (string_bytes k)) a.imports.entries
       sym_lookup = lookup_text a.imports.entries name
 

@@ -363,7 +363,7 @@ module _ (a : Fields) (v : Invariant a) where
               both_true false y h = cc
 
   -- a node is exported by a further name
-  pub invariant_export : (nodes : Slab Node) (exports : List (Name × NodeId)) (id : NodeId) (before after : Node) (name : Name) → get a.nodes id.0 ≡ Some before → Updates a.nodes nodes id.0 (Some after) → node_of after ≡ record (node_of before) { export_name = Some name } → after.kind ≡ before.kind → (IsSome before.export_name → is_again a.lost id.0 ≡ true)
+  pub invariant_export : (nodes : Slab Node) (exports : List (Name × NodeId)) (id : NodeId) (before after : Node) (name : Name) → get a.nodes id.0 ≡ Some before → Updates a.nodes nodes id.0 (Some after) → node_of after ≡ record (node_of before) { export_name = Some name } → after.kind ≡ before.kind → (IsSome (node_of before).export_name → is_again a.lost id.0 ≡ true)
       → nodes.vacant_key ≡ a.nodes.vacant_key → find_name (names_of a.exports.entries) name ≡ None → exports ≡ (graph_of a).exports ++ (name, id) ∷ [] → (names : HashMap (String Global) NodeId (BuildHasherDefault FoldHasher)) → map_list (λ e. (string_bytes e.0, e.1)) names.entries ≡ exports
       → Invariant (record a { nodes = nodes; exports = names })
   invariant_export nodes exports id before after name had u shape kept again next absent added names listed =
@@ -392,13 +392,9 @@ module _ (a : Fields) (v : Invariant a) where
             ∙ told_again other (is_again a.lost id.0) refl (sym (ap (λ o. tells (is_again a.lost id.0) (option_map node_of o) other) had) ∙ ap (λ k. tells (is_again a.lost k) (option_map node_of (get a.nodes k)) other) (sym same) ∙ v.told i other n was_listed))
             (λ differ. ap (λ o. tells (is_again a.lost n.0) (option_map node_of o) other) (u.others n.0 differ) ∙ v.told i other n was_listed)
           where
-            some_text : (o : Option (String Global)) → IsSome (option_map string_bytes o) → IsSome o
-            some_text None h = h
-            some_text (Some t) h = refl
-
             told_again : (other : Name) (b : Bool) → is_again a.lost id.0 ≡ b → tells b (Some (node_of before)) other ≡ true → tells b (Some (node_of after)) other ≡ true
             told_again other true is h = refl
-            told_again other false is h = absurd (clash (is_again a.lost id.0) (again (some_text before.export_name (tells_kept (node_of before) other h))) is)
+            told_again other false is h = absurd (clash (is_again a.lost id.0) (again (tells_kept (node_of before) other h)) is)
 
         was : (other : Name) → (node_of before).kind ≡ graph.import other → ImportIn (nodes_of a.nodes.slots) other id
         was other is = subst (λ o. IsSomeAnd o (λ x. x.kind ≡ graph.import other)) (sym (get-nodes_of a.nodes.slots id.0 ∙ ap (option_map node_of) had)) is

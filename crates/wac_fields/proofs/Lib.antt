@@ -31,3 +31,4 @@ pub mod WithoutLemmas
 pub mod UnregisteringLemmas
 pub mod RemovalLaws
 pub mod UnregisteredLaws
+pub mod RenamedLemmas

@@ -168,13 +168,13 @@ module _ (q : Name) where
 
 -- the name that a node keeps is found where its export stands, so it is noted
 module _ (es : List (String Global × NodeId)) (d : IsDistinct string_eq (keys_of es)) (node : Node) (more : Lost) (again : Bool) (once : again ≡ false) where
-  kept_is : (o : Option (String Global)) (name : Name) → node.export_name ≡ o → tells again (Some (node_of node)) name ≡ true → is_name (option_map string_bytes o) name ≡ true
-  kept_is o name is told = ap (λ x. is_name (option_map string_bytes x) name) (sym is) ∙ ap (λ b. b || is_name (option_map string_bytes node.export_name) name) (sym once) ∙ told
+  kept_is : (o : Option Name) (name : Name) → (node_of node).export_name ≡ o → tells again (Some (node_of node)) name ≡ true → is_name o name ≡ true
+  kept_is o name is told = ap (λ x. is_name x name) (sym is) ∙ ap (λ b. b || is_name (node_of node).export_name name) (sym once) ∙ told
 
-  module _ (text : String Global) (key : Name) (is : node.export_name ≡ Some text) (key_is : key ≡ string_bytes text) where
+  module _ (key : Name) (is : (node_of node).export_name ≡ Some key) where
     found_at : (i : ℕ) (name : Name) (n : NodeId) → slice_get (names_of es) i ≡ Some (name, n) → tells again (Some (node_of node)) name ≡ true → position (test key) (keys_of es) ≡ Some i
     found_at i name n at told =
-        let same : name ≡ key = same_name-true name (string_bytes text) (kept_is (Some text) name is told) ∙ sym key_is in
+        let same : name ≡ key = same_name-true name key (kept_is (Some key) name is told) in
         placed key es d i n (at ∙ ap (λ q. Some (q, n)) same)
 
     pub noted_found : (p : ℕ) → Some p ≡ position (test key) (keys_of es) → IsNoted more p → (i : ℕ) (name : Name) (n : NodeId) → slice_get (names_of es) i ≡ Some (name, n) → tells again (Some (node_of node)) name ≡ true → IsNoted more i
@@ -188,7 +188,7 @@ module _ (es : List (String Global × NodeId)) (d : IsDistinct string_eq (keys_o
       nothing h = cc
 
   -- a node that keeps no name, and has no further ones, tells of none
-  pub noted_none : node.export_name ≡ None → (i : ℕ) (name : Name) → tells again (Some (node_of node)) name ≡ true → IsNoted more i
+  pub noted_none : (node_of node).export_name ≡ None → (i : ℕ) (name : Name) → tells again (Some (node_of node)) name ≡ true → IsNoted more i
   noted_none is i name told = absurd (wrong (kept_is None name is told)) where
     wrong : false ≡ true → ⊥
     wrong h = cc

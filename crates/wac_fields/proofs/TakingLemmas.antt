@@ -12,8 +12,7 @@ use Rattle.std.specs.FinMap as map
 use Rattle.std.specs.FinSet as set
 use Rattle.std.proofs.lemmas.Bool.{eqb-true}
 use Rattle.std.proofs.lemmas.Bool.Decides.{nat_tests}
-use Rattle.slab.specs.Slab.{Slab, get, Updates, with_value}
-use Rattle.slab.proofs.SlabLemmas.{Updates-with_value}
+use Rattle.slab.specs.Slab.{Slab, get, Updates}
 use Rattle.wac_primitives.specs.Name.{Name}
 use Rattle.wac_edges.specs.declared.edges.Edge.{Edge}
 use Rattle.wac_edges.specs.declared.edges.Label.TheVariants as label
@@ -42,7 +41,9 @@ use Rattle.wac_nodes.proofs.TakenOut.{found_left, Left, left_itself, left_withou
 use Rattle.wac_nodes.proofs.PartLemmas.{IsPart, IsClosed, sound_part}
 use Rattle.wac_fields.proofs.LostLemmas.{names_taken}
 use Rattle.wac_fields.specs.Fields.{Fields, graph_of, Invariant}
+use Rattle.wac_fields.specs.Renamed.{Renames, with_name, with_export_name}
 use Rattle.wac_fields.proofs.InvariantLemmas.{invariant_lost}
+use Rattle.wac_fields.proofs.RenamedLemmas.{IsRewritten, rewritten}
 
 clash : (b : Bool) → b ≡ true → b ≡ false → ⊥
 clash true _ h = cc
@@ -244,71 +245,53 @@ module _ (a : Fields) (id : NodeId) (nodes : Slab Node) (before after : Node) (h
           vacant_once = v.sound.vacant_once;
         }
 
--- the write of `set_name`
-abbrev pub Titled : Slab Node → Slab Node → ℕ → String Global → Type 0
-Titled old new number name = IfSome (get old number) (λ n. new ≡ with_value old number (record n { name = Some name }))
-
-module _ (a : Fields) (id : NodeId) (name : Name) (own : String Global) (nodes : Slab Node) (is : string_bytes own ≡ name) (titled_node : Node) (titled_had : get a.nodes id.0 ≡ Some titled_node) (titled : Titled a.nodes nodes id.0 own) where
-  titled_is : nodes ≡ with_value a.nodes id.0 (record titled_node { name = Some own })
-  titled_is = rw titled_had at titled
-
-  titled_updates : Updates a.nodes nodes id.0 (Some (record titled_node { name = Some own }))
-  titled_updates =
-      let v : Node = record titled_node { name = Some own } in
-      subst (λ x. Updates a.nodes x id.0 (Some v)) (sym titled_is) (Updates-with_value a.nodes id.0 v (ap is_some titled_had))
+-- what `set_name` changes
+module _ (a : Fields) (id : NodeId) (name : Name) (nodes : Slab Node) (titled_node : Node) (titled_had : get a.nodes id.0 ≡ Some titled_node) (titled : Renames (with_name name) a.nodes nodes id.0) where
+  titled_is : IsRewritten (with_name name) a.nodes nodes id.0 titled_node
+  titled_is = rewritten (with_name name) a.nodes nodes id.0 titled_node titled_had titled
 
   pub named_node : SetsName (graph_of a) id name (Ok tt) (graph_of (record a { nodes = nodes }))
   named_node =
       let at : node_at (graph_of a) id ≡ Some (node_of titled_node) = get-nodes_of a.nodes.slots id.0 ∙ ap (option_map node_of) titled_had in
-      let next : nodes.vacant_key ≡ a.nodes.vacant_key = ap (λ s. s.vacant_key) titled_is in
       let shown : nodes_of nodes.slots ≡ map.insert (nodes_of a.nodes.slots) id.0 (record (node_of titled_node) { name = Some name }) =
-      nodes_of-insert a.nodes nodes id.0 (record titled_node { name = Some own }) titled_updates ∙ ap (λ t. map.insert (nodes_of a.nodes.slots) id.0 (record (node_of titled_node) { name = Some t })) is in
-      rw at (λ i. record (graph_of a) { nodes = shown i; next = next i })
+      nodes_of-insert a.nodes nodes id.0 titled_is.node titled_is.updates ∙ ap (map.insert (nodes_of a.nodes.slots) id.0) titled_is.shape in
+      rw at (λ i. record (graph_of a) { nodes = shown i; next = titled_is.next i })
 
   titled_told : Invariant a → AreTold a.lost nodes a.exports.entries
   titled_told v i other n at = by_eq n.0 id.0
       (λ same.
-      ap (λ k. tells (is_again a.lost k) (option_map node_of (get nodes k)) other) same ∙ ap (λ o. tells (is_again a.lost id.0) (option_map node_of o) other) titled_updates.changed
+      ap (λ k. tells (is_again a.lost k) (option_map node_of (get nodes k)) other) same ∙ ap (λ o. tells (is_again a.lost id.0) (option_map node_of o) other) titled_is.updates.changed
+      ∙ ap (λ x. tells (is_again a.lost id.0) (Some x) other) titled_is.shape
       ∙ sym (ap (λ o. tells (is_again a.lost id.0) (option_map node_of o) other) titled_had) ∙ ap (λ k. tells (is_again a.lost k) (option_map node_of (get a.nodes k)) other) (sym same) ∙ v.told i other n at)
-      (λ differ. ap (λ o. tells (is_again a.lost n.0) (option_map node_of o) other) (titled_updates.others n.0 differ) ∙ v.told i other n at)
+      (λ differ. ap (λ o. tells (is_again a.lost n.0) (option_map node_of o) other) (titled_is.updates.others n.0 differ) ∙ v.told i other n at)
 
   pub invariant_named : Invariant a → Invariant (record a { nodes = nodes })
-  invariant_named v = invariant_rewritten a id nodes titled_node (record titled_node { name = Some own }) titled_had titled_updates (record { kind = refl; item = refl; owner = refl }) refl v a.exports (λ _. false) (left_itself (λ _. false) (names_of a.exports.entries)) (titled_told v) refl (λ n x at is. refl)
-
--- the write of `clear_export_name`
-abbrev pub Cleared : Slab Node → Slab Node → ℕ → Type 0
-Cleared old new number = IfSome (get old number) (λ n. new ≡ with_value old number (record n { export_name = None }))
+  invariant_named v = invariant_rewritten a id nodes titled_node titled_is.node titled_had titled_is.updates (subst (λ y. AreAlike y (node_of titled_node)) (sym titled_is.shape) (record { kind = refl; item = refl; owner = refl })) titled_is.kind v a.exports (λ _. false) (left_itself (λ _. false) (names_of a.exports.entries)) (titled_told v) (ap (λ (x : GraphNode). x.first_name) titled_is.shape) (λ n x at is. refl)
 
 abbrev pub is_same : NodeId → NodeId → Bool
 is_same id m = m.0 == id.0
 
-module _ (a : Fields) (id : NodeId) (nodes : Slab Node) (names : HashMap (String Global) NodeId (BuildHasherDefault FoldHasher)) (node : Node) (had : get a.nodes id.0 ≡ Some node) (cleared : Cleared a.nodes nodes id.0) (taken : names_of names.entries ≡ without (is_same id) (names_of a.exports.entries)) where
-  cleared_is : nodes ≡ with_value a.nodes id.0 (record node { export_name = None })
-  cleared_is = rw had at cleared
-
-  cleared_updates : Updates a.nodes nodes id.0 (Some (record node { export_name = None }))
-  cleared_updates =
-      let v : Node = record node { export_name = None } in
-      subst (λ x. Updates a.nodes x id.0 (Some v)) (sym cleared_is) (Updates-with_value a.nodes id.0 v (ap is_some had))
+module _ (a : Fields) (id : NodeId) (nodes : Slab Node) (names : HashMap (String Global) NodeId (BuildHasherDefault FoldHasher)) (node : Node) (had : get a.nodes id.0 ≡ Some node) (cleared : Renames (with_export_name None) a.nodes nodes id.0) (taken : names_of names.entries ≡ without (is_same id) (names_of a.exports.entries)) where
+  cleared_is : IsRewritten (with_export_name None) a.nodes nodes id.0 node
+  cleared_is = rewritten (with_export_name None) a.nodes nodes id.0 node had cleared
 
   pub unexported : (kind_of node.kind ≡ graph.definition → ⊥) → Unexports (graph_of a) id (Ok tt) (graph_of (record a { nodes = nodes; exports = names }))
   unexported other =
       let at : node_at (graph_of a) id ≡ Some (node_of node) = get-nodes_of a.nodes.slots id.0 ∙ ap (option_map node_of) had in
-      let next : nodes.vacant_key ≡ a.nodes.vacant_key = ap (λ s. s.vacant_key) cleared_is in
-      let shown : nodes_of nodes.slots ≡ map.insert (nodes_of a.nodes.slots) id.0 (record (node_of node) { export_name = None }) = nodes_of-insert a.nodes nodes id.0 (record node { export_name = None }) cleared_updates in
-      rw at (other, λ i. record (graph_of a) { nodes = shown i; next = next i; exports = taken i })
+      let shown : nodes_of nodes.slots ≡ map.insert (nodes_of a.nodes.slots) id.0 (record (node_of node) { export_name = None }) = nodes_of-insert a.nodes nodes id.0 cleared_is.node cleared_is.updates ∙ ap (map.insert (nodes_of a.nodes.slots) id.0) cleared_is.shape in
+      rw at (other, λ i. record (graph_of a) { nodes = shown i; next = cleared_is.next i; exports = taken i })
 
   pub cleared_told : Invariant a → AreTold a.lost nodes names.entries
   cleared_told v i other n at = by_eq n.0 id.0
       (λ same. absurd (clash (is_same id n) (ap (λ k. k == id.0) same ∙ eqb_same id.0) (none_without (is_same id) (names_of a.exports.entries) i (other, n) (ap (λ es. slice_get es i) (sym taken) ∙ at))))
-      (λ differ. ap (λ o. tells (is_again a.lost n.0) (option_map node_of o) other) (cleared_updates.others n.0 differ) ∙ v.told (kept.place i) other n (kept.was i (other, n) at)) where
+      (λ differ. ap (λ o. tells (is_again a.lost n.0) (option_map node_of o) other) (cleared_is.updates.others n.0 differ) ∙ v.told (kept.place i) other n (kept.was i (other, n) at)) where
         kept : Left (is_same id) (names_of a.exports.entries) (names_of names.entries)
         kept = subst (Left (is_same id) (names_of a.exports.entries)) (sym taken) (left_without (is_same id) (names_of a.exports.entries))
 
   pub invariant_unexported : Invariant a → (kind_of node.kind ≡ graph.definition → ⊥) → Invariant (record a { nodes = nodes; exports = names })
   invariant_unexported v other =
-      invariant_rewritten a id nodes node (record node { export_name = None }) had cleared_updates (record { kind = refl; item = refl; owner = refl }) refl v names (is_same id)
-      (subst (Left (is_same id) (names_of a.exports.entries)) (sym taken) (left_without (is_same id) (names_of a.exports.entries))) (cleared_told v) refl
+      invariant_rewritten a id nodes node cleared_is.node had cleared_is.updates (subst (λ y. AreAlike y (node_of node)) (sym cleared_is.shape) (record { kind = refl; item = refl; owner = refl })) cleared_is.kind v names (is_same id)
+      (subst (Left (is_same id) (names_of a.exports.entries)) (sym taken) (left_without (is_same id) (names_of a.exports.entries))) (cleared_told v) (ap (λ (x : GraphNode). x.first_name) cleared_is.shape)
       (λ n x at is. by_eq n.0 id.0
       (λ same. absurd (other (ap (λ (y : GraphNode). y.kind) (same_node (node_at (graph_of a) n) (node_of node) x (ap (map.get (nodes_of a.nodes.slots)) same ∙ get-nodes_of a.nodes.slots id.0 ∙ ap (option_map node_of) had) at) ∙ is)))
       (λ differ. let e : (n.0 == id.0) ≡ false = grind (arith, nat_tests) in e))

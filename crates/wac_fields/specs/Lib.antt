@@ -12,3 +12,4 @@ pub mod Lost
 pub mod Slots
 pub mod Unregistering
 pub mod Owned
+pub mod Renamed

@@ -115,10 +115,10 @@ impl Lost {
             self.is_complete = false;
             return;
         }
-        let Some(name) = &node.export_name else {
+        let Some(name) = node.export_name() else {
             return;
         };
-        if let Some(position) = exports.get_index_of(name.as_str()) {
+        if let Some(position) = exports.get_index_of(name) {
             self.note(position);
         }
     }

@@ -7,10 +7,10 @@ ghost use Rattle.wac_nodes.specs.Nodes.{node_of};
 ghost use Rattle.wac_nodes.specs.Steps.{Defines};
 
 use crate::graph::CompositionGraph;
-use std::alloc::{AllocError, Global};
+use std::alloc::AllocError;
 use wac_fields::{add_dependencies, is_defined};
-use wac_nodes::{DefineTypeError, Node, NodeId, NodeKind, import_fault};
-use wac_types::{ItemKind, Type};
+use wac_nodes::{DefineTypeError, Node, NodeId, import_fault};
+use wac_types::Type;
 
 impl CompositionGraph {
     /// Defines a held type, exported by a name, last in order. The definition goes behind those of the defined value types that
@@ -24,7 +24,7 @@ impl CompositionGraph {
         ensures { Defines self.old name.now ty result self.new }
     {
         self.check_definition(name, ty)?;
-        let node = definition(self.alloc, name, ty)?;
+        let node = Node::definition(self.alloc, name, ty)?;
         let key = String::from_str(self.alloc, name)?;
         Ok(self.add_definition(key, ty, node)?)
     }
@@ -67,20 +67,4 @@ impl CompositionGraph {
         }
         Ok(())
     }
-}
-
-/// A definition of the type, exported by the name.
-fn definition(alloc: Global, name: &str, ty: Type) -> Result<Node, AllocError>
-    ensures { IfOk result (λ n. node_of n ≡ definition_node name.now ty) }
-{
-    let export_name = String::from_str(alloc, name)?;
-    let first_name = String::from_str(alloc, name)?;
-    Ok(Node {
-        kind: NodeKind::Definition,
-        package: None,
-        item_kind: ItemKind::TypeItem(ty),
-        name: None,
-        export_name: Some(export_name),
-        first_name: Some(first_name),
-    })
 }

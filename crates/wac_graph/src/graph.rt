@@ -1,7 +1,7 @@
 //! The composition graph.
-ghost use Rattle.std.specs.Prelude.{◌≡◌, ◌==◌, ◌↔◌, ℕ, true, false, IsSome, IsTrue, is_some, IfOk, OnErr, IfSome, IfNone, Some, None, Ok, Err, length, slice_get};
+ghost use Rattle.std.specs.Prelude.{◌≡◌, ◌==◌, ◌↔◌, ℕ, true, false, IsSome, IsTrue, is_some, IfOk, OnOk, OnErr, IfSome, IfNone, Some, None, Ok, Err, length, slice_get};
 ghost use Rattle.std.specs.Option.{option_map};
-ghost use Rattle.slab.specs.Slab.{ContainsKey, get, with_value};
+ghost use Rattle.slab.specs.Slab.{ContainsKey};
 ghost use Rattle.semver.specs.Identifiers.{parts_of};
 ghost use Rattle.wac_collection.specs.Collection.{IsWellFormed, holds_type, resource_mentions, func_mentions, defined_mentions, with_resource, with_func, with_defined, with_interface, with_world, with_module};
 ghost use Rattle.wac_shapes.specs.Kinds.{kind_type};
@@ -16,6 +16,7 @@ ghost use Rattle.wac_nodes.specs.Sound.{IsSound};
 ghost use Rattle.wac_nodes.specs.Steps.{IsEmpty, Adds, Registers, Imports, Instantiates, Aliases, SetsArgument, UnsetsArgument, SetsName, Exports, Unexports};
 ghost use Rattle.wac_nodes.specs.TakenOut.{without, taken_at};
 ghost use Rattle.wac_nodes.specs.Nodes.{names_of};
+ghost use Rattle.wac_fields.specs.Renamed.{Renames, with_name, with_export_name};
 ghost use Rattle.wac_plugging.specs.Positions.{HasExport};
 
 use indexmap::IndexMap;
@@ -265,14 +266,8 @@ impl CompositionGraph {
         self.nodes.reserve(1)?;
         let number = self.nodes.vacant_key();
         self.imports.insert(key, NodeId(number))?;
-        self.nodes.insert_reserved(Node {
-            kind: NodeKind::Import(own),
-            package: None,
-            item_kind: kind,
-            name: None,
-            export_name: None,
-            first_name: None,
-        });
+        self.nodes
+            .insert_reserved(Node::new(NodeKind::Import(own), None, kind));
         Ok(NodeId(number))
     }
 
@@ -296,14 +291,9 @@ impl CompositionGraph {
         let item_kind = ItemKind::Instance(package.instance_type());
         self.nodes.reserve(1)?;
         let number = self.nodes.vacant_key();
-        self.nodes.insert_reserved(Node {
-            kind: NodeKind::Instantiation(BTreeSet::new(self.alloc)),
-            package: Some(id),
-            item_kind,
-            name: None,
-            export_name: None,
-            first_name: None,
-        });
+        let kind = NodeKind::Instantiation(BTreeSet::new(self.alloc));
+        self.nodes
+            .insert_reserved(Node::new(kind, Some(id), item_kind));
         Ok(NodeId(number))
     }
 
@@ -350,14 +340,8 @@ impl CompositionGraph {
             target: NodeId(number),
             label: Label::Alias(position),
         })?;
-        self.nodes.insert_reserved(Node {
-            kind: NodeKind::Alias,
-            package,
-            item_kind,
-            name: None,
-            export_name: None,
-            first_name: None,
-        });
+        self.nodes
+            .insert_reserved(Node::new(NodeKind::Alias, package, item_kind));
         Ok(NodeId(number))
     }
 
@@ -419,8 +403,7 @@ impl CompositionGraph {
         requires { IsSome (node_at self.old node) }
         ensures { SetsName self.old node name.now result self.new }
     {
-        let name = String::from_str(self.alloc, name)?;
-        set_name(&mut self.nodes, node.0, name);
+        set_name(self.alloc, &mut self.nodes, node.0, name)?;
         Ok(())
     }
 
@@ -433,11 +416,11 @@ impl CompositionGraph {
     {
         self.check_export(name)?;
         let key = String::from_str(self.alloc, name)?;
-        let own = String::from_str(self.alloc, name)?;
-        let is_named = self.nodes[node.0].export_name.is_some();
+        let is_named = self.nodes[node.0].export_name().is_some();
         self.lost.prepare(self.exports.len() + 1, node.0, is_named)?;
-        self.exports.insert(key, node)?;
-        set_export_name(&mut self.nodes, node.0, own);
+        self.exports.reserve(1)?;
+        set_export_name(self.alloc, &mut self.nodes, node.0, name)?;
+        self.exports.insert(key, node).unwrap();
         Ok(())
     }
 
@@ -504,28 +487,37 @@ fn growth_law(types: &Types)
     types.law();
 }
 
-fn set_export_name(nodes: &mut Slab<Node>, number: usize, name: String)
+fn set_export_name(
+    alloc: Global,
+    nodes: &mut Slab<Node>,
+    number: usize,
+    name: &str,
+) -> Result<(), AllocError>
     requires { ContainsKey nodes.old number }
-    ensures { IfSome (get nodes.old number) (λ n. nodes.new ≡ with_value nodes.old number (record n { export_name = Some name })) }
+    ensures named { OnOk result (Renames (with_export_name (Some name.now)) nodes.old nodes.new number) }
+    ensures kept { OnErr result (nodes.new ≡ nodes.old) }
 {
-    let node = &mut nodes[number];
-    node.export_name = Some(name);
+    nodes[number].set_export_name(alloc, name)
 }
 
-fn set_name(nodes: &mut Slab<Node>, number: usize, name: String)
+fn set_name(
+    alloc: Global,
+    nodes: &mut Slab<Node>,
+    number: usize,
+    name: &str,
+) -> Result<(), AllocError>
     requires { ContainsKey nodes.old number }
-    ensures { IfSome (get nodes.old number) (λ n. nodes.new ≡ with_value nodes.old number (record n { name = Some name })) }
+    ensures named { OnOk result (Renames (with_name name.now) nodes.old nodes.new number) }
+    ensures kept { OnErr result (nodes.new ≡ nodes.old) }
 {
-    let node = &mut nodes[number];
-    node.name = Some(name);
+    nodes[number].set_name(alloc, name)
 }
 
 fn clear_export_name(nodes: &mut Slab<Node>, number: usize)
     requires { ContainsKey nodes.old number }
-    ensures { IfSome (get nodes.old number) (λ n. nodes.new ≡ with_value nodes.old number (record n { export_name = None })) }
+    ensures { Renames (with_export_name None) nodes.old nodes.new number }
 {
-    let node = &mut nodes[number];
-    node.export_name = None;
+    nodes[number].clear_export_name();
 }
 
 /// Takes the exports of a node out, from the last to the first; each time the last export takes the freed place.

@@ -1,5 +1,6 @@
 use Rattle.std.proofs.Common.{◌≡◌, ℕ, zero, suc, ◌+◌, ◌<◌, Bool, true, false, cond, List, [], ◌∷◌, map, refl, ap, ◌∙◌, sym, arith, Option, Some, None, get_or, eqb, is_some, IsTrue, IsSome, ◌&&◌, String, Global, string_bytes, ◌++◌, ◌⊎◌, inl, inr}
 use Rattle.wac_edges.specs.declared.node.NodeId.{NodeId}
+use Rattle.std.specs.Borrow.{Bor}
 use Rattle.std.specs.Map.{lookup}
 use Rattle.std.specs.Str.{bytes_eq}
 use Rattle.std.specs.String.{string_eq}
@@ -60,6 +61,11 @@ nodes_of-same old new h = finite.same_map nat_cmp_total nat_cmp-IsAntisymmetric 
 pub is_some-node_of : (o : Option Node) → is_some (option_map node_of o) ≡ is_some o
 is_some-node_of None = refl
 is_some-node_of (Some x) = refl
+
+-- a text is read where there is one
+pub text_read : (text : Option (Bor Name)) (o : Option Name) → option_map (λ s. s.now) text ≡ o → is_some text ≡ is_some o
+text_read None o is = ap is_some is
+text_read (Some t) o is = ap is_some is
 
 pub decided : (b : Bool) (o : Option Node) → (IsTrue b → IsSome o) × (IsSome o → IsTrue b) → b ≡ is_some o
 decided true None h = sym (h.0 refl)

@@ -1,7 +1,9 @@
 -- What a clone of a node has.
-use Rattle.std.specs.Prelude.{ℕ, ◌≡◌}
+use Rattle.std.specs.Prelude.{ℕ, ◌≡◌, string_bytes}
+use Rattle.std.specs.Option.{option_map}
 use Rattle.wac_nodes.specs.declared.node.Node.{Node}
 use Rattle.wac_nodes.specs.declared.node.NodeKind.{NodeKind}
+use Rattle.wac_nodes.specs.declared.node.NodeNames.{NodeNames}
 use Rattle.wac_nodes.specs.Nodes.{kind_of, node_of, satisfied}
 
 -- the same kind, with the same name or the same positions
@@ -13,3 +15,9 @@ pub record IsKindClone (kind copy : NodeKind) : Type 0 where
 pub record IsNodeClone (node copy : Node) : Type 0 where
   pub same : node_of copy ≡ node_of node
   pub marks : (i : ℕ) → satisfied copy.kind i ≡ satisfied node.kind i
+
+-- the same names
+pub record AreNamesClone (names copy : NodeNames) : Type 0 where
+  pub name : option_map string_bytes copy.name ≡ option_map string_bytes names.name
+  pub export_name : option_map string_bytes copy.export_name ≡ option_map string_bytes names.export_name
+  pub first_name : option_map string_bytes copy.first_name ≡ option_map string_bytes names.first_name

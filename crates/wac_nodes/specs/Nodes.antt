@@ -1,5 +1,5 @@
 -- What stored nodes mean.
-use Rattle.std.specs.Prelude.{◌≡◌, ℕ, Bool, false, List, Option, Some, None, String, map, string_bytes}
+use Rattle.std.specs.Prelude.{◌≡◌, ℕ, Bool, false, List, Option, Some, None, String, Box, map, string_bytes}
 use Rattle.std.specs.Global.{Global}
 use Rattle.std.specs.Option.{option_map}
 use Rattle.std.specs.Ordering.{nat_cmp}
@@ -7,7 +7,10 @@ use Rattle.std.specs.FinMap as finite
 use Rattle.std.specs.BTreeSet as positions
 use Rattle.slab.specs.Slab.{entries_from}
 use Rattle.wac_primitives.specs.Name.{Name}
+use Rattle.wac_shapes.specs.declared.component.ItemKind.{ItemKind}
 use Rattle.wac_nodes.specs.declared.node.Node.{Node}
+use Rattle.wac_nodes.specs.declared.node.NodeNames.{NodeNames}
+use Rattle.wac_nodes.specs.declared.packages.PackageId.{PackageId}
 use Rattle.wac_edges.specs.declared.node.NodeId.{NodeId}
 use Rattle.wac_nodes.specs.declared.node.NodeKind.{NodeKind}
 use Rattle.wac_nodes.specs.declared.node.NodeKind.TheVariants as code
@@ -20,15 +23,34 @@ kind_of (code.Import name) = graph.import (string_bytes name)
 kind_of (code.Instantiation _) = graph.instantiation
 kind_of code.Alias = graph.alias
 
+-- a node's name, where it has names
+abbrev pub name_in : Option (Box NodeNames Global) → Option Name
+name_in None = None
+name_in (Some names) = option_map string_bytes names.value.name
+
+-- the name by which it was exported last
+abbrev pub export_name_in : Option (Box NodeNames Global) → Option Name
+export_name_in None = None
+export_name_in (Some names) = option_map string_bytes names.value.export_name
+
+-- that by which a definition was exported first
+abbrev pub first_name_in : Option (Box NodeNames Global) → Option Name
+first_name_in None = None
+first_name_in (Some names) = option_map string_bytes names.value.first_name
+
 abbrev pub node_of : Node → GraphNode
 node_of n = record {
   kind = kind_of n.kind;
   item_kind = n.item_kind;
   owner = n.«package»;
-  name = option_map string_bytes n.name;
-  export_name = option_map string_bytes n.export_name;
-  first_name = option_map string_bytes n.first_name;
+  name = name_in n.names;
+  export_name = export_name_in n.names;
+  first_name = first_name_in n.names;
 }
+
+-- a node without names
+abbrev pub unnamed : Kind → Option PackageId → ItemKind → GraphNode
+unnamed kind owner item = record { kind = kind; item_kind = item; owner = owner; name = None; export_name = None; first_name = None }
 
 -- the nodes under their numbers
 abbrev pub nodes_of : List (Option Node) → finite.FinMap nat_cmp GraphNode

@@ -1,14 +1,15 @@
 //! Nodes of a graph.
-ghost use Rattle.std.specs.Prelude.{◌≡◌, IfOk, string_bytes};
+ghost use Rattle.std.specs.Prelude.{◌≡◌, IfOk, OnErr, OnOk, Some, None, string_bytes};
 ghost use Rattle.std.specs.Option.{option_map};
 ghost use Rattle.wac_nodes.specs.Graph.{import_name};
-ghost use Rattle.wac_nodes.specs.Clones.{IsKindClone, IsNodeClone};
-ghost use Rattle.wac_nodes.specs.Nodes.{kind_of};
+ghost use Rattle.wac_nodes.specs.Clones.{IsKindClone, IsNodeClone, AreNamesClone};
+ghost use Rattle.wac_nodes.specs.Definitions.{definition_node};
+ghost use Rattle.wac_nodes.specs.Nodes.{kind_of, node_of, unnamed};
 
 use crate::packages::PackageId;
-use std::alloc::AllocError;
+use std::alloc::{AllocError, Global};
 use std::collections::BTreeSet;
-use wac_types::ItemKind;
+use wac_types::{ItemKind, Type};
 
 /// What a node is.
 #[derive(Debug, Drop)]
@@ -47,12 +48,8 @@ pub struct Node {
     pub package: Option<PackageId>,
     /// What it stands for.
     pub item_kind: ItemKind,
-    /// Its name, if it has one.
-    pub name: Option<String>,
-    /// The name by which it was exported last.
-    pub export_name: Option<String>,
-    /// The name by which a definition was exported first; none of another kind of node.
-    pub first_name: Option<String>,
+    // Its names. Most nodes have none, and no room for any.
+    names: Option<Box<NodeNames>>,
 }
 
 /// A node is let go of here, and not anew at each place where one goes out of scope.
@@ -62,9 +59,7 @@ impl Drop for Node {
             kind: _,
             package: _,
             item_kind: _,
-            name: _,
-            export_name: _,
-            first_name: _,
+            names: _,
         } = self;
     }
 }
@@ -75,13 +70,39 @@ impl Clone for Node {
 
     fn clone(&self) -> Result<Node, AllocError> {
         let kind = self.kind.clone()?;
-        let name = cloned(&self.name)?;
-        let export_name = cloned(&self.export_name)?;
-        let first_name = cloned(&self.first_name)?;
+        let names = match &self.names {
+            Some(names) => Some(names.clone()?),
+            None => None,
+        };
         Ok(Node {
             kind,
             package: self.package,
             item_kind: self.item_kind,
+            names,
+        })
+    }
+}
+
+/// The names of a node.
+#[derive(Debug, Drop)]
+struct NodeNames {
+    // Its own.
+    name: Option<String>,
+    // The one by which it was exported last.
+    export_name: Option<String>,
+    // The one by which a definition was exported first; none of another kind of node.
+    first_name: Option<String>,
+}
+
+/// The clone has the same names, in memory of their own. Answers `AllocError` where memory ran out.
+impl Clone for NodeNames {
+    ghost is_clone = { AreNamesClone };
+
+    fn clone(&self) -> Result<NodeNames, AllocError> {
+        let name = cloned(&self.name)?;
+        let export_name = cloned(&self.export_name)?;
+        let first_name = cloned(&self.first_name)?;
+        Ok(NodeNames {
             name,
             export_name,
             first_name,
@@ -99,7 +120,49 @@ fn cloned(text: &Option<String>) -> Result<Option<String>, AllocError>
     }
 }
 
+/// The text where it is, if there is one.
+fn as_text(text: &Option<String>) -> Option<&str>
+    ensures { option_map (λ s. s.now) result ≡ option_map string_bytes text.now }
+{
+    match text {
+        Some(text) => Some(text.as_str()),
+        None => None,
+    }
+}
+
 impl Node {
+    /// A node of this kind, package and item, without a name.
+    pub fn new(kind: NodeKind, package: Option<PackageId>, item_kind: ItemKind) -> Node
+        ensures kind { result.kind ≡ kind }
+        ensures node { node_of result ≡ unnamed (kind_of kind) «package» item_kind }
+    {
+        Node {
+            kind,
+            package,
+            item_kind,
+            names: None,
+        }
+    }
+
+    /// A definition of the type, exported by the name. Answers `AllocError` where memory ran out.
+    pub fn definition(alloc: Global, name: &str, ty: Type) -> Result<Node, AllocError>
+        ensures { IfOk result (λ n. node_of n ≡ definition_node name.now ty) }
+    {
+        let export_name = String::from_str(alloc, name)?;
+        let first_name = String::from_str(alloc, name)?;
+        let names = NodeNames {
+            name: None,
+            export_name: Some(export_name),
+            first_name: Some(first_name),
+        };
+        Ok(Node {
+            kind: NodeKind::Definition,
+            package: None,
+            item_kind: ItemKind::TypeItem(ty),
+            names: Some(Box::new(alloc, names)?),
+        })
+    }
+
     /// What the node is.
     pub fn kind(&self) -> &NodeKind
         ensures { result.now ≡ self.now.kind }
@@ -133,21 +196,83 @@ impl Node {
 
     /// The node's name, if it has one.
     pub fn name(&self) -> Option<&str>
-        ensures { option_map (λ s. s.now) result ≡ option_map string_bytes self.now.name }
+        ensures { option_map (λ s. s.now) result ≡ (node_of self.now).name }
     {
-        match &self.name {
-            Some(text) => Some(text.as_str()),
+        match &self.names {
+            Some(names) => as_text(&names.name),
             None => None,
         }
     }
 
     /// The name by which the node was exported last, if it is exported.
     pub fn export_name(&self) -> Option<&str>
-        ensures { option_map (λ s. s.now) result ≡ option_map string_bytes self.now.export_name }
+        ensures { option_map (λ s. s.now) result ≡ (node_of self.now).export_name }
     {
-        match &self.export_name {
-            Some(name) => Some(name.as_str()),
+        match &self.names {
+            Some(names) => as_text(&names.export_name),
             None => None,
+        }
+    }
+
+    /// The name by which a definition was exported first; none of another kind of node.
+    pub fn first_name(&self) -> Option<&str>
+        ensures { option_map (λ s. s.now) result ≡ (node_of self.now).first_name }
+    {
+        match &self.names {
+            Some(names) => as_text(&names.first_name),
+            None => None,
+        }
+    }
+
+    /// Names the node, in place of any name that it has. Answers `AllocError` where memory ran out; then nothing has changed.
+    pub fn set_name(&mut self, alloc: Global, name: &str) -> Result<(), AllocError>
+        ensures kind { self.new.kind ≡ self.old.kind }
+        ensures named { OnOk result (node_of self.new ≡ record (node_of self.old) { name = Some name.now }) }
+        ensures kept { OnErr result (self.new ≡ self.old) }
+    {
+        let text = String::from_str(alloc, name)?;
+        match &mut self.names {
+            Some(names) => names.name = Some(text),
+            None => {
+                let names = NodeNames {
+                    name: Some(text),
+                    export_name: None,
+                    first_name: None,
+                };
+                self.names = Some(Box::new(alloc, names)?);
+            }
+        }
+        Ok(())
+    }
+
+    /// Notes the name by which the node is exported last. Answers `AllocError` where memory ran out; then nothing has changed.
+    pub fn set_export_name(&mut self, alloc: Global, name: &str) -> Result<(), AllocError>
+        ensures kind { self.new.kind ≡ self.old.kind }
+        ensures named { OnOk result (node_of self.new ≡ record (node_of self.old) { export_name = Some name.now }) }
+        ensures kept { OnErr result (self.new ≡ self.old) }
+    {
+        let text = String::from_str(alloc, name)?;
+        match &mut self.names {
+            Some(names) => names.export_name = Some(text),
+            None => {
+                let names = NodeNames {
+                    name: None,
+                    export_name: Some(text),
+                    first_name: None,
+                };
+                self.names = Some(Box::new(alloc, names)?);
+            }
+        }
+        Ok(())
+    }
+
+    /// The node is not exported any more. Takes no memory.
+    pub fn clear_export_name(&mut self)
+        ensures kind { self.new.kind ≡ self.old.kind }
+        ensures cleared { node_of self.new ≡ record (node_of self.old) { export_name = None } }
+    {
+        if let Some(names) = &mut self.names {
+            names.export_name = None;
         }
     }
 }

@@ -25,10 +25,10 @@ pub struct PackageId {
 
 /// A place for a package, with how many packages it held before.
 pub struct Slot {
-    /// How many packages it held before.
-    pub generation: usize,
     /// The package, if it holds one.
     pub package: Option<Package>,
+    /// How many packages it held before. It stands beside the end of the package, which is read with it.
+    pub generation: usize,
 }
 
 /// A slot is let go of here, and not anew at each place where one goes out of scope.

@@ -1,5 +1,5 @@
 -- A root to which items are added, where nothing is recorded.
-use Rattle.std.proofs.Common.{◌≡◌, ℕ, refl, ap, sym, subst, List, [], ◌∷◌, ◌++◌}
+use Rattle.std.proofs.Common.{◌≡◌, ℕ, refl, ap, sym, subst, List, ◌++◌}
 use Rattle.wac_collection.specs.Collection.{Collection}
 use Rattle.wac_binary.specs.Items.{Item}
 use Rattle.wac_binary.specs.Indexes.{indexes}

@@ -43,10 +43,7 @@ impl<'a> GraphReader<'a> {
         ensures { MatchOption result (first_name_of self.now n ≡ []) (λ name. first_name_of self.now n ≡ name.now ∷ []) }
     {
         match self.nodes.get(n.0) {
-            Some(node) => match &node.first_name {
-                Some(name) => Some(name.as_str()),
-                None => None,
-            },
+            Some(node) => node.first_name(),
             None => None,
         }
     }
@@ -67,8 +64,8 @@ impl<'a> GraphReader<'a> {
 fn is_first_name(node: &Node, name: &str) -> bool
     ensures { result ≡ is_first (node_of node.now) name.now }
 {
-    match &node.first_name {
-        Some(first) => name == first.as_str(),
+    match node.first_name() {
+        Some(first) => name == first,
         None => false,
     }
 }

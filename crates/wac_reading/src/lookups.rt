@@ -101,10 +101,10 @@ impl<'a> GraphReader<'a> {
         let ItemKind::TypeItem(ty) = node.item_kind else {
             unreachable!()
         };
-        let Some(name) = &node.first_name else {
+        let Some(name) = node.first_name() else {
             unreachable!()
         };
-        (name.as_str(), ty)
+        (name, ty)
     }
 
     /// Whether a node is a definition. Each has a first name, by which it is exported, so exports tell it.

@@ -78,7 +78,7 @@ impl<'a> GraphReader<'a> {
         ensures { (sort : ASort) → IsNamed self.now sort (node_number n) → IsTrue result }
     {
         match self.nodes.get(n) {
-            Some(node) => node.name.is_some(),
+            Some(node) => node.name().is_some(),
             None => false,
         }
     }
@@ -130,7 +130,7 @@ impl<'a> GraphReader<'a> {
         let Some(node) = self.nodes.get(n.0) else {
             return false;
         };
-        node.name.is_some() && sort_of(node.item_kind) == sort
+        node.name().is_some() && sort_of(node.item_kind) == sort
     }
 
     /// The name of a node that has one.
@@ -138,9 +138,9 @@ impl<'a> GraphReader<'a> {
         requires { IsSomeAnd (node_at self.now n) (λ node. IsSome node.name) }
         ensures { IsSomeAnd (node_at self.now n) (λ node. node.name ≡ Some result.now) }
     {
-        let Some(name) = &self.nodes[n.0].name else {
+        let Some(name) = self.nodes[n.0].name() else {
             unreachable!()
         };
-        name.as_str()
+        name
     }
 }

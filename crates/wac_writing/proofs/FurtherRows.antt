@@ -1,8 +1,9 @@
 -- Exports by other names than definitions' first ones, one after another, and the first names of definitions.
 use Rattle.std.proofs.Common.{◌≡◌, ℕ, zero, suc, ◌+◌, ◌<◌, ◌≤◌, Bool, true, false, not, cond, List, [], ◌∷◌, ◌++◌, length, take, map, refl, ap, ◌∙◌, sym, subst, arith, append_assoc, Option, Some, None, IsSome, String, Global, string_bytes}
+use Rattle.std.specs.Borrow.{Bor}
 use Rattle.std.specs.List.{flat_map}
 use Rattle.std.specs.Option.{option_map}
-use Rattle.std.specs.Prelude.{slice_get}
+use Rattle.std.specs.Prelude.{slice_get, MatchOption}
 use Rattle.std.proofs.lemmas.List.{append-nil, map-append, take_all, length-map}
 use Rattle.std.proofs.lemmas.List.Concat.{flat_map-append}
 use Rattle.std.proofs.lemmas.List.Elements.{filter-append}
@@ -129,9 +130,6 @@ module _ (a : Fields) (v : Invariant a) (g : Graph) (view : graph_of a ≡ g) wh
   pub nothing_first : (n : ℕ) → get a.nodes n ≡ None → first_name_of g (node_number n) ≡ []
   nothing_first n had = first_is n None had
 
-  pub none_first : (n : ℕ) (node : Node) → get a.nodes n ≡ Some node → node.first_name ≡ None → first_name_of g (node_number n) ≡ []
-  none_first n node had none = first_is n (Some node) had ∙ ap (λ o. option_case (option_map string_bytes o) [] (λ t. t ∷ [])) none
-
-  pub some_first : (n : ℕ) (node : Node) (name : String Global) (text : Name) → get a.nodes n ≡ Some node → node.first_name ≡ Some name → text ≡ string_bytes name → first_name_of g (node_number n) ≡ text ∷ []
-  some_first n node name text had first is =
-      first_is n (Some node) had ∙ ap (λ o. option_case (option_map string_bytes o) [] (λ t. t ∷ [])) first ∙ ap (λ t. t ∷ []) (sym is)
+  pub some_first : (n : ℕ) (node : Node) (text : Option (Bor Name)) → get a.nodes n ≡ Some node → option_map (λ s. s.now) text ≡ (node_of node).first_name → MatchOption text (first_name_of g (node_number n) ≡ []) (λ name. first_name_of g (node_number n) ≡ name.now ∷ [])
+  some_first n node None had is = first_is n (Some node) had ∙ ap (λ o. option_case o [] (λ t. t ∷ [])) (sym is)
+  some_first n node (Some name) had is = first_is n (Some node) had ∙ ap (λ o. option_case o [] (λ t. t ∷ [])) (sym is)

@@ -1,5 +1,5 @@
 -- The names of indexes: the lowest of the named nodes at each, in the order of the indexes.
-use Rattle.std.proofs.Common.{◌≡◌, ◌↔◌, ℕ, zero, suc, ◌≤◌, ◌+◌, Bool, true, false, cond, List, [], ◌∷◌, ◌++◌, ◌==◌, length, map, Option, Some, None, IsSome, IsSomeAnd, is_some, String, Global, string_bytes, refl, ap, sym, ◌∙◌, subst, arith}
+use Rattle.std.proofs.Common.{◌≡◌, ◌↔◌, ℕ, zero, suc, ◌≤◌, ◌+◌, Bool, true, false, cond, List, [], ◌∷◌, ◌++◌, ◌==◌, length, map, Option, Some, None, IsSome, IsSomeAnd, refl, ap, sym, ◌∙◌, subst, arith}
 use Rattle.std.specs.Prelude.{slice_get, MatchOption}
 use Rattle.std.specs.Ordering.{nat_cmp, eq_by_cmp}
 use Rattle.std.specs.declared.cmp.Ordering.TheVariants.{Less}
@@ -20,7 +20,6 @@ use Rattle.wac_binary.specs.declared.sorts.Sort.{Sort}
 use Rattle.wac_binary.specs.declared.sorts.Sort.TheVariants as sort
 use Rattle.wac_binary.specs.Customs as custom_section
 use Rattle.wac_binary.specs.Customs.{same_sort, of_sort, RiseFrom, Rising, names_bytes}
-use Rattle.std.specs.Option.{option_map}
 use Rattle.slab.specs.Slab.{get, ContainsKey}
 use Rattle.wac_binary.specs.Views.{names_of}
 use Rattle.wac_edges.specs.declared.node.NodeId.{NodeId}
@@ -29,6 +28,7 @@ use Rattle.wac_nodes.specs.declared.node.Node.{Node}
 use Rattle.wac_fields.specs.Fields.{Fields, graph_of}
 use Rattle.wac_writing.proofs.EncodingLemmas.{node_is, some_and, of_node, has_number}
 use Rattle.wac_nodes.specs.Graph.{Graph, GraphNode, node_at}
+use Rattle.wac_nodes.specs.Nodes.{node_of}
 use Rattle.wac_meaning.specs.Means.{sort_of_kind, IsNameOf, AreNames, name_customs}
 use Rattle.wac_writing.specs.Naming.{IsNamed, IsNamedAt, AreLowest, AreNamesOf}
 
@@ -237,17 +237,11 @@ module _ (a : Fields) (n : NodeId) (t : Sort) where
     nothing None _ h = h
     nothing (Some x) e h = cc
 
-  pub named_there : (node : Node) → get a.nodes n.0 ≡ Some node → is_some node.name ≡ true → sort_of_kind node.item_kind ≡ t → IsNamed (graph_of a) t n
-  named_there node had some sorted = some_and a n.0 node (λ x. IsSome x.name × (sort_of_kind x.item_kind ≡ t)) had (of_name node.name some, sorted) where
-    of_name : (o : Option (String Global)) → is_some o ≡ true → IsSome (option_map string_bytes o)
-    of_name None h = h
-    of_name (Some name) h = refl
+  pub named_there : (node : Node) → get a.nodes n.0 ≡ Some node → IsSome (node_of node).name → sort_of_kind node.item_kind ≡ t → IsNamed (graph_of a) t n
+  named_there node had some sorted = some_and a n.0 node (λ x. IsSome x.name × (sort_of_kind x.item_kind ≡ t)) had (some, sorted)
 
-  pub name_there : (node : Node) → get a.nodes n.0 ≡ Some node → IsNamed (graph_of a) t n → (is_some node.name ≡ true) × (sort_of_kind node.item_kind ≡ t)
-  name_there node had h = let (some, sorted) = of_node a n.0 node (λ x. IsSome x.name × (sort_of_kind x.item_kind ≡ t)) h had in (of_name node.name some, sorted) where
-    of_name : (o : Option (String Global)) → IsSome (option_map string_bytes o) → is_some o ≡ true
-    of_name None h = h
-    of_name (Some name) h = refl
+  pub name_there : (node : Node) → get a.nodes n.0 ≡ Some node → IsNamed (graph_of a) t n → IsSome (node_of node).name × (sort_of_kind node.item_kind ≡ t)
+  name_there node had h = of_node a n.0 node (λ x. IsSome x.name × (sort_of_kind x.item_kind ≡ t)) h had
 
 -- a node that has a name
 pub named_number : (a : Fields) (n : NodeId) → IsSomeAnd (node_at (graph_of a) n) (λ node. IsSome node.name) → ContainsKey a.nodes n.0
@@ -256,8 +250,8 @@ named_number a n h = has_number a n.0 (some_of (node_at (graph_of a) n) h) where
   some_of None h = absurd h
   some_of (Some node) h = refl
 
-pub has_name : (a : Fields) (n : NodeId) (node : Node) → get a.nodes n.0 ≡ Some node → IsSomeAnd (node_at (graph_of a) n) (λ x. IsSome x.name) → node.name ≡ None → ⊥
-has_name a n node had h none = nothing (option_map string_bytes node.name) (ap (option_map string_bytes) none) (of_node a n.0 node (λ x. IsSome x.name) h had) where
+pub has_name : (a : Fields) (n : NodeId) (node : Node) → get a.nodes n.0 ≡ Some node → IsSomeAnd (node_at (graph_of a) n) (λ x. IsSome x.name) → (node_of node).name ≡ None → ⊥
+has_name a n node had h none = nothing (node_of node).name none (of_node a n.0 node (λ x. IsSome x.name) h had) where
   nothing : {A : Type 0} (o : Option A) → o ≡ None → IsSome o → ⊥
   nothing None _ h = cc
   nothing (Some x) h _ = cc

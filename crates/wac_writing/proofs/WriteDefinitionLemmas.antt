@@ -1,6 +1,5 @@
 -- What the fields say of a definition that is written.
-use Rattle.std.proofs.Common.{◌≡◌, ℕ, true, ap, ◌∙◌, sym, subst, Some, None, IsSomeAnd, string_bytes}
-use Rattle.std.specs.Option.{option_map}
+use Rattle.std.proofs.Common.{◌≡◌, ℕ, true, ◌∙◌, sym, subst, Some, None, IsSomeAnd}
 use Rattle.slab.specs.Slab.{get}
 use Rattle.wac_shapes.specs.Kinds.{kind_type}
 use Rattle.wac_shapes.specs.declared.component.ItemKind.TheVariants.{TypeItem}
@@ -37,8 +36,8 @@ module _ (a : Fields) (v : Invariant a) (n : ℕ) (node : Node) (had : get a.nod
   pub is_type : ((t : AnyType) → node.item_kind ≡ TypeItem t → ⊥) → ⊥
   is_type other = other it.defined it.typed
 
-  pub is_named : node.first_name ≡ None → ⊥
-  is_named none = clash (ap (option_map string_bytes) (sym none) ∙ it.named) where
+  pub is_named : (node_of node).first_name ≡ None → ⊥
+  is_named none = clash (sym none ∙ it.named) where
     clash : None ≡ Some it.name → ⊥
     clash e = cc
 

@@ -15,3 +15,7 @@ returns-then-contains-clause-marks c =
 pub returns-else-len-eq1-clause-same : goal.returns-else-len-eq1-clause-same
 returns-else-len-eq1-clause-same c = λ q. kept_at (option_map node_of) c.args.nodes.now c.args.number c.index_mut-node.result.now _ c.index_mut-node.ensures.value
     (ap (λ (k : NodeKind). let n : Node = record c.index_mut-node.result.now { kind = k } in Some (node_of n)) (sym c.in-Instantiation.is)) q
+
+pub returns-then-contains-clause-same : goal.returns-then-contains-clause-same
+returns-then-contains-clause-same c = λ q. kept_at (option_map node_of) c.args.nodes.now c.args.number c.index_mut-node.result.now _ c.index_mut-node.ensures.value
+    (ap (λ (k : NodeKind). let n : Node = record c.index_mut-node.result.now { kind = k } in Some (node_of n)) (sym c.in-Instantiation.is)) q

@@ -1,22 +1,22 @@
 use Rattle.std.proofs.Common.{ap, ◌∙◌}
 use Rattle.wac_nodes.specs.Steps.{Imports}
 use Rattle.wac_fields.proofs.AliasLemmas.{before_reserve, vacant_before}
-use Rattle.wac_fields.proofs.ImportLemmas.{imported, invariant_imported, import_is_there}
+use Rattle.wac_fields.proofs.ImportLemmas.{import_bare, import_is_there, import_shape, imported, invariant_imported}
 use Rattle.wac_graph.specs.Inside.{fields_of}
 use Rattle.wac_graph.proofs.CheckedLemmas.{absent, handed_on}
 use Rattle.wac_graph.proofs.graph.CompositionGraph.import.Goals as goal
 
 pub invariant_of-self-2 : goal.invariant_of-self-2
 invariant_of-self-2 c =
-    invariant_imported (fields_of c.self.inside) c.self.invariant c.args.name.now c.args.kind c.in_ok-key.key c.in_ok-own.own c.vacant_key-number.result c.insert_reserved.new.self c.insert.new.self c.in_ok-key.ensures.ok c.in_ok-own.ensures.ok (absent (fields_of c.self.inside) c.self.invariant c.args.name.now (rw (← c.self.view_is) at c.in_ok-check_import.ensures.free))
+    invariant_imported (fields_of c.self.inside) c.self.invariant c.args.name.now c.args.kind c.in_ok-key.key c.new.result c.vacant_key-number.result c.insert_reserved.new.self c.insert.new.self c.in_ok-key.ensures.ok (import_shape c.new.result c.in_ok-own.own c.args.name.now c.args.kind c.new.ensures.node c.in_ok-own.ensures.ok) (absent (fields_of c.self.inside) c.self.invariant c.args.name.now (rw (← c.self.view_is) at c.in_ok-check_import.ensures.free))
     (vacant_before (fields_of c.self.inside) c.reserve.new.self c.vacant_key-number.result c.in_ok-reserve.ensures.rest_kept c.vacant_key-number.ensures.vacant)
     (before_reserve (fields_of c.self.inside) c.reserve.new.self c.insert_reserved.new.self c.vacant_key-number.result c.insert_reserved.result _ c.in_ok-reserve.ensures.rest_kept c.vacant_key-number.ensures.value c.insert_reserved.ensures.key c.insert_reserved.ensures.updates)
-    (rw (← c.self.view_is) at c.requires) c.in_ok-insert.ensures.entries
+    (import_bare c.new.result c.in_ok-own.own c.new.ensures.kind) (rw (← c.self.view_is) at c.requires) c.in_ok-insert.ensures.entries
 
 pub returns-clause-step : goal.returns-clause-step
 returns-clause-step c =
     rw (← c.self.view_is)
-    (imported (fields_of c.self.inside) c.self.invariant c.args.name.now c.args.kind c.in_ok-key.key c.in_ok-own.own c.vacant_key-number.result c.insert_reserved.new.self c.insert.new.self c.in_ok-key.ensures.ok c.in_ok-own.ensures.ok (absent (fields_of c.self.inside) c.self.invariant c.args.name.now (rw (← c.self.view_is) at c.in_ok-check_import.ensures.free))
+    (imported (fields_of c.self.inside) c.self.invariant c.args.name.now c.args.kind c.in_ok-key.key c.new.result c.vacant_key-number.result c.insert_reserved.new.self c.insert.new.self c.in_ok-key.ensures.ok (import_shape c.new.result c.in_ok-own.own c.args.name.now c.args.kind c.new.ensures.node c.in_ok-own.ensures.ok) (absent (fields_of c.self.inside) c.self.invariant c.args.name.now (rw (← c.self.view_is) at c.in_ok-check_import.ensures.free))
     (vacant_before (fields_of c.self.inside) c.reserve.new.self c.vacant_key-number.result c.in_ok-reserve.ensures.rest_kept c.vacant_key-number.ensures.vacant)
     (before_reserve (fields_of c.self.inside) c.reserve.new.self c.insert_reserved.new.self c.vacant_key-number.result c.insert_reserved.result _ c.in_ok-reserve.ensures.rest_kept c.vacant_key-number.ensures.value c.insert_reserved.ensures.key c.insert_reserved.ensures.updates)
     (c.vacant_key-number.ensures.value ∙ ap (λ s. s.vacant_key) c.in_ok-reserve.ensures.rest_kept)
@@ -24,7 +24,7 @@ returns-clause-step c =
 
 pub returns-clause-there : goal.returns-clause-there
 returns-clause-there c =
-    import_is_there (fields_of c.self.inside) c.self.invariant c.args.name.now c.args.kind c.in_ok-key.key c.in_ok-own.own c.vacant_key-number.result c.insert_reserved.new.self c.insert.new.self c.in_ok-key.ensures.ok c.in_ok-own.ensures.ok (absent (fields_of c.self.inside) c.self.invariant c.args.name.now (rw (← c.self.view_is) at c.in_ok-check_import.ensures.free))
+    import_is_there (fields_of c.self.inside) c.self.invariant c.args.name.now c.args.kind c.in_ok-key.key c.new.result c.vacant_key-number.result c.insert_reserved.new.self c.insert.new.self c.in_ok-key.ensures.ok (import_shape c.new.result c.in_ok-own.own c.args.name.now c.args.kind c.new.ensures.node c.in_ok-own.ensures.ok) (absent (fields_of c.self.inside) c.self.invariant c.args.name.now (rw (← c.self.view_is) at c.in_ok-check_import.ensures.free))
     (vacant_before (fields_of c.self.inside) c.reserve.new.self c.vacant_key-number.result c.in_ok-reserve.ensures.rest_kept c.vacant_key-number.ensures.vacant)
     (before_reserve (fields_of c.self.inside) c.reserve.new.self c.insert_reserved.new.self c.vacant_key-number.result c.insert_reserved.result _ c.in_ok-reserve.ensures.rest_kept c.vacant_key-number.ensures.value c.insert_reserved.ensures.key c.insert_reserved.ensures.updates)
 

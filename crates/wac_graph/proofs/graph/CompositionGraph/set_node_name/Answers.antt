@@ -6,12 +6,12 @@ use Rattle.wac_graph.proofs.graph.CompositionGraph.set_node_name.Goals as goal
 pub set_name-requires : goal.set_name-requires
 set_name-requires c = there c.self.inside.nodes.slots c.args.node.0 (rw (← c.self.view_is) at c.requires)
 
-pub invariant_of-self : goal.invariant_of-self
-invariant_of-self c =
+pub invariant_of-self-2 : goal.invariant_of-self-2
+invariant_of-self-2 c =
     let n = the_node _ (there c.self.inside.nodes.slots c.args.node.0 (rw (← c.self.view_is) at c.requires)) in
-    invariant_named (fields_of c.self.inside) c.args.node c.args.name.now c.in_ok-name.name c.set_name.new.nodes c.in_ok-name.ensures.ok n.0 n.1 c.set_name.ensures c.self.invariant
+    invariant_named (fields_of c.self.inside) c.args.node c.args.name.now c.set_name.new.nodes n.0 n.1 c.in_ok-set_name.ensures.named c.self.invariant
 
 pub returns : goal.returns
 returns c =
     let n = the_node _ (there c.self.inside.nodes.slots c.args.node.0 (rw (← c.self.view_is) at c.requires)) in
-    rw (← c.self.view_is) (named_node (fields_of c.self.inside) c.args.node c.args.name.now c.in_ok-name.name c.set_name.new.nodes c.in_ok-name.ensures.ok n.0 n.1 c.set_name.ensures)
+    rw (← c.self.view_is) (named_node (fields_of c.self.inside) c.args.node c.args.name.now c.set_name.new.nodes n.0 n.1 c.in_ok-set_name.ensures.named)

@@ -1,5 +1,4 @@
-use Rattle.std.proofs.Common.{◌≡◌, ap, ◌∙◌, sym, Some, string_bytes}
-use Rattle.std.specs.Option.{option_map}
+use Rattle.std.proofs.Common.{◌≡◌, sym, Some}
 use Rattle.wac_shapes.specs.declared.component.ItemKind.TheVariants.{TypeItem}
 use Rattle.wac_writing.proofs.EncodingLemmas.{contains_node, if_node}
 use Rattle.wac_writing.proofs.WriteDefinitionLemmas.{is_type, is_named, type_held}
@@ -13,7 +12,7 @@ pub unreachable-requires : goal.unreachable-requires
 unreachable-requires c = is_type (fields_of c.self.inside) c.self.invariant c.args.n.0 c.index-node.result.now c.index-node.ensures (rw (← c.self.view_is) at c.requires) c.in_default.not-TypeItem
 
 pub unreachable-requires-in_default-first_name : goal.unreachable-requires-in_default-first_name
-unreachable-requires-in_default-first_name c = is_named (fields_of c.self.inside) c.self.invariant c.args.n.0 c.index-node.result.now c.index-node.ensures (rw (← c.self.view_is) at c.requires) c.in_default-first_name.is
+unreachable-requires-in_default-first_name c = is_named (fields_of c.self.inside) c.self.invariant c.args.n.0 c.index-node.result.now c.index-node.ensures (rw (← c.self.view_is) at c.requires) (sym c.in_default-first_name.ensures)
 
 pub returns-clause-held : goal.returns-clause-held
 returns-clause-held c =
@@ -21,5 +20,5 @@ returns-clause-held c =
 
 pub returns-clause-defined : goal.returns-clause-defined
 returns-clause-defined c =
-    rw (← c.self.view_is) (if_node (fields_of c.self.inside) c.args.n.0 c.index-node.result.now (λ node. (node.item_kind ≡ TypeItem c.in-TypeItem.ty) × (node.first_name ≡ Some c.as_str.result.now)) c.index-node.ensures
-    (c.in-TypeItem.is, ap (option_map string_bytes) c.in-Some.is ∙ ap Some (sym c.as_str.ensures.value)))
+    rw (← c.self.view_is) (if_node (fields_of c.self.inside) c.args.n.0 c.index-node.result.now (λ node. (node.item_kind ≡ TypeItem c.in-TypeItem.ty) × (node.first_name ≡ Some c.in-Some.name.now)) c.index-node.ensures
+    (c.in-TypeItem.is, sym c.in-Some.ensures))

@@ -1,5 +1,5 @@
 -- The names so far are the first names of definitions, and those of the first exports by other names.
-use Rattle.std.proofs.Common.{◌≡◌, ◌<◌, ◌≤◌, ◌++◌, [], ◌∷◌, length, map, take, ap, ◌∙◌, sym, arith}
+use Rattle.std.proofs.Common.{◌<◌, ◌≤◌, ◌++◌, [], ◌∷◌, length, map, ap, ◌∙◌, sym, arith}
 use Rattle.std.specs.Borrow.{Bor}
 use Rattle.std.specs.List.{flat_map}
 use Rattle.std.proofs.lemmas.List.{append-nil, map-append}
@@ -7,7 +7,6 @@ use Rattle.wac_primitives.specs.Name.{Name}
 use Rattle.wac_edges.specs.declared.node.NodeId.{NodeId}
 use Rattle.wac_validation.specs.Views.{texts}
 use Rattle.wac_causes.specs.OuterNames.{first_name_of}
-use Rattle.wac_writing.specs.Further.{further_of, further_at}
 use Rattle.wac_writing.proofs.FurtherRows.{exports_length, names_next, further_all}
 use Rattle.wac_reading.specs.Inside.{fields_of}
 use Rattle.wac_reading.proofs.reader.GraphReader.export_names.Goals as goal

@@ -1,7 +1,6 @@
-use Rattle.std.proofs.Common.{◌≡◌, [], ◌∷◌, ◌∙◌, ap, sym, string_bytes}
+use Rattle.std.proofs.Common.{[], ◌∷◌, ◌∙◌, ap, sym}
 use Rattle.wac_meaning.specs.Means.{is_first}
 use Rattle.wac_nodes.specs.Nodes.{node_of}
-use Rattle.wac_fields.specs.Fields.{graph_of}
 use Rattle.wac_writing.proofs.FurtherRows.{at_first, at_further, exported_number}
 use Rattle.wac_reading.specs.Inside.{fields_of}
 use Rattle.wac_reading.proofs.reader.GraphReader.further_export.Goals as goal

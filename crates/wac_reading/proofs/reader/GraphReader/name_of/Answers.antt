@@ -1,5 +1,4 @@
-use Rattle.std.proofs.Common.{◌≡◌, Some, ap, sym, ◌∙◌, string_bytes}
-use Rattle.std.specs.Option.{option_map}
+use Rattle.std.proofs.Common.{◌≡◌, Some, sym}
 use Rattle.wac_writing.proofs.EncodingLemmas.{some_and}
 use Rattle.wac_writing.proofs.NamingLemmas.{named_number, has_name}
 use Rattle.wac_reading.specs.Inside.{fields_of}
@@ -9,8 +8,7 @@ pub index-requires : goal.index-requires
 index-requires c = named_number (fields_of c.self.inside) c.args.n (rw (← c.self.view_is) at c.requires)
 
 pub unreachable-requires : goal.unreachable-requires
-unreachable-requires c = has_name (fields_of c.self.inside) c.args.n c.index.result.now c.index.ensures (rw (← c.self.view_is) at c.requires) c.in_default.is
+unreachable-requires c = has_name (fields_of c.self.inside) c.args.n c.index.result.now c.index.ensures (rw (← c.self.view_is) at c.requires) (sym c.in_default.ensures)
 
 pub returns : goal.returns
-returns c = rw (← c.self.view_is) (some_and (fields_of c.self.inside) c.args.n.0 c.index.result.now (λ node. node.name ≡ Some c.as_str.result.now) c.index.ensures
-    (ap (option_map string_bytes) c.in-Some.is ∙ ap (λ text. Some text) (sym c.as_str.ensures.value)))
+returns c = rw (← c.self.view_is) (some_and (fields_of c.self.inside) c.args.n.0 c.index.result.now (λ node. node.name ≡ Some c.in-Some.name.now) c.index.ensures (sym c.in-Some.ensures))
