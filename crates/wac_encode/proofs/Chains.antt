@@ -5,7 +5,6 @@ use Rattle.wac_primitives.specs.Name.{Name}
 use Rattle.wac_shapes.specs.Named.{named_pairs}
 use Rattle.wac_shapes.specs.declared.component.InterfaceId.{InterfaceId}
 use Rattle.wac_shapes.specs.declared.component.ItemKind.{ItemKind}
-use Rattle.wac_shapes.specs.declared.component.ItemKind.TheVariants as kind
 use Rattle.wac_shapes.specs.declared.component.«Type».TheVariants as ty
 use Rattle.wac_collection.specs.Collection.{Collection, IsWellFormed, IsBefore, holds_type, interface_exports, size}
 use Rattle.wac_collection.proofs.Growth.{type_before}
@@ -17,10 +16,11 @@ use Rattle.wac_scopes.specs.Scoped.{type_index}
 use Rattle.wac_scopes.specs.Contents.{IsOpenType}
 use Rattle.wac_stacks.specs.Laws.{Follows, StaysOnward}
 use Rattle.wac_stacks.specs.Listed.{OpensInterface, OpensOver, ClosesInstance, HoldsInterface, ListsOneMore, ListsInAnyOrder}
+use Rattle.wac_listing.specs.Made.{interface_of}
 use Rattle.wac_encode.specs.declared.level.Level.{Level}
 use Rattle.wac_encode.specs.Listing.{SaysInterface, lists_plain, lists_plain_to, AliasesFor, AllAliased, IsAliasRefused, WritesItem, WritesInterfaceTo, WritesInterface, IsItemRefused, IsRefusedTo, IsInterfaceRefused}
 use Rattle.wac_encode.specs.Items.{ListsHeld, CanClose, CanList, nothing_inside, none_refused}
-use Rattle.wac_encode.specs.Levels.{IsBegun, IsLevel, IsWaiting, IsChain, PutsInstance, InstanceNotPut}
+use Rattle.wac_encode.specs.Levels.{IsBegun, IsLevel, IsWaiting, IsChain, PutsItem, ItemNotPut}
 use Rattle.wac_encode.proofs.InstanceTypes.{still-unwritten}
 use Rattle.wac_encode.proofs.Listed.{still-open}
 use Rattle.wac_encode.proofs.Levels.{Stands, wrote-inside, refused-inside, begins-level, next-level, can-list, exported-at, open-level, inside-held, says-level, writes-level, refused-level, waiting-refused, of-chain, of-chain-closed, chain-on, chain-opens, chain-closes, chain-refused, opens-inside, alias-stands, closes-inside, closed-stands}
@@ -46,8 +46,8 @@ module _ (c : Collection) (wf : IsWellFormed c) (around : Scope) (i : InterfaceI
   pub chain-can-close : IsChain (size c) c around i ls l → CanClose l.scope.content
   chain-can-close h = of-last (CanClose l.scope.content) (λ d a j x. x.so_far.closes) h
 
-  pub chain-inside-held : (n : Name) (j : InterfaceId) → slice_get (named_pairs l.order.items) l.next ≡ Some (n, kind.Instance j) → IsChain (size c) c around i ls l → holds_type c (ty.Interface j) ≡ true
-  chain-inside-held n j at h = of-last (holds_type c (ty.Interface j) ≡ true) (λ d a k x. inside-held c wf d a k l l.scope n j at x) h
+  pub chain-inside-held : (e : Name × ItemKind) (j : InterfaceId) → slice_get (named_pairs l.order.items) l.next ≡ Some e → interface_of e.1 ≡ Some j → IsChain (size c) c around i ls l → holds_type c (ty.Interface j) ≡ true
+  chain-inside-held e j at of h = of-last (holds_type c (ty.Interface j) ≡ true) (λ d a k x. inside-held c wf d a k l l.scope e j at of x) h
 
   pub chain-listed : (n : Name) (k : ItemKind) → slice_get (named_pairs l.order.items) l.next ≡ Some (n, k) → IsChain (size c) c around i ls l → (p : ℕ) × (slice_get (interface_exports c l.interface) p ≡ Some (n, k))
   chain-listed n k at h = of-last ((p : ℕ) × (slice_get (interface_exports c l.interface) p ≡ Some (n, k))) (λ d a j x. exported-at c d a j l l.scope (n, k) at x) h
@@ -61,13 +61,13 @@ module _ (c : Collection) (wf : IsWellFormed c) (around : Scope) (i : InterfaceI
       (λ d a j x. refused-level (Unit {0}) c d a j l l.scope n k f at x (refused-inside A (Unit {0}) (WritesInterfaceTo d c) (IsRefusedTo d c) c n k l.scope f r)) (size c) around i h)
 
   -- an interface inside is opened, or its aliases are refused
-  pub chain-inside : OpensInterface → (k m : Level) (n : Name) (j : InterfaceId) → k.interface ≡ l.interface → k.order ≡ l.order → k.next ≡ l.next → slice_get (named_pairs l.order.items) l.next ≡ Some (n, kind.Instance j) → type_index l.scope (ty.Interface j) ≡ None
+  pub chain-inside : OpensInterface → (k m : Level) (e : Name × ItemKind) (j : InterfaceId) → k.interface ≡ l.interface → k.order ≡ l.order → k.next ≡ l.next → slice_get (named_pairs l.order.items) l.next ≡ Some e → interface_of e.1 ≡ Some j → type_index l.scope (ty.Interface j) ≡ None
       → AliasesFor c j l.scope k.scope → AllAliased c j l.scope k.scope → IsBegun c k.scope j m → IsChain (size c) c around i ls l → IsChain (size c) c around i (ls ++ k ∷ []) m
-  chain-inside opens k m n j same order further at none aliases all b h = chain-opens c ls l k m (λ d a x y. opens-inside c wf opens d a x l k m n j same order further at none aliases all b y) (size c) around i h
+  chain-inside opens k m e j same order further at of none aliases all b h = chain-opens c ls l k m (λ d a x y. opens-inside c wf opens d a x l k m e j same order further at of none aliases all b y) (size c) around i h
 
-  pub chain-alias-refused : (A B : Type 0) (s : Scope) (n : Name) (j : InterfaceId) (f : EncodeFault) → slice_get (named_pairs l.order.items) l.next ≡ Some (n, kind.Instance j) → AliasesFor c j l.scope s → IsAliasRefused {A = A} c j s (Err f) → IsChain (size c) c around i ls l → IsInterfaceRefused {A = B} c around i (Err f)
-  chain-alias-refused A B s n j f at aliases r h = chain-refused B c around i f (of-chain c (λ d a x. Stands d c a x f) ls l (λ d a x y z w t. waiting-refused c d a x y z f w t)
-      (λ d a x y. alias-stands A c d a x l s n j f at aliases r y) (size c) around i h)
+  pub chain-alias-refused : (A B : Type 0) (s : Scope) (e : Name × ItemKind) (j : InterfaceId) (f : EncodeFault) → slice_get (named_pairs l.order.items) l.next ≡ Some e → interface_of e.1 ≡ Some j → AliasesFor c j l.scope s → IsAliasRefused {A = A} c j s (Err f) → IsChain (size c) c around i ls l → IsInterfaceRefused {A = B} c around i (Err f)
+  chain-alias-refused A B s e j f at of aliases r h = chain-refused B c around i f (of-chain c (λ d a x. Stands d c a x f) ls l (λ d a x y z w t. waiting-refused c d a x y z f w t)
+      (λ d a x y. alias-stands A c d a x l s e j f at of aliases r y) (size c) around i h)
 
 -- the first is closed
 
@@ -85,11 +85,11 @@ module _ (c : Collection) (wf : IsWellFormed c) (around : Scope) (i : InterfaceI
   of-closed : (P : Type 0) → ((d : ℕ) (a : Scope) (x : InterfaceId) → IsWaiting (suc d) c a x k l.interface → IsLevel d c k.scope l.interface l l.scope → P) → IsChain (size c) c around i (ls ++ k ∷ []) l → P
   of-closed P last h = of-chain-closed c (λ d a x. P) ls k l (λ d a x y z w p. p) (λ d a x j w y. last d a x (subst (IsWaiting (suc d) c a x k) (sym y.is) w) (subst (λ (z : InterfaceId). IsLevel d c k.scope z l l.scope) (sym y.is) y)) (size c) around i h
 
-  pub closed-at : IsChain (size c) c around i (ls ++ k ∷ []) l → (n : Name) × (slice_get (named_pairs k.order.items) k.next ≡ Some (n, kind.Instance l.interface))
-  closed-at h = of-closed ((n : Name) × (slice_get (named_pairs k.order.items) k.next ≡ Some (n, kind.Instance l.interface))) (λ d a x w y. (w.name, w.here)) h
+  pub closed-at : IsChain (size c) c around i (ls ++ k ∷ []) l → (e : Name × ItemKind) × (slice_get (named_pairs k.order.items) k.next ≡ Some e)
+  closed-at h = of-closed ((e : Name × ItemKind) × (slice_get (named_pairs k.order.items) k.next ≡ Some e)) (λ d a x w y. ((w.name, w.item), w.here)) h
 
   pub closed-held : IsChain (size c) c around i (ls ++ k ∷ []) l → holds_type c (ty.Interface l.interface) ≡ true
-  closed-held h = of-closed (holds_type c (ty.Interface l.interface) ≡ true) (λ d a x w y. inside-held c wf (suc d) a x k w.now w.name l.interface w.here w.level) h
+  closed-held h = of-closed (holds_type c (ty.Interface l.interface) ≡ true) (λ d a x w y. inside-held c wf (suc d) a x k w.now (w.name, w.item) l.interface w.here w.of w.level) h
 
   pub closed-open : IsChain (size c) c around i (ls ++ k ∷ []) l → IsOpenType k.scope.content
   closed-open h = of-closed (IsOpenType k.scope.content) (λ d a x w y. still-open w.now.content k.scope.content w.aliases.written.types w.aliases.written.appended (open-level c (suc d) a x k w.now w.level)) h
@@ -100,12 +100,12 @@ module _ (c : Collection) (wf : IsWellFormed c) (around : Scope) (i : InterfaceI
   pub closed-says : OpensOver → HoldsInterface → ClosesInstance → ListsInAnyOrder → IsChain (size c) c around i (ls ++ k ∷ []) l → SaysInterface c k.scope l.interface ds
   closed-says over holds closes any h = of-closed (SaysInterface c k.scope l.interface ds) (λ d a x w y. says-level c wf over holds closes any d k.scope l.interface l ds past is y) h
 
-  pub chain-put : Follows → StaysOnward → ListsOneMore → (m : Level) (n : Name) (item : ItemKind) → m.interface ≡ k.interface → m.order ≡ k.order → m.next ≡ k.next + 1 → slice_get (named_pairs k.order.items) k.next ≡ Some (n, item) → PutsInstance c k.scope m.scope n l.interface ds → SaysInterface c k.scope l.interface ds
+  pub chain-put : Follows → StaysOnward → ListsOneMore → (m : Level) (n : Name) (item : ItemKind) → m.interface ≡ k.interface → m.order ≡ k.order → m.next ≡ k.next + 1 → slice_get (named_pairs k.order.items) k.next ≡ Some (n, item) → PutsItem c k.scope m.scope n item l.interface ds → SaysInterface c k.scope l.interface ds
       → IsChain (size c) c around i (ls ++ k ∷ []) l → IsChain (size c) c around i ls m
   chain-put follows stays more m n item same order further at put says h = chain-closes c ls k l m (λ d a x j w y.
-      closes-inside c wf follows stays more (suc d) a x k m j n item ds same order further at (subst (λ (z : InterfaceId). PutsInstance c k.scope m.scope n z ds) y.is put) (writes-level c d k.scope j l ds past is y) (subst (λ (z : InterfaceId). SaysInterface c k.scope z ds) y.is says) w) (size c) around i h
+      closes-inside c wf follows stays more (suc d) a x k m j n item ds same order further at (subst (λ (z : InterfaceId). PutsItem c k.scope m.scope n item z ds) y.is put) (writes-level c d k.scope j l ds past is y) (subst (λ (z : InterfaceId). SaysInterface c k.scope z ds) y.is says) w) (size c) around i h
 
-  pub chain-put-refused : (A B : Type 0) → Follows → StaysOnward → (n : Name) (item : ItemKind) (f : EncodeFault) → slice_get (named_pairs k.order.items) k.next ≡ Some (n, item) → InstanceNotPut {A = A} c k.scope n l.interface ds (Err f) → SaysInterface c k.scope l.interface ds
+  pub chain-put-refused : (A B : Type 0) → Follows → StaysOnward → (n : Name) (item : ItemKind) (f : EncodeFault) → slice_get (named_pairs k.order.items) k.next ≡ Some (n, item) → ItemNotPut {A = A} c k.scope n item l.interface ds (Err f) → SaysInterface c k.scope l.interface ds
       → IsChain (size c) c around i (ls ++ k ∷ []) l → IsInterfaceRefused {A = B} c around i (Err f)
   chain-put-refused A B follows stays n item f at r says h = chain-refused B c around i f (of-chain-closed c (λ d a x. Stands d c a x f) ls k l (λ d a x y z w t. waiting-refused c d a x y z f w t)
-      (λ d a x j w y. closed-stands A c wf follows stays (suc d) a x k j n item ds f at (subst (λ (z : InterfaceId). InstanceNotPut {A = A} c k.scope n z ds (Err f)) y.is r) (writes-level c d k.scope j l ds past is y) (subst (λ (z : InterfaceId). SaysInterface c k.scope z ds) y.is says) w) (size c) around i h)
+      (λ d a x j w y. closed-stands A c wf follows stays (suc d) a x k j n item ds f at (subst (λ (z : InterfaceId). ItemNotPut {A = A} c k.scope n item z ds (Err f)) y.is r) (writes-level c d k.scope j l ds past is y) (subst (λ (z : InterfaceId). SaysInterface c k.scope z ds) y.is says) w) (size c) around i h)

@@ -6,56 +6,56 @@ use Rattle.std.proofs.Common.{refl, ap, ◌∙◌, sym, subst, arith, inl, inr, 
 use Rattle.std.proofs.lemmas.Option.{slice_get-get_or}
 use Rattle.std.proofs.lemmas.List.{append-nil}
 use Rattle.wac_primitives.specs.Name.{Name, option_case}
-use Rattle.wac_shapes.specs.Kinds.{kind_type}
 use Rattle.wac_shapes.specs.Named.{NoNameTwice}
 use Rattle.wac_shapes.specs.contracts.component.TypePartialEq.TheImpl as TypeEq
 use Rattle.wac_shapes.proofs.Loops.{drop_at}
 use Rattle.wac_shapes.specs.declared.component.Interface.{Interface}
 use Rattle.wac_shapes.specs.declared.component.InterfaceId.{InterfaceId}
 use Rattle.wac_shapes.specs.declared.component.ItemKind.{ItemKind}
-use Rattle.wac_shapes.specs.declared.component.ItemKind.TheVariants as kind
 use Rattle.wac_shapes.specs.declared.component.«Type».{«Type» as AnyType}
 use Rattle.wac_shapes.specs.declared.component.«Type».TheVariants as ty
 use Rattle.wac_collection.specs.declared.collection.Held.{Held}
 use Rattle.wac_collection.specs.Collection.{Collection, IsWellFormed, AddedBefore, IsBefore, holds_type, interface_exports, item_at, item_of, size}
 use Rattle.wac_collection.proofs.Growth.{type_before}
+use Rattle.wac_listing.specs.Made.{interface_of}
+use Rattle.wac_listing.proofs.Interfaces.{type-of}
+use Rattle.wac_reach.specs.Found.{with_all}
 use Rattle.wac_reach.specs.Reach.{IsIn}
 use Rattle.wac_reach.proofs.Lists.{in_at, at_in, all_old, all_new, all_only, all_grown}
 use Rattle.wac_reach.proofs.Universe.{types_of, found_few}
 use Rattle.wac_encode.specs.Listing.{is_plain, lists_plain, lists_plain_to}
 use Rattle.wac_encode.specs.Inside.{IsInsideBy, IsInside, AreInside, are_plain_alone, lists_plain_alone, and_inside, with_inside, IsHeldInterface, PutsInside}
 use Rattle.wac_planning.proofs.Listing.{listed-before, held-items}
+use Rattle.wac_encode.proofs.OfInterface.{one-plain}
 use Rattle.wac_encode.proofs.Plain.{plain-each, each-plain, plain-of, plain-alone, plain-inside}
 
 -- what is put of items
 
 record Puts (es : List (Name × ItemKind)) (old new : List AnyType) : Type 0 where
   pub old_in : (t : AnyType) → IsIn t old → IsIn t new
-  pub put : (p : ℕ) (n : Name) (j : InterfaceId) → slice_get es p ≡ Some (n, kind.Instance j) → IsIn (ty.Interface j) new
-  pub only : (t : AnyType) → IsIn t new → IsIn t old ⊎ ((p : ℕ) × (n : Name) × (j : InterfaceId) × (slice_get es p ≡ Some (n, kind.Instance j)) × (t ≡ ty.Interface j))
+  pub put : (p : ℕ) (e : Name × ItemKind) (j : InterfaceId) → slice_get es p ≡ Some e → interface_of e.1 ≡ Some j → IsIn (ty.Interface j) new
+  pub only : (t : AnyType) → IsIn t new → IsIn t old ⊎ ((p : ℕ) × (e : Name × ItemKind) × (j : InterfaceId) × (slice_get es p ≡ Some e) × (interface_of e.1 ≡ Some j) × (t ≡ ty.Interface j))
   pub more : List AnyType
   pub grown : new ≡ old ++ more
 
-record PutsOne (k : ItemKind) (old new : List AnyType) : Type 0 where
+record PutsOne (o : Option InterfaceId) (old new : List AnyType) : Type 0 where
   pub old_in : (t : AnyType) → IsIn t old → IsIn t new
-  pub put : (j : InterfaceId) → k ≡ kind.Instance j → IsIn (ty.Interface j) new
-  pub only : (t : AnyType) → IsIn t new → IsIn t old ⊎ ((j : InterfaceId) × (k ≡ kind.Instance j) × (t ≡ ty.Interface j))
+  pub put : (j : InterfaceId) → o ≡ Some j → IsIn (ty.Interface j) new
+  pub only : (t : AnyType) → IsIn t new → IsIn t old ⊎ ((j : InterfaceId) × (o ≡ Some j) × (t ≡ ty.Interface j))
   pub more : List AnyType
   pub grown : new ≡ old ++ more
 
-nothing-put : (k : ItemKind) (ts : List AnyType) → ((j : InterfaceId) → k ≡ kind.Instance j → ⊥) → PutsOne k ts ts
-nothing-put k ts other = record {
+puts-one : (o : Option InterfaceId) (ts : List AnyType) → PutsOne o ts (option_case o ts (λ i. with_all ts (ty.Interface i ∷ [])))
+puts-one None ts = record {
   old_in = λ t h. h;
-  put = λ j e. absurd (other j e);
+  put = λ j e. let none_some : None ≡ Some j = e in cc;
   only = λ t h. inl h;
   more = [];
   grown = sym (append-nil ts);
 }
-
-puts-one : (k : ItemKind) (ts : List AnyType) → PutsOne k ts (and_inside ts k)
-puts-one (kind.Instance i) ts = record {
+puts-one (Some i) ts = record {
   old_in = λ t h. all_old ts (ty.Interface i ∷ []) t h;
-  put = λ j e. all_new ts (ty.Interface i ∷ []) (ty.Interface j) (inl (let same : i ≡ j = cc in ap ty.Interface (sym same)));
+  put = λ j e. all_new ts (ty.Interface i ∷ []) (ty.Interface j) (inl (let both : Some i ≡ Some j = e in let same : i ≡ j = cc in ap ty.Interface (sym same)));
   only = λ t h. elim (all_only ts (ty.Interface i ∷ []) t h) [ inl o ↦ inl o | inr n ↦ inr (i, refl, this t n) ];
   more = (all_grown ts (ty.Interface i ∷ [])).0;
   grown = (all_grown ts (ty.Interface i ∷ [])).1;
@@ -64,54 +64,49 @@ puts-one (kind.Instance i) ts = record {
     this : (t : AnyType) → IsIn t (ty.Interface i ∷ []) → t ≡ ty.Interface i
     this t (inl e) = e
     this t (inr n) = absurd n
-puts-one (kind.TypeItem x) ts = nothing-put (kind.TypeItem x) ts (λ j e. cc)
-puts-one (kind.Func x) ts = nothing-put (kind.Func x) ts (λ j e. cc)
-puts-one (kind.Component x) ts = nothing-put (kind.Component x) ts (λ j e. cc)
-puts-one (kind.Module x) ts = nothing-put (kind.Module x) ts (λ j e. cc)
-puts-one (kind.Value x) ts = nothing-put (kind.Value x) ts (λ j e. cc)
 
 puts : (es : List (Name × ItemKind)) (ts : List AnyType) → Puts es ts (with_inside ts es)
 puts [] ts = record {
   old_in = λ t h. h;
-  put = λ p n j at. let none_some : None ≡ Some (n, kind.Instance j) = at in cc;
+  put = λ p e j at is. let none_some : None ≡ Some e = at in cc;
   only = λ t h. inl h;
   more = [];
   grown = sym (append-nil ts);
 }
 puts (e ∷ es) ts =
-    let one = puts-one e.1 ts in
+    let one = puts-one (interface_of e.1) ts in
     let rest = puts es (and_inside ts e.1) in
     record {
       old_in = λ t h. rest.old_in t (one.old_in t h);
       put = put one rest;
       only = λ t h. elim (rest.only t h) [
-        | inl k ↦ elim (one.only t k) [ inl o ↦ inl o | inr n ↦ inr (0, e.0, n.0, ap (λ (k : ItemKind). Some (e.0, k)) n.1, n.2) ]
-        | inr m ↦ inr (suc m.0, m.1, m.2, m.3, m.4)
+        | inl k ↦ elim (one.only t k) [ inl o ↦ inl o | inr n ↦ inr (0, e, n.0, refl, n.1, n.2) ]
+        | inr m ↦ inr (suc m.0, m.1, m.2, m.3, m.4, m.5)
       ];
       more = one.more ++ rest.more;
       grown = rest.grown ∙ ap (λ (xs : List AnyType). xs ++ rest.more) one.grown ∙ append_assoc ts one.more rest.more;
     }
   where
-    put : PutsOne e.1 ts (and_inside ts e.1) → Puts es (and_inside ts e.1) (with_inside (and_inside ts e.1) es) → (p : ℕ) (n : Name) (j : InterfaceId) → slice_get (e ∷ es) p ≡ Some (n, kind.Instance j) → IsIn (ty.Interface j) (with_inside (and_inside ts e.1) es)
-    put one rest zero n j at =
-        let both : Some e ≡ Some (n, kind.Instance j) = at in
-        let same : e ≡ (n, kind.Instance j) = cc in
-        rest.old_in (ty.Interface j) (one.put j (ap (λ (x : Name × ItemKind). x.1) same))
-    put one rest (suc p) n j at = rest.put p n j at
+    put : PutsOne (interface_of e.1) ts (and_inside ts e.1) → Puts es (and_inside ts e.1) (with_inside (and_inside ts e.1) es) → (p : ℕ) (x : Name × ItemKind) (j : InterfaceId) → slice_get (e ∷ es) p ≡ Some x → interface_of x.1 ≡ Some j → IsIn (ty.Interface j) (with_inside (and_inside ts e.1) es)
+    put one rest zero x j at is =
+        let both : Some e ≡ Some x = at in
+        let same : e ≡ x = cc in
+        rest.old_in (ty.Interface j) (one.put j (ap (λ (y : Name × ItemKind). interface_of y.1) same ∙ is))
+    put one rest (suc p) x j at is = rest.put p x j at is
 
 -- The interfaces that were found, of which those before the next have been looked at.
 pub record AreFound (c : Collection) (i : InterfaceId) (ts : List AnyType) (next : ℕ) : Type 0 where
   pub first : IsIn (ty.Interface i) ts
   pub only : (t : AnyType) → IsIn t ts → (j : InterfaceId) × (t ≡ ty.Interface j) × (holds_type c t ≡ true) × IsInside c i j
   pub once : (n : ℕ) (j : InterfaceId) → n < next → slice_get ts n ≡ Some (ty.Interface j) → NoNameTwice (interface_exports c j)
-  pub found : (n : ℕ) (j : InterfaceId) (p : ℕ) (m : Name) (k : InterfaceId) → n < next → slice_get ts n ≡ Some (ty.Interface j) → slice_get (interface_exports c j) p ≡ Some (m, kind.Instance k) → IsIn (ty.Interface k) ts
+  pub found : (n : ℕ) (j : InterfaceId) (p : ℕ) (e : Name × ItemKind) (k : InterfaceId) → n < next → slice_get ts n ≡ Some (ty.Interface j) → slice_get (interface_exports c j) p ≡ Some e → interface_of e.1 ≡ Some k → IsIn (ty.Interface k) ts
 
 pub found-first : (c : Collection) (i : InterfaceId) → holds_type c (ty.Interface i) ≡ true → AreFound c i (ty.Interface i ∷ []) 0
 found-first c i held = record {
   first = inl refl;
   only = λ t h. by_place t h;
   once = λ n j less at. absurd (omega (arith, less));
-  found = λ n j p m k less at here. absurd (omega (arith, less));
+  found = λ n j p e k less at here of. absurd (omega (arith, less));
 }
   where
     by_place : (t : AnyType) → IsIn t (ty.Interface i ∷ []) → (j : InterfaceId) × (t ≡ ty.Interface j) × (holds_type c t ≡ true) × IsInside c i j
@@ -146,8 +141,8 @@ exports-are : (c : Collection) (i : InterfaceId) (it : Interface) → item_at c.
 exports-are c i it at = ap (λ (o : Option Interface). option_case o [] (λ (x : Interface). x.exports)) at
 
 -- what is listed inside is inside
-pub inside-further : (c : Collection) (i j k : InterfaceId) (p : ℕ) (n : Name) → IsInside c i j → slice_get (interface_exports c j) p ≡ Some (n, kind.Instance k) → IsInside c i k
-inside-further c i j k p n h at = (suc h.0, (j, h.1, p, n, at))
+pub inside-further : (c : Collection) (i j k : InterfaceId) (p : ℕ) (e : Name × ItemKind) → IsInside c i j → slice_get (interface_exports c j) p ≡ Some e → interface_of e.1 ≡ Some k → IsInside c i k
+inside-further c i j k p e h at of = (suc h.0, (j, h.1, p, e, at, of))
 
 -- one more was looked at
 module _ (c : Collection) (wf : IsWellFormed c) (i : InterfaceId) (ts : List AnyType) (next : ℕ) (j : InterfaceId) (it : Interface) (at : slice_get ts next ≡ Some (ty.Interface j)) (found : item_at c.interfaces j.0 ≡ Some it) (once : NoNameTwice it.exports) (f : AreFound c i ts next) where
@@ -166,15 +161,15 @@ module _ (c : Collection) (wf : IsWellFormed c) (i : InterfaceId) (ts : List Any
   earlier : (n : ℕ) (k : InterfaceId) → n < next → slice_get (with_inside ts it.exports) n ≡ Some (ty.Interface k) → slice_get ts n ≡ Some (ty.Interface k)
   earlier n k less is = lower-place ts p.more n next (ty.Interface j) (ty.Interface k) less at (there n (ty.Interface k) is)
 
-  member : (t : AnyType) → IsIn t ts ⊎ ((q : ℕ) × (n : Name) × (k : InterfaceId) × (slice_get it.exports q ≡ Some (n, kind.Instance k)) × (t ≡ ty.Interface k)) → (k : InterfaceId) × (t ≡ ty.Interface k) × (holds_type c t ≡ true) × IsInside c i k
+  member : (t : AnyType) → IsIn t ts ⊎ ((q : ℕ) × (e : Name × ItemKind) × (k : InterfaceId) × (slice_get it.exports q ≡ Some e) × (interface_of e.1 ≡ Some k) × (t ≡ ty.Interface k)) → (k : InterfaceId) × (t ≡ ty.Interface k) × (holds_type c t ≡ true) × IsInside c i k
   member t (inl old) = f.only t old
-  member t (inr (q, n, k, here, is)) =
+  member t (inr (q, x, k, here, of, is)) =
       let outer = f.only (ty.Interface j) (in_at (ty.Interface j) ts next at) in
       let one : outer.0 ≡ j = (let e : ty.Interface j ≡ ty.Interface outer.0 = outer.1 in cc) in (
         k,
         is,
-        subst (λ (u : AnyType). holds_type c u ≡ true) (sym is) (held-items c wf j it found q (n, kind.Instance k) here),
-        inside-further c i j k q n (subst (IsInside c i) one outer.3) (ap (λ (es : List (Name × ItemKind)). slice_get es q) (exports-are c j it found) ∙ here),
+        subst (λ (u : AnyType). holds_type c u ≡ true) (type-of x.1 k of ∙ sym is) (held-items c wf j it found q x here),
+        inside-further c i j k q x (subst (IsInside c i) one outer.3) (ap (λ (es : List (Name × ItemKind)). slice_get es q) (exports-are c j it found) ∙ here) of,
       )
 
   pub found-next : AreFound c i (with_inside ts it.exports) (next + 1)
@@ -185,9 +180,9 @@ module _ (c : Collection) (wf : IsWellFormed c) (i : InterfaceId) (ts : List Any
       | inl low ↦ f.once n k low (earlier n k low is)
       | inr same ↦ subst NoNameTwice (sym (this n k same is)) once
     ];
-    found = λ n k q m l less is here. elim (split n next less) [
-      | inl low ↦ p.old_in (ty.Interface l) (f.found n k q m l low (earlier n k low is) here)
-      | inr same ↦ p.put q m l (ap (λ (es : List (Name × ItemKind)). slice_get es q) (sym (this n k same is)) ∙ here)
+    found = λ n k q x l less is here of. elim (split n next less) [
+      | inl low ↦ p.old_in (ty.Interface l) (f.found n k q x l low (earlier n k low is) here of)
+      | inr same ↦ p.put q x l (ap (λ (es : List (Name × ItemKind)). slice_get es q) (sym (this n k same is)) ∙ here) of
     ];
   }
 
@@ -195,9 +190,9 @@ module _ (c : Collection) (wf : IsWellFormed c) (i : InterfaceId) (ts : List Any
 module _ (c : Collection) (i : InterfaceId) (ts : List AnyType) (next : ℕ) (past : length ts ≤ next) (f : AreFound c i ts next) where
   all-in : (d : ℕ) (j : InterfaceId) → IsInsideBy d c i j → IsIn (ty.Interface j) ts
   all-in zero j is = subst (λ (x : InterfaceId). IsIn (ty.Interface x) ts) (sym is) f.first
-  all-in (suc d) j (k, inner, p, n, at) =
+  all-in (suc d) j (k, inner, p, e, at, of) =
       let place = at_in (ty.Interface k) ts (all-in d k inner) in
-      f.found place.0 k p n j (omega (arith, place.1, past)) place.2 at
+      f.found place.0 k p e j (omega (arith, place.1, past)) place.2 at of
 
   pub all-found : AreInside c i ts
   all-found = record {
@@ -223,8 +218,8 @@ module _ (c : Collection) (wf : IsWellFormed c) (i : InterfaceId) (alone : (j : 
           let same : interface_exports c j ≡ x.item.exports = exports-are c j x.item found in
           let plain : are_plain_alone x.item.exports ≡ true = ap are_plain_alone (sym same) ∙ alone j h in
           plain-of c d j x.item found ∙ each-plain (lists_plain_to d c) x.item.exports (λ k e at. plain-inside (lists_plain_to d c) e.1 (plain-each (λ n. true) x.item.exports plain k e at)
-          (λ l is_instance. inner l (inside-further c i j l k e.0 h (ap (λ (es : List (Name × ItemKind)). slice_get es k) same ∙ at ∙ ap (λ (y : ItemKind). Some (e.0, y)) is_instance))
-          (subst (λ (y : ItemKind). IsBefore c d (kind_type y)) is_instance (listed-before c wf d j x.item before found k e at))))
+          (λ l of. inner l (inside-further c i j l k e h (ap (λ (es : List (Name × ItemKind)). slice_get es k) same ∙ at) of)
+          (subst (IsBefore c d) (type-of e.1 l of) (listed-before c wf d j x.item before found k e at))))
 
   pub all-plain : holds_type c (ty.Interface i) ≡ true → lists_plain c i ≡ true
   all-plain held = plain-to (size c) i (0, refl) (type_before c wf (ty.Interface i) held)
@@ -240,10 +235,11 @@ exported-there c k p e at = by_item (item_at c.interfaces k.0) refl at
 -- what is inside is plain where the interface is
 inside-plain : (c : Collection) (i : InterfaceId) → lists_plain c i ≡ true → (d : ℕ) (j : InterfaceId) → IsInsideBy d c i j → (b : ℕ) × (lists_plain_to b c j ≡ true)
 inside-plain c i all zero j is = (size c, subst (λ (x : InterfaceId). lists_plain_to (size c) c x ≡ true) (sym is) all)
-inside-plain c i all (suc d) j (k, inner, p, n, at) =
+inside-plain c i all (suc d) j (k, inner, p, e, at, of) =
     let outer = inside-plain c i all d k inner in
-    let x = exported-there c k p (n, kind.Instance j) at in
-    of-plain c outer.0 k x.0 x.1 outer.1 p (n, kind.Instance j) x.2
+    let x = exported-there c k p e at in
+    let plain = of-plain c outer.0 k x.0 x.1 outer.1 p e x.2 in
+    (plain.0, sym (one-plain e.1 j of (lists_plain_to plain.0 c)) ∙ plain.1)
 
 -- one is not plain as far as it goes alone
 pub one-not-plain : (c : Collection) (i j : InterfaceId) (it : Interface) → IsInside c i j → item_at c.interfaces j.0 ≡ Some it → are_plain_alone it.exports ≡ false → lists_plain c i ≡ false

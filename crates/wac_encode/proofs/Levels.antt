@@ -26,32 +26,45 @@ use Rattle.wac_scopes.specs.Scoped.{type_index, named_at, listing, HasToo, AddsI
 use Rattle.wac_scopes.specs.Contents.{IsOpenType, and_type, and_export, count, ContentFits}
 use Rattle.wac_stacks.specs.Laws.{Follows, StaysOnward}
 use Rattle.wac_stacks.specs.Listed.{OpensInterface, OpensOver, ClosesInstance, HoldsInterface, ListsOneMore, ListsInAnyOrder}
+use Rattle.wac_listing.specs.Made.{interface_of}
+use Rattle.wac_listing.proofs.Interfaces.{type-of}
 use Rattle.wac_encode.specs.declared.level.Level.{Level}
 use Rattle.wac_encode.specs.Written.{WritesFor}
-use Rattle.wac_encode.specs.Listing.{SaysInterface, lists_plain_to, IsOrder, AliasesFor, AllAliased, IsAliasRefused, NeededBy, IsInstanceTypeFrom, IsItemDescribed, WritesItem, WritesItems, WritesInterfaceTo, ItemTypeDoesNotFit, IsFaultIn, IsItemRefused, IsRefusedTo, IsInterfaceRefused}
+use Rattle.wac_encode.specs.Listing.{SaysInterface, lists_plain_to, IsOrder, AliasesFor, AllAliased, IsAliasRefused, NeededBy, IsInstanceTypeFrom, IsItemDescribed, WritesItem, WritesItems, WritesInterfaceTo, InsideDoesNotFit, ItemTypeDoesNotFit, IsFaultIn, IsItemRefused, IsRefusedTo, IsInterfaceRefused}
 use Rattle.wac_encode.specs.Instances.{AddsHeldInterface}
 use Rattle.wac_encode.specs.Items.{ListsHeld, HasListed, CanList, nothing_inside, none_refused}
-use Rattle.wac_encode.specs.Levels.{SoFar, IsBegun, IsLevel, IsWaiting, IsChain, PutsInstance, InstanceNotPut}
+use Rattle.wac_encode.specs.Levels.{SoFar, IsBegun, IsLevel, IsWaiting, IsChain, described_by, PutsItem, ItemNotPut}
 use Rattle.wac_encode.proofs.InstanceTypes.{adds-interface, instance-behind, aliases-for, still-unwritten, written-behind, adds-behind, ends-with-interface}
 use Rattle.wac_encode.proofs.Ordered.{once-ordered, same-under, stands-there}
 use Rattle.wac_planning.proofs.Listing.{listed-before, held-items}
 use Rattle.wac_encode.proofs.Plain.{plain-each, plain-of, plain-alone}
-use Rattle.wac_encode.proofs.Listed.{starts, goes-further, stops-at, closes-open, says-interface, instance-listed}
+use Rattle.wac_encode.proofs.Listed.{starts, goes-further, stops-at, closes-open, says-interface}
+use Rattle.wac_encode.proofs.OfInterface.{one-plain, one-needed, one-behind, one-described, one-named, one-listed, one-fault, one-large}
 
 -- an item for which nothing is written inside is written so whatever is inside
 
+inside-at : (I : Scope → InterfaceId → List Decl → Type 0) (c : Collection) (old now : Scope) (i : InterfaceId) (j : ℕ) (o : Option ℕ) → IsInstanceTypeFrom o nothing_inside c old now i j → IsInstanceTypeFrom o I c old now i j
+inside-at I c old now i j (Some k) is = is
+inside-at I c old now i j None ends = absurd ends.written
+
 described-inside : (I : Scope → InterfaceId → List Decl → Type 0) (c : Collection) (old now : Scope) (k : ItemKind) (d : Description) → IsItemDescribed nothing_inside c old now k d → IsItemDescribed I c old now k d
-described-inside I c old now (kind.Instance i) (e.Instance j) h = by_index (type_index old (ty.Interface i)) h
-  where
-    by_index : (o : Option ℕ) → IsInstanceTypeFrom o nothing_inside c old now i j → IsInstanceTypeFrom o I c old now i j
-    by_index (Some k) is = is
-    by_index None ends = absurd ends.written
+described-inside I c old now (kind.Instance i) (e.Instance j) h = inside-at I c old now i j (type_index old (ty.Interface i)) h
 described-inside I c old now (kind.Instance i) (e.CoreModule j) h = h
 described-inside I c old now (kind.Instance i) (e.Func j) h = h
 described-inside I c old now (kind.Instance i) (e.Equal j) h = h
 described-inside I c old now (kind.Instance i) e.Fresh h = h
 described-inside I c old now (kind.Instance i) (e.Component j) h = h
-described-inside I c old now (kind.TypeItem t) d h = h
+described-inside I c old now (kind.TypeItem (ty.Interface i)) (e.Equal j) h = inside-at I c old now i j (type_index old (ty.Interface i)) h
+described-inside I c old now (kind.TypeItem (ty.Interface i)) (e.CoreModule j) h = h
+described-inside I c old now (kind.TypeItem (ty.Interface i)) (e.Func j) h = h
+described-inside I c old now (kind.TypeItem (ty.Interface i)) (e.Instance j) h = h
+described-inside I c old now (kind.TypeItem (ty.Interface i)) e.Fresh h = h
+described-inside I c old now (kind.TypeItem (ty.Interface i)) (e.Component j) h = h
+described-inside I c old now (kind.TypeItem (ty.Value v)) d h = h
+described-inside I c old now (kind.TypeItem (ty.Func f)) d h = h
+described-inside I c old now (kind.TypeItem (ty.Resource r)) d h = h
+described-inside I c old now (kind.TypeItem (ty.World w)) d h = h
+described-inside I c old now (kind.TypeItem (ty.Module m)) d h = h
 described-inside I c old now (kind.Func f) d h = h
 described-inside I c old now (kind.Component w) d h = h
 described-inside I c old now (kind.Module m) d h = h
@@ -69,17 +82,30 @@ wrote-inside I c old new n k w = record {
 
 fault-inside : (R : Scope → InterfaceId → EncodeFault → Type 0) (c : Collection) (s : Scope) (k : ItemKind) (f : WriteFault) → IsFaultIn none_refused c s k f → IsFaultIn R c s k f
 fault-inside R c s (kind.Instance i) f h = absurd h.2
-fault-inside R c s (kind.TypeItem t) f h = h
+fault-inside R c s (kind.TypeItem (ty.Interface i)) f h = absurd h.2
+fault-inside R c s (kind.TypeItem (ty.Value v)) f h = h
+fault-inside R c s (kind.TypeItem (ty.Func g)) f h = h
+fault-inside R c s (kind.TypeItem (ty.Resource r)) f h = h
+fault-inside R c s (kind.TypeItem (ty.World w)) f h = h
+fault-inside R c s (kind.TypeItem (ty.Module m)) f h = h
 fault-inside R c s (kind.Func g) f h = h
 fault-inside R c s (kind.Component w) f h = h
 fault-inside R c s (kind.Module m) f h = h
 fault-inside R c s (kind.Value v) f h = h
 
+large-inside : (I : Scope → InterfaceId → List Decl → Type 0) (R : Scope → InterfaceId → EncodeFault → Type 0) (c : Collection) (i : InterfaceId) (s : Scope) → InsideDoesNotFit nothing_inside none_refused c i s → InsideDoesNotFit I R c i s
+large-inside I R c i s (inl alias) = inl alias
+large-inside I R c i s (inr (inl none)) = absurd none
+large-inside I R c i s (inr (inr none)) = absurd none.1
+
 type-inside : (I : Scope → InterfaceId → List Decl → Type 0) (R : Scope → InterfaceId → EncodeFault → Type 0) (c : Collection) (k : ItemKind) (s : Scope) → ItemTypeDoesNotFit nothing_inside none_refused c k s → ItemTypeDoesNotFit I R c k s
-type-inside I R c (kind.Instance i) s (inl alias) = inl alias
-type-inside I R c (kind.Instance i) s (inr (inl none)) = absurd none
-type-inside I R c (kind.Instance i) s (inr (inr none)) = absurd none.1
-type-inside I R c (kind.TypeItem t) s h = h
+type-inside I R c (kind.Instance i) s h = large-inside I R c i s h
+type-inside I R c (kind.TypeItem (ty.Interface i)) s h = large-inside I R c i s h
+type-inside I R c (kind.TypeItem (ty.Value v)) s h = h
+type-inside I R c (kind.TypeItem (ty.Func g)) s h = h
+type-inside I R c (kind.TypeItem (ty.Resource r)) s h = h
+type-inside I R c (kind.TypeItem (ty.World w)) s h = h
+type-inside I R c (kind.TypeItem (ty.Module m)) s h = h
 type-inside I R c (kind.Func g) s h = h
 type-inside I R c (kind.Component w) s h = h
 type-inside I R c (kind.Module m) s h = h
@@ -148,21 +174,21 @@ can-list c wf d around i l now k at x =
 pub open-level : (c : Collection) (d : ℕ) (around : Scope) (i : InterfaceId) (l : Level) (now : Scope) → IsLevel d c around i l now → IsOpenType now.content
 open-level c d around i l now x = closes-open now.content x.so_far.closes
 
--- an interface of which an instance is listed
+-- an interface that is listed
 record Listed (d : ℕ) (c : Collection) (j : InterfaceId) : Type 0 where
   pub plain : lists_plain_to d c j ≡ true
   pub before : IsBefore c d (ty.Interface j)
 
-inside-of : (c : Collection) → IsWellFormed c → (d : ℕ) (around : Scope) (i : InterfaceId) (l : Level) (now : Scope) (n : Name) (j : InterfaceId) → slice_get (named_pairs l.order.items) l.next ≡ Some (n, kind.Instance j) → IsLevel d c around i l now → Listed d c j
-inside-of c wf d around i l now n j at x =
-    let there = there-at c d around i l now (n, kind.Instance j) at x in
+inside-of : (c : Collection) → IsWellFormed c → (d : ℕ) (around : Scope) (i : InterfaceId) (l : Level) (now : Scope) (x : Name × ItemKind) (j : InterfaceId) → slice_get (named_pairs l.order.items) l.next ≡ Some x → interface_of x.1 ≡ Some j → IsLevel d c around i l now → Listed d c j
+inside-of c wf d around i l now x j at of h =
+    let there = there-at c d around i l now x at h in
     record {
-      plain = plain-each (lists_plain_to d c) x.interface.exports (sym (plain-of c d i x.interface x.found) ∙ x.plain) there.0 (n, kind.Instance j) there.1;
-      before = listed-before c wf d i x.interface x.before x.found there.0 (n, kind.Instance j) there.1;
+      plain = sym (one-plain x.1 j of (lists_plain_to d c)) ∙ plain-each (lists_plain_to d c) h.interface.exports (sym (plain-of c d i h.interface h.found) ∙ h.plain) there.0 x there.1;
+      before = subst (IsBefore c d) (type-of x.1 j of) (listed-before c wf d i h.interface h.before h.found there.0 x there.1);
     }
 
-pub inside-held : (c : Collection) → IsWellFormed c → (d : ℕ) (around : Scope) (i : InterfaceId) (l : Level) (now : Scope) (n : Name) (j : InterfaceId) → slice_get (named_pairs l.order.items) l.next ≡ Some (n, kind.Instance j) → IsLevel d c around i l now → holds_type c (ty.Interface j) ≡ true
-inside-held c wf d around i l now n j at x = type_within c d (ty.Interface j) (inside-of c wf d around i l now n j at x).before
+pub inside-held : (c : Collection) → IsWellFormed c → (d : ℕ) (around : Scope) (i : InterfaceId) (l : Level) (now : Scope) (x : Name × ItemKind) (j : InterfaceId) → slice_get (named_pairs l.order.items) l.next ≡ Some x → interface_of x.1 ≡ Some j → IsLevel d c around i l now → holds_type c (ty.Interface j) ≡ true
+inside-held c wf d around i l now x j at of h = type_within c d (ty.Interface j) (inside-of c wf d around i l now x j at of h).before
 
 -- a level all of whose items are listed
 
@@ -204,8 +230,8 @@ refused-level A c d around i l now n k fault.OutOfMemory at x h = tt
 
 -- what is refused inside a level that waits is refused there
 pub waiting-refused : (c : Collection) (d : ℕ) (around : Scope) (i : InterfaceId) (l : Level) (j : InterfaceId) (f : EncodeFault) → IsWaiting d c around i l j → Stands d c l.scope j f → Stands (suc d) c around i f
-waiting-refused c d around i l j (fault.Write g) w h = refused-level (Unit {0}) c d around i l w.now w.name (kind.Instance j) (fault.Write g) w.here w.level (l.scope, w.aliases, h)
-waiting-refused c d around i l j fault.TooLarge w h = refused-level (Unit {0}) c d around i l w.now w.name (kind.Instance j) fault.TooLarge w.here w.level (record { scope = l.scope; types = 0; behind = aliases-for c j w.now l.scope w.aliases; large = inl (inr (inl h)) })
+waiting-refused c d around i l j (fault.Write g) w h = refused-level (Unit {0}) c d around i l w.now w.name w.item (fault.Write g) w.here w.level (one-fault w.item j w.of (IsRefusedTo d c) c w.now g (l.scope, w.aliases, h))
+waiting-refused c d around i l j fault.TooLarge w h = refused-level (Unit {0}) c d around i l w.now w.name w.item fault.TooLarge w.here w.level (record { scope = l.scope; types = 0; behind = one-needed w.item j w.of c 0 w.now l.scope (aliases-for c j w.now l.scope w.aliases); large = inl (one-large w.item j w.of (WritesInterfaceTo d c) (IsRefusedTo d c) c l.scope (inr (inl h))) })
 waiting-refused c d around i l j fault.OutOfMemory w h = tt
 
 -- chains of levels
@@ -260,9 +286,9 @@ opens-chain c opens zero a i k m j w h b = absurd (never (slice_get c.interfaces
     never (Some x) low = omega (arith, low)
 opens-chain c opens (suc d) a i k m j w h b = (j, w, begins-level c opens d k.scope j m h.plain h.before b)
 
-pub opens-inside : (c : Collection) → IsWellFormed c → OpensInterface → (d : ℕ) (a : Scope) (i : InterfaceId) (l k m : Level) (n : Name) (j : InterfaceId) → k.interface ≡ l.interface → k.order ≡ l.order → k.next ≡ l.next → slice_get (named_pairs l.order.items) l.next ≡ Some (n, kind.Instance j) → type_index l.scope (ty.Interface j) ≡ None
+pub opens-inside : (c : Collection) → IsWellFormed c → OpensInterface → (d : ℕ) (a : Scope) (i : InterfaceId) (l k m : Level) (e : Name × ItemKind) (j : InterfaceId) → k.interface ≡ l.interface → k.order ≡ l.order → k.next ≡ l.next → slice_get (named_pairs l.order.items) l.next ≡ Some e → interface_of e.1 ≡ Some j → type_index l.scope (ty.Interface j) ≡ None
     → AliasesFor c j l.scope k.scope → AllAliased c j l.scope k.scope → IsBegun c k.scope j m → IsLevel d c a i l l.scope → IsChain (suc d) c a i (k ∷ []) m
-opens-inside c wf opens d a i l k m n j same order further at none aliases all b x = opens-chain c opens d a i k m j (record {
+opens-inside c wf opens d a i l k m e j same order further at of none aliases all b x = opens-chain c opens d a i k m j (record {
   now = l.scope;
   level = record {
     is = same ∙ x.is;
@@ -276,18 +302,20 @@ opens-inside c wf opens d a i l k m n j same order further at none aliases all b
     opened_ = x.opened_;
     so_far = subst (λ o. SoFar (WritesInterfaceTo d c) c x.interface x.start l.scope (named_pairs o.items) k.next) (sym order) (subst (λ (q : ℕ). SoFar (WritesInterfaceTo d c) c x.interface x.start l.scope (named_pairs l.order.items) q) (sym further) x.so_far);
   };
-  name = n;
-  here = subst (λ o. slice_get (named_pairs o.items) k.next ≡ Some (n, kind.Instance j)) (sym order) (subst (λ (q : ℕ). slice_get (named_pairs l.order.items) q ≡ Some (n, kind.Instance j)) (sym further) at);
+  name = e.0;
+  item = e.1;
+  here = subst (λ o. slice_get (named_pairs o.items) k.next ≡ Some e) (sym order) (subst (λ (q : ℕ). slice_get (named_pairs l.order.items) q ≡ Some e) (sym further) at);
+  of = of;
   unwritten = none;
   aliases = aliases;
   all = all;
-}) (inside-of c wf d a i l l.scope n j at x) b
+}) (inside-of c wf d a i l l.scope e j at of x) b
 
 -- its aliases are refused
-pub alias-stands : (A : Type 0) (c : Collection) (d : ℕ) (a : Scope) (i : InterfaceId) (l : Level) (s : Scope) (n : Name) (j : InterfaceId) (f : EncodeFault) → slice_get (named_pairs l.order.items) l.next ≡ Some (n, kind.Instance j) → AliasesFor c j l.scope s → IsAliasRefused {A = A} c j s (Err f) → IsLevel d c a i l l.scope → Stands (suc d) c a i f
-alias-stands A c d a i l s n j (fault.Write g) at aliases h x = absurd h
-alias-stands A c d a i l s n j fault.TooLarge at aliases h x = refused-level (Unit {0}) c d a i l l.scope n (kind.Instance j) fault.TooLarge at x (record { scope = s; types = 0; behind = aliases-for c j l.scope s aliases; large = inl (inl h) })
-alias-stands A c d a i l s n j fault.OutOfMemory at aliases h x = tt
+pub alias-stands : (A : Type 0) (c : Collection) (d : ℕ) (a : Scope) (i : InterfaceId) (l : Level) (s : Scope) (e : Name × ItemKind) (j : InterfaceId) (f : EncodeFault) → slice_get (named_pairs l.order.items) l.next ≡ Some e → interface_of e.1 ≡ Some j → AliasesFor c j l.scope s → IsAliasRefused {A = A} c j s (Err f) → IsLevel d c a i l l.scope → Stands (suc d) c a i f
+alias-stands A c d a i l s e j (fault.Write g) at of aliases h x = absurd h
+alias-stands A c d a i l s e j fault.TooLarge at of aliases h x = refused-level (Unit {0}) c d a i l l.scope e.0 e.1 fault.TooLarge at x (record { scope = s; types = 0; behind = one-needed e.1 j of c 0 l.scope s (aliases-for c j l.scope s aliases); large = inl (one-large e.1 j of (WritesInterfaceTo d c) (IsRefusedTo d c) c s (inl h)) })
+alias-stands A c d a i l s e j fault.OutOfMemory at of aliases h x = tt
 
 -- an interface inside is closed
 
@@ -300,52 +328,60 @@ behind-now c follows stays old mid now j ds k held aliases none says adds too in
     let less : j.0 < length c.interfaces = grind (arith, low) in
     written-behind c follows j old mid now aliases (instance-behind c follows stays mid now j ds k less (still-unwritten c j old mid aliases none) (adds-now c mid now j ds k says adds) too index is)
 
+same-interface : (l : Level) (n : Name) (item : ItemKind) (w : Name × ItemKind) (j : InterfaceId) → slice_get (named_pairs l.order.items) l.next ≡ Some (n, item) → slice_get (named_pairs l.order.items) l.next ≡ Some w → interface_of w.1 ≡ Some j → interface_of item ≡ Some j
+same-interface l n item w j at here of =
+    let both : Some (n, item) ≡ Some w = sym at ∙ here in
+    let same : (n, item) ≡ w = cc in
+    ap (λ (x : Name × ItemKind). interface_of x.1) same ∙ of
+
 pub closes-inside : (c : Collection) → IsWellFormed c → Follows → StaysOnward → ListsOneMore → (d : ℕ) (a : Scope) (i : InterfaceId) (k m : Level) (j : InterfaceId) (n : Name) (item : ItemKind) (ds : List Decl) → m.interface ≡ k.interface → m.order ≡ k.order → m.next ≡ k.next + 1 → slice_get (named_pairs k.order.items) k.next ≡ Some (n, item)
-    → PutsInstance c k.scope m.scope n j ds → WritesInterfaceTo d c k.scope j ds → SaysInterface c k.scope j ds → IsWaiting d c a i k j → IsLevel d c a i m m.scope
+    → PutsItem c k.scope m.scope n item j ds → WritesInterfaceTo d c k.scope j ds → SaysInterface c k.scope j ds → IsWaiting d c a i k j → IsLevel d c a i m m.scope
 closes-inside c wf follows stays more d a i k m j n item ds same order further at p writes says w =
-    let both : Some (n, item) ≡ Some (w.name, kind.Instance j) = sym at ∙ w.here in
-    let same_item : (n, item) ≡ (w.name, kind.Instance j) = cc in
-    let one : n ≡ w.name = ap (λ (x : Name × ItemKind). x.0) same_item in
+    let of : interface_of item ≡ Some j = same-interface k n item (w.name, w.item) j at w.here w.of in
     let adds : AddsHeldInterface c w.now p.now j p.index = adds-behind c follows j w.now k.scope p.now p.index w.aliases (adds-now c k.scope p.now j ds p.index says p.adds) in
-    let held = inside-held c wf d a i k w.now w.name j w.here w.level in
-    next-level c more d a i k m w.now n (kind.Instance j) same order further (w.here ∙ ap (λ (x : Name). Some (x, kind.Instance j)) (sym one)) w.level
-    (instance-listed c w.now p.now m.scope n j p.index p.instance adds p.lists)
+    let held = inside-held c wf d a i k w.now (n, item) j at of w.level in
+    next-level c more d a i k m w.now n item same order further at w.level
+    (one-listed item j of c w.now p.now m.scope n p.index p.own adds p.lists)
     (record {
       now = p.now;
-      behind = behind-now c follows stays w.now k.scope p.now j ds p.index held w.aliases w.unwritten says p.adds p.recorded p.next p.appended;
-      description = e.Instance p.index;
-      described = ends-with-interface (WritesInterfaceTo d c) c w.now k.scope p.now j ds p.index w.unwritten w.aliases w.all writes p.appended p.recorded p.next;
+      behind = one-behind item j of c w.now p.now (behind-now c follows stays w.now k.scope p.now j ds p.index held w.aliases w.unwritten says p.adds p.recorded p.next p.appended);
+      description = described_by item p.index;
+      described = one-described item j of (WritesInterfaceTo d c) c w.now p.now p.index (ends-with-interface (WritesInterfaceTo d c) c w.now k.scope p.now j ds p.index w.unwritten w.aliases w.all writes p.appended p.recorded p.next);
       appended = ap (λ (s : Scope). s.content) p.is;
-      named = record { types = λ b. ap (λ (s : Scope). type_index s b) p.is; listed = λ b. ap (λ (s : Scope). listing s b) p.is; names = λ b. ap (λ (s : Scope). named_at s b) p.is };
+      named = one-named item j of c w.now p.now m.scope n (record { types = λ b. ap (λ (s : Scope). type_index s b) p.is; listed = λ b. ap (λ (s : Scope). listing s b) p.is; names = λ b. ap (λ (s : Scope). named_at s b) p.is });
     })
 
--- it, or the instance, does not fit
+-- it, or the item, does not fit
 pub closed-stands : (A : Type 0) (c : Collection) → IsWellFormed c → Follows → StaysOnward → (d : ℕ) (a : Scope) (i : InterfaceId) (k : Level) (j : InterfaceId) (n : Name) (item : ItemKind) (ds : List Decl) (f : EncodeFault) → slice_get (named_pairs k.order.items) k.next ≡ Some (n, item)
-    → InstanceNotPut {A = A} c k.scope n j ds (Err f) → WritesInterfaceTo d c k.scope j ds → SaysInterface c k.scope j ds → IsWaiting d c a i k j → Stands (suc d) c a i f
+    → ItemNotPut {A = A} c k.scope n item j ds (Err f) → WritesInterfaceTo d c k.scope j ds → SaysInterface c k.scope j ds → IsWaiting d c a i k j → Stands (suc d) c a i f
 closed-stands A c wf follows stays d a i k j n item ds (fault.Write g) at h writes says w = absurd h
 closed-stands A c wf follows stays d a i k j n item ds fault.OutOfMemory at h writes says w = tt
 closed-stands A c wf follows stays d a i k j n item ds fault.TooLarge at (inl h) writes says w =
-    refused-level (Unit {0}) c d a i k w.now w.name (kind.Instance j) fault.TooLarge w.here w.level (record { scope = k.scope; types = 0; behind = aliases-for c j w.now k.scope w.aliases; large = inl (inr (inr (ds, writes, h))) })
+    let of : interface_of item ≡ Some j = same-interface k n item (w.name, w.item) j at w.here w.of in
+    refused-level (Unit {0}) c d a i k w.now n item fault.TooLarge at w.level (record {
+      scope = k.scope;
+      types = 0;
+      behind = one-needed item j of c 0 w.now k.scope (aliases-for c j w.now k.scope w.aliases);
+      large = inl (one-large item j of (WritesInterfaceTo d c) (IsRefusedTo d c) c k.scope (inr (inr (ds, writes, h))));
+    })
 closed-stands A c wf follows stays d a i k j n item ds fault.TooLarge at (inr (now, index, adds, too, is, next, large)) writes says w =
-    let both : Some (n, item) ≡ Some (w.name, kind.Instance j) = sym at ∙ w.here in
-    let same_item : (n, item) ≡ (w.name, kind.Instance j) = cc in
-    let one : n ≡ w.name = ap (λ (x : Name × ItemKind). x.0) same_item in
-    let held = inside-held c wf d a i k w.now w.name j w.here w.level in
-    refused-level (Unit {0}) c d a i k w.now w.name (kind.Instance j) fault.TooLarge w.here w.level (record {
+    let of : interface_of item ≡ Some j = same-interface k n item (w.name, w.item) j at w.here w.of in
+    let held = inside-held c wf d a i k w.now (n, item) j at of w.level in
+    refused-level (Unit {0}) c d a i k w.now n item fault.TooLarge at w.level (record {
       scope = now;
       types = 0;
-      behind = behind-now c follows stays w.now k.scope now j ds index held w.aliases w.unwritten says adds too next is;
-      large = inr (e.Instance index, ends-with-interface (WritesInterfaceTo d c) c w.now k.scope now j ds index w.unwritten w.aliases w.all writes is too next, subst (λ (x : Name). ContentFits (and_export now.content x (e.Instance index)) → ⊥) one large);
+      behind = one-needed item j of c 0 w.now now (behind-now c follows stays w.now k.scope now j ds index held w.aliases w.unwritten says adds too next is);
+      large = inr (described_by item index, one-described item j of (WritesInterfaceTo d c) c w.now now index (ends-with-interface (WritesInterfaceTo d c) c w.now k.scope now j ds index w.unwritten w.aliases w.all writes is too next), large);
     })
 
 -- where it is put
 
-pub first-not-put : (A B : Type 0) (c : Collection) (old : Scope) (n : Name) (i : InterfaceId) (ds : List Decl) (f : EncodeFault) → FitsUnlessTooLarge {A = A} (Err f) (ContentFits (and_type old.content (instance_def (decls ds)))) → InstanceNotPut {A = B} c old n i ds (Err f)
-first-not-put A B c old n i ds (fault.Write g) h = absurd h
-first-not-put A B c old n i ds fault.TooLarge h = inl h
-first-not-put A B c old n i ds fault.OutOfMemory h = tt
+pub first-not-put : (A B : Type 0) (c : Collection) (old : Scope) (n : Name) (k : ItemKind) (i : InterfaceId) (ds : List Decl) (f : EncodeFault) → FitsUnlessTooLarge {A = A} (Err f) (ContentFits (and_type old.content (instance_def (decls ds)))) → ItemNotPut {A = B} c old n k i ds (Err f)
+first-not-put A B c old n k i ds (fault.Write g) h = absurd h
+first-not-put A B c old n k i ds fault.TooLarge h = inl h
+first-not-put A B c old n k i ds fault.OutOfMemory h = tt
 
-pub second-not-put : (A B : Type 0) (c : Collection) (old now : Scope) (n : Name) (i : InterfaceId) (ds : List Decl) (index : ℕ) (f : EncodeFault) → AddsInstance old now i ds index → HasToo old (ty.Interface i) index now → now.content ≡ and_type old.content (instance_def (decls ds)) → index ≡ count (space sort.«Type») old.content → FitsUnlessTooLarge {A = A} (Err f) (ContentFits (and_export now.content n (e.Instance index))) → InstanceNotPut {A = B} c old n i ds (Err f)
-second-not-put A B c old now n i ds index (fault.Write g) adds too is next h = absurd h
-second-not-put A B c old now n i ds index fault.TooLarge adds too is next h = inr (now, index, adds, too, is, next, h)
-second-not-put A B c old now n i ds index fault.OutOfMemory adds too is next h = tt
+pub second-not-put : (A B : Type 0) (c : Collection) (old now : Scope) (n : Name) (k : ItemKind) (i : InterfaceId) (ds : List Decl) (index : ℕ) (f : EncodeFault) → AddsInstance old now i ds index → HasToo old (ty.Interface i) index now → now.content ≡ and_type old.content (instance_def (decls ds)) → index ≡ count (space sort.«Type») old.content → FitsUnlessTooLarge {A = A} (Err f) (ContentFits (and_export now.content n (described_by k index))) → ItemNotPut {A = B} c old n k i ds (Err f)
+second-not-put A B c old now n k i ds index (fault.Write g) adds too is next h = absurd h
+second-not-put A B c old now n k i ds index fault.TooLarge adds too is next h = inr (now, index, adds, too, is, next, h)
+second-not-put A B c old now n k i ds index fault.OutOfMemory adds too is next h = tt

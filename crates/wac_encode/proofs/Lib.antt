@@ -17,3 +17,4 @@ pub mod Chains
 pub mod Remaining
 pub mod Inside
 pub mod Placed
+pub mod OfInterface

@@ -19,7 +19,7 @@ use Rattle.wac_primitives.specs.Tree.{exported, Tree, absent, primitive, resourc
 use Rattle.wac_collection.specs.Collection.{Collection, IsWellFormed, item_at}
 use Rattle.wac_collection.specs.Aliases.{value_resolved}
 use Rattle.wac_collection.specs.Bound.{Bindings, inside_interface}
-use Rattle.wac_binary.specs.HasMeaning.{ImportNothing, IsFree, IsValue, IsFunction, IsType}
+use Rattle.wac_binary.specs.HasMeaning.{ImportNothing, IsFree, IsValue, IsFunction, IsInstance, IsType}
 use Rattle.wac_binary.specs.Items.{TypeDef, Decl, decls, core_type_decl, type_decl, alias_decl, import_decl, export_decl}
 use Rattle.wac_binary.specs.Unfold.{Scope as Env, with_item}
 use Rattle.wac_binary.specs.declared.sorts.Description.{Description}
@@ -121,6 +121,17 @@ pub function-type-listed : (c : Collection) (old now new : Scope) (n : Name) (f 
 function-type-listed c old now new n f k j adds lists m ms o os g free =
     let r = adds m ms o os g in
     let l = lists c m ms o os r.0 r.3.0.0 (free-after c m ms old now o os n r.3.0 free) (function-is-type r.0 r.2) r.3.1 in
+    (type_equal r.0, (refl, r.1), lists-after c m ms old now new o os n (type_equal r.0) r.3.0 l.0)
+
+instance-is-type : (t : Tree) → IsInstance t → IsType t
+instance-is-type (instance exports) h = tt
+instance-is-type t h = absurd h
+
+-- and the type of an instance
+pub interface-type-listed : (c : Collection) (old now new : Scope) (n : Name) (i : InterfaceId) (k j : ℕ) → AddsHeldInterface c old now i k → ListsType now new n k j → ListsHeld c old new n (kind.TypeItem (ty.Interface i))
+interface-type-listed c old now new n i k j adds lists m ms o os g free =
+    let r = adds m ms o os g in
+    let l = lists c m ms o os r.0 r.3.0.0 (free-after c m ms old now o os n r.3.0 free) (instance-is-type r.0 r.2) r.3.1 in
     (type_equal r.0, (refl, r.1), lists-after c m ms old now new o os n (type_equal r.0) r.3.0 l.0)
 
 -- one more item of an interface

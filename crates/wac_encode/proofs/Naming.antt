@@ -27,11 +27,14 @@ use Rattle.wac_scopes.specs.declared.scope.Scope.{Scope}
 use Rattle.wac_scopes.specs.Contents.{and_type, and_export, count, ContentFits}
 use Rattle.wac_stacks.specs.Laws.{StaysOnward}
 use Rattle.wac_scopes.specs.Scoped.{type_index, value_index, named_at, by_index, in_use, HasToo, AddsPrimitive, ListsValue, WritesUnlessTooLarge, FitsUnlessTooLarge, listing}
-use Rattle.wac_listing.specs.Made.{itself}
+use Rattle.wac_listing.specs.Made.{interface_of, itself}
 use Rattle.wac_encode.specs.Written.{PartOf, WritesFor, HasHandle, IsHandle, IsByRecord, IsRefused, IsOfFunc, AddsHeldFunc, IsFuncAt, IsFuncRefused}
-use Rattle.wac_encode.specs.Listing.{NeededBy, own_types, one_if_primitive, IsListedAt, IsDescribed, IsInstanceTypeFrom, IsItemDescribed, SameRecords, IsNamedOnce, NamesValue, WritesItem, PrimitiveDoesNotFit, IsItemRefused}
+use Rattle.wac_encode.specs.Listing.{NeededBy, own_types, one_if_primitive, IsListedAt, IsDescribed, IsItemDescribed, SameRecords, IsNamedOnce, NamesValue, WritesItem, PrimitiveDoesNotFit, IsItemRefused}
 use Rattle.wac_encode.specs.Items.{nothing_inside, none_refused}
+use Rattle.wac_encode.specs.Levels.{described_by}
 use Rattle.wac_encode.proofs.Answering.{as-it-was}
+use Rattle.wac_encode.proofs.InstanceTypes.{interface-at-there}
+use Rattle.wac_encode.proofs.OfInterface.{one-needed, one-behind, one-described, one-named}
 use Rattle.wac_encode.proofs.Stacks.{writes-none}
 use Rattle.wac_encode.proofs.Rows.{writes-type}
 
@@ -151,19 +154,22 @@ function-type-refused A B c old now n g (fault.Write h) w refused = refused
 function-type-refused A B c old now n g fault.TooLarge w refused = record { scope = now; types = 0; behind = w; large = inl refused }
 function-type-refused A B c old now n g fault.OutOfMemory w refused = tt
 
--- an instance whose interface's type is written already
+-- an item whose interface's instance type is written already
 
-pub instance-described : (c : Collection) (s : Scope) (i : InterfaceId) (k : ℕ) → type_index s (ty.Interface i) ≡ Some k → IsItemDescribed nothing_inside c s s (kind.Instance i) (e.Instance k)
-instance-described c s i k at = subst (λ (o : Option ℕ). IsInstanceTypeFrom o nothing_inside c s s i k) (sym at) (refl, refl)
+pub interface-described : (c : Collection) (s : Scope) (x : ItemKind) (i : InterfaceId) (k : ℕ) → interface_of x ≡ Some i → type_index s (ty.Interface i) ≡ Some k → IsItemDescribed nothing_inside c s s x (described_by x k)
+interface-described c s x i k of at = one-described x i of nothing_inside c s s k (interface-at-there nothing_inside c s i k at)
 
-pub instance-wrote : (c : Collection) → StaysOnward → (old new : Scope) (n : Name) (i : InterfaceId) (k : ℕ) → type_index old (ty.Interface i) ≡ Some k → new ≡ record old { content = and_export old.content n (e.Instance k) } → WritesItem nothing_inside c old new n (kind.Instance i)
-instance-wrote c stays old new n i k at lists = record {
+pub interface-behind : (c : Collection) → StaysOnward → (s : Scope) (x : ItemKind) (i : InterfaceId) → interface_of x ≡ Some i → WritesFor c 0 (NeededBy c x) s s
+interface-behind c stays s x i of = one-needed x i of c 0 s s (writes-none c stays (NeededBy c (kind.Instance i)) s s (as-it-was s))
+
+pub interface-wrote : (c : Collection) → StaysOnward → (old new : Scope) (n : Name) (x : ItemKind) (i : InterfaceId) (k : ℕ) → interface_of x ≡ Some i → type_index old (ty.Interface i) ≡ Some k → new ≡ record old { content = and_export old.content n (described_by x k) } → WritesItem nothing_inside c old new n x
+interface-wrote c stays old new n x i k of at lists = record {
   now = old;
-  behind = writes-none c stays (NeededBy c (kind.Instance i)) old old (as-it-was old);
-  description = e.Instance k;
-  described = instance-described c old i k at;
-  appended = declared-so old new n (e.Instance k) lists;
-  named = same-records old new n (e.Instance k) lists;
+  behind = one-behind x i of c old old (writes-none c stays (NeededBy c (kind.Instance i)) old old (as-it-was old));
+  description = described_by x k;
+  described = interface-described c old x i k of at;
+  appended = declared-so old new n (described_by x k) lists;
+  named = one-named x i of c old old new n (same-records old new n (described_by x k) lists);
 }
 
 pub handle-fault : (c : Collection) (v w : ValueType) → w ≡ value_resolved c v → IsHandle w → (write.UnboundResource ≡ write.UnboundResource) × HasHandle (PartOf c (value_resolved c v))

@@ -23,7 +23,8 @@ use Rattle.wac_planning.specs.declared.plan.Place.{Place}
 use Rattle.wac_encode.specs.Written.{WritesFor, name_after}
 use Rattle.wac_planning.specs.Listed.{definition_of, listed_definition}
 use Rattle.wac_encode.specs.Listing.{IsOfItems, AliasesFor, AllAliased, IsOpened, around_at, WritesItem, SameRecords, NamesItem, NamesValue, IsNamedOnce}
-use Rattle.wac_encode.specs.Levels.{IsBegun, PutsInstance}
+use Rattle.wac_listing.specs.Made.{interface_of}
+use Rattle.wac_encode.specs.Levels.{IsBegun, PutsItem}
 use Rattle.wac_planning.specs.Plans.{IsOneOf, Takes, HasName, MayBeNamed, ArePlanned, IsTaker, inside_at}
 use Rattle.wac_encode.specs.Plans.{IsOpenedFor, IsAtPlace, AreAtPlaces}
 use Rattle.wac_encode.proofs.Stacks.{no-place}
@@ -144,9 +145,9 @@ placed-aliases c ps l m j place_ same w x = record {
 pub named-after : (c : Collection) (ps : List Place) (l : Level) (s : Scope) (j : InterfaceId) → AliasesFor c j l.scope s → (x : IsAtPlace c ps l) → (d : DefinedTypeId) → HasName s d → MayBeNamed c x.place d
 named-after c ps l s j w x = names-for c 0 _ l.scope s w.written (MayBeNamed c x.place) x.named (λ d some. inl (x.listed d some))
 
--- an instance is listed of an instance type that is written
-pub placed-put : (c : Collection) (ps : List Place) (l m : Level) (n : Name) (j : InterfaceId) (ds : List Decl) → m.place ≡ l.place → m.interface ≡ l.interface → PutsInstance c l.scope m.scope n j ds → IsAtPlace c ps l → IsAtPlace c ps m
-placed-put c ps l m n j ds place_ same w x = record {
+-- an item is listed of an instance type that is written
+pub placed-put : (c : Collection) (ps : List Place) (l m : Level) (n : Name) (k : ItemKind) (j : InterfaceId) (ds : List Decl) → m.place ≡ l.place → m.interface ≡ l.interface → PutsItem c l.scope m.scope n k j ds → IsAtPlace c ps l → IsAtPlace c ps m
+placed-put c ps l m n k j ds place_ same w x = record {
   place = x.place;
   at = ap (slice_get ps) place_ ∙ x.at;
   is = x.is ∙ sym same;
@@ -195,10 +196,10 @@ first-wait c ps (h ∷ ls) l all =
     before x rest (suc k) m at = rest k m at
 
 -- the place of an interface inside
-pub inside-there : (c : Collection) (ps : List Place) (l : Level) (j : InterfaceId) → ArePlanned c ps → (x : IsAtPlace c ps l) → (k : ℕ) × (n : Name) × (slice_get (interface_exports c l.interface) k ≡ Some (n, kind.Instance j)) → (m : ℕ) × (inside_at x.place j ≡ Some m) × IsTaker c (MayBeNamed c x.place) j ps m
-inside-there c ps l j planned x at = planned l.place x.place x.at j at.0 at.1 (subst (λ (i : InterfaceId). slice_get (interface_exports c i) at.0 ≡ Some (at.1, kind.Instance j)) (sym x.is) at.2)
+pub inside-there : (c : Collection) (ps : List Place) (l : Level) (j : InterfaceId) → ArePlanned c ps → (x : IsAtPlace c ps l) → (k : ℕ) × (e : Name × ItemKind) × (slice_get (interface_exports c l.interface) k ≡ Some e) × (interface_of e.1 ≡ Some j) → (m : ℕ) × (inside_at x.place j ≡ Some m) × IsTaker c (MayBeNamed c x.place) j ps m
+inside-there c ps l j planned x at = planned l.place x.place x.at j at.0 at.1 (subst (λ (i : InterfaceId). slice_get (interface_exports c i) at.0 ≡ Some at.1) (sym x.is) at.2) at.3
 
-pub taker-there : (c : Collection) (ps : List Place) (l : Level) (j : InterfaceId) (r : ℕ) → ArePlanned c ps → (x : IsAtPlace c ps l) → (k : ℕ) × (n : Name) × (slice_get (interface_exports c l.interface) k ≡ Some (n, kind.Instance j)) → inside_at x.place j ≡ Some r → IsTaker c (MayBeNamed c x.place) j ps r
+pub taker-there : (c : Collection) (ps : List Place) (l : Level) (j : InterfaceId) (r : ℕ) → ArePlanned c ps → (x : IsAtPlace c ps l) → (k : ℕ) × (e : Name × ItemKind) × (slice_get (interface_exports c l.interface) k ≡ Some e) × (interface_of e.1 ≡ Some j) → inside_at x.place j ≡ Some r → IsTaker c (MayBeNamed c x.place) j ps r
 taker-there c ps l j r planned x at is =
     let there = inside-there c ps l j planned x at in
     let both : Some there.0 ≡ Some r = sym there.1 ∙ is in

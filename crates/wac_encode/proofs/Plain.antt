@@ -9,6 +9,7 @@ use Rattle.wac_shapes.specs.declared.component.ItemKind.{ItemKind}
 use Rattle.wac_shapes.specs.declared.component.ItemKind.TheVariants as kind
 use Rattle.wac_shapes.specs.declared.component.«Type».TheVariants as ty
 use Rattle.wac_collection.specs.Collection.{Collection, item_at}
+use Rattle.wac_listing.specs.Made.{interface_of}
 use Rattle.wac_encode.specs.Listing.{is_plain, are_plain, lists_plain_to}
 
 -- whether all items are plain
@@ -48,7 +49,7 @@ pub plain-alone : (P : InterfaceId → Bool) (k : ItemKind) → is_plain P k ≡
 plain-alone P (kind.TypeItem (ty.Resource x)) h = h
 plain-alone P (kind.TypeItem (ty.Value x)) h = refl
 plain-alone P (kind.TypeItem (ty.Func x)) h = refl
-plain-alone P (kind.TypeItem (ty.Interface x)) h = h
+plain-alone P (kind.TypeItem (ty.Interface x)) h = refl
 plain-alone P (kind.TypeItem (ty.World x)) h = h
 plain-alone P (kind.TypeItem (ty.Module x)) h = refl
 plain-alone P (kind.Func x) h = refl
@@ -57,11 +58,11 @@ plain-alone P (kind.Component x) h = refl
 plain-alone P (kind.Module x) h = refl
 plain-alone P (kind.Value x) h = refl
 
-pub plain-inside : (P : InterfaceId → Bool) (k : ItemKind) → is_plain (λ i. true) k ≡ true → ((i : InterfaceId) → k ≡ kind.Instance i → P i ≡ true) → is_plain P k ≡ true
+pub plain-inside : (P : InterfaceId → Bool) (k : ItemKind) → is_plain (λ i. true) k ≡ true → ((i : InterfaceId) → interface_of k ≡ Some i → P i ≡ true) → is_plain P k ≡ true
 plain-inside P (kind.TypeItem (ty.Resource x)) h inside = h
 plain-inside P (kind.TypeItem (ty.Value x)) h inside = refl
 plain-inside P (kind.TypeItem (ty.Func x)) h inside = refl
-plain-inside P (kind.TypeItem (ty.Interface x)) h inside = h
+plain-inside P (kind.TypeItem (ty.Interface x)) h inside = inside x refl
 plain-inside P (kind.TypeItem (ty.World x)) h inside = h
 plain-inside P (kind.TypeItem (ty.Module x)) h inside = refl
 plain-inside P (kind.Func x) h inside = refl

@@ -1,5 +1,5 @@
 -- How many steps are left where interfaces inside interfaces are written.
-use Rattle.std.specs.Prelude.{ℕ, zero, suc, ◌+◌, ◌<◌, ◌≤◌, ◌≡◌, List, [], ◌∷◌, ◌++◌, sum_by, Option, Some, slice_get, drop}
+use Rattle.std.specs.Prelude.{ℕ, zero, suc, ◌+◌, ◌<◌, ◌≤◌, ◌≡◌, List, [], ◌∷◌, ◌++◌, sum_by, Option, Some, None, slice_get, drop}
 use Rattle.std.proofs.Common.{refl, ap, ◌∙◌, sym, arith, add-one}
 use Rattle.std.proofs.lemmas.List.Sums.{sum_by-cons}
 use Rattle.std.proofs.lemmas.List.Sorted.{sum_by-IsPermutation}
@@ -9,10 +9,10 @@ use Rattle.wac_shapes.proofs.Loops.{drop_at}
 use Rattle.wac_shapes.specs.declared.component.Interface.{Interface}
 use Rattle.wac_shapes.specs.declared.component.InterfaceId.{InterfaceId}
 use Rattle.wac_shapes.specs.declared.component.ItemKind.{ItemKind}
-use Rattle.wac_shapes.specs.declared.component.ItemKind.TheVariants as kind
 use Rattle.wac_collection.specs.Collection.{Collection}
 use Rattle.wac_scopes.specs.declared.scope.Scope.{Scope}
-use Rattle.wac_planning.proofs.Steps.{kind_steps, item_steps, steps_to}
+use Rattle.wac_listing.specs.Made.{interface_of}
+use Rattle.wac_planning.proofs.Steps.{item_steps, steps_to}
 use Rattle.wac_encode.specs.declared.level.Level.{Level}
 use Rattle.wac_encode.specs.Levels.{IsBegun, IsChain}
 
@@ -26,13 +26,9 @@ weight zero c ls l = 0
 weight (suc d) c [] l = suc (left_from d c (named_pairs l.order.items) l.next)
 weight (suc d) c (k ∷ ks) l = suc (left_from d c (named_pairs k.order.items) (suc k.next)) + weight d c ks l
 
-some-steps : (inside : InterfaceId → ℕ) (k : ItemKind) → 1 ≤ kind_steps inside k
-some-steps inside (kind.Instance j) = omega arith
-some-steps inside (kind.TypeItem t) = omega arith
-some-steps inside (kind.Func f) = omega arith
-some-steps inside (kind.Component w) = omega arith
-some-steps inside (kind.Module m) = omega arith
-some-steps inside (kind.Value v) = omega arith
+some-steps : (inside : InterfaceId → ℕ) (o : Option InterfaceId) → 1 ≤ option_case o 1 (λ j. suc (inside j))
+some-steps inside None = omega arith
+some-steps inside (Some j) = omega arith
 
 left-at : (d : ℕ) (c : Collection) (es : List (Name × ItemKind)) (n : ℕ) (e : Name × ItemKind) → slice_get es n ≡ Some e → left_from d c es n ≡ item_steps (steps_to d c) e + left_from d c es (suc n)
 left-at d c es n e at = ap (sum_by (item_steps (steps_to d c))) (drop_at es n e at) ∙ sum_by-cons (item_steps (steps_to d c)) e (drop (suc n) es)
@@ -46,7 +42,7 @@ less-by-item c ls l m e same further at zero a i h = absurd h
 less-by-item c [] l m e same further at (suc d) a i h =
     let now : left_from d c (named_pairs l.order.items) l.next ≡ item_steps (steps_to d c) e + left_from d c (named_pairs l.order.items) (suc l.next) = left-at d c (named_pairs l.order.items) l.next e at in
     let then : left_from d c (named_pairs m.order.items) m.next ≡ left_from d c (named_pairs l.order.items) (suc l.next) = ap (left_from d c (named_pairs m.order.items)) (further ∙ add-one l.next) ∙ same-left d c l m (suc l.next) same in
-    let some : 1 ≤ item_steps (steps_to d c) e = some-steps (steps_to d c) e.1 in
+    let some : 1 ≤ item_steps (steps_to d c) e = some-steps (steps_to d c) (interface_of e.1) in
     omega (arith, now, then, some)
 less-by-item c (k ∷ ks) l m e same further at (suc d) a i h =
     let rest : weight d c ks m < weight d c ks l = less-by-item c ks l m e same further at d k.scope h.0 h.2 in
@@ -66,15 +62,15 @@ begun-weight c a j m (suc d) b =
     ∙ ap suc (sum_by-IsPermutation (item_steps (steps_to d c)) b.interface.exports order b.ordered.permutation)
     ∙ sym (ap (λ (o : Option Interface). option_case o 0 (λ it. suc (sum_by (item_steps (steps_to d c)) it.exports))) b.found)
 
-pub less-by-opening : (c : Collection) (ls : List Level) (l k m : Level) (s : Scope) (n : Name) (j : InterfaceId) → k.order ≡ l.order → k.next ≡ l.next → slice_get (named_pairs l.order.items) l.next ≡ Some (n, kind.Instance j) → IsBegun c s j m → (d : ℕ) (a : Scope) (i : InterfaceId) → IsChain d c a i ls l → weight d c (ls ++ k ∷ []) m < weight d c ls l
-less-by-opening c ls l k m s n j same further at b zero a i h = absurd h
-less-by-opening c [] l k m s n j same further at b (suc d) a i h =
-    let now : left_from d c (named_pairs l.order.items) l.next ≡ suc (steps_to d c j) + left_from d c (named_pairs l.order.items) (suc l.next) = left-at d c (named_pairs l.order.items) l.next (n, kind.Instance j) at in
+pub less-by-opening : (c : Collection) (ls : List Level) (l k m : Level) (s : Scope) (e : Name × ItemKind) (j : InterfaceId) → k.order ≡ l.order → k.next ≡ l.next → slice_get (named_pairs l.order.items) l.next ≡ Some e → interface_of e.1 ≡ Some j → IsBegun c s j m → (d : ℕ) (a : Scope) (i : InterfaceId) → IsChain d c a i ls l → weight d c (ls ++ k ∷ []) m < weight d c ls l
+less-by-opening c ls l k m s e j same further at of b zero a i h = absurd h
+less-by-opening c [] l k m s e j same further at of b (suc d) a i h =
+    let now : left_from d c (named_pairs l.order.items) l.next ≡ suc (steps_to d c j) + left_from d c (named_pairs l.order.items) (suc l.next) = left-at d c (named_pairs l.order.items) l.next e at ∙ ap (λ (o : Option InterfaceId). option_case o 1 (λ x. suc (steps_to d c x)) + left_from d c (named_pairs l.order.items) (suc l.next)) of in
     let then : left_from d c (named_pairs k.order.items) (suc k.next) ≡ left_from d c (named_pairs l.order.items) (suc l.next) = ap (λ (q : ℕ). left_from d c (named_pairs k.order.items) (suc q)) further ∙ same-left d c l k (suc l.next) same in
     let inner : weight d c [] m ≡ steps_to d c j = begun-weight c s j m d b in
     omega (arith, now, then, inner)
-less-by-opening c (x ∷ xs) l k m s n j same further at b (suc d) a i h =
-    let rest : weight d c (xs ++ k ∷ []) m < weight d c xs l = less-by-opening c xs l k m s n j same further at b d x.scope h.0 h.2 in
+less-by-opening c (x ∷ xs) l k m s e j same further at of b (suc d) a i h =
+    let rest : weight d c (xs ++ k ∷ []) m < weight d c xs l = less-by-opening c xs l k m s e j same further at of b d x.scope h.0 h.2 in
     omega (arith, rest)
 
 -- it is closed

@@ -1,22 +1,22 @@
--- An interface and those inside, of which instances are listed.
+-- An interface and those inside, of which instances are listed, or which are listed as type items.
 use Rattle.std.specs.Prelude.{ℕ, zero, suc, ◌≡◌, Bool, true, List, [], ◌∷◌, Some, slice_get}
-use Rattle.wac_primitives.specs.Name.{Name}
+use Rattle.wac_primitives.specs.Name.{Name, option_case}
 use Rattle.wac_shapes.specs.Named.{NoNameTwice}
 use Rattle.wac_shapes.specs.declared.component.Interface.{Interface}
 use Rattle.wac_shapes.specs.declared.component.InterfaceId.{InterfaceId}
 use Rattle.wac_shapes.specs.declared.component.ItemKind.{ItemKind}
-use Rattle.wac_shapes.specs.declared.component.ItemKind.TheVariants as kind
 use Rattle.wac_shapes.specs.declared.component.«Type».{«Type» as AnyType}
 use Rattle.wac_shapes.specs.declared.component.«Type».TheVariants as ty
 use Rattle.wac_collection.specs.Collection.{Collection, HasInterface, holds_type, interface_exports, item_at}
+use Rattle.wac_listing.specs.Made.{interface_of}
 use Rattle.wac_reach.specs.Found.{with_all}
 use Rattle.wac_reach.specs.Reach.{IsIn}
 use Rattle.wac_encode.specs.Listing.{is_plain, are_plain}
 
--- an interface is so many levels inside another, where one that is a level less lists an instance of it; at none it is that itself
+-- an interface is so many levels inside another, where one that is a level less lists an instance of it, or it as a type item; at none it is that itself
 abbrev pub IsInsideBy : ℕ → Collection → InterfaceId → InterfaceId → Type 0
 IsInsideBy zero c i j = j ≡ i
-IsInsideBy (suc d) c i j = (k : InterfaceId) × IsInsideBy d c i k × (p : ℕ) × (n : Name) × (slice_get (interface_exports c k) p ≡ Some (n, kind.Instance j))
+IsInsideBy (suc d) c i j = (k : InterfaceId) × IsInsideBy d c i k × (p : ℕ) × (e : Name × ItemKind) × (slice_get (interface_exports c k) p ≡ Some e) × (interface_of e.1 ≡ Some j)
 
 abbrev pub IsInside : Collection → InterfaceId → InterfaceId → Type 0
 IsInside c i j = (d : ℕ) × IsInsideBy d c i j
@@ -27,7 +27,7 @@ pub record AreInside (c : Collection) (i : InterfaceId) (ts : List AnyType) : Ty
   pub all : (j : InterfaceId) → IsInside c i j → IsIn (ty.Interface j) ts
   pub once : (j : InterfaceId) → IsIn (ty.Interface j) ts → NoNameTwice (interface_exports c j)
 
--- whether an item is of a sort that is written, or that no instance type can list, whatever is inside instances
+-- whether an item is of a sort that is written, or that no instance type can list, whatever is inside its interface
 abbrev pub is_plain_alone : ItemKind → Bool
 is_plain_alone k = is_plain (λ i. true) k
 
@@ -39,10 +39,9 @@ abbrev pub lists_plain_alone : Collection → AnyType → Bool
 lists_plain_alone c (ty.Interface i) = are_plain_alone (interface_exports c i)
 lists_plain_alone c t = true
 
--- the interface of an instance too, and those of instances among items, each once
+-- the interface of an item too, and those of items, each once
 abbrev pub and_inside : List AnyType → ItemKind → List AnyType
-and_inside ts (kind.Instance i) = with_all ts (ty.Interface i ∷ [])
-and_inside ts k = ts
+and_inside ts k = option_case (interface_of k) ts (λ i. with_all ts (ty.Interface i ∷ []))
 
 abbrev pub with_inside : List AnyType → List (Name × ItemKind) → List AnyType
 with_inside ts [] = ts
@@ -53,6 +52,6 @@ abbrev pub IsHeldInterface : Collection → AnyType → Type 0
 IsHeldInterface c (ty.Interface i) = HasInterface c i
 IsHeldInterface c t = ⊥
 
--- the interfaces of instances among its items are put, under names of which none stands twice
+-- the interfaces of its items are put, under names of which none stands twice
 abbrev pub PutsInside : Collection → AnyType → List AnyType → List AnyType → Type 0
 PutsInside c t old new = (i : InterfaceId) (it : Interface) → t ≡ ty.Interface i → item_at c.interfaces i.0 ≡ Some it → NoNameTwice it.exports × (new ≡ with_inside old it.exports)

@@ -9,6 +9,7 @@ use Rattle.wac_shapes.specs.declared.component.ItemKind.TheVariants as kind
 use Rattle.wac_shapes.specs.declared.component.«Type».TheVariants as ty
 use Rattle.wac_collection.specs.Collection.{Collection, IsBefore, item_at}
 use Rattle.wac_binary.specs.Items.{instance_def, Decl, decls}
+use Rattle.wac_binary.specs.declared.sorts.Description.{Description}
 use Rattle.wac_binary.specs.declared.sorts.Description.TheVariants as e
 use Rattle.wac_binary.specs.declared.sorts.Sort.TheVariants as sort
 use Rattle.wac_binary.specs.Indexes.{space}
@@ -16,7 +17,8 @@ use Rattle.wac_scopes.specs.declared.fault.EncodeFault.{EncodeFault}
 use Rattle.wac_scopes.specs.declared.fault.EncodeFault.TheVariants as fault
 use Rattle.wac_scopes.specs.declared.scope.Scope.{Scope}
 use Rattle.wac_scopes.specs.Contents.{and_type, and_export, count, ContentFits}
-use Rattle.wac_scopes.specs.Scoped.{type_index, HasToo, AddsInstance, ListsInstanceOf}
+use Rattle.wac_scopes.specs.Scoped.{type_index, HasToo, AddsInstance, ListsInstanceOf, ListsType}
+use Rattle.wac_listing.specs.Made.{interface_of}
 use Rattle.wac_encode.specs.declared.level.Level.{Level}
 use Rattle.wac_encode.specs.declared.level.Next.{Next}
 use Rattle.wac_encode.specs.declared.level.Next.TheVariants as step
@@ -39,7 +41,7 @@ pub record IsBegun (c : Collection) (around : Scope) (i : InterfaceId) (l : Leve
   pub ordered : IsOrder c interface.exports (named_pairs l.order.items)
   pub opened_ : IsOpened c i around l.scope
 
--- a level for an interface over a scope, which holds instances in instances to this depth; its items before the next were listed when its scope was now
+-- a level for an interface over a scope, which holds interfaces in interfaces to this depth; its items before the next were listed when its scope was now
 pub record IsLevel (d : ℕ) (c : Collection) (around : Scope) (i : InterfaceId) (l : Level) (now : Scope) : Type 0 where
   pub is : l.interface ≡ i
   pub plain : lists_plain_to (suc d) c i ≡ true
@@ -57,7 +59,9 @@ pub record IsWaiting (d : ℕ) (c : Collection) (around : Scope) (i : InterfaceI
   pub now : Scope
   pub level : IsLevel d c around i l now
   pub name : Name
-  pub here : slice_get (named_pairs l.order.items) l.next ≡ Some (name, kind.Instance j)
+  pub item : ItemKind
+  pub here : slice_get (named_pairs l.order.items) l.next ≡ Some (name, item)
+  pub of : interface_of item ≡ Some j
   pub unwritten : type_index now (ty.Interface j) ≡ None
   pub aliases : AliasesFor c j now l.scope
   pub all : AllAliased c j now l.scope
@@ -71,25 +75,35 @@ IsChain (suc d) c around i (k ∷ ks) l = (j : InterfaceId) × IsWaiting d c aro
 -- what is next at a level
 abbrev pub IsNextOf : Level → Next → Type 0
 IsNextOf l step.End = length (named_pairs l.order.items) ≤ l.next
-IsNextOf l (step.Inside j) = (n : Name) × (slice_get (named_pairs l.order.items) l.next ≡ Some (n, kind.Instance j)) × (type_index l.scope (ty.Interface j) ≡ None)
-IsNextOf l (step.Item n k) = (slice_get (named_pairs l.order.items) l.next ≡ Some (n.now, k)) × ((j : InterfaceId) → k ≡ kind.Instance j → IsSome (type_index l.scope (ty.Interface j)))
+IsNextOf l (step.Inside j) = (e : Name × ItemKind) × (slice_get (named_pairs l.order.items) l.next ≡ Some e) × (interface_of e.1 ≡ Some j) × (type_index l.scope (ty.Interface j) ≡ None)
+IsNextOf l (step.Item n k) = (slice_get (named_pairs l.order.items) l.next ≡ Some (n.now, k)) × ((j : InterfaceId) → interface_of k ≡ Some j → IsSome (type_index l.scope (ty.Interface j)))
 
--- an instance type is written, which is the interface's, and recorded, and an instance of it is listed
-pub record PutsInstance (c : Collection) (old new : Scope) (n : Name) (i : InterfaceId) (ds : List Decl) : Type 0 where
+-- an item is described by the index of its interface's instance type: an instance is of that, a type item equals it
+abbrev pub described_by : ItemKind → ℕ → Description
+described_by (kind.TypeItem t) j = e.Equal j
+described_by k j = e.Instance j
+
+-- and is listed so, at an index of its own
+abbrev pub ListsBy : ItemKind → Scope → Scope → Name → ℕ → ℕ → Type 0
+ListsBy (kind.TypeItem t) now new n j own = ListsType now new n j own
+ListsBy k now new n j own = ListsInstanceOf now new n j own
+
+-- an instance type is written, which is the interface's, and recorded, and the item of it is listed
+pub record PutsItem (c : Collection) (old new : Scope) (n : Name) (k : ItemKind) (i : InterfaceId) (ds : List Decl) : Type 0 where
   pub now : Scope
   pub index : ℕ
   pub adds : AddsInstance old now i ds index
   pub recorded : HasToo old (ty.Interface i) index now
   pub appended : now.content ≡ and_type old.content (instance_def (decls ds))
   pub next : index ≡ count (space sort.«Type») old.content
-  pub instance : ℕ
-  pub lists : ListsInstanceOf now new n index instance
-  pub is : new ≡ record now { content = and_export now.content n (e.Instance index) }
+  pub own : ℕ
+  pub lists : ListsBy k now new n index own
+  pub is : new ≡ record now { content = and_export now.content n (described_by k index) }
 
--- where it is not: the instance type does not fit, or the instance does not
-abbrev pub InstanceNotPut : {A : Type 0} → Collection → Scope → Name → InterfaceId → List Decl → Result A EncodeFault → Type 0
-InstanceNotPut c old n i ds (Ok x) = Unit {0}
-InstanceNotPut c old n i ds (Err (fault.Write f)) = ⊥
-InstanceNotPut c old n i ds (Err fault.TooLarge) = (ContentFits (and_type old.content (instance_def (decls ds))) → ⊥)
-    ⊎ ((now : Scope) × (index : ℕ) × AddsInstance old now i ds index × HasToo old (ty.Interface i) index now × (now.content ≡ and_type old.content (instance_def (decls ds))) × (index ≡ count (space sort.«Type») old.content) × (ContentFits (and_export now.content n (e.Instance index)) → ⊥))
-InstanceNotPut c old n i ds (Err fault.OutOfMemory) = Unit {0}
+-- where it is not: the instance type does not fit, or the item does not
+abbrev pub ItemNotPut : {A : Type 0} → Collection → Scope → Name → ItemKind → InterfaceId → List Decl → Result A EncodeFault → Type 0
+ItemNotPut c old n k i ds (Ok x) = Unit {0}
+ItemNotPut c old n k i ds (Err (fault.Write f)) = ⊥
+ItemNotPut c old n k i ds (Err fault.TooLarge) = (ContentFits (and_type old.content (instance_def (decls ds))) → ⊥)
+    ⊎ ((now : Scope) × (index : ℕ) × AddsInstance old now i ds index × HasToo old (ty.Interface i) index now × (now.content ≡ and_type old.content (instance_def (decls ds))) × (index ≡ count (space sort.«Type») old.content) × (ContentFits (and_export now.content n (described_by k index)) → ⊥))
+ItemNotPut c old n k i ds (Err fault.OutOfMemory) = Unit {0}

@@ -44,11 +44,12 @@ SaysInterface c around i ds = (m : Bindings) (ms : List Bindings) (o : Open) (os
     → (t : Tree) × IsHeld c m (ty.Interface i) t × IsInstance t
     × Adds c (m ∷ ms) (opened around o ∷ os) (with_def (instance_def (decls ds)) (opened around o) ∷ os) (next_type (opened around o)) t
 
--- whether an item is of a sort that is written so far, or that no instance type can list; of instances this tells of which
+-- whether an item is of a sort that is written so far, or that no instance type can list; of instances and of type items of interfaces this tells of which
 abbrev pub is_plain : (InterfaceId → Bool) → ItemKind → Bool
 is_plain inside (kind.TypeItem (ty.Value v)) = true
 is_plain inside (kind.TypeItem (ty.Func f)) = true
 is_plain inside (kind.TypeItem (ty.Module m)) = true
+is_plain inside (kind.TypeItem (ty.Interface i)) = inside i
 is_plain inside (kind.TypeItem t) = false
 is_plain inside (kind.Instance i) = inside i
 is_plain inside k = true
@@ -56,12 +57,12 @@ is_plain inside k = true
 abbrev pub are_plain : (InterfaceId → Bool) → List (Name × ItemKind) → Bool
 are_plain inside es = list_all (λ e. is_plain inside e.1) es
 
--- whether all items of an interface are, and those of the instances among them, to this depth of instances in instances
+-- whether all items of an interface are, and those of the interfaces of instances and type items among them, to this depth of interfaces in interfaces
 abbrev pub lists_plain_to : ℕ → Collection → InterfaceId → Bool
 lists_plain_to zero c i = false
 lists_plain_to (suc d) c i = option_case (item_at c.interfaces i.0) true (λ it. are_plain (lists_plain_to d c) it.exports)
 
--- and to any: an interface lists instances of those added before it alone, so that none are deeper than the collection is large
+-- and to any: an interface lists those added before it alone, so that none are deeper than the collection is large
 abbrev pub lists_plain : Collection → InterfaceId → Bool
 lists_plain c i = lists_plain_to (size c) c i
 
@@ -174,9 +175,10 @@ IsInstanceTypeFrom None Inside c old now i j = EndsWithInstanceType Inside c old
 abbrev pub IsInstanceTypeAt : (Scope → InterfaceId → List Decl → Type 0) → Collection → Scope → Scope → InterfaceId → ℕ → Type 0
 IsInstanceTypeAt Inside c old now i j = IsInstanceTypeFrom (type_index old (ty.Interface i)) Inside c old now i j
 
--- and of an instance, by an index of its interface's instance type
+-- and of an instance or a type item of an interface, by an index of that one's instance type
 abbrev pub IsItemDescribed : (Scope → InterfaceId → List Decl → Type 0) → Collection → Scope → Scope → ItemKind → Description → Type 0
 IsItemDescribed Inside c old now (kind.Instance i) (e.Instance j) = IsInstanceTypeAt Inside c old now i j
+IsItemDescribed Inside c old now (kind.TypeItem (ty.Interface i)) (e.Equal j) = IsInstanceTypeAt Inside c old now i j
 IsItemDescribed Inside c old now k d = IsDescribed c old now k d
 
 -- the same is recorded, and listed, and has a name
@@ -237,7 +239,7 @@ pub record WritesListed (Inside : Scope → InterfaceId → List Decl → Type 0
   pub written : WritesItems Inside c start order scope
   pub is : scope.content ≡ Instance ds
 
--- and those of interfaces inside the same, to this depth of instances in instances
+-- and those of interfaces inside the same, to this depth of interfaces in interfaces
 abbrev pub WritesInterfaceTo : ℕ → Collection → Scope → InterfaceId → List Decl → Type 0
 WritesInterfaceTo zero c around i ds = ⊥
 WritesInterfaceTo (suc d) c around i ds = WritesListed (WritesInterfaceTo d c) c around i ds
@@ -276,6 +278,7 @@ InsideDoesNotFit Inside Refused c i s = AliasDoesNotFit c i s ⊎ (Refused s i f
 
 abbrev pub ItemTypeDoesNotFit : (Scope → InterfaceId → List Decl → Type 0) → (Scope → InterfaceId → EncodeFault → Type 0) → Collection → ItemKind → Scope → Type 0
 ItemTypeDoesNotFit Inside Refused c (kind.Instance i) s = InsideDoesNotFit Inside Refused c i s
+ItemTypeDoesNotFit Inside Refused c (kind.TypeItem (ty.Interface i)) s = InsideDoesNotFit Inside Refused c i s
 ItemTypeDoesNotFit Inside Refused c k s = TypeDoesNotFit c k s
 
 -- the item itself does not
@@ -297,9 +300,10 @@ IsItemFault c (kind.Func g) f = (f ≡ write.UnboundResource) × HasHandle (IsOf
 IsItemFault c (kind.TypeItem (ty.Module m)) f = f ≡ write.ModuleAsType
 IsItemFault c k f = f ≡ write.NestedItem
 
--- of an instance, that of the first item of its interface that has one, behind some of the interface's aliases
+-- of an instance or a type item of an interface, that of the first item of the interface that has one, behind some of the interface's aliases
 abbrev pub IsFaultIn : (Scope → InterfaceId → EncodeFault → Type 0) → Collection → Scope → ItemKind → WriteFault → Type 0
 IsFaultIn Refused c old (kind.Instance i) f = (s : Scope) × AliasesFor c i old s × Refused s i (fault.Write f)
+IsFaultIn Refused c old (kind.TypeItem (ty.Interface i)) f = (s : Scope) × AliasesFor c i old s × Refused s i (fault.Write f)
 IsFaultIn Refused c old k f = IsItemFault c k f
 
 -- what stands where an item is refused in a scope

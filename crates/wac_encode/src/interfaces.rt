@@ -12,10 +12,12 @@ ghost use Rattle.wac_shapes.specs.declared.component.Interface.{Interface as AnI
 ghost use Rattle.wac_collection.specs.Collection.{HasFunc, HasInterface, holds_value, item_at};
 ghost use Rattle.wac_collection.specs.Aliases.{value_resolved};
 ghost use Rattle.wac_scopes.specs.declared.encodable.Encodable.TheVariants.{Instance};
-ghost use Rattle.wac_scopes.specs.Contents.{IsOpenType};
-ghost use Rattle.wac_scopes.specs.Scoped.{type_index, value_index};
+ghost use Rattle.wac_listing.specs.Made.{interface_of};
+ghost use Rattle.wac_scopes.specs.Contents.{ContentFits, IsOpenType, and_export};
+ghost use Rattle.wac_scopes.specs.Scoped.{WritesUnlessTooLarge, type_index, value_index};
 ghost use Rattle.wac_encode.specs.Listing.{is_type, is_other_type, IsOrder, WritesItem, IsItemRefused};
 ghost use Rattle.wac_encode.specs.Items.{ListsHeld, CanClose, CanList, nothing_inside, none_refused};
+ghost use Rattle.wac_encode.specs.Levels.{ListsBy, described_by};
 
 use crate::encoder::TypeEncoder;
 use std::alloc::{AllocError, Global};
@@ -153,28 +155,30 @@ impl<'a> TypeEncoder<'a> {
         Ok(())
     }
 
-    /// Lists an instance of an interface whose instance type is written already.
-    fn instance_item(
+    /// Lists an item whose interface's instance type is written already.
+    fn interface_item(
         &self,
         scope: &mut Scope,
         name: &str,
+        item: ItemKind,
         interface: InterfaceId,
     ) -> Result<(), EncodeFault>
+        requires of { interface_of item ≡ Some interface }
         requires written { IsSome (type_index scope.old (ty.Interface interface)) }
         requires open { IsOpenType scope.old.content }
-        ensures listed { OnOk result (ListsHeld self.now.types.now scope.old scope.new name.now (kind.Instance interface)) }
-        ensures wrote { OnOk result (WritesItem nothing_inside self.now.types.now scope.old scope.new name.now (kind.Instance interface)) }
-        ensures fault { IsItemRefused nothing_inside none_refused self.now.types.now name.now (kind.Instance interface) scope.old result }
+        ensures listed { OnOk result (ListsHeld self.now.types.now scope.old scope.new name.now item) }
+        ensures wrote { OnOk result (WritesItem nothing_inside self.now.types.now scope.old scope.new name.now item) }
+        ensures fault { IsItemRefused nothing_inside none_refused self.now.types.now name.now item scope.old result }
     {
         still_law();
         let Some(index) = scope.interface(interface) else {
             unreachable!()
         };
-        scope.export_instance(name, index)?;
+        export_interface(scope, name, item, index)?;
         Ok(())
     }
 
-    /// Writes what an item is made of, and lists it under its name. The instance type of an instance's interface is written already.
+    /// Writes what an item is made of, and lists it under its name. The instance type of its interface is written already.
     pub(crate) fn item(
         &self,
         scope: &mut Scope,
@@ -182,7 +186,7 @@ impl<'a> TypeEncoder<'a> {
         item: ItemKind,
     ) -> Result<(), EncodeFault>
         requires held { CanList self.now.types.now item }
-        requires inside { (i : AnId) → item ≡ kind.Instance i → IsSome (type_index scope.old (ty.Interface i)) }
+        requires inside { (i : AnId) → interface_of item ≡ Some i → IsSome (type_index scope.old (ty.Interface i)) }
         requires open { IsOpenType scope.old.content }
         ensures listed { OnOk result (ListsHeld self.now.types.now scope.old scope.new name.now item) }
         ensures wrote { OnOk result (WritesItem nothing_inside self.now.types.now scope.old scope.new name.now item) }
@@ -192,7 +196,9 @@ impl<'a> TypeEncoder<'a> {
             ItemKind::TypeItem(Type::Value(value)) => self.type_item(scope, name, value),
             ItemKind::TypeItem(Type::Func(func)) => self.func_type_item(scope, name, func),
             ItemKind::Func(func) => self.func_item(scope, name, func),
-            ItemKind::Instance(interface) => self.instance_item(scope, name, interface),
+            ItemKind::TypeItem(Type::Interface(interface)) | ItemKind::Instance(interface) => {
+                self.interface_item(scope, name, item, interface)
+            }
             ItemKind::TypeItem(Type::Module(_)) => {
                 Err(EncodeFault::Write(WriteFault::ModuleAsType))
             }
@@ -218,6 +224,24 @@ impl<'a> TypeEncoder<'a> {
         add_other_types(items, &mut order)?;
         add_others(items, &mut order)?;
         Ok(order)
+    }
+}
+
+/// Lists an item of the interface whose instance type stands at an index: an instance of that, or a type item that equals it.
+pub(crate) fn export_interface(
+    scope: &mut Scope,
+    name: &str,
+    item: ItemKind,
+    index: u32,
+) -> Result<u32, EncodeFault>
+    requires { IsOpenType scope.old.content }
+    ensures lists { IfOk result (ListsBy item scope.old scope.new name.now index) }
+    ensures appended { OnOk result (scope.new ≡ record scope.old { content = and_export scope.old.content name.now (described_by item index) }) }
+    ensures too_large { WritesUnlessTooLarge result (ContentFits (and_export scope.old.content name.now (described_by item index))) }
+{
+    match item {
+        ItemKind::TypeItem(_) => scope.export_type(name, index),
+        _ => scope.export_instance(name, index),
     }
 }
 

@@ -1,12 +1,11 @@
-//! The writer of interfaces with instances in them.
+//! The writer of interfaces with interfaces in them.
 //!
 //! An interface whose instance type is needed inside another is written before the item that needs it, while the levels around it wait in
-//! a list, so that no chain of instances in instances is too long.
+//! a list, so that no chain of interfaces in interfaces is too long.
 
 ghost use Rattle.std.specs.Prelude.{◌≡◌, ◌<◌, ◌+◌, ◌⊎◌, ℕ, List, Some, true, false, None, IfOk, OnOk, IsSome, Ok as Answers, Err as Refused, length, slice_get};
 ghost use Rattle.wac_shapes.specs.declared.component.InterfaceId.{InterfaceId as AnInterface};
 ghost use Rattle.wac_shapes.specs.declared.component.ItemKind.{ItemKind as AnyItem};
-ghost use Rattle.wac_shapes.specs.declared.component.ItemKind.TheVariants as kind;
 ghost use Rattle.wac_shapes.specs.declared.component.«Type».TheVariants as ty;
 ghost use Rattle.wac_shapes.specs.Named.{named_pairs};
 ghost use Rattle.wac_shapes.specs.declared.component.DefinedTypeId.{DefinedTypeId as AnId};
@@ -19,14 +18,16 @@ ghost use Rattle.wac_encode.specs.Items.{ListsHeld, CanClose, CanList, nothing_i
 ghost use Rattle.wac_encode.specs.Listing.{WritesItem, IsItemRefused, AliasesFor, AllAliased, IsAliasRefused, SaysInterface, SaysIfThere, WritesInterface, WritesIfThere, lists_plain, IsInterfaceRefused};
 ghost use Rattle.wac_planning.specs.Plans.{IsOneOf, Takes, HasName, ArePlanned, places_of};
 ghost use Rattle.wac_encode.specs.Plans.{IsAtPlace};
-ghost use Rattle.wac_encode.specs.Levels.{IsBegun, IsNextOf, PutsInstance, InstanceNotPut};
+ghost use Rattle.wac_listing.specs.Made.{interface_of as interface_that};
+ghost use Rattle.wac_encode.specs.Levels.{IsBegun, IsNextOf, PutsItem, ItemNotPut};
 
 use crate::encoder::TypeEncoder;
-use crate::interfaces::{entry_of, instance_type};
+use crate::interfaces::{entry_of, export_interface, instance_type};
 use crate::level::{Level, Next};
 use std::alloc::AllocError;
 use wac_builder::InstanceType;
 use wac_collection::{DefinedTypeId, InterfaceId, ItemKind};
+use wac_listing::interface_of;
 use wac_planning::Plan;
 use wac_scopes::{EncodeFault, Scope, closing_law, listing_law, step_law, still_law};
 
@@ -57,7 +58,7 @@ impl<'a> TypeEncoder<'a> {
         })
     }
 
-    /// Opens a level for an interface of which another lists an instance, behind the aliases of what it takes from there.
+    /// Opens a level for the interface of an item of another, behind the aliases of what it takes from there.
     fn open_inside(
         &self,
         level: &mut Level<'a>,
@@ -67,7 +68,7 @@ impl<'a> TypeEncoder<'a> {
         requires held { HasInterface self.now.types.now inside }
         requires planned { ArePlanned self.now.types.now (places_of plan.now) }
         requires placed { IsAtPlace self.now.types.now (places_of plan.now) level.old }
-        requires listed { (k : ℕ) × (n : List ℕ) × (slice_get (interface_exports self.now.types.now level.old.interface) k ≡ Some (n, kind.Instance inside)) }
+        requires listed { (k : ℕ) × (e : List ℕ × AnyItem) × (slice_get (interface_exports self.now.types.now level.old.interface) k ≡ Some e) × (interface_that e.1 ≡ Some inside) }
         ensures kept { level.new ≡ record level.old { scope = level.new.scope } }
         ensures aliases { AliasesFor self.now.types.now inside level.old.scope level.new.scope }
         ensures all { OnOk result (AllAliased self.now.types.now inside level.old.scope level.new.scope) }
@@ -84,11 +85,12 @@ impl<'a> TypeEncoder<'a> {
         Ok(inner)
     }
 
-    /// Writes the instance type of an interface inside, and lists an instance of it.
-    fn put_instance(
+    /// Writes the instance type of an interface inside, and lists the item of it.
+    fn put_interface(
         &self,
         scope: &mut Scope,
         name: &str,
+        item: ItemKind,
         inside: InterfaceId,
         declarations: InstanceType,
     ) -> Result<(), EncodeFault>
@@ -96,17 +98,17 @@ impl<'a> TypeEncoder<'a> {
         requires open { IsOpenType scope.old.content }
         requires unwritten { type_index scope.old (ty.Interface inside) ≡ None }
         requires says { SaysInterface self.now.types.now scope.old inside declarations }
-        ensures put { OnOk result (PutsInstance self.now.types.now scope.old scope.new name.now inside declarations) }
-        ensures fault { InstanceNotPut self.now.types.now scope.old name.now inside declarations result }
+        ensures put { OnOk result (PutsItem self.now.types.now scope.old scope.new name.now item inside declarations) }
+        ensures fault { ItemNotPut self.now.types.now scope.old name.now item inside declarations result }
     {
         step_law();
         still_law();
         let index = scope.take_instance(inside, declarations)?;
-        scope.export_instance(name, index)?;
+        export_interface(scope, name, item, index)?;
         Ok(())
     }
 
-    /// Lists the next item of a level, an instance of an interface that is written into it before.
+    /// Lists the next item of a level, behind the instance type of its interface, which is written into it before.
     fn put_nested(
         &self,
         level: &mut Level<'a>,
@@ -119,11 +121,11 @@ impl<'a> TypeEncoder<'a> {
         requires unwritten { type_index level.old.scope (ty.Interface inside) ≡ None }
         requires says { SaysInterface self.now.types.now level.old.scope inside declarations }
         ensures kept { OnOk result (level.new ≡ record level.old { scope = level.new.scope; next = level.old.next + 1 }) }
-        ensures put { OnOk result ((e : List ℕ × AnyItem) → slice_get (named_pairs level.old.order.items) level.old.next ≡ Some e → PutsInstance self.now.types.now level.old.scope level.new.scope e.0 inside declarations) }
-        ensures fault { (e : List ℕ × AnyItem) → slice_get (named_pairs level.old.order.items) level.old.next ≡ Some e → InstanceNotPut self.now.types.now level.old.scope e.0 inside declarations result }
+        ensures put { OnOk result ((e : List ℕ × AnyItem) → slice_get (named_pairs level.old.order.items) level.old.next ≡ Some e → PutsItem self.now.types.now level.old.scope level.new.scope e.0 e.1 inside declarations) }
+        ensures fault { (e : List ℕ × AnyItem) → slice_get (named_pairs level.old.order.items) level.old.next ≡ Some e → ItemNotPut self.now.types.now level.old.scope e.0 e.1 inside declarations result }
     {
-        let (name, _) = entry_of(level.order.as_slice(), level.next);
-        self.put_instance(&mut level.scope, name, inside, declarations)?;
+        let (name, item) = entry_of(level.order.as_slice(), level.next);
+        self.put_interface(&mut level.scope, name, item, inside, declarations)?;
         level.next += 1;
         Ok(())
     }
@@ -132,7 +134,7 @@ impl<'a> TypeEncoder<'a> {
     fn put_item(&self, level: &mut Level<'a>, name: &str, item: ItemKind) -> Result<(), EncodeFault>
         requires here { slice_get (named_pairs level.old.order.items) level.old.next ≡ Some (name.now, item) }
         requires held { CanList self.now.types.now item }
-        requires inside { (i : AnInterface) → item ≡ kind.Instance i → IsSome (type_index level.old.scope (ty.Interface i)) }
+        requires inside { (i : AnInterface) → interface_that item ≡ Some i → IsSome (type_index level.old.scope (ty.Interface i)) }
         requires open { IsOpenType level.old.scope.content }
         ensures kept { OnOk result (level.new ≡ record level.old { scope = level.new.scope; next = level.old.next + 1 }) }
         ensures listed { OnOk result (ListsHeld self.now.types.now level.old.scope level.new.scope name.now item) }
@@ -185,13 +187,13 @@ impl<'a> TypeEncoder<'a> {
     }
 
     /// Writes a held interface as an instance type: type items of value types first, the next always the first listed one of those left
-    /// that mentions none of those left; then type items of function types, then the others, as they are listed. A definition that a type
+    /// that mentions none of those left; then type items of function types and of interfaces, then the others, as they are listed. A definition that a type
     /// item lists is written by the first such item's index. What has a name in the scope around is aliased from there, and all else is
-    /// defined, each once, just before what mentions it. So is the instance type of an interface of which an instance is listed, over the
-    /// scope that it stands in, to any depth.
+    /// defined, each once, just before what mentions it. So is the instance type of an interface of which an instance is listed, or which a
+    /// type item lists, over the scope that it stands in, to any depth.
     ///
-    /// Answers none exactly where an item is of a sort that is not written: a resource, a type item of an interface or a world, or an
-    /// instance of an interface that has such an item; memory may be refused before that is known. Answers `UnboundResource` for an item
+    /// Answers none exactly where an item is of a sort that is not written: a resource, a type item of a world, or an instance or a type
+    /// item of an interface that has such an item; memory may be refused before that is known. Answers `UnboundResource` for an item
     /// that is made of a handle, `ModuleAsType` and `NestedItem` for one that no instance type can list, and `TooLarge` where what is
     /// written next does not fit, the first in order; `OutOfMemory` where memory was refused.
     pub fn interface_type(
@@ -238,11 +240,11 @@ fn next_of<'b>(level: &Level<'b>) -> Next<'b>
         return Next::End;
     }
     let (name, item) = entry_of(level.order.as_slice(), level.next);
-    match item {
-        ItemKind::Instance(inside) => match level.scope.interface(inside) {
-            Some(_) => Next::Item(name, item),
-            None => Next::Inside(inside),
-        },
-        _ => Next::Item(name, item),
+    let Some(inside) = interface_of(item) else {
+        return Next::Item(name, item);
+    };
+    match level.scope.interface(inside) {
+        Some(_) => Next::Item(name, item),
+        None => Next::Inside(inside),
     }
 }

@@ -11,10 +11,11 @@ use crate::encoder::TypeEncoder;
 use indexmap::IndexSet;
 use std::alloc::AllocError;
 use wac_collection::{InterfaceId, ItemKind, Named, Type};
+use wac_listing::interface_of;
 
 impl<'a> TypeEncoder<'a> {
-    /// An interface, and those inside it: of which it lists instances, or one of those does, to any depth; each once. Linear, without
-    /// recursion.
+    /// An interface, and those inside it: of which it lists instances, or which it lists as type items, or one of those does, to any depth;
+    /// each once. Linear, without recursion.
     ///
     /// Answers `AllocError` where memory ran out.
     pub fn interfaces_inside(&self, interface: InterfaceId) -> Result<IndexSet<Type>, AllocError>
@@ -33,7 +34,7 @@ impl<'a> TypeEncoder<'a> {
         Ok(found)
     }
 
-    /// Puts the interfaces of instances among the items of a found interface.
+    /// Puts the interfaces of the items of a found interface.
     fn put_inside(&self, ty: Type, found: &mut IndexSet<Type>) -> Result<(), AllocError>
         requires { IsHeldInterface self.now.types.now ty }
         ensures { OnOk result (PutsInside self.now.types.now ty found.old.keys found.new.keys) }
@@ -65,7 +66,7 @@ impl<'a> TypeEncoder<'a> {
         Ok(true)
     }
 
-    /// Whether all items of a held interface are of sorts that are written, whatever is inside instances.
+    /// Whether all items of a held interface are of sorts that are written, whatever is inside their interfaces.
     fn lists_plain_alone(&self, ty: Type) -> bool
         requires { IsHeldInterface self.now.types.now ty }
         ensures { result ≡ lists_plain_alone self.now.types.now ty }
@@ -77,13 +78,13 @@ impl<'a> TypeEncoder<'a> {
     }
 }
 
-/// Puts the interface of an instance.
+/// Puts the interface of an item, where it has one.
 fn put_item(item: ItemKind, found: &mut IndexSet<Type>) -> Result<(), AllocError>
     ensures { OnOk result (found.new.keys ≡ and_inside found.old.keys item) }
 {
-    match item {
-        ItemKind::Instance(inside) => put_interface(inside, found),
-        _ => Ok(()),
+    match interface_of(item) {
+        Some(inside) => put_interface(inside, found),
+        None => Ok(()),
     }
 }
 
@@ -95,7 +96,7 @@ fn put_interface(interface: InterfaceId, found: &mut IndexSet<Type>) -> Result<(
     Ok(())
 }
 
-/// Puts the interfaces of instances among items.
+/// Puts the interfaces of items.
 fn put_items(items: &Named<ItemKind>, found: &mut IndexSet<Type>) -> Result<(), AllocError>
     ensures { OnOk result (found.new.keys ≡ with_inside found.old.keys items.now) }
 {
@@ -105,12 +106,13 @@ fn put_items(items: &Named<ItemKind>, found: &mut IndexSet<Type>) -> Result<(), 
     Ok(())
 }
 
-/// Whether an item is of a sort that is written, or that no instance type can list, instances aside.
+/// Whether an item is of a sort that is written, or that no instance type can list, whatever is inside its interface.
 fn is_plain(item: ItemKind) -> bool
     ensures { result ≡ is_plain_alone item }
 {
     match item {
-        ItemKind::TypeItem(Type::Value(_) | Type::Func(_) | Type::Module(_)) => true,
+        ItemKind::TypeItem(Type::Value(_) | Type::Func(_) | Type::Interface(_) | Type::Module(_)) =>
+            { true }
         ItemKind::TypeItem(_) => false,
         ItemKind::Func(_)
         | ItemKind::Instance(_)

@@ -1,5 +1,5 @@
--- An interface that lists an instance of another: which interfaces are written, which are inside, and how the instance is described.
-use Rattle.std.proofs.Common.{◌≡◌, ℕ, zero, suc, Bool, true, false, List, [], ◌∷◌, Option, Some, None, ◌⊎◌, inl, inr, refl, ap, sym, subst, codes}
+-- Interfaces that list an instance of another, or another as a type item: which are written, which are inside, and how such an item is described.
+use Rattle.std.proofs.Common.{◌≡◌, ℕ, zero, suc, true, false, List, [], ◌∷◌, Option, Some, None, ◌⊎◌, inl, inr, refl, ap, sym, ◌∙◌, subst, codes}
 use Rattle.std.specs.Prelude.{slice_get}
 use Rattle.wac_primitives.specs.Name.{Name}
 use Rattle.wac_shapes.specs.declared.component.InterfaceId.{InterfaceId}
@@ -11,10 +11,11 @@ use Rattle.wac_binary.specs.Items.{Decl}
 use Rattle.wac_binary.specs.declared.sorts.Description.TheVariants as e
 use Rattle.wac_scopes.specs.declared.scope.Scope.{Scope}
 use Rattle.wac_scopes.specs.Scoped.{type_index}
+use Rattle.wac_listing.specs.Made.{interface_of}
 use Rattle.wac_encode.specs.Inside.{IsInside, IsInsideBy}
 use Rattle.wac_encode.specs.Listing.{IsInstanceTypeFrom, IsItemDescribed, lists_plain}
-use Rattle.wac_encode_examples.proofs.Apart.{no_flag, no_entry, one_entry, two_numbers}
-use Rattle.wac_encode_examples.specs.EnumInterface.{items, types}
+use Rattle.wac_encode_examples.proofs.Apart.{no_entry, one_entry, two_numbers}
+use Rattle.wac_encode_examples.specs.EnumInterface.{items, enum_item, function_item, types}
 
 abbrev interface : ℕ → InterfaceId
 interface n = record { 0 = n }
@@ -22,17 +23,23 @@ interface n = record { 0 = n }
 abbrev listing_instance : ℕ → List (Name × ItemKind)
 listing_instance n = (codes "i", kind.Instance (interface n)) ∷ []
 
+abbrev listing_type : ℕ → List (Name × ItemKind)
+listing_type n = (codes "i", kind.TypeItem (ty.Interface (interface n))) ∷ []
+
 abbrev resource_item : Name × ItemKind
 resource_item = (codes "r", kind.TypeItem (ty.Resource (record { 0 = 0 })))
 
--- the interface of the enum and the function; one that lists an instance of it; one of a resource; one that lists an instance of that
+-- the interface of the enum and the function; one that lists an instance of it; one of a resource; one that lists an instance of that; and one that lists
+-- the first as a type item, and one the third
 abbrev nested : Collection
 nested = record types {
   resources = record { item = record { name = codes "r"; alias = None }; before = 0 } ∷ [];
   interfaces = record { item = record { id = None; uses = []; exports = items }; before = 3 }
       ∷ record { item = record { id = None; uses = []; exports = listing_instance 0 }; before = 4 }
       ∷ record { item = record { id = None; uses = []; exports = resource_item ∷ [] }; before = 5 }
-      ∷ record { item = record { id = None; uses = []; exports = listing_instance 2 }; before = 6 } ∷ [];
+      ∷ record { item = record { id = None; uses = []; exports = listing_instance 2 }; before = 6 }
+      ∷ record { item = record { id = None; uses = []; exports = listing_type 0 }; before = 7 }
+      ∷ record { item = record { id = None; uses = []; exports = listing_type 2 }; before = 8 } ∷ [];
 }
 
 -- an interface with an instance is written, and is not where what is inside is of a sort that is not
@@ -42,35 +49,36 @@ instance_is_plain = refl
 pub resource_inside_is_not : lists_plain nested (interface 3) ≡ false
 resource_inside_is_not = refl
 
--- the interface of the instance is inside
+-- and so is one with a type item of an interface
+pub type_item_is_plain : lists_plain nested (interface 4) ≡ true
+type_item_is_plain = refl
+
+pub resource_in_a_type_item_is_not : lists_plain nested (interface 5) ≡ false
+resource_in_a_type_item_is_not = refl
+
+-- the interface of the instance is inside, and that of the type item
 pub its_interface_is_inside : IsInside nested (interface 1) (interface 0)
-its_interface_is_inside = (1, (interface 1, refl, 0, codes "i", refl))
+its_interface_is_inside = (1, (interface 1, refl, 0, (codes "i", kind.Instance (interface 0)), refl, refl))
+
+pub interface_of_a_type_item_is_inside : IsInside nested (interface 4) (interface 0)
+interface_of_a_type_item_is_inside = (1, (interface 4, refl, 0, (codes "i", kind.TypeItem (ty.Interface (interface 0))), refl, refl))
 
 -- beside the interface itself no other is
-abbrev interface_of : ItemKind → InterfaceId
-interface_of (kind.Instance i) = i
-interface_of k = interface 0
-
 pub no_other_is_inside : (d : ℕ) (j : InterfaceId) → IsInsideBy d nested (interface 1) j → (j ≡ interface 1) ⊎ (j ≡ interface 0)
 no_other_is_inside zero j h = inl h
-no_other_is_inside (suc d) j (k, around, p, n, at) = by_place (no_other_is_inside d k around) p at where
-  by_item : (x : Name × ItemKind) (q : ℕ) → slice_get (x ∷ []) q ≡ Some (n, kind.Instance j) → x.1 ≡ kind.Instance j
-  by_item x zero at = ap (λ (y : Name × ItemKind). y.1) (one_entry x (n, kind.Instance j) at)
-  by_item x (suc q) at = absurd (no_entry (n, kind.Instance j) at)
+no_other_is_inside (suc d) j (k, around, p, x, at, of) = by_place (no_other_is_inside d k around) p at where
+  listed_first : (q : ℕ) → slice_get (listing_instance 0) q ≡ Some x → j ≡ interface 0
+  listed_first zero at = sym (one_entry (interface 0) j (ap (λ (y : Name × ItemKind). interface_of y.1) (one_entry (codes "i", kind.Instance (interface 0)) x at) ∙ of))
+  listed_first (suc q) at = absurd (no_entry x at)
 
-  by_place : (k ≡ interface 1) ⊎ (k ≡ interface 0) → (q : ℕ) → slice_get (interface_exports nested k) q ≡ Some (n, kind.Instance j) → (j ≡ interface 1) ⊎ (j ≡ interface 0)
-  by_place (inl is) q at =
-      let listed = subst (λ (i : InterfaceId). slice_get (interface_exports nested i) q ≡ Some (n, kind.Instance j)) is at in
-      inr (sym (ap interface_of (by_item (codes "i", kind.Instance (interface 0)) q listed)))
-  by_place (inr is) q at = absurd (none q (subst (λ (i : InterfaceId). slice_get (interface_exports nested i) q ≡ Some (n, kind.Instance j)) is at)) where
-    is_instance : Option (Name × ItemKind) → Bool
-    is_instance (Some (m, kind.Instance i)) = true
-    is_instance x = false
+  none : (q : ℕ) → slice_get items q ≡ Some x → ⊥
+  none zero at = no_entry j (ap (λ (y : Name × ItemKind). interface_of y.1) (one_entry enum_item x at) ∙ of)
+  none (suc zero) at = no_entry j (ap (λ (y : Name × ItemKind). interface_of y.1) (one_entry function_item x at) ∙ of)
+  none (suc (suc q)) at = no_entry x at
 
-    none : (q : ℕ) → slice_get items q ≡ Some (n, kind.Instance j) → ⊥
-    none zero at = no_flag (sym (ap is_instance at))
-    none (suc zero) at = no_flag (sym (ap is_instance at))
-    none (suc (suc q)) at = no_entry (n, kind.Instance j) at
+  by_place : (k ≡ interface 1) ⊎ (k ≡ interface 0) → (q : ℕ) → slice_get (interface_exports nested k) q ≡ Some x → (j ≡ interface 1) ⊎ (j ≡ interface 0)
+  by_place (inl is) q at = inr (listed_first q (subst (λ (i : InterfaceId). slice_get (interface_exports nested i) q ≡ Some x) is at))
+  by_place (inr is) q at = absurd (none q (subst (λ (i : InterfaceId). slice_get (interface_exports nested i) q ≡ Some x) is at))
 
 pub resource_is_not_inside : IsInside nested (interface 1) (interface 2) → ⊥
 resource_is_not_inside (d, h) = by_number (no_other_is_inside d (interface 2) h) where
@@ -89,3 +97,10 @@ module _ (Inside : Scope → InterfaceId → List Decl → Type 0) (old : Scope)
 
   pub not_as_a_type : (now : Scope) → IsItemDescribed Inside nested old now (kind.Instance (interface 0)) (e.Equal 0) → ⊥
   not_as_a_type now h = h
+
+  -- and a type item of it as equal to that
+  pub equal_to_its_type : IsItemDescribed Inside nested old old (kind.TypeItem (ty.Interface (interface 0))) (e.Equal 0)
+  equal_to_its_type = subst (λ (o : Option ℕ). IsInstanceTypeFrom o Inside nested old old (interface 0) 0) (sym recorded) (refl, refl)
+
+  pub not_as_an_instance : (now : Scope) → IsItemDescribed Inside nested old now (kind.TypeItem (ty.Interface (interface 0))) (e.Instance 0) → ⊥
+  not_as_an_instance now h = h

@@ -1,10 +1,9 @@
 -- What is listed in an instance type that is opened: the enum of its interface, where that has a name around, and nothing else.
-use Rattle.std.proofs.Common.{◌≡◌, ℕ, zero, suc, Bool, true, false, [], ◌∷◌, Option, Some, None, refl, ap, sym, ◌∙◌, subst}
+use Rattle.std.proofs.Common.{◌≡◌, ℕ, zero, suc, [], ◌∷◌, Option, Some, None, refl, ap, sym, ◌∙◌, subst}
 use Rattle.std.specs.Prelude.{slice_get}
 use Rattle.wac_primitives.specs.Name.{Name}
 use Rattle.wac_shapes.specs.declared.component.DefinedTypeId.{DefinedTypeId}
 use Rattle.wac_shapes.specs.declared.component.ItemKind.{ItemKind}
-use Rattle.wac_shapes.specs.declared.component.ItemKind.TheVariants as kind
 use Rattle.wac_shapes.specs.declared.component.ValueType.{ValueType}
 use Rattle.wac_shapes.specs.declared.component.ValueType.TheVariants as val
 use Rattle.wac_shapes.specs.declared.component.«Type».{«Type» as AnyType}
@@ -17,25 +16,21 @@ use Rattle.wac_scopes.specs.declared.scope.Listed.TheVariants.{Around}
 use Rattle.wac_scopes.specs.declared.scope.Scope.{Scope}
 use Rattle.wac_scopes.specs.Scoped.{type_index, named_at, listed_at}
 use Rattle.wac_collection.specs.Aliases.{value_resolved}
-use Rattle.wac_listing.specs.Made.{MadeOf, OneIsMadeOf, item_values, IsItemIn, listed as is_listed, nested}
+use Rattle.wac_listing.specs.Made.{interface_of, MadeOf, OneIsMadeOf, item_values, IsItemIn, listed as is_listed, nested}
 use Rattle.wac_encode.specs.Listing.{around_at, IsOfItems, IsOpened}
-use Rattle.wac_encode_examples.proofs.Apart.{no_flag, no_entry, one_entry, two_numbers}
+use Rattle.wac_encode_examples.proofs.Apart.{no_entry, one_entry, two_numbers}
 use Rattle.wac_encode_examples.proofs.EnumOrder.{made_of_enum}
 use Rattle.wac_encode_examples.proofs.EnumWritten.{enum_is_of_items}
 use Rattle.wac_encode_examples.specs.EnumInterface.{the_enum, the_interface, enum_item, function_item, items, types, written_enum}
 
-abbrev is_instance : ItemKind → Bool
-is_instance (kind.Instance i) = true
-is_instance k = false
-
--- no item of the interface is an instance
-no_instance : (k : ItemKind) → IsItemIn types items k → is_instance k ≡ false
-no_instance _ (is_listed p e at) = by_place p e at where
-  by_place : (p : ℕ) (e : Name × ItemKind) → slice_get items p ≡ Some e → is_instance e.1 ≡ false
-  by_place zero e at = ap (λ (x : Name × ItemKind). is_instance x.1) (sym (one_entry enum_item e at))
-  by_place (suc zero) e at = ap (λ (x : Name × ItemKind). is_instance x.1) (sym (one_entry function_item e at))
+-- no item of the interface is written with an instance type
+no_interface : (k : ItemKind) → IsItemIn types items k → interface_of k ≡ None
+no_interface _ (is_listed p e at) = by_place p e at where
+  by_place : (p : ℕ) (e : Name × ItemKind) → slice_get items p ≡ Some e → interface_of e.1 ≡ None
+  by_place zero e at = ap (λ (x : Name × ItemKind). interface_of x.1) (sym (one_entry enum_item e at))
+  by_place (suc zero) e at = ap (λ (x : Name × ItemKind). interface_of x.1) (sym (one_entry function_item e at))
   by_place (suc (suc p)) e at = absurd (no_entry e at)
-no_instance _ (nested i p e inside at) = absurd (no_flag (no_instance (kind.Instance i) inside))
+no_interface _ (nested k i p e inside is at) = absurd (no_entry i (sym (no_interface k inside) ∙ is))
 
 -- the interface is made of no other definition
 pub items_of_enum : (d : DefinedTypeId) → IsOfItems types the_interface (ty.Value (val.Defined d)) → d ≡ the_enum
@@ -57,7 +52,7 @@ items_of_enum d h = by_item h.0 h.1 h.2 where
 
   by_item : (k : ItemKind) → IsItemIn types items k → OneIsMadeOf types (item_values types k) (val.Defined d) → d ≡ the_enum
   by_item _ (is_listed p e at) one = by_place p e at one
-  by_item _ (nested i p e inside at) one = absurd (no_flag (no_instance (kind.Instance i) inside))
+  by_item _ (nested k i p e inside is at) one = absurd (no_entry i (sym (no_interface k inside) ∙ is))
 
 -- ---- the enum has a name at index 3 of the scope around
 module _ (around s : Scope) (named : named_at around the_enum ≡ Some 3) where

@@ -1,5 +1,5 @@
 -- An interface that lists the enum `t` and an instance of another, whose function is over the enum: what the one inside takes from around it.
-use Rattle.std.proofs.Common.{◌≡◌, ◌<◌, ℕ, zero, suc, Bool, true, false, List, [], ◌∷◌, Option, Some, None, ◌⊎◌, inl, inr, refl, ap, sym, ◌∙◌, subst, arith, codes}
+use Rattle.std.proofs.Common.{◌≡◌, ℕ, zero, suc, List, [], ◌∷◌, Option, Some, None, inr, refl, ap, sym, ◌∙◌, subst, arith, codes}
 use Rattle.std.specs.Prelude.{slice_get, IsSome}
 use Rattle.wac_primitives.specs.Name.{Name}
 use Rattle.wac_shapes.specs.declared.component.DefinedTypeId.{DefinedTypeId}
@@ -11,8 +11,7 @@ use Rattle.wac_shapes.specs.declared.component.ValueType.TheVariants as val
 use Rattle.wac_collection.specs.Collection.{Collection, HasDefined, interface_exports}
 use Rattle.wac_collection.specs.Aliases.{value_resolved}
 use Rattle.wac_scopes.specs.declared.scope.Scope.{Scope}
-use Rattle.wac_scopes.specs.Scoped.{named_at}
-use Rattle.wac_listing.specs.Made.{MadeOf, itself, OneIsMadeOf, item_values, IsItemIn, listed as is_listed, nested}
+use Rattle.wac_listing.specs.Made.{interface_of, MadeOf, itself, OneIsMadeOf, item_values, IsItemIn, listed as is_listed, nested}
 use Rattle.wac_planning.specs.declared.plan.Place.{Place}
 use Rattle.wac_planning.specs.Plans.{IsOneOf, IsMadeOf, IsListedBy, Takes, MayBeNamed, IsTaker, HasInside, IsPlan, interface_at, taken_at, inside_at}
 use Rattle.wac_encode_examples.proofs.Apart.{no_flag, no_entry, one_entry, two_numbers}
@@ -40,18 +39,14 @@ shared = record types {
       ∷ record { item = record { id = None; uses = []; exports = enum_item ∷ instance_item ∷ [] }; before = 4 } ∷ [];
 }
 
-abbrev is_instance : ItemKind → Bool
-is_instance (kind.Instance i) = true
-is_instance k = false
-
 -- the function is the one item inside
 only_function : (p : ℕ) (e : Name × ItemKind) → slice_get (function_item ∷ []) p ≡ Some e → function_item ≡ e
 only_function zero e at = one_entry function_item e at
 only_function (suc p) e at = absurd (no_entry e at)
 
-no_instance : (k : ItemKind) → IsItemIn shared (function_item ∷ []) k → is_instance k ≡ false
-no_instance _ (is_listed p e at) = ap (λ (x : Name × ItemKind). is_instance x.1) (sym (only_function p e at))
-no_instance _ (nested i p e inside at) = absurd (no_flag (no_instance (kind.Instance i) inside))
+no_interface : (k : ItemKind) → IsItemIn shared (function_item ∷ []) k → interface_of k ≡ None
+no_interface _ (is_listed p e at) = ap (λ (x : Name × ItemKind). interface_of x.1) (sym (only_function p e at))
+no_interface _ (nested k i p e inside is at) = absurd (no_entry i (sym (no_interface k inside) ∙ is))
 
 -- so the interface inside is made of the enum
 made_inside : IsMadeOf shared inner_interface the_enum
@@ -73,11 +68,7 @@ no_other_inside d h = by_item h.0 h.1 h.2 where
 
   by_item : (k : ItemKind) → IsItemIn shared (function_item ∷ []) k → OneIsMadeOf shared (item_values shared k) (val.Defined d) → d ≡ the_enum
   by_item _ (is_listed p e at) one = of_function (subst (λ (x : Name × ItemKind). OneIsMadeOf shared (item_values shared x.1) (val.Defined d)) (sym (only_function p e at)) one)
-  by_item _ (nested i p e inside at) one = absurd (no_flag (no_instance (kind.Instance i) inside))
-
-abbrev is_of_instance : Option (Name × ItemKind) → Bool
-is_of_instance (Some (n, kind.Instance i)) = true
-is_of_instance o = false
+  by_item _ (nested k i p e inside is at) one = absurd (no_entry i (sym (no_interface k inside) ∙ is))
 
 -- ---- two places, the second of which the first leads to
 module _ (around : Scope) (nothing : NamesNothing around) (outer inner : Place) (is_outer : interface_at outer ≡ outer_interface) (is_inner : interface_at inner ≡ inner_interface) (takes_none : taken_at outer ≡ [])
@@ -123,24 +114,19 @@ module _ (around : Scope) (nothing : NamesNothing around) (outer inner : Place) 
     }
 
     at_outer : HasInside shared (outer ∷ inner ∷ []) outer
-    at_outer j k n at = by_item k (subst (λ (i : InterfaceId). slice_get (interface_exports shared i) k ≡ Some (n, kind.Instance j)) is_outer at) where
-      interface_of : Name × ItemKind → InterfaceId
-      interface_of (m, kind.Instance i) = i
-      interface_of e = outer_interface
-
-      by_item : (k : ℕ) → slice_get (enum_item ∷ instance_item ∷ []) k ≡ Some (n, kind.Instance j)
-          → (m : ℕ) × (inside_at outer j ≡ Some m) × IsTaker shared (MayBeNamed shared outer) j (outer ∷ inner ∷ []) m
-      by_item zero at = absurd (no_flag (sym (ap is_of_instance at)))
+    at_outer j k e at is = by_item k (subst (λ (i : InterfaceId). slice_get (interface_exports shared i) k ≡ Some e) is_outer at) where
+      by_item : (k : ℕ) → slice_get (enum_item ∷ instance_item ∷ []) k ≡ Some e → (m : ℕ) × (inside_at outer j ≡ Some m) × IsTaker shared (MayBeNamed shared outer) j (outer ∷ inner ∷ []) m
+      by_item zero at = absurd (no_entry j (ap (λ (x : Name × ItemKind). interface_of x.1) (one_entry enum_item e at) ∙ is))
       by_item (suc zero) at =
           subst (λ (i : InterfaceId). (m : ℕ) × (inside_at outer i ≡ Some m) × IsTaker shared (MayBeNamed shared outer) i (outer ∷ inner ∷ []) m)
-          (ap interface_of (one_entry instance_item (n, kind.Instance j) at)) (1, leads, taken_inside)
-      by_item (suc (suc k)) at = absurd (no_entry (n, kind.Instance j) at)
+          (one_entry inner_interface j (ap (λ (x : Name × ItemKind). interface_of x.1) (one_entry instance_item e at) ∙ is)) (1, leads, taken_inside)
+      by_item (suc (suc k)) at = absurd (no_entry e at)
 
     at_inner : HasInside shared (outer ∷ inner ∷ []) inner
-    at_inner j k n at = absurd (by_item k (subst (λ (i : InterfaceId). slice_get (interface_exports shared i) k ≡ Some (n, kind.Instance j)) is_inner at)) where
-      by_item : (k : ℕ) → slice_get (function_item ∷ []) k ≡ Some (n, kind.Instance j) → ⊥
-      by_item zero at = no_flag (sym (ap is_of_instance at))
-      by_item (suc k) at = no_entry (n, kind.Instance j) at
+    at_inner j k e at is = absurd (by_item k (subst (λ (i : InterfaceId). slice_get (interface_exports shared i) k ≡ Some e) is_inner at)) where
+      by_item : (k : ℕ) → slice_get (function_item ∷ []) k ≡ Some e → ⊥
+      by_item zero at = no_entry j (ap (λ (x : Name × ItemKind). interface_of x.1) (one_entry function_item e at) ∙ is)
+      by_item (suc k) at = no_entry e at
 
     by_place : (n : ℕ) (p : Place) → slice_get (outer ∷ inner ∷ []) n ≡ Some p → HasInside shared (outer ∷ inner ∷ []) p
     by_place zero p at = subst (λ (q : Place). HasInside shared (outer ∷ inner ∷ []) q) (one_entry outer p at) at_outer
@@ -149,7 +135,7 @@ module _ (around : Scope) (nothing : NamesNothing around) (outer inner : Place) 
 
   module _ (plan : IsPlan shared around outer_interface (outer ∷ inner ∷ [])) where
     led : (m : ℕ) × (inside_at outer inner_interface ≡ Some m) × IsTaker shared (MayBeNamed shared outer) inner_interface (outer ∷ inner ∷ []) m
-    led = plan.inside 0 outer refl inner_interface 1 (codes "i") (subst (λ (i : InterfaceId). slice_get (interface_exports shared i) 1 ≡ Some instance_item) (sym is_outer) refl)
+    led = plan.inside 0 outer refl inner_interface 1 instance_item (subst (λ (i : InterfaceId). slice_get (interface_exports shared i) 1 ≡ Some instance_item) (sym is_outer) refl) refl
 
     takes : Takes shared (MayBeNamed shared outer) inner_interface (taken_at inner)
     takes =

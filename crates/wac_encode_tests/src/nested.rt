@@ -1,7 +1,7 @@
-//! Interfaces with instances in them.
+//! Interfaces with instances in them, and with type items of interfaces.
 
 use crate::interfaces::{Refused, Written, assert_refused, assert_written, imported};
-use crate::rows::Row::{Enumeration, Func, Instance, Resource};
+use crate::rows::Row::{Component, Enumeration, Func, Instance, Resource, TypeOf};
 use std::process::Abort;
 use wac_collection::Types;
 use wac_shapes::{Interface, InterfaceId, ItemKind, Type};
@@ -54,6 +54,42 @@ const IN_TWO: &[u8] = &[
     0x0a, 0x0a, 0x01, 0x00, 0x05, 0x6e, 0x3a, 0x70, 0x2f, 0x69, 0x05, 0x00, // the import
 ];
 
+const TYPE_ITEM: &[u8] = &[
+    0x00, 0x61, 0x73, 0x6d, 0x0d, 0x00, 0x01, 0x00, // the preamble
+    0x07, 0x18, 0x01, 0x42, 0x02, // an instance type of two declarations
+    0x01, 0x42, 0x02, // an instance type of two declarations inside
+    0x01, 0x40, 0x00, 0x01, 0x00, // a function type
+    0x04, 0x00, 0x01, 0x66, 0x01, 0x00, // a function
+    0x04, 0x00, 0x01, 0x69, 0x03, 0x00, 0x00, // a type item that equals it
+    0x0a, 0x0a, 0x01, 0x00, 0x05, 0x6e, 0x3a, 0x70, 0x2f, 0x69, 0x05, 0x00, // the import
+];
+
+const BOTH_ITEMS: &[u8] = &[
+    0x00, 0x61, 0x73, 0x6d, 0x0d, 0x00, 0x01, 0x00, // the preamble
+    0x07, 0x2b, 0x01, 0x42, 0x05, // an instance type of five declarations
+    0x01, 0x42, 0x02, // an instance type of two declarations inside
+    0x01, 0x40, 0x00, 0x01, 0x00, // a function type
+    0x04, 0x00, 0x01, 0x66, 0x01, 0x00, // a function
+    0x04, 0x00, 0x01, 0x69, 0x03, 0x00, 0x00, // a type item that equals it
+    0x04, 0x00, 0x01, 0x6a, 0x03, 0x00, 0x00, // another
+    0x04, 0x00, 0x01, 0x6d, 0x05, 0x00, // an instance
+    0x04, 0x00, 0x01, 0x6e, 0x05, 0x00, // another
+    0x0a, 0x0a, 0x01, 0x00, 0x05, 0x6e, 0x3a, 0x70, 0x2f, 0x69, 0x05, 0x00, // the import
+];
+
+const TYPE_ITEM_AROUND: &[u8] = &[
+    0x00, 0x61, 0x73, 0x6d, 0x0d, 0x00, 0x01, 0x00, // the preamble
+    0x07, 0x2c, 0x01, 0x42, 0x04, // an instance type of four declarations
+    0x01, 0x6d, 0x01, 0x01, 0x61, // the enum
+    0x04, 0x00, 0x01, 0x74, 0x03, 0x00, 0x00, // a type item that equals it
+    0x01, 0x42, 0x03, // an instance type of three declarations inside
+    0x02, 0x03, 0x02, 0x01, 0x01, // an alias of the type item around
+    0x01, 0x40, 0x01, 0x01, 0x78, 0x00, 0x01, 0x00, // a function type over the alias
+    0x04, 0x00, 0x01, 0x66, 0x01, 0x01, // a function
+    0x04, 0x00, 0x01, 0x6e, 0x03, 0x00, 0x02, // a type item that equals the instance type
+    0x0a, 0x0a, 0x01, 0x00, 0x05, 0x6e, 0x3a, 0x70, 0x2f, 0x69, 0x05, 0x00, // the import
+];
+
 const NESTED: &[Written] = &[
     Written {
         name: "an interface inside takes an enumeration that the outer one lists from there, by the name that it has",
@@ -88,6 +124,40 @@ const NESTED: &[Written] = &[
         ],
         place: 2,
         want: ONE_TYPE,
+    },
+    Written {
+        name: "a type item of an interface equals its instance type, which is written before it",
+        rows: &[
+            Func(&[], None),
+            Instance(None, &[("f", 0)]),
+            TypeOf(1),
+            Instance(Some("n:p/i"), &[("i", 2)]),
+        ],
+        place: 3,
+        want: TYPE_ITEM,
+    },
+    Written {
+        name: "instances and type items of one interface share its type, and the type items come first",
+        rows: &[
+            Func(&[], None),
+            Instance(None, &[("f", 0)]),
+            TypeOf(1),
+            Instance(Some("n:p/i"), &[("m", 1), ("i", 2), ("n", 1), ("j", 2)]),
+        ],
+        place: 3,
+        want: BOTH_ITEMS,
+    },
+    Written {
+        name: "the interface of a type item takes an enumeration that the outer one lists from there, by the name that it has",
+        rows: &[
+            Enumeration("a"),
+            Func(&[("x", 0)], None),
+            Instance(None, &[("f", 1)]),
+            TypeOf(2),
+            Instance(Some("n:p/i"), &[("n", 3), ("t", 0)]),
+        ],
+        place: 4,
+        want: TYPE_ITEM_AROUND,
     },
 ];
 
@@ -141,16 +211,37 @@ fn writes_five_thousand_levels(rt: HostRuntime) {
     assert!(rt; body == want.as_slice());
 }
 
-// A resource is not written inside yet.
-const REFUSED: &[Refused] = &[(
-    &[
-        Resource,
-        Instance(None, &[("r", 0)]),
-        Instance(None, &[("n", 1)]),
-    ],
-    2,
-    None,
-)];
+// A resource is not written inside yet, nor is a type item of a world.
+const REFUSED: &[Refused] = &[
+    (
+        &[
+            Resource,
+            Instance(None, &[("r", 0)]),
+            Instance(None, &[("n", 1)]),
+        ],
+        2,
+        None,
+    ),
+    (
+        &[
+            Resource,
+            Instance(None, &[("r", 0)]),
+            TypeOf(1),
+            Instance(None, &[("n", 2)]),
+        ],
+        3,
+        None,
+    ),
+    (
+        &[
+            Component(None, &[], &[]),
+            TypeOf(0),
+            Instance(None, &[("w", 1)]),
+        ],
+        2,
+        None,
+    ),
+];
 
 #[test]
 fn refuses_what_is_inside(rt: HostRuntime) {

@@ -52,6 +52,17 @@ const FUNCTION_TYPE: &[u8] = &[
     0x03, 0x00, 0x01, 0x67, 0x03, 0x00, 0x02, // `g` is that type
 ];
 
+const INTERFACE_TYPE: &[u8] = &[
+    0x00, 0x61, 0x73, 0x6d, 0x0d, 0x00, 0x01, 0x00, // the preamble
+    0x07, 0x25, 0x01, 0x41, 0x04, // a component type of four declarations
+    0x01, 0x42, 0x02, // an instance type of two declarations
+    0x01, 0x40, 0x00, 0x01, 0x00, // a function type
+    0x04, 0x00, 0x01, 0x66, 0x01, 0x00, // a function
+    0x03, 0x00, 0x01, 0x6a, 0x05, 0x00, // `j` is imported, an instance
+    0x03, 0x00, 0x01, 0x69, 0x03, 0x00, 0x00, // `i` is that type
+    0x04, 0x00, 0x01, 0x6b, 0x03, 0x00, 0x00, // and `k`, which is exported
+];
+
 const IMPORTED_IN_ORDER: &[u8] = &[
     0x00, 0x61, 0x73, 0x6d, 0x0d, 0x00, 0x01, 0x00, // the preamble
     0x07, 0x19, 0x01, 0x41, 0x04, // a component type of four declarations
@@ -255,6 +266,32 @@ const WORLDS: &[WorldRow] = &[
         way: Typed,
         answer: Ok(true),
         want: FUNCTION_TYPE,
+    },
+    WorldRow {
+        name: "a type item of an interface equals the instance type that is written once for both sides, and comes behind the instances",
+        rows: &[
+            Func(&[], None),
+            Instance(None, &[("f", 0)]),
+            TypeOf(1),
+            Component(None, &[("i", 2), ("j", 1)], &[("k", 2)]),
+        ],
+        place: 3,
+        way: Typed,
+        answer: Ok(true),
+        want: INTERFACE_TYPE,
+    },
+    WorldRow {
+        name: "a type item of an interface with a resource is not written yet",
+        rows: &[
+            Resource,
+            Instance(None, &[("r", 0)]),
+            TypeOf(1),
+            Component(None, &[], &[("i", 2)]),
+        ],
+        place: 3,
+        way: Typed,
+        answer: Ok(false),
+        want: NOTHING,
     },
     WorldRow {
         name: "an imported type item stands behind that which it mentions, and names it, also where it is listed first",

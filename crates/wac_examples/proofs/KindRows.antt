@@ -17,7 +17,7 @@ use Rattle.wac_shapes.specs.declared.component.«Type».TheVariants as ty
 use Rattle.wac_collection.specs.Collection.{Collection}
 use Rattle.wac_collection.specs.declared.collection.Held.{Held}
 use Rattle.wac_collection.specs.Held.{part_at}
-use Rattle.wac_primitives.specs.Tree.{absent, function, function_item, instance, instance_item, primitive}
+use Rattle.wac_primitives.specs.Tree.{absent, function, function_item, instance, instance_item, primitive, type_equal}
 use Rattle.wac_subtyping.specs.Subtype.{kind_tree, type_tree}
 use Rattle.wac_meaning.specs.Importable.{HasNoHandle, IsPlainTo, IsPlainWhereThere, IsImportableKind, IsDefinableItem, IsDefinableKind}
 
@@ -41,7 +41,7 @@ abbrev used_type : Name × UsedType
 used_type = (codes "t", record { interface = record { 0 = 0 }; name = None })
 
 -- a resource; a list of bytes; and interfaces: with an id, without, with a use, with an instance, with a function of a handle, with an instance of that
--- one, with an instance that has an instance
+-- one, with an instance that has an instance, with a type item of the first, with one of that with a function of a handle
 abbrev types : Collection
 types = record {
   resources = record { item = record { name = codes "r"; alias = None }; before = 0 } ∷ [];
@@ -55,12 +55,16 @@ types = record {
       ∷ interface_of (Some (codes "a:b/e")) [] ((codes "i", kind.Instance (record { 0 = 0 })) ∷ [])
       ∷ interface_of (Some (codes "a:b/g")) [] ((codes "f", of_handle) ∷ [])
       ∷ interface_of (Some (codes "a:b/h")) [] ((codes "i", kind.Instance (record { 0 = 4 })) ∷ [])
-      ∷ interface_of (Some (codes "a:b/k")) [] ((codes "j", kind.Instance (record { 0 = 3 })) ∷ []) ∷ [];
+      ∷ interface_of (Some (codes "a:b/k")) [] ((codes "j", kind.Instance (record { 0 = 3 })) ∷ [])
+      ∷ interface_of (Some (codes "a:b/l")) [] ((codes "i", kind.TypeItem (ty.Interface (record { 0 = 0 }))) ∷ [])
+      ∷ interface_of (Some (codes "a:b/m")) [] ((codes "i", kind.TypeItem (ty.Interface (record { 0 = 4 }))) ∷ []) ∷ [];
   worlds =
       world_of ((codes "f", plain_function) ∷ []) ((codes "i", kind.Instance (record { 0 = 0 })) ∷ [])
       ∷ world_of [] ((codes "f", of_handle) ∷ [])
       ∷ world_of ((codes "i", kind.Instance (record { 0 = 2 })) ∷ []) []
-      ∷ world_of [] ((codes "c", kind.Component (record { 0 = 0 })) ∷ []) ∷ [];
+      ∷ world_of [] ((codes "c", kind.Component (record { 0 = 0 })) ∷ [])
+      ∷ world_of ((codes "i", kind.TypeItem (ty.Interface (record { 0 = 0 }))) ∷ []) []
+      ∷ world_of ((codes "i", kind.TypeItem (ty.Interface (record { 0 = 2 }))) ∷ []) [] ∷ [];
 }
 
 abbrev instance_of : ℕ → ItemKind
@@ -83,6 +87,9 @@ of_plain id uses = record { id = id; uses = uses; exports = (codes "f", plain_fu
 
 abbrev with_instance : Name → ℕ → Interface
 with_instance id n = record { id = Some id; uses = []; exports = (codes "i", instance_of n) ∷ [] }
+
+abbrev with_type_item : Name → ℕ → Interface
+with_type_item id n = record { id = Some id; uses = []; exports = (codes "i", interface_at n) ∷ [] }
 
 -- a function of a number is imported, and one of a handle is not
 byte_parts : (i : ℕ) → HasNoHandle {L = Name} (part_at (primitive prim.U8 ∷ []) i)
@@ -153,6 +160,25 @@ twice_nested_is_imported n = by_name (same_name n (codes "j")) where
   by_name true = one_instance
   by_name false = tt
 
+-- and one that lists the type of such an instance as a type item
+one_type : (n : Name) → IsPlainWhereThere {L = Name} (if same_name n (codes "i") then type_equal (instance (λ m. if same_name m (codes "f") then function_item (function false (codes "x" ∷ []) (part_at (primitive prim.U8 ∷ [])) absent) else absent)) else absent)
+one_type n = by_name (same_name n (codes "i")) where
+  by_name : (b : Bool) → IsPlainWhereThere {L = Name} (if b then type_equal (instance (λ m. if same_name m (codes "f") then function_item (function false (codes "x" ∷ []) (part_at (primitive prim.U8 ∷ [])) absent) else absent)) else absent)
+  by_name true = one_function
+  by_name false = tt
+
+pub instance_with_a_type_item_is_imported : IsImportableKind types (instance_of 7)
+unfolding type_tree
+instance_with_a_type_item_is_imported n = one_type n
+
+pub interface_with_a_type_item_is_imported : IsImportableKind types (interface_at 7)
+unfolding type_tree
+interface_with_a_type_item_is_imported n = one_type n
+
+pub handle_in_a_type_item_is_not : IsImportableKind types (instance_of 8) → ⊥
+unfolding type_tree
+handle_in_a_type_item_is_not h = (h (codes "i") (codes "f")).0 0
+
 pub handle_inside_is_not : IsImportableKind types (instance_of 4) → ⊥
 unfolding type_tree
 handle_inside_is_not h = (h (codes "f")).0 0
@@ -178,6 +204,10 @@ world_type_is_imported = (one_function, one_instance)
 pub component_with_a_user_is_imported : IsImportableKind types (component_of 2)
 unfolding type_tree
 component_with_a_user_is_imported = (one_instance, λ n. tt)
+
+pub component_with_a_type_item_is_imported : IsImportableKind types (component_of 4)
+unfolding type_tree
+component_with_a_type_item_is_imported = (one_type, λ n. tt)
 
 pub component_of_a_handle_is_not : IsImportableKind types (component_of 1) → ⊥
 unfolding type_tree
@@ -223,6 +253,18 @@ nested_interface_is_defined = record {
   only zero e is = (1, subst (λ x. IsPlainTo 1 types x.1) (given_back (codes "i", instance_of 0) e is) (plain_function_to 0))
   only (suc k) e is = absurd (none-some e is)
 
+pub interface_with_a_type_item_is_defined : IsDefinableKind types (interface_at 7)
+interface_with_a_type_item_is_defined = record {
+  interface = with_type_item (codes "a:b/l") 0;
+  found = refl;
+  id = refl;
+  uses = refl;
+  plain = only;
+} where
+  only : (k : ℕ) (e : Name × ItemKind) → slice_get ((codes "i", interface_at 0) ∷ []) k ≡ Some e → (d : ℕ) × IsPlainTo d types e.1
+  only zero e is = (1, subst (λ x. IsPlainTo 1 types x.1) (given_back (codes "i", interface_at 0) e is) (plain_function_to 0))
+  only (suc k) e is = absurd (none-some e is)
+
 pub no_id_is_not : IsDefinableKind types (interface_at 1) → ⊥
 no_id_is_not h = not_some {A = Name} None refl (subst (λ x. IsSome x.id) (sym (given_back (of_plain None []) h.interface h.found)) h.id)
 
@@ -255,6 +297,14 @@ world_is_defined = record { world = (world_of ((codes "f", plain_function) ∷ [
   outs : (k : ℕ) (e : Name × ItemKind) → slice_get ((codes "i", instance_of 0) ∷ []) k ≡ Some e → IsDefinableItem types e.1
   outs zero e is = subst (λ x. IsDefinableItem types x.1) (given_back (codes "i", instance_of 0) e is) (refl, 1, plain_function_to 0)
   outs (suc k) e is = absurd (none-some e is)
+
+-- one that imports a type item of an interface is, also of one that uses another, which is written in place
+pub world_with_a_type_item_is_defined : IsDefinableKind types (world_at 5)
+unfolding type_tree
+world_with_a_type_item_is_defined = record { world = (world_of ((codes "i", interface_at 2) ∷ []) []).item; found = refl; id = refl; uses = refl; imports = ins; exports = λ k e is. absurd (none-some e is) } where
+  ins : (k : ℕ) (e : Name × ItemKind) → slice_get ((codes "i", interface_at 2) ∷ []) k ≡ Some e → IsDefinableItem types e.1
+  ins zero e is = subst (λ x. IsDefinableItem types x.1) (given_back (codes "i", interface_at 2) e is) (tt, 1, plain_function_to 0)
+  ins (suc k) e is = absurd (none-some e is)
 
 handle_to : (d : ℕ) → IsPlainTo d types of_handle → ⊥
 unfolding type_tree

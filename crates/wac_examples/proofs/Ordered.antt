@@ -12,7 +12,7 @@ use Rattle.std.proofs.lemmas.Map.Views.{tells_apart}
 use Rattle.wac_edges.specs.declared.edges.Edge.{Edge}
 use Rattle.wac_edges.specs.declared.node.NodeId.{NodeId}
 use Rattle.wac_edges.specs.Edge.{edge_cmp, edge_key, edge_of, edge_of-edge_key, node_number}
-use Rattle.wac_edges.specs.Order.{Edges, Writes, IsLowestReady, without}
+use Rattle.wac_edges.specs.Order.{Edges, Writes, without}
 
 -- ---- sets of edges that a list gives
 pub edge_cmp_total : IsTotalOrder edge_cmp

@@ -4,6 +4,7 @@ ghost use Rattle.wac_causes.specs.NotYet.{AllDefinable};
 ghost use Rattle.wac_collection.specs.Collection.{holds_type};
 ghost use Rattle.wac_shapes.specs.Kinds.{kind_type};
 ghost use Rattle.wac_edges.specs.Edge.{node_number};
+ghost use Rattle.wac_importing.specs.Looked.{AreFree};
 ghost use Rattle.wac_meaning.specs.Importable.{IsDefinableKind};
 ghost use Rattle.wac_nodes.specs.Graph.{node_at, definition};
 ghost use Rattle.wac_nodes.specs.Nodes.{kind_of};
@@ -12,10 +13,11 @@ use crate::graph::CompositionGraph;
 use std::alloc::AllocError;
 use wac_importing::is_definable;
 use wac_nodes::{Node, NodeId, NodeKind};
+use wac_reach::Reached;
 use wac_types::{ItemKind, Types};
 
 impl CompositionGraph {
-    /// Whether each definition is of a type that is defined so far.
+    /// Whether each definition is of a type that is defined so far. What their types reach together is looked at once.
     pub(crate) fn are_definable(&self) -> Result<bool, AllocError>
         ensures all { result ≡ Answers true → AllDefinable self.now }
         ensures not { result ≡ Answers false → AllDefinable self.now → ⊥ }
@@ -23,34 +25,40 @@ impl CompositionGraph {
         if !self.has_definition() {
             return Ok(true);
         }
+        let mut looked = Reached::new(self.alloc);
         for n in 0..self.nodes.capacity() {
-            if !self.is_definable(n)? {
+            if !self.is_definable(&mut looked, n)? {
                 return Ok(false);
             }
         }
         Ok(true)
     }
 
-    /// Whether the node of this number is none or no definition, or is one of a type that is defined so far.
-    fn is_definable(&self, n: usize) -> Result<bool, AllocError>
+    /// Whether the node of this number is none or no definition, or is one of a type that is defined so far. What was looked at before
+    /// is not looked at again.
+    fn is_definable(&self, looked: &mut Reached, n: usize) -> Result<bool, AllocError>
+        requires { AreFree self.now.types looked.old }
         ensures is { result ≡ Answers true → IfSome (node_at self.now (node_number n)) (λ node. node.kind ≡ definition → IsDefinableKind self.now.types node.item_kind) }
         ensures not { result ≡ Answers false → IsSomeAnd (node_at self.now (node_number n)) (λ node. (node.kind ≡ definition) × (IsDefinableKind self.now.types node.item_kind → ⊥)) }
+        ensures free { result ≡ Answers true → AreFree self.now.types looked.new }
     {
         match self.nodes.get(n) {
-            Some(node) => is_written_type(&self.types, node),
+            Some(node) => is_written_type(&self.types, looked, node),
             None => Ok(true),
         }
     }
 }
 
 /// Whether a node is no definition, or is one of a type that is defined so far.
-fn is_written_type(types: &Types, node: &Node) -> Result<bool, AllocError>
-    requires { holds_type types.now (kind_type node.now.item_kind) ≡ true }
+fn is_written_type(types: &Types, looked: &mut Reached, node: &Node) -> Result<bool, AllocError>
+    requires held { holds_type types.now (kind_type node.now.item_kind) ≡ true }
+    requires free { AreFree types.now looked.old }
     ensures is { result ≡ Answers true → kind_of node.now.kind ≡ definition → IsDefinableKind types.now node.now.item_kind }
     ensures not { result ≡ Answers false → (kind_of node.now.kind ≡ definition) × (IsDefinableKind types.now node.now.item_kind → ⊥) }
+    ensures free { result ≡ Answers true → AreFree types.now looked.new }
 {
     match &node.kind {
-        NodeKind::Definition => is_definable(types, node.item_kind),
+        NodeKind::Definition => is_definable(types, looked, node.item_kind),
         _ => Ok(true),
     }
 }

@@ -1,6 +1,8 @@
 // Types that import nodes ask for.
 use crate::tables::Case;
-use crate::tables::Row::{Bool, Byte, Doubled, Enumeration, Func, Instance, Own, Resource, TypeOf};
+use crate::tables::Row::{
+    Bool, Byte, Component, Doubled, Enumeration, Func, Instance, Own, Resource, TypeOf,
+};
 use crate::tables::Step::Import;
 use crate::tables::Want::{Length, Parts, Text};
 
@@ -84,6 +86,22 @@ pub const IMPORTS: &[Case] = &[
         steps: &[Import("i", 2)],
         want: Parts(&["070e0142020140000100040001660100", "0a0701000169030000"]),
     },
+    // And inside an instance: its instance type is written before it, in that of the outer one, and the type item equals that.
+    Case {
+        rows: &[
+            Func(&[], None),
+            Instance(None, &[("f", 0)]),
+            TypeOf(1),
+            Instance(Some("n:p/o"), &[("i", 2)]),
+        ],
+        steps: &[Import("n:p/o", 3)],
+        want: Parts(&[
+            "0718014202",
+            "0142020140000100040001660100",
+            "04000169030000",
+            "0a0a0100056e3a702f6f0500",
+        ]),
+    },
     // Tuples of which each holds the one before twice, forty deep: each is written once.
     Case {
         rows: &[Bool, Doubled(0, 40), Func(&[("x", 1)], None)],
@@ -102,6 +120,27 @@ pub const IMPORTS: &[Case] = &[
             Resource,
             Instance(None, &[("r", 0)]),
             Instance(None, &[("i", 1)]),
+        ],
+        steps: &[Import("o", 2)],
+        want: Text(NOT_YET),
+    },
+    // Nor in an interface that an instance lists as a type item.
+    Case {
+        rows: &[
+            Resource,
+            Instance(None, &[("r", 0)]),
+            TypeOf(1),
+            Instance(None, &[("i", 2)]),
+        ],
+        steps: &[Import("o", 3)],
+        want: Text(NOT_YET),
+    },
+    // Nor is a type item of a world there.
+    Case {
+        rows: &[
+            Component(None, &[], &[]),
+            TypeOf(0),
+            Instance(None, &[("w", 1)]),
         ],
         steps: &[Import("o", 2)],
         want: Text(NOT_YET),

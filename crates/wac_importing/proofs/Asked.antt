@@ -16,38 +16,35 @@ use Rattle.wac_collection.specs.Collection.{Collection, IsWellFormed, AddedBefor
 use Rattle.wac_collection.specs.declared.collection.Held.{Held}
 use Rattle.wac_subtyping.proofs.Unfolding.{type_before}
 use Rattle.wac_subtyping.specs.Subtype.{Sub, IsPlain, IsSubtype, type_tree, kind_tree, listed_in}
-use Rattle.wac_subtyping.proofs.Relation.{plain_sub}
 use Rattle.wac_entries.specs.Bindings.{AreHeld}
 use Rattle.wac_entries.specs.Classes.{Entry, by_names, is_instance as is_instance_kind, same_class, members, names_of_classes, class_names, ClassLaws}
 use Rattle.wac_terms.specs.Merge.{Merged, IsMerge, with_names, names_behind, export_list, export_lists}
-use Rattle.wac_meaning.specs.Importable.{HasNoHandle, IsPlainItem, IsPlainWhereThere, IsImportable, IsImportableKind}
+use Rattle.wac_meaning.specs.Importable.{IsPlainItem, IsPlainWhereThere, IsImportable, IsImportableKind}
 use Rattle.wac_meaning.proofs.AskedMembers.{IsIn, in_filter}
 use Rattle.wac_meaning.proofs.MergeLemmas.{OrderHasClasses, canonical_in}
 use Rattle.wac_uses.specs.United.{instances_of, listed_by}
 use Rattle.wac_merge.specs.Listed.{interface_in, united_interfaces, Unites, AreListedInOrder}
 use Rattle.wac_planning.proofs.Listing.{listed-before}
 use Rattle.wac_importing.specs.Written.{AllImportable}
-use Rattle.wac_importing.proofs.Handles.{plain_free}
+use Rattle.wac_meaning.proofs.PlainLemmas.{plain_item}
 use Rattle.wac_importing.proofs.Items.{interface_is, interface_there, exports_are}
 use Rattle.wac_importing.proofs.Nested.{listed_held, never}
 use Rattle.wac_importing.proofs.Refusing.{is_held}
 
 -- ---- subtypes of what is importable
 module _ {L : Type 0} where
-  plain_tree : (t : TypeTree L) → HasNoHandle t → IsPlain t
-  plain_tree (instance es) h = absurd h
-  plain_tree (component is es) h = absurd h
-  plain_tree (module_of is es) h = absurd h
-  plain_tree (type_equal t) h = absurd h
-  plain_tree (instance_item t) h = absurd h
-  plain_tree (component_item t) h = absurd h
-  plain_tree (module_item t) h = absurd h
-  plain_tree t h = tt
+  where_plain : (t : TypeTree L) → t ≢ absent → IsPlainWhereThere t → IsPlainItem t
+  where_plain absent n h = absurd (n refl)
+  where_plain t n h = h
+
+  plain_there : (t : TypeTree L) → IsPlainItem t → IsPlainWhereThere t
+  plain_there absent p = absurd p
+  plain_there t p = p
 
   -- what is no instance
   below : (a b : TypeTree L) → Sub a b → ((x : TypeTree L) → a ≡ instance_item x → ⊥) → IsPlainItem b → IsPlainItem a
   below a b (Sub.same _ q) other h = h
-  below a b (Sub.type_items x y s t) other h = let P : TypeTree L → Type 0 = λ z. IsPlainItem (type_equal z) in subst P (plain_sub y x (plain_tree y (plain_free y h)) t) h
+  below a b (Sub.type_items x y s t) other h = where_plain (type_equal x) (λ e. cc) (plain_item (type_equal y) (type_equal x) (Sub.type_items y x t s) (plain_there (type_equal y) h))
   below a b (Sub.instances xs ys f) other h = absurd h
   below a b (Sub.components xi xe yi ye f g) other h = absurd h
   below a b (Sub.modules xi yi xe ye f g) other h = absurd h
@@ -70,19 +67,11 @@ module _ {L : Type 0} where
   there_or_not absent = inl refl
   there_or_not t = inr (λ e. cc)
 
-  where_plain : (t : TypeTree L) → t ≢ absent → IsPlainWhereThere t → IsPlainItem t
-  where_plain absent n h = absurd (n refl)
-  where_plain t n h = h
-
   plain_where : (t : TypeTree L) → (t ≢ absent → IsPlainItem t) → IsPlainWhereThere t
   plain_where t h = by (there_or_not t) where
-    there : (t : TypeTree L) → IsPlainItem t → IsPlainWhereThere t
-    there absent p = absurd p
-    there t p = p
-
     by : (t ≡ absent) ⊎ (t ≢ absent) → IsPlainWhereThere t
     by (inl e) = let P : TypeTree L → Type 0 = λ z. IsPlainWhereThere z in subst P (sym e) tt
-    by (inr n) = there t (h n)
+    by (inr n) = plain_there t (h n)
 
   -- what a subtype of an instance has
   abbrev Below : TypeTree L → TypeTree L → Type 0

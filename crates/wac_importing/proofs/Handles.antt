@@ -27,12 +27,12 @@ use Rattle.wac_reach.specs.Reach.{IsIn, mentions, Reaches, at_once, further}
 use Rattle.wac_reach.proofs.Reaching.{mentioned_held}
 use Rattle.wac_listing.specs.Made.{parts, MadeOf, itself, part, some_of, second_of, some_second_of}
 use Rattle.wac_encode.specs.Written.{IsHandle, HasHandle, PartOf, IsOfFunc}
-use Rattle.wac_meaning.specs.Importable.{HasNoHandle, IsPlainItem}
+use Rattle.wac_meaning.specs.Importable.{HasNoHandle, IsDefinable}
 use Rattle.wac_importing.specs.Looked.{IsOfValues}
 
-pub plain_free : {L : Type 0} (t : TypeTree L) → IsPlainItem (type_equal t) → HasNoHandle t
-plain_free absent h = absurd h
-plain_free t h = h
+pub there_free : {L : Type 0} (t : TypeTree L) → IsDefinable (type_equal t) → HasNoHandle t
+there_free absent h = absurd h
+there_free t h = h
 
 -- ---- a definition and its parts
 module _ {L : Type 0} (t : ValueType → TypeTree L) where
@@ -99,20 +99,20 @@ module _ {L : Type 0} (t : ValueType → TypeTree L) where
   free_defined (def.Stream v) h = maybe_first v [] h tt
   free_defined (def.Future v) h = maybe_first v [] h tt
 
-  -- of value types that are plain as type items
-  defined_plain : (x : DefinedType) → AllByRecursion (λ v. IsPlainItem (type_equal (t v))) (defined_values x) → IsPlainItem (type_equal (defined_tree t x))
-  defined_plain (def.Alias v) h = h.0
-  defined_plain (def.Flags names) h = tt
-  defined_plain (def.Enum names) h = tt
-  defined_plain (def.Tuple vs) h = defined_free (def.Tuple vs) (all_map _ _ (λ v p. plain_free (t v) p) _ h)
-  defined_plain (def.List v) h = defined_free (def.List v) (all_map _ _ (λ v p. plain_free (t v) p) (defined_values (def.List v)) h)
-  defined_plain (def.FixedSizeList v n) h = defined_free (def.FixedSizeList v n) (all_map _ _ (λ v p. plain_free (t v) p) (defined_values (def.FixedSizeList v n)) h)
-  defined_plain (def.Option v) h = defined_free (def.Option v) (all_map _ _ (λ v p. plain_free (t v) p) (defined_values (def.Option v)) h)
-  defined_plain (def.Result ok err) h = defined_free (def.Result ok err) (all_map _ _ (λ v p. plain_free (t v) p) _ h)
-  defined_plain (def.Variant v) h = defined_free (def.Variant v) (all_map _ _ (λ v p. plain_free (t v) p) _ h)
-  defined_plain (def.Record r) h = defined_free (def.Record r) (all_map _ _ (λ v p. plain_free (t v) p) _ h)
-  defined_plain (def.Stream v) h = defined_free (def.Stream v) (all_map _ _ (λ v p. plain_free (t v) p) _ h)
-  defined_plain (def.Future v) h = defined_free (def.Future v) (all_map _ _ (λ v p. plain_free (t v) p) _ h)
+  -- of value types that are there and free
+  defined_there : (x : DefinedType) → AllByRecursion (λ v. IsDefinable (type_equal (t v))) (defined_values x) → IsDefinable (type_equal (defined_tree t x))
+  defined_there (def.Alias v) h = h.0
+  defined_there (def.Flags names) h = tt
+  defined_there (def.Enum names) h = tt
+  defined_there (def.Tuple vs) h = defined_free (def.Tuple vs) (all_map _ _ (λ v p. there_free (t v) p) _ h)
+  defined_there (def.List v) h = defined_free (def.List v) (all_map _ _ (λ v p. there_free (t v) p) (defined_values (def.List v)) h)
+  defined_there (def.FixedSizeList v n) h = defined_free (def.FixedSizeList v n) (all_map _ _ (λ v p. there_free (t v) p) (defined_values (def.FixedSizeList v n)) h)
+  defined_there (def.Option v) h = defined_free (def.Option v) (all_map _ _ (λ v p. there_free (t v) p) (defined_values (def.Option v)) h)
+  defined_there (def.Result ok err) h = defined_free (def.Result ok err) (all_map _ _ (λ v p. there_free (t v) p) _ h)
+  defined_there (def.Variant v) h = defined_free (def.Variant v) (all_map _ _ (λ v p. there_free (t v) p) _ h)
+  defined_there (def.Record r) h = defined_free (def.Record r) (all_map _ _ (λ v p. there_free (t v) p) _ h)
+  defined_there (def.Stream v) h = defined_free (def.Stream v) (all_map _ _ (λ v p. there_free (t v) p) _ h)
+  defined_there (def.Future v) h = defined_free (def.Future v) (all_map _ _ (λ v p. there_free (t v) p) _ h)
 
   func_free : (f : FuncType) → AllByRecursion (λ v. HasNoHandle (t v)) (func_values f) → HasNoHandle (func_tree t f)
   func_free f h = let both = first_maybe f.result (seconds f.params) h in (fields_free f.params both.1, both.0)
@@ -241,29 +241,29 @@ module _ (c : Collection) (wf : IsWellFormed c) where
   all_so P [] n before each = tt
   all_so P (v ∷ vs) n before each = (each v before.0 (inl refl), all_so P vs n before.1 (λ w b i. each w b (inr i)))
 
-  abbrev PlainValue : ValueType → Type 0
-  PlainValue v = IsPlainItem (type_equal (tree c (ty.Value v)))
+  abbrev FreeValue : ValueType → Type 0
+  FreeValue v = IsDefinable (type_equal (tree c (ty.Value v)))
 
   pub value_step : (v : ValueType) → holds_value c v ≡ true → tree c (ty.Value v) ≡ step by_name c (λ m. unfolded by_name c m) (resource_names c) (ty.Value v)
   value_step v held = unfolded_step by_name c wf (resource_names c) (ty.Value v) held
 
-  free_value : (n : ℕ) (v : ValueType) → IsValueBefore c n v → ReachesNone (ty.Value v) → PlainValue v
-  free_value n (val.Primitive p) before none = subst (λ x. IsPlainItem (type_equal x)) (sym (value_step (val.Primitive p) refl)) tt
+  free_value : (n : ℕ) (v : ValueType) → IsValueBefore c n v → ReachesNone (ty.Value v) → FreeValue v
+  free_value n (val.Primitive p) before none = subst (λ x. IsDefinable (type_equal x)) (sym (value_step (val.Primitive p) refl)) tt
   free_value n (val.Own r) before none = absurd (none r (at_once _ _ (inl refl)))
   free_value n (val.Borrow r) before none = absurd (none r (at_once _ _ (inl refl)))
   free_value zero (val.Defined d) before none = by (slice_get c.defined d.0) before where
-    by : (o : Option (Held DefinedType)) → AddedBefore 0 o → PlainValue (val.Defined d)
+    by : (o : Option (Held DefinedType)) → AddedBefore 0 o → FreeValue (val.Defined d)
     by None b = absurd b
     by (Some h) b = absurd (omega (arith, b))
   free_value (suc n) (val.Defined d) before none = by (slice_get c.defined d.0) refl before (free_value n) where
-    by : (o : Option (Held DefinedType)) → slice_get c.defined d.0 ≡ o → AddedBefore (suc n) o → ((v : ValueType) → IsValueBefore c n v → ReachesNone (ty.Value v) → PlainValue v) → PlainValue (val.Defined d)
+    by : (o : Option (Held DefinedType)) → slice_get c.defined d.0 ≡ o → AddedBefore (suc n) o → ((v : ValueType) → IsValueBefore c n v → ReachesNone (ty.Value v) → FreeValue v) → FreeValue (val.Defined d)
     by None is b later = absurd b
     by (Some h) is b later =
         let unfolds = value_step (val.Defined d) (before_held c (suc n) (ty.Value (val.Defined d)) before) in
         let mentioned : mentions c (ty.Value (val.Defined d)) ≡ defined_mentions h.item = ap (λ o. option_case (item_of o) [] defined_mentions) is in
-        subst (λ x. IsPlainItem (type_equal x)) (sym (unfolds ∙ ap (of_held (defined_tree (λ v. tree c (ty.Value v)))) is))
-        (defined_plain (λ v. tree c (ty.Value v)) h.item
-        (all_so PlainValue (defined_values h.item) h.before (wf.defined d.0 h is).1
+        subst (λ x. IsDefinable (type_equal x)) (sym (unfolds ∙ ap (of_held (defined_tree (λ v. tree c (ty.Value v)))) is))
+        (defined_there (λ v. tree c (ty.Value v)) h.item
+        (all_so FreeValue (defined_values h.item) h.before (wf.defined d.0 h is).1
         (λ v e i. later v (value_more c h.before n v (omega (arith, b)) e) (λ r reached. none r (further _ _ _ (subst (IsIn (ty.Value v)) (sym mentioned) i) reached)))))
 
   free_func_type : (f : FuncTypeId) → holds_type c (ty.Func f) ≡ true → ReachesNone (ty.Func f) → Free c (ty.Func f)
@@ -276,10 +276,10 @@ module _ (c : Collection) (wf : IsWellFormed c) where
         subst HasNoHandle (sym (step ∙ ap (of_held (func_tree (λ v. tree c (ty.Value v)))) is))
         (func_free (λ v. tree c (ty.Value v)) h.item
         (all_so (λ v. Free c (ty.Value v)) (func_values h.item) h.before (wf.funcs f.0 h is).1
-        (λ v e i. plain_free (tree c (ty.Value v)) (free_value h.before v e (λ r reached. none r (further _ _ _ (subst (IsIn (ty.Value v)) (sym mentioned) i) reached))))))
+        (λ v e i. there_free (tree c (ty.Value v)) (free_value h.before v e (λ r reached. none r (further _ _ _ (subst (IsIn (ty.Value v)) (sym mentioned) i) reached))))))
 
   free_type : (a : AnyType) → IsOfValues a → holds_type c a ≡ true → ReachesNone a → Free c a
-  free_type (ty.Value v) of held none = plain_free (tree c (ty.Value v)) (free_value (size c) v (type_before c wf (ty.Value v) held) none)
+  free_type (ty.Value v) of held none = there_free (tree c (ty.Value v)) (free_value (size c) v (type_before c wf (ty.Value v) held) none)
   free_type (ty.Func f) of held none = free_func_type f held none
   free_type a of held none = absurd of
 
@@ -330,8 +330,8 @@ module _ (c : Collection) (wf : IsWellFormed c) where
   pub none_reached : (a : AnyType) → IsOfValues a → holds_type c a ≡ true → ((r : ResourceId) → Reaches c a (ty.Resource r) → ⊥) → HasNoHandle (type_tree c a)
   none_reached a of held none = subst HasNoHandle (unfolded_is c a) (free_type a of held none)
 
-  pub plain_reached : (v : ValueType) → holds_value c v ≡ true → ((r : ResourceId) → Reaches c (ty.Value v) (ty.Resource r) → ⊥) → IsPlainItem (type_equal (type_tree c (ty.Value v)))
-  plain_reached v held none = subst (λ x. IsPlainItem (type_equal x)) (unfolded_is c (ty.Value v)) (free_value (size c) v (type_before c wf (ty.Value v) held) none)
+  pub free_reached : (v : ValueType) → holds_value c v ≡ true → ((r : ResourceId) → Reaches c (ty.Value v) (ty.Resource r) → ⊥) → IsDefinable (type_equal (type_tree c (ty.Value v)))
+  free_reached v held none = subst (λ x. IsDefinable (type_equal x)) (unfolded_is c (ty.Value v)) (free_value (size c) v (type_before c wf (ty.Value v) held) none)
 
   pub reached_none : (a : AnyType) → IsOfValues a → holds_type c a ≡ true → HasNoHandle (type_tree c a) → (r : ResourceId) → Reaches c a (ty.Resource r) → ⊥
   reached_none a of held free r reached = reaches_none a (ty.Resource r) reached of held (subst HasNoHandle (sym (unfolded_is c a)) free) r refl

@@ -27,7 +27,7 @@ use Rattle.wac_comparison.proofs.Subtyping.{func_plain}
 use Rattle.wac_comparison.proofs.Values.{value_plain as value_tree_plain}
 use Rattle.wac_meaning.specs.Importable.{HasNoHandle, IsPlainItem, IsPlainWhereThere, IsImportable, IsImportableKind, IsDefinable, IsDefinableKind}
 use Rattle.wac_importing.specs.Looked.{IsOfValues, ArePlain, ListsPlain}
-use Rattle.wac_importing.proofs.Handles.{plain_free, plain_reached, reached_none}
+use Rattle.wac_importing.proofs.Handles.{free_reached, reached_none}
 
 -- an item that is there
 plain_there : {L : Type 0} (t : TypeTree L) → IsPlainItem t → IsPlainWhereThere t
@@ -79,6 +79,12 @@ instance_importable c wf i it held at all = subst (λ t. IsImportable (instance_
 
 pub interface_importable : (c : Collection) → IsWellFormed c → (i : InterfaceId) (it : Interface) → holds_type c (ty.Interface i) ≡ true → item_at c.interfaces i.0 ≡ Some it → ArePlain c it.exports → IsImportableKind c (kind.TypeItem (ty.Interface i))
 interface_importable c wf i it held at all = subst (λ t. IsImportable (type_equal t)) (sym (interface_is c wf i it held at)) (all_there c it.exports all)
+
+pub interface_plain : (c : Collection) → IsWellFormed c → (i : InterfaceId) (it : Interface) → holds_type c (ty.Interface i) ≡ true → item_at c.interfaces i.0 ≡ Some it → ArePlain c it.exports → IsPlainItem (kind_tree c (kind.TypeItem (ty.Interface i)))
+interface_plain c wf i it held at all = subst (λ t. IsPlainItem (type_equal t)) (sym (interface_is c wf i it held at)) (all_there c it.exports all)
+
+pub plain_interface : (c : Collection) → IsWellFormed c → (i : InterfaceId) (it : Interface) → holds_type c (ty.Interface i) ≡ true → item_at c.interfaces i.0 ≡ Some it → NoNameTwice it.exports → IsPlainItem (kind_tree c (kind.TypeItem (ty.Interface i))) → ArePlain c it.exports
+plain_interface c wf i it held at once h = there_all c it.exports once (subst (λ t. IsPlainItem (type_equal t)) (interface_is c wf i it held at) h)
 
 pub importable_interface : (c : Collection) → IsWellFormed c → (i : InterfaceId) (it : Interface) → holds_type c (ty.Interface i) ≡ true → item_at c.interfaces i.0 ≡ Some it → NoNameTwice it.exports → IsImportableKind c (kind.TypeItem (ty.Interface i)) → ArePlain c it.exports
 importable_interface c wf i it held at once h = there_all c it.exports once (subst (λ t. IsImportable (type_equal t)) (interface_is c wf i it held at) h)
@@ -139,7 +145,7 @@ module_importable c wf m held = subst (λ (t : TypeTree Name). IsImportable (mod
 -- a type item that is plain, and one of a function type without handles
 pub plain_importable : {L : Type 0} (t : TypeTree L) → IsPlainItem (type_equal t) → IsImportable (type_equal t)
 plain_importable absent h = absurd h
-plain_importable (instance items) h = absurd h
+plain_importable (instance items) h = h
 plain_importable (component imports exports) h = absurd h
 plain_importable t h = h
 
@@ -164,7 +170,7 @@ not_of_values (ty.Value v) value func of = value v refl
 not_of_values (ty.Func f) value func of = func f refl
 not_of_values a value func of = of
 
--- a type item of another sort is not
+-- a type item of another sort is not, interfaces aside
 abbrev TypePlain : TypeTree Name → Type 0
 TypePlain t = IsPlainItem (type_equal t)
 
@@ -183,13 +189,13 @@ module _ (P : TypeTree Name → Type 0) (nothing : P absent → ⊥) where
   held_none g none None h = nothing h
   held_none g none (Some x) h = none x.item h
 
-pub type_not_plain : (c : Collection) → IsWellFormed c → (a : AnyType) → holds_type c a ≡ true → (IsOfValues a → ⊥) → IsPlainItem (kind_tree c (kind.TypeItem a)) → ⊥
-type_not_plain c wf (ty.Value v) held other h = other tt
-type_not_plain c wf (ty.Resource r) held other h = named_none TypePlain (λ h. h) (λ n h. h) (resource_names c (resolved c r)) (subst TypePlain (type_step c wf (ty.Resource r) held) h)
-type_not_plain c wf (ty.Func f) held other h = other tt
-type_not_plain c wf (ty.Interface i) held other h = held_none TypePlain (λ h. h) _ (λ x h. h) (slice_get c.interfaces i.0) (subst TypePlain (type_step c wf (ty.Interface i) held) h)
-type_not_plain c wf (ty.World w) held other h = held_none TypePlain (λ h. h) _ (λ x h. h) (slice_get c.worlds w.0) (subst TypePlain (type_step c wf (ty.World w) held) h)
-type_not_plain c wf (ty.Module m) held other h = held_none TypePlain (λ h. h) _ (λ x h. h) (slice_get c.modules m.0) (subst TypePlain (type_step c wf (ty.Module m) held) h)
+pub type_not_plain : (c : Collection) → IsWellFormed c → (a : AnyType) → holds_type c a ≡ true → (IsOfValues a → ⊥) → ((i : InterfaceId) → a ≡ ty.Interface i → ⊥) → IsPlainItem (kind_tree c (kind.TypeItem a)) → ⊥
+type_not_plain c wf (ty.Value v) held other apart h = other tt
+type_not_plain c wf (ty.Resource r) held other apart h = named_none TypePlain (λ h. h) (λ n h. h) (resource_names c (resolved c r)) (subst TypePlain (type_step c wf (ty.Resource r) held) h)
+type_not_plain c wf (ty.Func f) held other apart h = other tt
+type_not_plain c wf (ty.Interface i) held other apart h = apart i refl
+type_not_plain c wf (ty.World w) held other apart h = held_none TypePlain (λ h. h) _ (λ x h. h) (slice_get c.worlds w.0) (subst TypePlain (type_step c wf (ty.World w) held) h)
+type_not_plain c wf (ty.Module m) held other apart h = held_none TypePlain (λ h. h) _ (λ x h. h) (slice_get c.modules m.0) (subst TypePlain (type_step c wf (ty.Module m) held) h)
 
 -- nor is one of another sort imported so far, interfaces and worlds aside
 pub type_not_importable : (c : Collection) → IsWellFormed c → (a : AnyType) → holds_type c a ≡ true → (IsOfValues a → ⊥) → ((i : InterfaceId) → a ≡ ty.Interface i → ⊥) → ((w : WorldId) → a ≡ ty.World w → ⊥) → IsImportableKind c (kind.TypeItem a) → ⊥
@@ -209,12 +215,20 @@ type_not_definable c wf (ty.Interface i) held other apart away h = apart i refl
 type_not_definable c wf (ty.World w) held other apart away h = away w refl
 type_not_definable c wf (ty.Module m) held other apart away h = held_none TypeDefinable (λ h. h) _ (λ x h. h) (slice_get c.modules m.0) (subst TypeDefinable (type_step c wf (ty.Module m) held) h)
 
--- a value type without handles is plain as a type item
+-- a value type without handles is there, and plain as a type item
+value_there : (c : Collection) → IsWellFormed c → (v : ValueType) → holds_type c (ty.Value v) ≡ true → HasNoHandle (type_tree c (ty.Value v)) → IsDefinable (kind_tree c (kind.TypeItem (ty.Value v)))
+value_there c wf v held free = free_reached c wf v held (reached_none c wf (ty.Value v) tt held free)
+
+there_plain_type : {L : Type 0} (t : TypeTree L) → IsDefinable (type_equal t) → IsPlainItem (type_equal t)
+there_plain_type absent h = absurd h
+there_plain_type (instance items) h = absurd h
+there_plain_type t h = h
+
 pub value_plain : (c : Collection) → IsWellFormed c → (a : AnyType) (v : ValueType) → a ≡ ty.Value v → holds_type c a ≡ true → HasNoHandle (type_tree c a) → IsPlainItem (kind_tree c (kind.TypeItem a))
 value_plain c wf a v is held free =
     let here : holds_type c (ty.Value v) ≡ true = subst (λ b. holds_type c b ≡ true) is held in
     subst (λ b. IsPlainItem (kind_tree c (kind.TypeItem b))) (sym is)
-    (plain_reached c wf v here (reached_none c wf (ty.Value v) tt here (subst (λ b. HasNoHandle (type_tree c b)) is free)))
+    (there_plain_type (type_tree c (ty.Value v)) (value_there c wf v here (subst (λ b. HasNoHandle (type_tree c b)) is free)))
 
 -- and so is a function type
 func_plain_item : (c : Collection) → IsWellFormed c → (f : FuncTypeId) → holds_type c (ty.Func f) ≡ true → HasNoHandle (type_tree c (ty.Func f)) → IsPlainItem (kind_tree c (kind.TypeItem (ty.Func f)))
@@ -233,14 +247,17 @@ values_plain c wf (ty.Value v) of held free = value_plain c wf (ty.Value v) v re
 values_plain c wf (ty.Func f) of held free = func_plain_item c wf f held free
 values_plain c wf a of held free = absurd of
 
-pub plain_value : (c : Collection) (a : AnyType) → IsPlainItem (kind_tree c (kind.TypeItem a)) → HasNoHandle (type_tree c a)
-plain_value c a h = plain_free (type_tree c a) h
+plain_free : {L : Type 0} (t : TypeTree L) → IsPlain t → IsPlainItem (type_equal t) → HasNoHandle t
+plain_free absent p h = absurd h
+plain_free (instance items) p h = absurd p
+plain_free t p h = h
+
+pub plain_value : (c : Collection) (a : AnyType) → IsOfValues a → IsPlainItem (kind_tree c (kind.TypeItem a)) → HasNoHandle (type_tree c a)
+plain_value c (ty.Value v) of h = plain_free (type_tree c (ty.Value v)) (value_tree_plain c v) h
+plain_value c (ty.Func f) of h = plain_free (type_tree c (ty.Func f)) (func_plain c f) h
+plain_value c a of h = absurd of
 
 -- a value type and a function type without handles are defined so far
-plain_definable : {L : Type 0} (t : TypeTree L) → IsPlainItem (type_equal t) → IsDefinable (type_equal t)
-plain_definable absent h = absurd h
-plain_definable t h = h
-
 func_there : (g : ValueType → TypeTree Name) (n : ℕ) (o : Option (Held FuncType)) → AddedBefore n o → HasNoHandle (of_held (func_tree g) o) → TypeDefinable (of_held (func_tree g) o)
 func_there g n None b h = absurd b
 func_there g n (Some x) b h = h
@@ -252,7 +269,7 @@ func_definable c wf f held free =
     (func_there (λ v. unfolded by_name c (resource_names c) (ty.Value v)) (size c) (slice_get c.funcs f.0) (type_before c wf (ty.Func f) held) (subst HasNoHandle steps free))
 
 pub free_definable : (c : Collection) → IsWellFormed c → (a : AnyType) → IsOfValues a → holds_type c a ≡ true → HasNoHandle (type_tree c a) → IsDefinableKind c (kind.TypeItem a)
-free_definable c wf (ty.Value v) of held free = plain_definable (type_tree c (ty.Value v)) (value_plain c wf (ty.Value v) v refl held free)
+free_definable c wf (ty.Value v) of held free = value_there c wf v held free
 free_definable c wf (ty.Func f) of held free = func_definable c wf f held free
 free_definable c wf a of held free = absurd of
 

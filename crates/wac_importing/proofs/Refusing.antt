@@ -22,6 +22,7 @@ use Rattle.wac_scopes.specs.declared.fault.WriteFault.{WriteFault}
 use Rattle.wac_scopes.specs.declared.fault.EncodeFault.{EncodeFault}
 use Rattle.wac_scopes.specs.declared.fault.EncodeFault.TheVariants as fault
 use Rattle.wac_scopes.specs.declared.scope.Scope.{Scope}
+use Rattle.wac_listing.specs.Made.{interface_of}
 use Rattle.wac_encode.specs.Inside.{is_plain_alone}
 use Rattle.wac_encode.specs.Listing.{lists_plain, IsFaultIn, IsRefusedTo}
 use Rattle.wac_root.specs.Importing.{is_importable, IsImportFault}
@@ -33,21 +34,21 @@ use Rattle.wac_worlds.specs.Declaring.{is_declarable, are_declarable, IsItemFaul
 use Rattle.wac_worlds.specs.Worlds.{is_plain_world, IsStoppedBehind, IsWorldRefused}
 use Rattle.wac_worlds.proofs.Whole.{plain-of, held-imports, held-exports}
 use Rattle.wac_importing.specs.Looked.{IsOfValues, IsPlainAlone, ArePlainInside, IsPlainDeep, ArePlainDeep, HasPlainItems, ListsPlain}
-use Rattle.wac_importing.proofs.Handles.{plain_free, value_needs_none, func_needs_none}
-use Rattle.wac_importing.proofs.Items.{type_not_plain, imports_are, world_exports_are, world_there}
+use Rattle.wac_importing.proofs.Handles.{value_needs_none, func_needs_none}
+use Rattle.wac_importing.proofs.Items.{plain_value, type_not_plain, imports_are, world_exports_are, world_there}
 use Rattle.wac_importing.proofs.Nested.{listed_held, inside_of}
 
 module _ (c : Collection) (wf : IsWellFormed c) where
-  -- a type item that is plain is one of a value type or a function type
-  of_value : (a : AnyType) (P : Type 0) → holds_type c a ≡ true → IsPlainItem (kind_tree c (kind.TypeItem a)) → (IsOfValues a → ⊥) → P
-  of_value a P held plain other = absurd (type_not_plain c wf a held other plain)
+  -- a type item that is plain is one of a value type, a function type or an interface
+  of_value : (a : AnyType) (P : Type 0) → holds_type c a ≡ true → IsPlainItem (kind_tree c (kind.TypeItem a)) → (IsOfValues a → ⊥) → ((i : InterfaceId) → a ≡ ty.Interface i → ⊥) → P
+  of_value a P held plain other apart = absurd (type_not_plain c wf a held other apart plain)
 
   plain_is : (k : ItemKind) → holds_type c (kind_type k) ≡ true → IsPlainAlone c k → is_plain_alone k ≡ true
   plain_is (kind.TypeItem (ty.Value v)) held plain = refl
-  plain_is (kind.TypeItem (ty.Resource r)) held plain = of_value (ty.Resource r) _ held plain (λ of. of)
+  plain_is (kind.TypeItem (ty.Resource r)) held plain = of_value (ty.Resource r) _ held plain (λ of. of) (λ i e. cc)
   plain_is (kind.TypeItem (ty.Func f)) held plain = refl
-  plain_is (kind.TypeItem (ty.Interface i)) held plain = of_value (ty.Interface i) _ held plain (λ of. of)
-  plain_is (kind.TypeItem (ty.World w)) held plain = of_value (ty.World w) _ held plain (λ of. of)
+  plain_is (kind.TypeItem (ty.Interface i)) held plain = refl
+  plain_is (kind.TypeItem (ty.World w)) held plain = of_value (ty.World w) _ held plain (λ of. of) (λ i e. cc)
   plain_is (kind.TypeItem (ty.Module m)) held plain = refl
   plain_is (kind.Func f) held plain = refl
   plain_is (kind.Instance i) held plain = refl
@@ -56,14 +57,14 @@ module _ (c : Collection) (wf : IsWellFormed c) where
   plain_is (kind.Value v) held plain = refl
 
   -- no fault stands at a plain item, where none stands inside of it
-  item_fault : (k : ItemKind) → holds_type c (kind_type k) ≡ true → IsPlainAlone c k → (R : Scope → InterfaceId → EncodeFault → Type 0) (s : Scope) (f : WriteFault) → ((l : InterfaceId) → k ≡ kind.Instance l → (s : Scope) → R s l (fault.Write f) → ⊥) → IsFaultIn R c s k f → ⊥
-  item_fault (kind.TypeItem (ty.Value v)) held plain R s f inside h = value_needs_none c wf v held (plain_free (type_tree c (ty.Value v)) plain) h.1
+  item_fault : (k : ItemKind) → holds_type c (kind_type k) ≡ true → IsPlainAlone c k → (R : Scope → InterfaceId → EncodeFault → Type 0) (s : Scope) (f : WriteFault) → ((l : InterfaceId) → interface_of k ≡ Some l → (s : Scope) → R s l (fault.Write f) → ⊥) → IsFaultIn R c s k f → ⊥
+  item_fault (kind.TypeItem (ty.Value v)) held plain R s f inside h = value_needs_none c wf v held (plain_value c (ty.Value v) tt plain) h.1
   item_fault (kind.Func g) held plain R s f inside h = func_needs_none c wf g held plain h.1
-  item_fault (kind.TypeItem (ty.Resource r)) held plain R s f inside h = of_value (ty.Resource r) _ held plain (λ of. of)
-  item_fault (kind.TypeItem (ty.Func g)) held plain R s f inside h = func_needs_none c wf g held (plain_free (type_tree c (ty.Func g)) plain) h.1
-  item_fault (kind.TypeItem (ty.Interface i)) held plain R s f inside h = of_value (ty.Interface i) _ held plain (λ of. of)
-  item_fault (kind.TypeItem (ty.World w)) held plain R s f inside h = of_value (ty.World w) _ held plain (λ of. of)
-  item_fault (kind.TypeItem (ty.Module m)) held plain R s f inside h = of_value (ty.Module m) _ held plain (λ of. of)
+  item_fault (kind.TypeItem (ty.Resource r)) held plain R s f inside h = of_value (ty.Resource r) _ held plain (λ of. of) (λ i e. cc)
+  item_fault (kind.TypeItem (ty.Func g)) held plain R s f inside h = func_needs_none c wf g held (plain_value c (ty.Func g) tt plain) h.1
+  item_fault (kind.TypeItem (ty.Interface i)) held plain R s f inside h = inside i refl h.0 h.2
+  item_fault (kind.TypeItem (ty.World w)) held plain R s f inside h = of_value (ty.World w) _ held plain (λ of. of) (λ i e. cc)
+  item_fault (kind.TypeItem (ty.Module m)) held plain R s f inside h = of_value (ty.Module m) _ held plain (λ of. of) (λ i e. cc)
   item_fault (kind.Instance i) held plain R s f inside h = inside i refl h.0 h.2
   item_fault (kind.Component w) held plain R s f inside h = absurd plain
   item_fault (kind.Module m) held plain R s f inside h = absurd plain
@@ -93,7 +94,7 @@ module _ (c : Collection) (wf : IsWellFormed c) where
   pub is_written : (k : ItemKind) → holds_type c (kind_type k) ≡ true → ListsPlain c k → ((m : ModuleTypeId) → k ≡ kind.Module m → ⊥) → ((w : WorldId) → k ≡ kind.Component w → ⊥) → ((w : WorldId) → k ≡ kind.TypeItem (ty.World w) → ⊥) → is_importable c k ≡ true
   is_written (kind.Instance i) held plain other away apart = lists i held plain
   is_written (kind.TypeItem (ty.Value v)) held plain other away apart = refl
-  is_written (kind.TypeItem (ty.Resource r)) held plain other away apart = of_value (ty.Resource r) _ held plain (λ of. of)
+  is_written (kind.TypeItem (ty.Resource r)) held plain other away apart = of_value (ty.Resource r) _ held plain (λ of. of) (λ i e. cc)
   is_written (kind.TypeItem (ty.Func f)) held plain other away apart = refl
   is_written (kind.TypeItem (ty.Interface i)) held plain other away apart = lists i held plain
   is_written (kind.TypeItem (ty.World w)) held plain other away apart = absurd (apart w refl)
@@ -116,16 +117,16 @@ module _ (c : Collection) (wf : IsWellFormed c) where
       let exported : interface_exports c i ≡ h.interface.exports = ap (λ o. option_case o [] (λ (x : Interface). x.exports)) h.found in
       let listed : slice_get (interface_exports c i) j ≡ Some e = ap (λ (es : List (Name × ItemKind)). slice_get es j) exported ∙ there in
       item_fault h.stopped.item (exports_held i h.interface h.found j e there) (all i (0, refl) j e listed) (IsRefusedTo d c) h.stopped.scope f
-      (λ l is_instance s' refused. instance_fault l (λ k within. all k (inside_of c i l j h.stopped.name (listed ∙ ap (λ (y : ItemKind). Some (h.stopped.name, y)) is_instance) within.0 k within.1)) s' f d refused) h.stopped.refused
+      (λ l of s' refused. instance_fault l (λ k within. all k (inside_of c i l j e listed of within.0 k within.1)) s' f d refused) h.stopped.refused
 
   -- a world of plain items is written, and no fault stands at it
   item_declarable : (k : ItemKind) → holds_type c (kind_type k) ≡ true → IsPlainDeep c k → is_declarable c k ≡ true
   item_declarable (kind.Instance i) held plain = lists i held plain
   item_declarable (kind.TypeItem (ty.Value v)) held plain = refl
-  item_declarable (kind.TypeItem (ty.Resource r)) held plain = of_value (ty.Resource r) _ held plain (λ of. of)
+  item_declarable (kind.TypeItem (ty.Resource r)) held plain = of_value (ty.Resource r) _ held plain (λ of. of) (λ i e. cc)
   item_declarable (kind.TypeItem (ty.Func f)) held plain = refl
-  item_declarable (kind.TypeItem (ty.Interface i)) held plain = of_value (ty.Interface i) _ held plain (λ of. of)
-  item_declarable (kind.TypeItem (ty.World w)) held plain = of_value (ty.World w) _ held plain (λ of. of)
+  item_declarable (kind.TypeItem (ty.Interface i)) held plain = lists i held plain
+  item_declarable (kind.TypeItem (ty.World w)) held plain = of_value (ty.World w) _ held plain (λ of. of) (λ i e. cc)
   item_declarable (kind.TypeItem (ty.Module m)) held plain = refl
   item_declarable (kind.Func f) held plain = refl
   item_declarable (kind.Component w) held plain = refl
@@ -145,12 +146,12 @@ module _ (c : Collection) (wf : IsWellFormed c) where
 
   deep_fault : (k : ItemKind) → holds_type c (kind_type k) ≡ true → IsPlainDeep c k → (s : Scope) (f : WriteFault) → IsItemFault c k s f → ⊥
   deep_fault (kind.Instance i) held plain s f h = instance_fault i plain h.0 f h.2.0 h.2.1
-  deep_fault (kind.TypeItem (ty.Value v)) held plain s f h = value_needs_none c wf v held (plain_free (type_tree c (ty.Value v)) plain) h.1
-  deep_fault (kind.TypeItem (ty.Resource r)) held plain s f h = of_value (ty.Resource r) _ held plain (λ of. of)
-  deep_fault (kind.TypeItem (ty.Func g)) held plain s f h = func_needs_none c wf g held (plain_free (type_tree c (ty.Func g)) plain) h.1
-  deep_fault (kind.TypeItem (ty.Interface i)) held plain s f h = of_value (ty.Interface i) _ held plain (λ of. of)
-  deep_fault (kind.TypeItem (ty.World w)) held plain s f h = of_value (ty.World w) _ held plain (λ of. of)
-  deep_fault (kind.TypeItem (ty.Module m)) held plain s f h = of_value (ty.Module m) _ held plain (λ of. of)
+  deep_fault (kind.TypeItem (ty.Value v)) held plain s f h = value_needs_none c wf v held (plain_value c (ty.Value v) tt plain) h.1
+  deep_fault (kind.TypeItem (ty.Resource r)) held plain s f h = of_value (ty.Resource r) _ held plain (λ of. of) (λ i e. cc)
+  deep_fault (kind.TypeItem (ty.Func g)) held plain s f h = func_needs_none c wf g held (plain_value c (ty.Func g) tt plain) h.1
+  deep_fault (kind.TypeItem (ty.Interface i)) held plain s f h = instance_fault i plain h.0 f h.2.0 h.2.1
+  deep_fault (kind.TypeItem (ty.World w)) held plain s f h = of_value (ty.World w) _ held plain (λ of. of) (λ i e. cc)
+  deep_fault (kind.TypeItem (ty.Module m)) held plain s f h = of_value (ty.Module m) _ held plain (λ of. of) (λ i e. cc)
   deep_fault (kind.Func g) held plain s f h = func_needs_none c wf g held plain h.1
   deep_fault (kind.Component w) held plain s f h = absurd plain
   deep_fault (kind.Module m) held plain s f h = absurd plain
@@ -172,11 +173,11 @@ module _ (c : Collection) (wf : IsWellFormed c) where
 
   pub no_fault : (k : ItemKind) → holds_type c (kind_type k) ≡ true → ListsPlain c k → (f : WriteFault) → IsImportFault c k f → ⊥
   no_fault (kind.Instance i) held plain f h = instance_fault i plain h.0 f h.1.0 h.1.1
-  no_fault (kind.TypeItem (ty.Value v)) held plain f h = value_needs_none c wf v held (plain_free (type_tree c (ty.Value v)) plain) h.1
+  no_fault (kind.TypeItem (ty.Value v)) held plain f h = value_needs_none c wf v held (plain_value c (ty.Value v) tt plain) h.1
   no_fault (kind.Func g) held plain f h = func_needs_none c wf g held plain h.1
   no_fault (kind.TypeItem (ty.Func g)) held plain f h = func_needs_none c wf g held plain h.1
   no_fault (kind.TypeItem (ty.Interface i)) held plain f h = instance_fault i plain h.0 f h.1.0 h.1.1
-  no_fault (kind.TypeItem (ty.Module m)) held plain f h = of_value (ty.Module m) _ held plain (λ of. of)
+  no_fault (kind.TypeItem (ty.Module m)) held plain f h = of_value (ty.Module m) _ held plain (λ of. of) (λ i e. cc)
   no_fault (kind.Value v) held plain f h = absurd plain
   no_fault (kind.TypeItem a) held plain f h = absurd h
   no_fault (kind.Component w) held plain f h = absurd h

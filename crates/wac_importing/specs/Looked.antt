@@ -28,9 +28,10 @@ HasNoResource ts = (r : ResourceId) → IsIn (ty.Resource r) ts → ⊥
 abbrev pub AreFree : Collection → List AnyType → Type 0
 AreFree c ts = AreClosed c ts × HasNoResource ts
 
--- an item is plain, whatever is inside of it where it is an instance
+-- an item is plain, whatever is inside of it where it is an instance or a type item of an interface
 abbrev pub IsPlainAlone : Collection → ItemKind → Type 0
 IsPlainAlone c (kind.Instance i) = Unit {0}
+IsPlainAlone c (kind.TypeItem (ty.Interface i)) = Unit {0}
 IsPlainAlone c k = IsPlainItem (kind_tree c k)
 
 abbrev pub ArePlainAlone : Collection → List (Name × ItemKind) → Type 0
@@ -55,6 +56,7 @@ ArePlain c es = (i : ℕ) (e : Name × ItemKind) → slice_get es i ≡ Some e �
 -- an item is plain, to any depth
 abbrev pub IsPlainDeep : Collection → ItemKind → Type 0
 IsPlainDeep c (kind.Instance i) = ArePlainInside c i
+IsPlainDeep c (kind.TypeItem (ty.Interface i)) = ArePlainInside c i
 IsPlainDeep c k = IsPlainItem (kind_tree c k)
 
 abbrev pub ArePlainDeep : Collection → List (Name × ItemKind) → Type 0

@@ -15,6 +15,7 @@ ghost use Rattle.wac_importing.specs.Looked.{IsOfValues, HasNoResource, IsPlainA
 use std::alloc::AllocError;
 use wac_collection::{InterfaceId, ItemKind, Named, Type, Types, WorldId};
 use wac_encode::TypeEncoder;
+use wac_listing::interface_of;
 use wac_reach::Reached;
 
 /// Whether a held value type or function type is made of no handle. What types reach that were looked at before is known to be free of
@@ -55,23 +56,25 @@ fn type_at(types: &[Type], index: usize) -> Type
     types[index]
 }
 
-/// Whether a type item of a held type is one of a value type or a function type that is made of no handle.
+/// Whether a type item of a held type is one of a value type or a function type that is made of no handle, or one of an interface, whatever is
+/// inside.
 fn is_plain_type(types: &Types, looked: &mut Reached, ty: Type) -> Result<bool, AllocError>
     requires held { holds_type types.now ty ≡ true }
     requires free { AreFree types.now looked.old }
-    ensures plain { result ≡ Answers true → IsPlainItem (kind_tree types.now (kind.TypeItem ty)) }
-    ensures not { result ≡ Answers false → IsPlainItem (kind_tree types.now (kind.TypeItem ty)) → ⊥ }
+    ensures plain { result ≡ Answers true → IsPlainAlone types.now (kind.TypeItem ty) }
+    ensures not { result ≡ Answers false → IsPlainAlone types.now (kind.TypeItem ty) → ⊥ }
     ensures free { result ≡ Answers true → AreFree types.now looked.new }
 {
     types.law();
     match ty {
         Type::Value(_) | Type::Func(_) => has_no_handle(types, looked, ty),
+        Type::Interface(_) => Ok(true),
         _ => Ok(false),
     }
 }
 
-/// Whether a held item is a function or a type item of a value type or a function type, and made of no handle, or an instance, whatever is
-/// inside.
+/// Whether a held item is a function or a type item of a value type or a function type, and made of no handle, or an instance or a type item
+/// of an interface, whatever is inside.
 fn is_plain(types: &Types, looked: &mut Reached, item: ItemKind) -> Result<bool, AllocError>
     requires held { holds_type types.now (kind_type item) ≡ true }
     requires free { AreFree types.now looked.old }
@@ -108,7 +111,7 @@ fn are_plain(
     Ok(true)
 }
 
-/// Whether a held interface lists plain items alone, whatever is inside instances.
+/// Whether a held interface lists plain items alone, whatever is inside their interfaces.
 fn lists_plain_alone(types: &Types, looked: &mut Reached, ty: Type) -> Result<bool, AllocError>
     requires held { IsHeldInterface types.now ty }
     requires free { AreFree types.now looked.old }
@@ -170,9 +173,9 @@ fn is_plain_deep(types: &Types, looked: &mut Reached, item: ItemKind) -> Result<
     ensures not { result ≡ Answers false → IsPlainItem (kind_tree types.now item) → ⊥ }
     ensures free { result ≡ Answers true → AreFree types.now looked.new }
 {
-    match item {
-        ItemKind::Instance(id) => has_plain_items(types, looked, id),
-        _ => is_plain(types, looked, item),
+    match interface_of(item) {
+        Some(id) => has_plain_items(types, looked, id),
+        None => is_plain(types, looked, item),
     }
 }
 
@@ -256,7 +259,8 @@ fn lists_plain(types: &Types, looked: &mut Reached, item: ItemKind) -> Result<bo
 }
 
 /// Whether a held item is imported so far: it is a core module, or it is a function, a type item of a value type or of a function type, an
-/// instance or a component of functions, type items of such types and such instances, or the type of such a one, and made of no handle.
+/// instance or a component of functions, type items of such types, such instances and type items of these, or the type of such a one, and
+/// made of no handle.
 /// Answers `AllocError` where memory ran out. Linear in its items and
 /// what they reach together.
 pub fn is_importable(types: &Types, item: ItemKind) -> Result<bool, AllocError>
@@ -269,8 +273,8 @@ pub fn is_importable(types: &Types, item: ItemKind) -> Result<bool, AllocError>
     lists_plain(types, &mut looked, item)
 }
 
-/// Whether a held interface has an id, uses nothing, and lists functions, type items of value types and function types, and instances of
-/// such alone, made of no handle.
+/// Whether a held interface has an id, uses nothing, and lists functions, type items of value types and function types, and instances and
+/// type items of interfaces of such alone, made of no handle.
 fn is_definable_interface(
     types: &Types,
     looked: &mut Reached,
@@ -280,6 +284,7 @@ fn is_definable_interface(
     requires free { AreFree types.now looked.old }
     ensures definable { result ≡ Answers true → IsDefinableKind types.now (kind.TypeItem (ty.Interface interface)) }
     ensures not { result ≡ Answers false → IsDefinableKind types.now (kind.TypeItem (ty.Interface interface)) → ⊥ }
+    ensures free { result ≡ Answers true → AreFree types.now looked.new }
 {
     types.law();
     let held = &types[interface];
@@ -316,8 +321,8 @@ fn uses_some(types: &Types, item: ItemKind) -> bool
     }
 }
 
-/// Whether a held world has an id, uses nothing, and lists functions, type items of value types and function types, and instances of such
-/// alone that use nothing, made of no handle.
+/// Whether a held world has an id, uses nothing, and lists functions, type items of value types and function types, instances of such alone
+/// that use nothing, and type items of interfaces of such, made of no handle.
 fn is_definable_world(
     types: &Types,
     looked: &mut Reached,
@@ -327,6 +332,7 @@ fn is_definable_world(
     requires free { AreFree types.now looked.old }
     ensures definable { result ≡ Answers true → IsDefinableKind types.now (kind.TypeItem (ty.World world)) }
     ensures not { result ≡ Answers false → IsDefinableKind types.now (kind.TypeItem (ty.World world)) → ⊥ }
+    ensures free { result ≡ Answers true → AreFree types.now looked.new }
 {
     types.law();
     let item = &types[world];
@@ -348,6 +354,7 @@ fn is_definable_type(types: &Types, looked: &mut Reached, ty: Type) -> Result<bo
     requires free { AreFree types.now looked.old }
     ensures definable { result ≡ Answers true → IsDefinableKind types.now (kind.TypeItem ty) }
     ensures not { result ≡ Answers false → IsDefinableKind types.now (kind.TypeItem ty) → ⊥ }
+    ensures free { result ≡ Answers true → AreFree types.now looked.new }
 {
     types.law();
     match ty {
@@ -359,17 +366,19 @@ fn is_definable_type(types: &Types, looked: &mut Reached, ty: Type) -> Result<bo
 }
 
 /// Whether a held item is a type that is defined so far: a type item of a value type or a function type that is made of no handle, or of
-/// an interface or a world that has an id, uses nothing, and lists functions, type items of such types and instances of such alone, made of
-/// no handle, where instances that a world lists use nothing. Answers `AllocError` where memory ran out. Linear in what the type
-/// lists and what it reaches.
-pub fn is_definable(types: &Types, item: ItemKind) -> Result<bool, AllocError>
-    requires { holds_type types.now (kind_type item) ≡ true }
+/// an interface or a world that has an id, uses nothing, and lists functions, type items of such types, and instances and type items of
+/// interfaces of such alone, made of no handle, where instances that a world lists use nothing. What types reach that were looked at before
+/// is known to be made of no handle, and is not looked at again; where the answer is yes, so is what this one reaches. Answers `AllocError`
+/// where memory ran out. Linear in what the type lists and in what it reaches that was not looked at before.
+pub fn is_definable(types: &Types, looked: &mut Reached, item: ItemKind) -> Result<bool, AllocError>
+    requires held { holds_type types.now (kind_type item) ≡ true }
+    requires free { AreFree types.now looked.old }
     ensures definable { result ≡ Answers true → IsDefinableKind types.now item }
     ensures not { result ≡ Answers false → IsDefinableKind types.now item → ⊥ }
+    ensures free { result ≡ Answers true → AreFree types.now looked.new }
 {
-    let mut looked = Reached::new(types.allocator());
     match item {
-        ItemKind::TypeItem(ty) => is_definable_type(types, &mut looked, ty),
+        ItemKind::TypeItem(ty) => is_definable_type(types, looked, ty),
         _ => Ok(false),
     }
 }

@@ -7,3 +7,4 @@ pub mod Reached
 pub mod Flagged
 pub mod Making
 pub mod Owning
+pub mod Interfaces

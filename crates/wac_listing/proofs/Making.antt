@@ -31,8 +31,9 @@ use Rattle.wac_reach.specs.Reach.{IsIn}
 use Rattle.wac_reach.specs.Found.{with_all}
 use Rattle.wac_reach.proofs.Lists.{in_at, at_in, in_right, all_old, all_new, all_only, all_grown}
 use Rattle.wac_reach.proofs.Reaching.{mentioned_held}
-use Rattle.wac_listing.specs.Made.{parts, MadeOf, itself, part, item_values, IsItemIn, listed, nested, OneItemIsMadeOf, AreMadeOf}
+use Rattle.wac_listing.specs.Made.{parts, MadeOf, itself, part, interface_of, item_values, IsItemIn, listed, nested, OneItemIsMadeOf, AreMadeOf}
 use Rattle.wac_listing.specs.Found.{somes, and_end, ends, with_ends, func_ends, item_ends, items_ends, found_ends, definition_in, definitions_in}
+use Rattle.wac_listing.proofs.Interfaces.{type-of}
 use Rattle.wac_listing.proofs.Reached.{kind-in, part-in}
 
 of_definition : DefinedTypeId → AnyType
@@ -159,17 +160,17 @@ puts-held : (c : Collection) (ts : List AnyType) (o : Option FuncType) → Puts 
 puts-held c ts None = puts-none c ts
 puts-held c ts (Some x) = puts-func c ts x
 
--- what an item mentions is found: the ends of its value types, and of an instance the interface
+-- what an item mentions is found: the ends of its value types, and its interface
 pub record ItemFound (c : Collection) (k : ItemKind) (ts : List AnyType) : Type 0 where
   pub values : (j : ℕ) (v : ValueType) (d : DefinedTypeId) → slice_get (item_values c k) j ≡ Some v → value_resolved c v ≡ val.Defined d → IsIn (ty.Value (val.Defined d)) ts
-  pub interface : (i : InterfaceId) → k ≡ kind.Instance i → IsIn (ty.Interface i) ts
+  pub interface : (i : InterfaceId) → interface_of k ≡ Some i → IsIn (ty.Interface i) ts
 
 found-more : (c : Collection) (k : ItemKind) (old new : List AnyType) → ((t : AnyType) → IsIn t old → IsIn t new) → ItemFound c k old → ItemFound c k new
 found-more c k old new kept f = record { values = λ j v d at is. kept (ty.Value (val.Defined d)) (f.values j v d at is); interface = λ i is. kept (ty.Interface i) (f.interface i is) }
 
 -- a type that it mentions
 abbrev OfItem : Collection → ItemKind → AnyType → Type 0
-OfItem c k t = EndsIn c (item_values c k) t ⊎ ((i : InterfaceId) × (k ≡ kind.Instance i) × (t ≡ ty.Interface i))
+OfItem c k t = EndsIn c (item_values c k) t ⊎ ((i : InterfaceId) × (interface_of k ≡ Some i) × (t ≡ ty.Interface i))
 
 -- From old to new, what an item mentions is put, and that alone.
 record PutsItem (c : Collection) (k : ItemKind) (old new : List AnyType) : Type 0 where
@@ -179,23 +180,23 @@ record PutsItem (c : Collection) (k : ItemKind) (old new : List AnyType) : Type 
   pub more : List AnyType
   pub grown : new ≡ old ++ more
 
-puts-values : (c : Collection) (k : ItemKind) (old new : List AnyType) → ((i : InterfaceId) → k ≡ kind.Instance i → ⊥) → Puts c (item_values c k) old new → PutsItem c k old new
+puts-values : (c : Collection) (k : ItemKind) (old new : List AnyType) → interface_of k ≡ None → Puts c (item_values c k) old new → PutsItem c k old new
 puts-values c k old new other p = record {
   old_in = p.old_in;
-  put = record { values = p.put; interface = λ i is. absurd (other i is) };
+  put = record { values = p.put; interface = λ i is. let none_some : None ≡ Some i = sym other ∙ is in cc };
   only = λ t h. elim (p.only t h) [ inl o ↦ inl o | inr e ↦ inr (inl e) ];
   more = p.more;
   grown = p.grown;
 }
 
-puts-instance : (c : Collection) (ts : List AnyType) (i : InterfaceId) → PutsItem c (kind.Instance i) ts (with_all ts (ty.Interface i ∷ []))
-puts-instance c ts i = record {
+puts-interface : (c : Collection) (k : ItemKind) (ts : List AnyType) (i : InterfaceId) → interface_of k ≡ Some i → item_values c k ≡ [] → PutsItem c k ts (with_all ts (ty.Interface i ∷ []))
+puts-interface c k ts i here none = record {
   old_in = λ t h. all_old ts (ty.Interface i ∷ []) t h;
   put = record {
-    values = λ j v d at is. let no_some : None ≡ Some v = at in cc;
-    interface = λ j is. all_new ts (ty.Interface i ∷ []) (ty.Interface j) (inl (let same : i ≡ j = cc in ap ty.Interface (sym same)));
+    values = λ j v d at is. let no_some : None ≡ Some v = ap (λ (vs : List ValueType). slice_get vs j) (sym none) ∙ at in cc;
+    interface = λ j is. all_new ts (ty.Interface i ∷ []) (ty.Interface j) (inl (let both : Some i ≡ Some j = sym here ∙ is in let same : i ≡ j = cc in ap ty.Interface (sym same)));
   };
-  only = λ t h. elim (all_only ts (ty.Interface i ∷ []) t h) [ inl o ↦ inl o | inr n ↦ inr (inr (i, refl, this t n)) ];
+  only = λ t h. elim (all_only ts (ty.Interface i ∷ []) t h) [ inl o ↦ inl o | inr n ↦ inr (inr (i, here, this t n)) ];
   more = (all_grown ts (ty.Interface i ∷ [])).0;
   grown = (all_grown ts (ty.Interface i ∷ [])).1;
 }
@@ -205,17 +206,17 @@ puts-instance c ts i = record {
     this t (inr n) = absurd n
 
 puts-item : (c : Collection) (ts : List AnyType) (k : ItemKind) → PutsItem c k ts (item_ends c ts k)
-puts-item c ts (kind.TypeItem (ty.Value v)) = puts-values c (kind.TypeItem (ty.Value v)) ts (with_ends c ts (v ∷ [])) (λ i is. cc) (puts-ends c ts (v ∷ []))
-puts-item c ts (kind.TypeItem (ty.Resource x)) = puts-values c (kind.TypeItem (ty.Resource x)) ts ts (λ i is. cc) (puts-none c ts)
-puts-item c ts (kind.TypeItem (ty.Func f)) = puts-values c (kind.TypeItem (ty.Func f)) ts (item_ends c ts (kind.TypeItem (ty.Func f))) (λ i is. cc) (puts-held c ts (item_at c.funcs f.0))
-puts-item c ts (kind.TypeItem (ty.Interface x)) = puts-values c (kind.TypeItem (ty.Interface x)) ts ts (λ i is. cc) (puts-none c ts)
-puts-item c ts (kind.TypeItem (ty.World x)) = puts-values c (kind.TypeItem (ty.World x)) ts ts (λ i is. cc) (puts-none c ts)
-puts-item c ts (kind.TypeItem (ty.Module x)) = puts-values c (kind.TypeItem (ty.Module x)) ts ts (λ i is. cc) (puts-none c ts)
-puts-item c ts (kind.Func f) = puts-values c (kind.Func f) ts (item_ends c ts (kind.Func f)) (λ i is. cc) (puts-held c ts (item_at c.funcs f.0))
-puts-item c ts (kind.Instance x) = puts-instance c ts x
-puts-item c ts (kind.Component x) = puts-values c (kind.Component x) ts ts (λ i is. cc) (puts-none c ts)
-puts-item c ts (kind.Module x) = puts-values c (kind.Module x) ts ts (λ i is. cc) (puts-none c ts)
-puts-item c ts (kind.Value x) = puts-values c (kind.Value x) ts ts (λ i is. cc) (puts-none c ts)
+puts-item c ts (kind.TypeItem (ty.Value v)) = puts-values c (kind.TypeItem (ty.Value v)) ts (with_ends c ts (v ∷ [])) refl (puts-ends c ts (v ∷ []))
+puts-item c ts (kind.TypeItem (ty.Resource x)) = puts-values c (kind.TypeItem (ty.Resource x)) ts ts refl (puts-none c ts)
+puts-item c ts (kind.TypeItem (ty.Func f)) = puts-values c (kind.TypeItem (ty.Func f)) ts (item_ends c ts (kind.TypeItem (ty.Func f))) refl (puts-held c ts (item_at c.funcs f.0))
+puts-item c ts (kind.TypeItem (ty.Interface x)) = puts-interface c (kind.TypeItem (ty.Interface x)) ts x refl refl
+puts-item c ts (kind.TypeItem (ty.World x)) = puts-values c (kind.TypeItem (ty.World x)) ts ts refl (puts-none c ts)
+puts-item c ts (kind.TypeItem (ty.Module x)) = puts-values c (kind.TypeItem (ty.Module x)) ts ts refl (puts-none c ts)
+puts-item c ts (kind.Func f) = puts-values c (kind.Func f) ts (item_ends c ts (kind.Func f)) refl (puts-held c ts (item_at c.funcs f.0))
+puts-item c ts (kind.Instance x) = puts-interface c (kind.Instance x) ts x refl refl
+puts-item c ts (kind.Component x) = puts-values c (kind.Component x) ts ts refl (puts-none c ts)
+puts-item c ts (kind.Module x) = puts-values c (kind.Module x) ts ts refl (puts-none c ts)
+puts-item c ts (kind.Value x) = puts-values c (kind.Value x) ts ts refl (puts-none c ts)
 
 -- what is held
 
@@ -272,12 +273,12 @@ exports-held c wf i held p e at = by_interface (item_at c.interfaces i.0) refl a
 
 item-held : (c : Collection) → IsWellFormed c → (es : List (Name × ItemKind)) → AreHeld c es → (k : ItemKind) → IsItemIn c es k → holds_type c (kind_type k) ≡ true
 item-held c wf es held _ (listed p e at) = held p e at
-item-held c wf es held _ (nested i p e within at) = exports-held c wf i (item-held c wf es held (kind.Instance i) within) p e at
+item-held c wf es held _ (nested k i p e within is at) = exports-held c wf i (subst (λ (t : AnyType). holds_type c t ≡ true) (type-of k i is) (item-held c wf es held k within)) p e at
 
--- a type that is found: a definition that items are made of, or the interface of an instance among them
+-- a type that is found: a definition that items are made of, or the interface of one of them
 pub data IsMade (c : Collection) (es : List (Name × ItemKind)) (t : AnyType) : Type 0 where
   definition_made : (d : DefinedTypeId) → t ≡ ty.Value (val.Defined d) → OneItemIsMadeOf c es (val.Defined d) → HasDefined c d → IsMade c es t
-  interface_made : (i : InterfaceId) → t ≡ ty.Interface i → IsItemIn c es (kind.Instance i) → holds_type c (ty.Interface i) ≡ true → IsMade c es t
+  interface_made : (i : InterfaceId) → t ≡ ty.Interface i → (k : ItemKind) → IsItemIn c es k → interface_of k ≡ Some i → holds_type c (ty.Interface i) ≡ true → IsMade c es t
 
 -- The types that were found, of which those before the next have been looked at.
 pub record AreFound (c : Collection) (es : List (Name × ItemKind)) (ts : List AnyType) (next : ℕ) : Type 0 where
@@ -325,9 +326,7 @@ made-item : (c : Collection) → IsWellFormed c → (es : List (Name × ItemKind
 made-item c wf es k t held within (inl i) = definition_made i.definition i.is
     (k, within, (i.position, i.value, i.at, subst (MadeOf c (value_resolved c i.value)) i.end itself))
     (held-end c wf i.value i.definition (held-item c wf k i.position i.value (item-held c wf es held k within) i.at) i.end)
-made-item c wf es k t held within (inr (i, is, same)) =
-    let here : IsItemIn c es (kind.Instance i) = subst (IsItemIn c es) is within in
-    interface_made i same here (item-held c wf es held (kind.Instance i) here)
+made-item c wf es k t held within (inr (i, is, same)) = interface_made i same k within is (subst (λ (u : AnyType). holds_type c u ≡ true) (type-of k i is) (item-held c wf es held k within))
 
 pub found-first : (c : Collection) → IsWellFormed c → (es : List (Name × ItemKind)) → AreHeld c es → AreFound c es (items_ends c [] es) 0
 found-first c wf es held = record {
@@ -430,12 +429,12 @@ puts-parts c wf es ts d x found made held = record {
         definition_made i.definition i.is (further c es d x place.0 i.value i.definition found place.1 i.end made) (held-end c wf i.value i.definition (held-part c wf d x place.0 i.value held found place.1) i.end)
 
 -- an interface
-puts-inner : (c : Collection) → IsWellFormed c → (es : List (Name × ItemKind)) → AreHeld c es → (ts : List AnyType) (i : InterfaceId) → IsItemIn c es (kind.Instance i) → PutsNext c es (ty.Interface i) ts (items_ends c ts (interface_exports c i))
-puts-inner c wf es held ts i within = record {
+puts-inner : (c : Collection) → IsWellFormed c → (es : List (Name × ItemKind)) → AreHeld c es → (ts : List AnyType) (i : InterfaceId) (k : ItemKind) → IsItemIn c es k → interface_of k ≡ Some i → PutsNext c es (ty.Interface i) ts (items_ends c ts (interface_exports c i))
+puts-inner c wf es held ts i k within here = record {
   old_in = puts.old_in;
   more = puts.more;
   grown = puts.grown;
-  only = λ u h. elim (puts.only u h) [ inl k ↦ inl k | inr e ↦ inr (made-item c wf es e.1.1 u held (nested i e.0 e.1 within e.2) e.3) ];
+  only = λ u h. elim (puts.only u h) [ inl o ↦ inl o | inr e ↦ inr (made-item c wf es e.1.1 u held (nested k i e.0 e.1 within here e.2) e.3) ];
   parts_put = λ d x k v e same. cc;
   items_put = λ j p e same of. let one : j ≡ i = cc in puts.put p e (ap (λ (z : InterfaceId). slice_get (interface_exports c z) p) (sym one) ∙ of);
 }
@@ -458,7 +457,7 @@ found-next c wf es held ts next t at f = found-on c es ts (found_ends c ts t) ne
         let x = there-is c.defined d.0 there_ in
         let ends_are : with_ends c ts (somes (parts x.0)) ≡ found_ends c ts (ty.Value (val.Defined d)) = sym (ap (λ (o : Option DefinedType). option_case o ts (λ y. with_ends c ts (somes (parts y)))) x.1) in
         subst (λ (u : AnyType). PutsNext c es u ts (found_ends c ts u)) (sym is) (subst (PutsNext c es (ty.Value (val.Defined d)) ts) ends_are (puts-parts c wf es ts d x.0 x.1 made there_))
-    by_made (interface_made i is within there_) = subst (λ (u : AnyType). PutsNext c es u ts (found_ends c ts u)) (sym is) (puts-inner c wf es held ts i within)
+    by_made (interface_made i is k within here there_) = subst (λ (u : AnyType). PutsNext c es u ts (found_ends c ts u)) (sym is) (puts-inner c wf es held ts i k within here)
 
 -- all was looked at
 
@@ -495,13 +494,13 @@ at-definition (t ∷ ts) k d at = by_type (λ j h. at-definition ts j d h) (defi
 -- a definition that is found
 made-of : (c : Collection) (es : List (Name × ItemKind)) (d : DefinedTypeId) → IsMade c es (ty.Value (val.Defined d)) → OneItemIsMadeOf c es (val.Defined d) × HasDefined c d
 made-of c es d (definition_made b is made held) = let same : d ≡ b = cc in (subst (λ (y : DefinedTypeId). OneItemIsMadeOf c es (val.Defined y)) (sym same) made, subst (HasDefined c) (sym same) held)
-made-of c es d (interface_made i is within held) = cc
+made-of c es d (interface_made i is k within here held) = cc
 
 module _ (c : Collection) (es : List (Name × ItemKind)) (ts : List AnyType) (next : ℕ) (past : length ts ≤ next) (f : AreFound c es ts next) where
   item-found : (k : ItemKind) → IsItemIn c es k → ItemFound c k ts
   item-found _ (listed p e at) = f.items p e at
-  item-found _ (nested i p e within at) =
-      let n = at_in (ty.Interface i) ts ((item-found (kind.Instance i) within).interface i refl) in
+  item-found _ (nested k i p e within is at) =
+      let n = at_in (ty.Interface i) ts ((item-found k within).interface i is) in
       f.inner n.0 i p e (omega (arith, n.1, past)) n.2 at
 
   module _ (item : ItemKind) (within : IsItemIn c es item) (k : ℕ) (v : ValueType) (value : slice_get (item_values c item) k ≡ Some v) where
@@ -597,7 +596,7 @@ found-held c es ts next f t h = by_made (f.made t h)
   where
     by_made : IsMade c es t → holds_type c t ≡ true
     by_made (definition_made d is made held) = let low : nat_lt d.0 (length c.defined) ≡ true = grind (arith, held) in subst (λ (u : AnyType). holds_type c u ≡ true) (sym is) low
-    by_made (interface_made i is within held) = subst (λ (u : AnyType). holds_type c u ≡ true) (sym is) held
+    by_made (interface_made i is k within here held) = subst (λ (u : AnyType). holds_type c u ≡ true) (sym is) held
 
 pub few-found : (c : Collection) (es : List (Name × ItemKind)) (ts : List AnyType) (next : ℕ) → IsDistinct (TypeEq.ghosts).eq ts → AreFound c es ts next → length ts ≤ length (types_of c)
 few-found c es ts next once f = found_few c ts once (found-held c es ts next f)

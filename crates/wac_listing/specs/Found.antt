@@ -54,6 +54,7 @@ item_ends c ts (kind.TypeItem (ty.Value v)) = with_ends c ts (v ∷ [])
 item_ends c ts (kind.TypeItem (ty.Func f)) = option_case (item_at c.funcs f.0) ts (func_ends c ts)
 item_ends c ts (kind.Func f) = option_case (item_at c.funcs f.0) ts (func_ends c ts)
 item_ends c ts (kind.Instance i) = with_all ts (ty.Interface i ∷ [])
+item_ends c ts (kind.TypeItem (ty.Interface i)) = with_all ts (ty.Interface i ∷ [])
 item_ends c ts k = ts
 
 abbrev pub items_ends : Collection → List AnyType → List (Name × ItemKind) → List AnyType

@@ -1,5 +1,5 @@
 -- What value types are made of.
-use Rattle.std.specs.Prelude.{ℕ, ◌≡◌, ◌↔◌, Bool, true, false, List, [], ◌∷◌, map, Option, Some, slice_get}
+use Rattle.std.specs.Prelude.{ℕ, ◌≡◌, ◌↔◌, Bool, List, [], ◌∷◌, map, Option, Some, None, is_none, slice_get}
 use Rattle.std.specs.List.{filter}
 use Rattle.wac_primitives.specs.Name.{Name, option_case}
 use Rattle.wac_shapes.specs.declared.component.DefinedType.{DefinedType}
@@ -47,10 +47,15 @@ pub data MadeOf (c : Collection) (v : ValueType) : ValueType → Type 0 where
 abbrev pub OneIsMadeOf : Collection → List ValueType → ValueType → Type 0
 OneIsMadeOf c vs w = (k : ℕ) × (v : ValueType) × (slice_get vs k ≡ Some v) × MadeOf c (value_resolved c v) w
 
--- the items that are no instances
+-- the interface whose instance type an item is written with: that of an instance, and that of which it is a type item
+abbrev pub interface_of : ItemKind → Option InterfaceId
+interface_of (kind.Instance i) = Some i
+interface_of (kind.TypeItem (ty.Interface i)) = Some i
+interface_of k = None
+
+-- the items that are written with none
 abbrev pub is_own : ItemKind → Bool
-is_own (kind.Instance i) = false
-is_own k = true
+is_own k = is_none (interface_of k)
 
 abbrev pub own_items : List (Name × ItemKind) → List (Name × ItemKind)
 own_items es = filter (λ e. is_own e.1) es
@@ -62,12 +67,12 @@ item_values c (kind.TypeItem (ty.Func f)) = option_case (item_at c.funcs f.0) []
 item_values c (kind.Func f) = option_case (item_at c.funcs f.0) [] func_values
 item_values c k = []
 
--- an item that is among these, or among those of an instance among them, and so on
+-- an item that is among these, or among those of the interface of one of them, and so on
 pub data IsItemIn (c : Collection) (es : List (Name × ItemKind)) : ItemKind → Type 0 where
   listed : (p : ℕ) (e : Name × ItemKind) → slice_get es p ≡ Some e → IsItemIn c es e.1
-  nested : (i : InterfaceId) (p : ℕ) (e : Name × ItemKind) → IsItemIn c es (kind.Instance i) → slice_get (interface_exports c i) p ≡ Some e → IsItemIn c es e.1
+  nested : (k : ItemKind) (i : InterfaceId) (p : ℕ) (e : Name × ItemKind) → IsItemIn c es k → interface_of k ≡ Some i → slice_get (interface_exports c i) p ≡ Some e → IsItemIn c es e.1
 
--- what one of the items is made of, those of instances among them too
+-- what one of the items is made of, those of their interfaces too
 abbrev pub OneItemIsMadeOf : Collection → List (Name × ItemKind) → ValueType → Type 0
 OneItemIsMadeOf c es w = (k : ItemKind) × IsItemIn c es k × OneIsMadeOf c (item_values c k) w
 

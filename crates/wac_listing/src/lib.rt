@@ -6,6 +6,6 @@ mod order;
 mod parts;
 mod places;
 
-pub use made::{definitions_of, own_definitions_of};
+pub use made::{definitions_of, interface_of, own_definitions_of};
 pub use order::type_order;
 pub use parts::part_at;

@@ -11,7 +11,7 @@ ghost use Rattle.wac_shapes.specs.Kinds.{kind_type};
 ghost use Rattle.wac_collection.specs.Collection.{HasDefined, HasInterface, and_maybe, holds_type, item_at, seconds};
 ghost use Rattle.wac_reach.specs.Found.{with_all};
 ghost use Rattle.wac_reach.specs.Reach.{IsIn};
-ghost use Rattle.wac_listing.specs.Made.{AreMadeOf, own_items, parts};
+ghost use Rattle.wac_listing.specs.Made.{AreMadeOf, interface_of as interface_that, own_items, parts};
 ghost use Rattle.wac_listing.specs.Found.{somes, with_ends, func_ends, item_ends, items_ends, found_ends, definition_in as definition_that, definitions_in, is_among, items_among};
 
 use crate::parts::part_at;
@@ -23,6 +23,16 @@ use wac_collection::{
     DefinedTypeId, FuncType, InterfaceId, ItemKind, Named, Type, Types, ValueType,
 };
 use wac_reach::TypeSet;
+
+/// The interface whose instance type an item is written with: that of an instance, and that of which it is a type item.
+pub fn interface_of(item: ItemKind) -> Option<InterfaceId>
+    ensures { result ≡ interface_that item }
+{
+    match item {
+        ItemKind::Instance(id) | ItemKind::TypeItem(Type::Interface(id)) => Some(id),
+        _ => None,
+    }
+}
 
 /// Puts the definition in which a value type ends, where it does.
 fn put_end(types: &Types, found: &mut TypeSet, value: ValueType) -> Result<(), AllocError>
@@ -67,7 +77,7 @@ fn put_func(types: &Types, found: &mut TypeSet, func: &FuncType) -> Result<(), A
     put_maybe(types, found, func.result)
 }
 
-/// The same of an item, and the interface of an instance.
+/// The same of an item, and its interface.
 fn put_item(types: &Types, found: &mut TypeSet, item: ItemKind) -> Result<(), AllocError>
     requires { holds_type types.now (kind_type item) ≡ true }
     ensures { OnOk result (found.new.keys ≡ item_ends types.now found.old.keys item) }
@@ -77,7 +87,9 @@ fn put_item(types: &Types, found: &mut TypeSet, item: ItemKind) -> Result<(), Al
         ItemKind::TypeItem(Type::Func(func)) | ItemKind::Func(func) => {
             put_func(types, found, &types[func])
         }
-        ItemKind::Instance(interface) => put_interface(found, interface),
+        ItemKind::Instance(interface) | ItemKind::TypeItem(Type::Interface(interface)) => {
+            put_interface(found, interface)
+        }
         _ => Ok(()),
     }
 }
@@ -104,7 +116,7 @@ fn put_items(types: &Types, found: &mut TypeSet, items: &Named<ItemKind>) -> Res
 /// Which items are looked at.
 #[derive(Clone, Copy)]
 pub(crate) enum Among {
-    /// Those that are no instances.
+    /// Those that are written with no instance type.
     Own,
     /// The type items of value types.
     ValueTypes,
@@ -116,7 +128,7 @@ impl Among {
         ensures { result ≡ is_among self item }
     {
         match self {
-            Among::Own => !matches!(item, ItemKind::Instance(_)),
+            Among::Own => interface_of(item).is_none(),
             Among::ValueTypes => is_value_type(item),
         }
     }
@@ -191,7 +203,7 @@ fn definitions_among(alloc: Global, types: &[Type]) -> Result<Vec<DefinedTypeId>
     Ok(definitions)
 }
 
-/// The definitions that the items of an interface are made of, those of instances among them too, each once: those in which the value
+/// The definitions that the items of an interface are made of, those of instances and of type items of interfaces among them too, each once: those in which the value
 /// types end that they mention, and those in which the parts of these end, and so on. Linear, without recursion.
 ///
 /// Answers `AllocError` where memory ran out.
@@ -238,8 +250,8 @@ pub(crate) fn found_among(
     Ok(found)
 }
 
-/// The definitions that the items of an interface are made of that are no instances, each once. So what instances list is left out. Linear,
-/// without recursion.
+/// The definitions that the items of an interface are made of that are neither instances nor type items of interfaces, each once. So what
+/// is listed inside these is left out. Linear, without recursion.
 ///
 /// Answers `AllocError` where memory ran out.
 pub fn own_definitions_of(

@@ -14,3 +14,4 @@ pub mod BeginLemmas
 pub mod AskedMembers
 pub mod MergeLemmas
 pub mod OrderLemmas
+pub mod PlainLemmas

@@ -5,15 +5,14 @@ use Rattle.wac_primitives.specs.Name.{Name}
 use Rattle.wac_shapes.specs.declared.component.DefinedTypeId.{DefinedTypeId}
 use Rattle.wac_shapes.specs.declared.component.InterfaceId.{InterfaceId}
 use Rattle.wac_shapes.specs.declared.component.ItemKind.{ItemKind}
-use Rattle.wac_shapes.specs.declared.component.ItemKind.TheVariants as kind
 use Rattle.wac_shapes.specs.declared.component.ValueType.TheVariants as val
 use Rattle.wac_collection.specs.Collection.{Collection, interface_exports}
-use Rattle.wac_listing.specs.Made.{IsItemIn, listed, nested, item_values, OneIsMadeOf}
+use Rattle.wac_listing.specs.Made.{interface_of, IsItemIn, listed, nested, item_values, OneIsMadeOf}
 use Rattle.wac_scopes.specs.declared.scope.Scope.{Scope}
 use Rattle.wac_planning.specs.declared.plan.Place.{Place}
 use Rattle.wac_planning.specs.Plans.{IsMadeOf}
 use Rattle.wac_planning.specs.Plans.{IsOneOf, HasName, MayBeNamed, Takes, IsTaker, IsPlan, inside_at}
-use Rattle.wac_planning.specs.Planning.{innermost, lists, IsNamedAlong, IsTakenAlong, IsTakenAt, IsPlaceAt, IsBelow, IsOutward, ListsInstance, IsSound, IsServed}
+use Rattle.wac_planning.specs.Planning.{innermost, lists, IsNamedAlong, IsTakenAlong, IsTakenAt, IsPlaceAt, IsBelow, IsOutward, ListsInterface, IsSound, IsServed}
 use Rattle.wac_planning.proofs.Along.{all-behind}
 use Rattle.wac_planning.proofs.Ways.{at-once, unique, own-made}
 
@@ -21,9 +20,9 @@ there : {A : Type 0} (o : Option A) → IsSome o → (x : A) × (o ≡ Some x)
 there None some = let both : false ≡ true = some in cc
 there (Some x) some = (x, refl)
 
-module _ (c : Collection) (s : Scope) (ps : List Place) (sound : (n : ℕ) (p : Place) → slice_get ps n ≡ Some p → IsSound c s ps n p) (served : (n : ℕ) (p : Place) → slice_get ps n ≡ Some p → IsServed c s ps n p) (inside : (n : ℕ) (p : Place) (j : InterfaceId) → slice_get ps n ≡ Some p → ListsInstance c p.interface j → IsSome (inside_at p j)) where
+module _ (c : Collection) (s : Scope) (ps : List Place) (sound : (n : ℕ) (p : Place) → slice_get ps n ≡ Some p → IsSound c s ps n p) (served : (n : ℕ) (p : Place) → slice_get ps n ≡ Some p → IsServed c s ps n p) (inside : (n : ℕ) (p : Place) (j : InterfaceId) → slice_get ps n ≡ Some p → ListsInterface c p.interface j → IsSome (inside_at p j)) where
   -- the place of an interface inside
-  place-inside : (n : ℕ) (p : Place) (j : InterfaceId) → slice_get ps n ≡ Some p → ListsInstance c p.interface j → (m : ℕ) × (inside_at p j ≡ Some m) × IsPlaceAt ps m j (Some n)
+  place-inside : (n : ℕ) (p : Place) (j : InterfaceId) → slice_get ps n ≡ Some p → ListsInterface c p.interface j → (m : ℕ) × (inside_at p j ≡ Some m) × IsPlaceAt ps m j (Some n)
   place-inside n p j at h = let m = there (inside_at p j) (inside n p j at h) in (m.0, m.1, (sound n p at).inside j m.0 m.1)
 
   below-around : (n m : ℕ) (j : InterfaceId) → IsPlaceAt ps m j (Some n) → n < m
@@ -46,9 +45,9 @@ module _ (c : Collection) (s : Scope) (ps : List Place) (sound : (n : ℕ) (p : 
     pub here : slice_get (interface_exports c place.interface) position ≡ Some item
     pub is : item.1 ≡ k
 
-  held-further : (row : List (ℕ × InterfaceId)) (j : InterfaceId) (q : ℕ) (e : Name × ItemKind) → IsHeldIn row (kind.Instance j) → slice_get (interface_exports c j) q ≡ Some e → IsHeldIn row e.1
-  held-further row j q e h at =
-      let lists_it : ListsInstance c h.place.interface j = (h.position, h.item.0, h.here ∙ ap (λ (k : ItemKind). Some (h.item.0, k)) h.is) in
+  held-further : (row : List (ℕ × InterfaceId)) (x : ItemKind) (j : InterfaceId) (q : ℕ) (e : Name × ItemKind) → IsHeldIn row x → interface_of x ≡ Some j → slice_get (interface_exports c j) q ≡ Some e → IsHeldIn row e.1
+  held-further row x j q e h of at =
+      let lists_it : ListsInterface c h.place.interface j = (h.position, h.item, h.here, ap interface_of h.is ∙ of) in
       let m = place-inside h.number h.place j h.at lists_it in
       let p = m.2 in
       let pair : (m.0, j) ≡ (m.0, p.0.interface) = ap (λ (i : InterfaceId). (m.0, i)) (sym p.2) in
@@ -68,7 +67,7 @@ module _ (c : Collection) (s : Scope) (ps : List Place) (sound : (n : ℕ) (p : 
 
   held-in : (n : ℕ) (p : Place) (ks : List (ℕ × InterfaceId)) → slice_get ps n ≡ Some p → IsOutward ps ((n, p.interface) ∷ ks) → (k : ItemKind) → IsItemIn c (interface_exports c p.interface) k → IsHeldIn ((n, p.interface) ∷ ks) k
   held-in n p ks at out _ (listed q e here) = record { number = n; place = p; at = at; front = []; ways = ks; whole = refl; outward = out; position = q; item = e; here = here; is = refl }
-  held-in n p ks at out _ (nested j q e inner here) = held-further ((n, p.interface) ∷ ks) j q e (held-in n p ks at out (kind.Instance j) inner) here
+  held-in n p ks at out _ (nested x j q e inner of here) = held-further ((n, p.interface) ∷ ks) x j q e (held-in n p ks at out x inner) of here
 
   -- what the items at a place are made of is taken there where it is named further out
   takes-made : (n : ℕ) (p : Place) (ks : List (ℕ × InterfaceId)) → slice_get ps n ≡ Some p → IsOutward ps ((n, p.interface) ∷ ks) → (d : DefinedTypeId) → IsMadeOf c p.interface d → IsNamedAlong (lists c d) (HasName s d) ks → IsOneOf d p.taken.items
@@ -116,5 +115,5 @@ module _ (c : Collection) (s : Scope) (ps : List Place) (sound : (n : ℕ) (p : 
   pub is-plan : (i : InterfaceId) → IsPlaceAt ps 0 i None → IsPlan c s i ps
   is-plan i first = record {
     first = taker (HasName s) 0 i None first (λ ks out is d has. around-none ks is d has);
-    inside = λ n p at j k name here. (let m = place-inside n p j at (k, name, here) in (m.0, m.1, taker (MayBeNamed c p) m.0 j (Some n) m.2 (around-place n p at)));
+    inside = λ n p at j k e here of. (let m = place-inside n p j at (k, e, here, of) in (m.0, m.1, taker (MayBeNamed c p) m.0 j (Some n) m.2 (around-place n p at)));
   }

@@ -7,8 +7,9 @@ use Rattle.wac_shapes.specs.Kinds.{kind_type}
 use Rattle.wac_shapes.specs.declared.component.DefinedTypeId.{DefinedTypeId}
 use Rattle.wac_shapes.specs.declared.component.InterfaceId.{InterfaceId}
 use Rattle.wac_shapes.specs.declared.component.ItemKind.{ItemKind}
-use Rattle.wac_shapes.specs.declared.component.ItemKind.TheVariants as kind
 use Rattle.wac_collection.specs.Collection.{Collection, HasInterface, IsWellFormed, holds_type, interface_exports}
+use Rattle.wac_listing.specs.Made.{interface_of}
+use Rattle.wac_listing.proofs.Interfaces.{type-of}
 use Rattle.wac_scopes.specs.declared.scope.Scope.{Scope}
 use Rattle.wac_scopes.specs.Scoped.{named_at}
 use Rattle.wac_planning.specs.declared.growing.Growing.{Growing}
@@ -16,7 +17,7 @@ use Rattle.wac_planning.specs.declared.plan.Place.{Place}
 use Rattle.wac_planning.specs.declared.growing.Visit.{Visit}
 use Rattle.wac_planning.specs.declared.growing.Visit.TheVariants.{Enter, Leave}
 use Rattle.wac_planning.specs.Plans.{IsPlan, HasName, inside_at}
-use Rattle.wac_planning.specs.Planning.{source_of, name_at, innermost, lists, IsListedIn, IsSourceAlong, IsTakenAt, ListsInstance, IsOutward, IsPlaceAt, IsGrown, IsGoing, IsStack, Waits, Enters, enters}
+use Rattle.wac_planning.specs.Planning.{source_of, name_at, innermost, lists, IsListedIn, IsSourceAlong, IsTakenAt, ListsInterface, IsOutward, IsPlaceAt, IsGrown, IsGoing, IsStack, Waits, Enters, enters}
 use Rattle.wac_planning.proofs.Adding.{grown-same}
 use Rattle.wac_planning.proofs.Finished.{is-plan}
 use Rattle.wac_planning.proofs.Listing.{held-items}
@@ -68,38 +69,35 @@ grown-none c s g none names = record {
 
 -- a place is opened
 
-pub listed-held : (c : Collection) → IsWellFormed c → (j : InterfaceId) → HasInterface c j → (p : ℕ) (e : Name × ItemKind) (x : InterfaceId) → slice_get (interface_exports c j) p ≡ Some e → e.1 ≡ kind.Instance x → HasInterface c x
+pub listed-held : (c : Collection) → IsWellFormed c → (j : InterfaceId) → HasInterface c j → (p : ℕ) (e : Name × ItemKind) (x : InterfaceId) → slice_get (interface_exports c j) p ≡ Some e → interface_of e.1 ≡ Some x → HasInterface c x
 listed-held c wf j held p e x there is =
     let it = held-item c.interfaces j.0 held in
     let holds : holds_type c (kind_type e.1) ≡ true = held-items c wf j it.0 it.1 p e (ap (λ es. slice_get es p) (sym (exports-of c j it.0 it.1)) ∙ there) in
-    let inside : nat_lt x.0 (length c.interfaces) ≡ true = ap (λ (k : ItemKind). holds_type c (kind_type k)) (sym is) ∙ holds in
+    let inside : nat_lt x.0 (length c.interfaces) ≡ true = ap (holds_type c) (sym (type-of e.1 x is)) ∙ holds in
     grind (arith, inside)
-
-listed-instance : (c : Collection) (j : InterfaceId) (p : ℕ) (e : Name × ItemKind) (x : InterfaceId) → slice_get (interface_exports c j) p ≡ Some e → e.1 ≡ kind.Instance x → ListsInstance c j x
-listed-instance c j p e x there is = (p, e.0, there ∙ ap (λ (k : ItemKind). let y : Option (Name × ItemKind) = Some (e.0, k) in y) is)
 
 pub stack-opens : (c : Collection) → IsWellFormed c → (j : InterfaceId) (k : ℕ) (vs : List Visit) (ks : List (ℕ × InterfaceId)) → HasInterface c j → IsStack c [] vs ks → IsStack c [] ((vs ++ Leave k ∷ []) ++ enters k (interface_exports c j)) ((k, j) ∷ ks)
 stack-opens c wf j k vs ks held is =
     stack-join c (vs ++ Leave k ∷ []) (enters k (interface_exports c j)) [] ((k, j) ∷ ks) ((k, j) ∷ ks)
     (stack-join c vs (Leave k ∷ []) [] ks ((k, j) ∷ ks) is (j, refl))
-    (stack-enters c k (interface_exports c j) ((k, j) ∷ ks) refl (λ p e x there one. (listed-held c wf j held p e x there one, listed-instance c j p e x there one)))
+    (stack-enters c k (interface_exports c j) ((k, j) ∷ ks) refl (λ p e x there one. (listed-held c wf j held p e x there one, (p, e, there, one))))
 
-module _ (c : Collection) (wf : IsWellFormed c) (s : Scope) (i j : InterfaceId) (o : Option ℕ) (ks : List (ℕ × InterfaceId)) (old new : Growing) (held : HasInterface c j) (is : IsStack c [] old.visits.items ks) (e : Enters c s j o ks old new) (first : IsPlaceAt new.places.items 0 i None) (left : (n : ℕ) (p : Place) (x : InterfaceId) → slice_get old.places.items n ≡ Some p → ListsInstance c p.interface x → (IsSome (inside_at p x) ⊎ Waits (Enter x n) old.visits.items) ⊎ ((o ≡ Some n) × (x ≡ j))) where
+module _ (c : Collection) (wf : IsWellFormed c) (s : Scope) (i j : InterfaceId) (o : Option ℕ) (ks : List (ℕ × InterfaceId)) (old new : Growing) (held : HasInterface c j) (is : IsStack c [] old.visits.items ks) (e : Enters c s j o ks old new) (first : IsPlaceAt new.places.items 0 i None) (left : (n : ℕ) (p : Place) (x : InterfaceId) → slice_get old.places.items n ≡ Some p → ListsInterface c p.interface x → (IsSome (inside_at p x) ⊎ Waits (Enter x n) old.visits.items) ⊎ ((o ≡ Some n) × (x ≡ j))) where
   abbrev waits : List Visit
   waits = (old.visits.items ++ Leave e.number ∷ []) ++ enters e.number (interface_exports c j)
 
-  opened-here : (n : ℕ) (p : Place) (x : InterfaceId) → slice_get new.places.items n ≡ Some p → n ≡ e.number → ListsInstance c p.interface x → Waits (Enter x n) waits
+  opened-here : (n : ℕ) (p : Place) (x : InterfaceId) → slice_get new.places.items n ≡ Some p → n ≡ e.number → ListsInterface c p.interface x → Waits (Enter x n) waits
   opened-here n p x at here lists_it =
       let one : e.opens.here.0 ≡ p = at-once new.places.items n e.opens.here.0 p (ap (slice_get new.places.items) here ∙ e.opens.here.1) at in
       let interface : p.interface ≡ j = ap (λ (q : Place). q.interface) (sym one) ∙ e.opens.here.2 in
-      let l : ListsInstance c j x = subst (λ (y : InterfaceId). ListsInstance c y x) interface lists_it in
-      subst (λ (m : ℕ). Waits (Enter x m) waits) (sym here) (waits-second (Enter x e.number) (old.visits.items ++ Leave e.number ∷ []) (enters e.number (interface_exports c j)) (enters-wait e.number (interface_exports c j) l.0 l.1 x l.2))
+      let l : ListsInterface c j x = subst (λ (y : InterfaceId). ListsInterface c y x) interface lists_it in
+      subst (λ (m : ℕ). Waits (Enter x m) waits) (sym here) (waits-second (Enter x e.number) (old.visits.items ++ Leave e.number ∷ []) (enters e.number (interface_exports c j)) (enters-wait e.number (interface_exports c j) l.0 l.1 x l.2 l.3))
 
-  opened-there : (n : ℕ) (p q : Place) (x : InterfaceId) → slice_get new.places.items n ≡ Some p → slice_get old.places.items n ≡ Some q → p.interface ≡ q.interface → ListsInstance c p.interface x → IsSome (inside_at p x) ⊎ Waits (Enter x n) waits
+  opened-there : (n : ℕ) (p q : Place) (x : InterfaceId) → slice_get new.places.items n ≡ Some p → slice_get old.places.items n ≡ Some q → p.interface ≡ q.interface → ListsInterface c p.interface x → IsSome (inside_at p x) ⊎ Waits (Enter x n) waits
   opened-there n p q x at before interface lists_it =
       let on = e.opens.on n q before in
       let one : on.0 ≡ p = at-once new.places.items n on.0 p on.1 at in
-      elim (left n q x before (subst (λ (y : InterfaceId). ListsInstance c y x) interface lists_it)) [
+      elim (left n q x before (subst (λ (y : InterfaceId). ListsInterface c y x) interface lists_it)) [
         | inl known ↦ elim known [
           | inl there ↦ inl (subst (λ (y : Place). IsSome (inside_at y x)) one (on.4 x there))
           | inr wait ↦ inr (waits-first (Enter x n) (old.visits.items ++ Leave e.number ∷ []) (enters e.number (interface_exports c j)) (waits-first (Enter x n) old.visits.items (Leave e.number ∷ []) wait))

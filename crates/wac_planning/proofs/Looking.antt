@@ -12,13 +12,13 @@ use Rattle.wac_shapes.specs.declared.component.DefinedTypeId.{DefinedTypeId}
 use Rattle.wac_shapes.specs.declared.component.Interface.{Interface}
 use Rattle.wac_shapes.specs.declared.component.InterfaceId.{InterfaceId}
 use Rattle.wac_shapes.specs.declared.component.ItemKind.{ItemKind}
-use Rattle.wac_shapes.specs.declared.component.ItemKind.TheVariants as kind
 use Rattle.wac_collection.specs.declared.collection.Held.{Held}
 use Rattle.wac_collection.specs.Collection.{Collection, HasDefined, HasInterface, interface_exports, item_at}
-use Rattle.wac_listing.specs.Made.{AreMadeOf, own_items}
+use Rattle.wac_listing.specs.Made.{AreMadeOf, interface_of, own_items}
 use Rattle.wac_scopes.specs.declared.scope.Scope.{Scope}
 use Rattle.wac_planning.specs.declared.growing.Growing.{Growing}
 use Rattle.wac_planning.specs.declared.growing.Visit.{Visit}
+use Rattle.wac_planning.specs.declared.growing.Visit.TheVariants.{Enter}
 use Rattle.wac_planning.specs.Listed.{listed_definition}
 use Rattle.wac_planning.specs.Plans.{IsOneOf, HasName}
 use Rattle.wac_planning.specs.Planning.{name_at, source_at, lists, IsTakenAlong, IsTakenAt, IsOwn, Serves, IsEntering, SamePlaces, TakesFrom, TakesAll, NamesFirst, Forgets, Renames, enters, enter_of}
@@ -204,7 +204,7 @@ pub rename-ends : (ds : List DefinedTypeId) (o : Option ℕ) (n : ℕ) (old new 
 rename-ends ds o n old new d past (inl h) = inl ((h.0.0, h.0.2), h.1)
 rename-ends ds o n old new d past (inr h) = inr (λ l. h.0 (l.0, (let less = slice_get_within ds l.0 d l.1 in omega (arith, less, past)), l.1), h.1)
 
--- the interfaces of instances wait
+-- the interfaces of items wait
 
 pub enters-more : (k : ℕ) (es : List (Name × ItemKind)) (n : ℕ) (x : ItemKind) (old new vs : List Visit) → option_map (λ e. e.1) (slice_get es n) ≡ Some x → old ≡ vs ++ enters k (drop (suc n) es) → new ≡ old ++ enter_of k x → new ≡ vs ++ enters k (drop n es)
 enters-more k es n x old new vs at was put = by_item (slice_get es n) refl at
@@ -252,11 +252,6 @@ item-read c i it n x found at = ap (λ (es : List (Name × ItemKind)). option_ma
 pub all-read : (c : Collection) (i : InterfaceId) (it : Interface) (n m : ℕ) → item_at c.interfaces i.0 ≡ Some it → n ≡ length it.exports → n ≤ m → length (interface_exports c i) ≤ m
 all-read c i it n m found is past = let long = ap (λ (es : List (Name × ItemKind)). length es) (exports-of c i it found) in omega (arith, long, is, past)
 
--- what is no instance has nothing looked at
-pub enters-not : (k : ℕ) (x : ItemKind) → ((j : InterfaceId) → x ≡ kind.Instance j → ⊥) → [] ≡ enter_of k x
-enters-not k (kind.Instance j) other = absurd (other j refl)
-enters-not k (kind.TypeItem y) other = refl
-enters-not k (kind.Func y) other = refl
-enters-not k (kind.Component y) other = refl
-enters-not k (kind.Module y) other = refl
-enters-not k (kind.Value y) other = refl
+-- what is written with no instance type has nothing looked at
+pub enters-not : (k : ℕ) (x : ItemKind) → interface_of x ≡ None → [] ≡ enter_of k x
+enters-not k x none = ap (λ (o : Option InterfaceId). let vs : List Visit = option_case o [] (λ j. Enter j k ∷ []) in vs) (sym none)

@@ -7,11 +7,12 @@ use Rattle.wac_shapes.specs.Kinds.{kind_type}
 use Rattle.wac_shapes.specs.declared.component.Interface.{Interface}
 use Rattle.wac_shapes.specs.declared.component.InterfaceId.{InterfaceId}
 use Rattle.wac_shapes.specs.declared.component.ItemKind.{ItemKind}
-use Rattle.wac_shapes.specs.declared.component.ItemKind.TheVariants as kind
 use Rattle.wac_shapes.specs.declared.component.«Type».TheVariants as ty
 use Rattle.wac_collection.specs.declared.collection.Held.{Held}
 use Rattle.wac_collection.specs.Collection.{Collection, HasInterface, IsWellFormed, AddedBefore, IsBefore, interface_exports, item_at, size}
 use Rattle.wac_collection.proofs.Growth.{type_before}
+use Rattle.wac_listing.specs.Made.{interface_of}
+use Rattle.wac_listing.proofs.Interfaces.{type-of}
 use Rattle.wac_planning.specs.declared.growing.Visit.{Visit}
 use Rattle.wac_planning.specs.declared.growing.Visit.TheVariants.{Enter, Leave}
 use Rattle.wac_planning.specs.Planning.{LeavesWaiting, enter_of, enters}
@@ -21,8 +22,7 @@ use Rattle.wac_planning.proofs.Looking.{exports-of, held-item}
 
 -- how many an item takes, where this tells of the interfaces inside, and an interface, to a depth
 abbrev pub kind_steps : (InterfaceId → ℕ) → ItemKind → ℕ
-kind_steps inside (kind.Instance j) = suc (inside j)
-kind_steps inside k = 1
+kind_steps inside k = option_case (interface_of k) 1 (λ j. suc (inside j))
 
 abbrev pub item_steps : (InterfaceId → ℕ) → Name × ItemKind → ℕ
 item_steps inside e = kind_steps inside e.1
@@ -42,13 +42,9 @@ sum-less f g (x ∷ xs) all =
     let rest : sum_by f xs ≤ sum_by g xs = sum-less f g xs (λ p y at. all (suc p) y at) in
     omega (arith, one, two, here, rest)
 
-kind-less : (f g : InterfaceId → ℕ) (x : ItemKind) → ((j : InterfaceId) → x ≡ kind.Instance j → f j ≤ g j) → kind_steps f x ≤ kind_steps g x
-kind-less f g (kind.Instance j) all = let here : f j ≤ g j = all j refl in omega (arith, here)
-kind-less f g (kind.TypeItem t) all = omega arith
-kind-less f g (kind.Func x) all = omega arith
-kind-less f g (kind.Component x) all = omega arith
-kind-less f g (kind.Module x) all = omega arith
-kind-less f g (kind.Value x) all = omega arith
+kind-less : (f g : InterfaceId → ℕ) (o : Option InterfaceId) → ((j : InterfaceId) → o ≡ Some j → f j ≤ g j) → option_case o 1 (λ j. suc (f j)) ≤ option_case o 1 (λ j. suc (g j))
+kind-less f g None all = omega arith
+kind-less f g (Some j) all = let here : f j ≤ g j = all j refl in omega (arith, here)
 
 steps-there : (d : ℕ) (c : Collection) (i : InterfaceId) (it : Interface) → item_at c.interfaces i.0 ≡ Some it → steps_to (suc d) c i ≡ suc (sum_by (item_steps (steps_to d c)) it.exports)
 steps-there d c i it at = ap (λ (o : Option Interface). option_case o 0 (λ x. suc (sum_by (item_steps (steps_to d c)) x.exports))) at
@@ -70,8 +66,8 @@ fewer-by : (c : Collection) → IsWellFormed c → (d : ℕ) → ((j : Interface
 fewer-by c wf d inside i low None at = no-more (steps_to (suc (suc d)) c i) (steps_to (suc d) c i) (steps-none (suc d) c i at)
 fewer-by c wf d inside i low (Some it) at =
     one-more (steps_to (suc (suc d)) c i) (steps_to (suc d) c i) (sum_by (item_steps (steps_to (suc d) c)) it.exports) (sum_by (item_steps (steps_to d c)) it.exports) (steps-there (suc d) c i it at) (steps-there d c i it at)
-    (sum-less (item_steps (steps_to (suc d) c)) (item_steps (steps_to d c)) it.exports (λ p e there. kind-less (steps_to (suc d) c) (steps_to d c) e.1 (λ j is.
-    inside j (subst (λ (x : ItemKind). IsBefore c d (kind_type x)) is (listed-before c wf d i it low at p e there)))))
+    (sum-less (item_steps (steps_to (suc d) c)) (item_steps (steps_to d c)) it.exports (λ p e there. kind-less (steps_to (suc d) c) (steps_to d c) (interface_of e.1) (λ j is.
+    inside j (subst (IsBefore c d) (type-of e.1 j is) (listed-before c wf d i it low at p e there)))))
 
 pub fewer : (c : Collection) → IsWellFormed c → (d : ℕ) (i : InterfaceId) → IsBefore c d (ty.Interface i) → steps_to (suc d) c i ≤ steps_to d c i
 fewer c wf zero i low = absurd (before-none (slice_get c.interfaces i.0) low)
@@ -89,25 +85,21 @@ weigh c vs = sum_by (visit_weight c) vs
 alone-at-most : (a b c n : ℕ) → a ≡ suc b + n → n ≡ 0 → b ≤ c → a ≤ suc c
 alone-at-most a b c n is none less = omega (arith, is, none, less)
 
-weigh-one : (c : Collection) → IsWellFormed c → (k : ℕ) (x : ItemKind) → ((j : InterfaceId) → x ≡ kind.Instance j → HasInterface c j) → weigh c (enter_of k x) ≤ kind_steps (steps_to (size c) c) x
-weigh-one c wf k (kind.Instance j) held =
+weigh-one : (c : Collection) → IsWellFormed c → (k : ℕ) (o : Option InterfaceId) → ((j : InterfaceId) → o ≡ Some j → HasInterface c j) → weigh c (option_case o [] (λ j. Enter j k ∷ [])) ≤ option_case o 1 (λ j. suc (steps_to (size c) c j))
+weigh-one c wf k None held = omega arith
+weigh-one c wf k (Some j) held =
     let low : nat_lt j.0 (length c.interfaces) ≡ true = (let h = held j refl in grind (arith, h)) in
     alone-at-most (weigh c (Enter j k ∷ [])) (steps_to (suc (size c)) c j) (steps_to (size c) c j) (weigh c []) (sum_by-cons (visit_weight c) (Enter j k) []) refl (fewer c wf (size c) j (type_before c wf (ty.Interface j) low))
-weigh-one c wf k (kind.TypeItem t) held = omega arith
-weigh-one c wf k (kind.Func x) held = omega arith
-weigh-one c wf k (kind.Component x) held = omega arith
-weigh-one c wf k (kind.Module x) held = omega arith
-weigh-one c wf k (kind.Value x) held = omega arith
 
 both-at-most : (a b x y m n : ℕ) → m ≡ a + b → n ≡ x + y → a ≤ y → b ≤ x → m ≤ n
 both-at-most a b x y m n is too one two = omega (arith, is, too, one, two)
 
-weigh-enters : (c : Collection) → IsWellFormed c → (k : ℕ) (es : List (Name × ItemKind)) → ((p : ℕ) (e : Name × ItemKind) (j : InterfaceId) → slice_get es p ≡ Some e → e.1 ≡ kind.Instance j → HasInterface c j) → weigh c (enters k es) ≤ sum_by (item_steps (steps_to (size c) c)) es
+weigh-enters : (c : Collection) → IsWellFormed c → (k : ℕ) (es : List (Name × ItemKind)) → ((p : ℕ) (e : Name × ItemKind) (j : InterfaceId) → slice_get es p ≡ Some e → interface_of e.1 ≡ Some j → HasInterface c j) → weigh c (enters k es) ≤ sum_by (item_steps (steps_to (size c) c)) es
 weigh-enters c wf k [] held = omega arith
 weigh-enters c wf k (e ∷ es) held =
     both-at-most (weigh c (enters k es)) (weigh c (enter_of k e.1)) (item_steps (steps_to (size c) c) e) (sum_by (item_steps (steps_to (size c) c)) es) (weigh c (enters k (e ∷ es))) (sum_by (item_steps (steps_to (size c) c)) (e ∷ es))
     (sum_by-append (visit_weight c) (enters k es) (enter_of k e.1)) (sum_by-cons (item_steps (steps_to (size c) c)) e es)
-    (weigh-enters c wf k es (λ p x j there is. held (suc p) x j there is)) (weigh-one c wf k e.1 (λ j is. held 0 e j refl is))
+    (weigh-enters c wf k es (λ p x j there is. held (suc p) x j there is)) (weigh-one c wf k (interface_of e.1) (λ j is. held 0 e j refl is))
 
 some-weight : (c : Collection) (v : Visit) → 1 ≤ visit_weight c v
 some-weight c (Enter j k) = omega arith

@@ -1,11 +1,11 @@
 -- What waits to be looked at while a plan is made.
-use Rattle.std.specs.Prelude.{ℕ, zero, suc, ◌≡◌, ◌⊎◌, List, [], ◌∷◌, ◌++◌, Some, None, slice_get}
-use Rattle.std.proofs.Common.{refl, sym, subst, inl, inr}
-use Rattle.wac_primitives.specs.Name.{Name}
+use Rattle.std.specs.Prelude.{ℕ, zero, suc, ◌≡◌, ◌⊎◌, List, [], ◌∷◌, ◌++◌, Option, Some, None, slice_get}
+use Rattle.std.proofs.Common.{refl, ap, sym, subst, ◌∙◌, inl, inr}
+use Rattle.wac_primitives.specs.Name.{Name, option_case}
 use Rattle.wac_shapes.specs.declared.component.InterfaceId.{InterfaceId}
 use Rattle.wac_shapes.specs.declared.component.ItemKind.{ItemKind}
-use Rattle.wac_shapes.specs.declared.component.ItemKind.TheVariants as kind
 use Rattle.wac_collection.specs.Collection.{Collection, HasInterface}
+use Rattle.wac_listing.specs.Made.{interface_of}
 use Rattle.wac_planning.specs.declared.growing.Visit.{Visit}
 use Rattle.wac_planning.specs.declared.growing.Visit.TheVariants.{Enter, Leave}
 use Rattle.wac_planning.specs.Planning.{innermost, IsListedIn, enter_of, enters, IsStack, Waits}
@@ -21,19 +21,15 @@ stack-join c [] ws ks ms ls is h = subst (λ (xs : List (ℕ × InterfaceId)). I
 stack-join c (Enter j k ∷ vs) ws ks ms ls a h = (a.0, a.1, a.2, stack-join c vs ws ks ms ls a.3 h)
 stack-join c (Leave k ∷ vs) ws ks ms ls a h = (a.0, stack-join c vs ws ((k, a.0) ∷ ks) ms ls a.1 h)
 
--- the interfaces of instances among items, over the place that lists them
+-- the interfaces of items, over the place that lists them
 
-enter-one : (c : Collection) (k : ℕ) (x : ItemKind) (ls : List (ℕ × InterfaceId)) → innermost ls ≡ Some k → ((j : InterfaceId) → x ≡ kind.Instance j → HasInterface c j × IsListedIn c j ls) → IsStack c ls (enter_of k x) ls
-enter-one c k (kind.Instance j) ls at all = let h = all j refl in (at, h.0, h.1, refl)
-enter-one c k (kind.TypeItem y) ls at all = refl
-enter-one c k (kind.Func y) ls at all = refl
-enter-one c k (kind.Component y) ls at all = refl
-enter-one c k (kind.Module y) ls at all = refl
-enter-one c k (kind.Value y) ls at all = refl
+enter-one : (c : Collection) (k : ℕ) (o : Option InterfaceId) (ls : List (ℕ × InterfaceId)) → innermost ls ≡ Some k → ((j : InterfaceId) → o ≡ Some j → HasInterface c j × IsListedIn c j ls) → IsStack c ls (option_case o [] (λ j. Enter j k ∷ [])) ls
+enter-one c k None ls at all = refl
+enter-one c k (Some j) ls at all = let h = all j refl in (at, h.0, h.1, refl)
 
-pub stack-enters : (c : Collection) (k : ℕ) (es : List (Name × ItemKind)) (ls : List (ℕ × InterfaceId)) → innermost ls ≡ Some k → ((p : ℕ) (e : Name × ItemKind) (j : InterfaceId) → slice_get es p ≡ Some e → e.1 ≡ kind.Instance j → HasInterface c j × IsListedIn c j ls) → IsStack c ls (enters k es) ls
+pub stack-enters : (c : Collection) (k : ℕ) (es : List (Name × ItemKind)) (ls : List (ℕ × InterfaceId)) → innermost ls ≡ Some k → ((p : ℕ) (e : Name × ItemKind) (j : InterfaceId) → slice_get es p ≡ Some e → interface_of e.1 ≡ Some j → HasInterface c j × IsListedIn c j ls) → IsStack c ls (enters k es) ls
 stack-enters c k [] ls at all = refl
-stack-enters c k (e ∷ es) ls at all = stack-join c (enters k es) (enter_of k e.1) ls ls ls (stack-enters c k es ls at (λ p x j there is. all (suc p) x j there is)) (enter-one c k e.1 ls at (λ j is. all 0 e j refl is))
+stack-enters c k (e ∷ es) ls at all = stack-join c (enters k es) (enter_of k e.1) ls ls ls (stack-enters c k es ls at (λ p x j there is. all (suc p) x j there is)) (enter-one c k (interface_of e.1) ls at (λ j is. all 0 e j refl is))
 
 -- what waits in two rows
 
@@ -54,10 +50,11 @@ waits-either v (x ∷ vs) ws (suc n, at) = elim (waits-either v vs ws (n, at)) [
 none-some : {A : Type 0} (x : A) → None ≡ Some x → ⊥
 none-some x h = cc
 
-pub enters-wait : (k : ℕ) (es : List (Name × ItemKind)) (p : ℕ) (n : Name) (j : InterfaceId) → slice_get es p ≡ Some (n, kind.Instance j) → Waits (Enter j k) (enters k es)
-enters-wait k [] p n j at = absurd (none-some (n, kind.Instance j) at)
-enters-wait k (e ∷ es) zero n j at =
-    let both : Some e ≡ Some (n, kind.Instance j) = at in
-    let same : e ≡ (n, kind.Instance j) = cc in
-    waits-second (Enter j k) (enters k es) (enter_of k e.1) (subst (λ (x : Name × ItemKind). Waits (Enter j k) (enter_of k x.1)) (sym same) (0, refl))
-enters-wait k (e ∷ es) (suc p) n j at = waits-first (Enter j k) (enters k es) (enter_of k e.1) (enters-wait k es p n j at)
+pub enters-wait : (k : ℕ) (es : List (Name × ItemKind)) (p : ℕ) (e : Name × ItemKind) (j : InterfaceId) → slice_get es p ≡ Some e → interface_of e.1 ≡ Some j → Waits (Enter j k) (enters k es)
+enters-wait k [] p e j at is = absurd (none-some e at)
+enters-wait k (x ∷ es) zero e j at is =
+    let both : Some x ≡ Some e = at in
+    let same : x ≡ e = cc in
+    let of : interface_of x.1 ≡ Some j = ap (λ (y : Name × ItemKind). interface_of y.1) same ∙ is in
+    waits-second (Enter j k) (enters k es) (enter_of k x.1) (subst (λ (o : Option InterfaceId). Waits (Enter j k) (option_case o [] (λ i. Enter i k ∷ []))) (sym of) (0, refl))
+enters-wait k (x ∷ es) (suc p) e j at is = waits-first (Enter j k) (enters k es) (enter_of k x.1) (enters-wait k es p e j at is)

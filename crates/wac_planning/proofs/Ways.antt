@@ -17,7 +17,7 @@ use Rattle.wac_planning.specs.declared.plan.Place.{Place}
 use Rattle.wac_planning.specs.Listed.{definition_of, listed_definition}
 use Rattle.wac_planning.specs.Plans.{IsMadeOf}
 use Rattle.wac_planning.specs.Plans.{IsListedBy}
-use Rattle.wac_planning.specs.Planning.{innermost, IsNamedAlong, ComesFrom, IsBehind, IsPlaceAt, IsBelow, IsOutward, ListsInstance, IsNested, IsOwn}
+use Rattle.wac_planning.specs.Planning.{innermost, IsNamedAlong, ComesFrom, IsBehind, IsPlaceAt, IsBelow, IsOutward, ListsInterface, IsNested, IsOwn}
 use Rattle.wac_planning.proofs.Along.{IsFalling, source-named}
 
 pub at-once : {A : Type 0} (xs : List A) (n : ℕ) (x y : A) → slice_get xs n ≡ Some x → slice_get xs n ≡ Some y → x ≡ y
@@ -66,11 +66,11 @@ outward-within ps (k ∷ ks) h = slice_get_within ps k.0 h.0.0 h.0.1
 
 -- what items are made of
 
-item-outward : (c : Collection) (i j : InterfaceId) → ListsInstance c j i → (k : ItemKind) → IsItemIn c (interface_exports c i) k → IsItemIn c (interface_exports c j) k
-item-outward c i j (p, n, at) _ (listed q e here) = nested i q e (listed p (n, kind.Instance i) at) here
-item-outward c i j inside _ (nested x q e inner here) = nested x q e (item-outward c i j inside (kind.Instance x) inner) here
+item-outward : (c : Collection) (i j : InterfaceId) → ListsInterface c j i → (k : ItemKind) → IsItemIn c (interface_exports c i) k → IsItemIn c (interface_exports c j) k
+item-outward c i j (p, x, at, is) _ (listed q e here) = nested x.1 i q e (listed p x at) is here
+item-outward c i j inside _ (nested k x q e inner is here) = nested k x q e (item-outward c i j inside k inner) is here
 
-pub items-outward : (c : Collection) (i j : InterfaceId) → ListsInstance c j i → (d : DefinedTypeId) → IsMadeOf c i d → IsMadeOf c j d
+pub items-outward : (c : Collection) (i j : InterfaceId) → ListsInterface c j i → (d : DefinedTypeId) → IsMadeOf c i d → IsMadeOf c j d
 items-outward c i j inside d (k, item, made) = (k, item-outward c i j inside k item, made)
 
 own-at : (es : List (Name × ItemKind)) (p : ℕ) (e : Name × ItemKind) → slice_get (own_items es) p ≡ Some e → (q : ℕ) × (slice_get es q ≡ Some e)
@@ -96,15 +96,20 @@ at-own (f ∷ es) (suc p) e at own = by_sort (at-own es p e at own) (is_own f.1)
 
 own-item : (c : Collection) (es : List (Name × ItemKind)) (k : ItemKind) → IsItemIn c (own_items es) k → IsItemIn c es k
 own-item c es _ (listed p e at) = let q = own-at es p e at in listed q.0 e q.1
-own-item c es _ (nested i p e inner at) = nested i p e (own-item c es (kind.Instance i) inner) at
+own-item c es _ (nested k i p e inner is at) = nested k i p e (own-item c es k inner) is at
 
 pub own-of-items : (c : Collection) (i : InterfaceId) (d : DefinedTypeId) → IsOwn c i d → IsMadeOf c i d
 own-of-items c i d (k, item, made) = (k, own-item c (interface_exports c i) k item, made)
 
--- an item that mentions something is no instance
+-- an item that mentions something is written with no instance type
 own-kind : (c : Collection) (k : ItemKind) (w : ValueType) → OneIsMadeOf c (item_values c k) w → is_own k ≡ true
 own-kind c (kind.Instance i) w (n, v, at, made) = let no_some : None ≡ Some v = at in cc
-own-kind c (kind.TypeItem x) w h = refl
+own-kind c (kind.TypeItem (ty.Interface i)) w (n, v, at, made) = let no_some : None ≡ Some v = at in cc
+own-kind c (kind.TypeItem (ty.Value x)) w h = refl
+own-kind c (kind.TypeItem (ty.Resource x)) w h = refl
+own-kind c (kind.TypeItem (ty.Func x)) w h = refl
+own-kind c (kind.TypeItem (ty.World x)) w h = refl
+own-kind c (kind.TypeItem (ty.Module x)) w h = refl
 own-kind c (kind.Func x) w h = refl
 own-kind c (kind.Component x) w h = refl
 own-kind c (kind.Module x) w h = refl

@@ -1,14 +1,13 @@
 -- How a plan is made, place by place. Private functions alone cite this.
 use Rattle.std.specs.Prelude.{ℕ, ◌≡◌, ◌⊎◌, ◌<◌, nat_eq, List, [], ◌∷◌, ◌++◌, length, Option, Some, None, IsSome, slice_get}
 use Rattle.std.specs.HashMap.{get, Updates}
-use Rattle.wac_primitives.specs.Name.{Name}
+use Rattle.wac_primitives.specs.Name.{Name, option_case}
 use Rattle.wac_shapes.specs.declared.component.DefinedTypeId.{DefinedTypeId}
 use Rattle.wac_shapes.specs.declared.component.InterfaceId.{InterfaceId}
 use Rattle.wac_shapes.specs.declared.component.ItemKind.{ItemKind}
-use Rattle.wac_shapes.specs.declared.component.ItemKind.TheVariants as kind
 use Rattle.wac_shapes.specs.declared.component.ValueType.TheVariants as val
 use Rattle.wac_collection.specs.Collection.{Collection, HasDefined, HasInterface, interface_exports}
-use Rattle.wac_listing.specs.Made.{OneItemIsMadeOf, own_items}
+use Rattle.wac_listing.specs.Made.{interface_of, OneItemIsMadeOf, own_items}
 use Rattle.wac_scopes.specs.declared.scope.Scope.{Scope}
 use Rattle.wac_scopes.specs.Scoped.{named_at}
 use Rattle.wac_planning.specs.declared.growing.Growing.{Growing}
@@ -85,21 +84,21 @@ abbrev pub IsOutward : List Place → List (ℕ × InterfaceId) → Type 0
 IsOutward ps [] = Unit {0}
 IsOutward ps (k ∷ ks) = IsPlaceAt ps k.0 k.1 (innermost ks) × IsBelow (innermost ks) k.0 × IsOutward ps ks
 
--- an interface lists an instance of another
-abbrev pub ListsInstance : Collection → InterfaceId → InterfaceId → Type 0
-ListsInstance c i j = (p : ℕ) × (n : Name) × (slice_get (interface_exports c i) p ≡ Some (n, kind.Instance j))
+-- an interface lists an instance of another, or that as a type item
+abbrev pub ListsInterface : Collection → InterfaceId → InterfaceId → Type 0
+ListsInterface c i j = (p : ℕ) × (e : Name × ItemKind) × (slice_get (interface_exports c i) p ≡ Some e) × (interface_of e.1 ≡ Some j)
 
--- the innermost lists an instance of the interface, if there is one
+-- the innermost lists the interface so, if there is one
 abbrev pub IsListedIn : Collection → InterfaceId → List (ℕ × InterfaceId) → Type 0
 IsListedIn c i [] = Unit {0}
-IsListedIn c i (k ∷ ks) = ListsInstance c k.1 i
+IsListedIn c i (k ∷ ks) = ListsInterface c k.1 i
 
--- each is of a held interface of which the next lists an instance
+-- each is of a held interface that the next lists so
 abbrev pub IsNested : Collection → List (ℕ × InterfaceId) → Type 0
 IsNested c [] = Unit {0}
 IsNested c (k ∷ ks) = HasInterface c k.1 × IsListedIn c k.1 ks × IsNested c ks
 
--- one of the definitions that the interface's items are made of that are no instances
+-- one of the definitions that the interface's own items are made of
 abbrev pub IsOwn : Collection → InterfaceId → DefinedTypeId → Type 0
 IsOwn c i d = OneItemIsMadeOf c (own_items (interface_exports c i)) (val.Defined d)
 
@@ -172,7 +171,7 @@ abbrev pub TakesFrom : Option (Option ℕ) → DefinedTypeId → ℕ → List (�
 TakesFrom None d k ks old new = new ≡ old
 TakesFrom (Some m) d k ks old new = TakesTo d m ks [] old.places.items new.places.items × (new.visits ≡ old.visits) × Updates (λ a b. nat_eq a.0 b.0) old.named new.named d (Some (Some k))
 
--- what the items of an interface are made of that are no instances is taken from where it has a name
+-- what an interface's own items are made of is taken from where it has a name
 pub record TakesAll (c : Collection) (s : Scope) (k : ℕ × InterfaceId) (ks : List (ℕ × InterfaceId)) (old new : Growing) : Type 0 where
   pub visits : new.visits ≡ old.visits
   pub same : SamePlaces old.places.items new.places.items
@@ -208,10 +207,9 @@ pub record OpensPlace (i : InterfaceId) (o : Option ℕ) (k : ℕ) (old new : Li
   pub back : (n : ℕ) (q : Place) → slice_get new n ≡ Some q → (n ≡ k) ⊎ ((p : Place) × (slice_get old n ≡ Some p) × (q.interface ≡ p.interface))
   pub on : (n : ℕ) (p : Place) → slice_get old n ≡ Some p → (q : Place) × (slice_get new n ≡ Some q) × (q.interface ≡ p.interface) × (q.around ≡ p.around) × ((j : InterfaceId) → IsSome (inside_at p j) → IsSome (inside_at q j)) × (o ≡ Some n → IsSome (inside_at q i))
 
--- the interfaces of instances among items are looked at next, the first item's last
+-- the interfaces of items are looked at next, the first item's last
 abbrev pub enter_of : ℕ → ItemKind → List Visit
-enter_of k (kind.Instance j) = Enter j k ∷ []
-enter_of k x = []
+enter_of k x = option_case (interface_of x) [] (λ j. Enter j k ∷ [])
 
 abbrev pub enters : ℕ → List (Name × ItemKind) → List Visit
 enters k [] = []
@@ -240,8 +238,8 @@ pub record IsGoing (c : Collection) (s : Scope) (i : InterfaceId) (vs : List Vis
   pub grown : IsGrown c s ways g
   pub stack : IsStack c [] vs ways
   pub first : IsPlaceAt g.places.items 0 i None
-  -- an instance that a place lists is inside, or waits
-  pub inside : (n : ℕ) (p : Place) (j : InterfaceId) → slice_get g.places.items n ≡ Some p → ListsInstance c p.interface j → IsSome (inside_at p j) ⊎ Waits (Enter j n) vs
+  -- an interface that a place lists is inside, or waits
+  pub inside : (n : ℕ) (p : Place) (j : InterfaceId) → slice_get g.places.items n ≡ Some p → ListsInterface c p.interface j → IsSome (inside_at p j) ⊎ Waits (Enter j n) vs
 
 -- what waits after a visit: no more, or what is inside of the interface that was looked at
 abbrev pub LeavesWaiting : Collection → Visit → List Visit → List Visit → Type 0

@@ -5,10 +5,9 @@ use Rattle.wac_primitives.specs.Name.{Name}
 use Rattle.wac_shapes.specs.declared.component.DefinedTypeId.{DefinedTypeId}
 use Rattle.wac_shapes.specs.declared.component.InterfaceId.{InterfaceId}
 use Rattle.wac_shapes.specs.declared.component.ItemKind.{ItemKind}
-use Rattle.wac_shapes.specs.declared.component.ItemKind.TheVariants as kind
 use Rattle.wac_shapes.specs.declared.component.ValueType.TheVariants as val
 use Rattle.wac_collection.specs.Collection.{Collection, HasDefined, interface_exports}
-use Rattle.wac_listing.specs.Made.{OneItemIsMadeOf}
+use Rattle.wac_listing.specs.Made.{interface_of, OneItemIsMadeOf}
 use Rattle.wac_scopes.specs.declared.scope.Scope.{Scope}
 use Rattle.wac_scopes.specs.Scoped.{named_at}
 use Rattle.wac_planning.specs.declared.plan.Place.{Place}
@@ -65,9 +64,9 @@ pub record IsTaker (c : Collection) (named : DefinedTypeId → Type 0) (i : Inte
   pub is : interface_at place ≡ i
   pub takes : Takes c named i (taken_at place)
 
--- for each instance among the items of an interface at a place there is one inside
+-- for each interface of an item of an interface at a place there is one inside
 abbrev pub HasInside : Collection → List Place → Place → Type 0
-HasInside c ps p = (j : InterfaceId) (k : ℕ) (n : Name) → slice_get (interface_exports c (interface_at p)) k ≡ Some (n, kind.Instance j)
+HasInside c ps p = (j : InterfaceId) (k : ℕ) (e : Name × ItemKind) → slice_get (interface_exports c (interface_at p)) k ≡ Some e → interface_of e.1 ≡ Some j
     → (m : ℕ) × (inside_at p j ≡ Some m) × IsTaker c (MayBeNamed c p) j ps m
 
 abbrev pub ArePlanned : Collection → List Place → Type 0

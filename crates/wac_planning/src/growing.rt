@@ -17,7 +17,7 @@ use wac_scopes::{Scope, TypeHash};
 /// What is done next while a plan is made.
 #[derive(Clone, Copy)]
 pub(crate) enum Visit {
-    /// An interface is looked at of which the one at a place lists an instance, and then what is inside of it.
+    /// An interface is looked at that is one of an item of the one at a place, and then what is inside of it.
     Enter(InterfaceId, usize),
     /// What is inside of a place was looked at.
     Leave(usize),

@@ -22,7 +22,7 @@ pub(crate) struct Place {
     pub around: Option<usize>,
     /// The definitions that it takes from around.
     pub taken: Vec<DefinedTypeId>,
-    /// The places of the interfaces of which it lists instances.
+    /// The places of the interfaces of which it lists instances, or which it lists as type items.
     pub inside: HashMap<InterfaceId, usize, TypeHash>,
 }
 
@@ -51,7 +51,7 @@ impl Plan {
         self.places[place].taken.as_slice()
     }
 
-    /// The place of an interface of which one at a place lists an instance.
+    /// The place of an interface of which one at a place lists an instance, or which it lists as a type item.
     pub fn inside(&self, place: usize, interface: InterfaceId) -> usize
         requires { (p : APlace) × (slice_get (places_of self.now) place ≡ Some p) × IsSome (inside_at p interface) }
         ensures { (p : APlace) → slice_get (places_of self.now) place ≡ Some p → inside_at p interface ≡ Some result }

@@ -18,8 +18,8 @@ use crate::plan::Plan;
 use std::alloc::AllocError;
 use std::collections::HashMap;
 use std::hash::BuildHasherDefault;
-use wac_collection::{InterfaceId, ItemKind, Types};
-use wac_listing::own_definitions_of;
+use wac_collection::{InterfaceId, Types};
+use wac_listing::{interface_of, own_definitions_of};
 use wac_scopes::Scope;
 
 /// Makes plans of interfaces of a collection over a scope.
@@ -76,7 +76,7 @@ impl<'a> Planner<'a> {
         }
     }
 
-    /// Takes what the items of an interface at a place are made of that are no instances, from where it has a name.
+    /// Takes what an interface's own items are made of at a place from where it has a name; what its items' interfaces list is taken at theirs.
     fn take_all(
         &self,
         growing: &mut Growing,
@@ -114,7 +114,7 @@ impl<'a> Planner<'a> {
         Ok(())
     }
 
-    /// Has the interfaces looked at of which one at a place lists instances, the first listed next.
+    /// Has the interfaces looked at of which one at a place lists instances, or which it lists as type items, the first listed next.
     fn put_inside(
         &self,
         growing: &mut Growing,
@@ -129,7 +129,7 @@ impl<'a> Planner<'a> {
         let mut i = items.len();
         while i > 0 {
             i -= 1;
-            if let ItemKind::Instance(inside) = *items.value_at(i) {
+            if let Some(inside) = interface_of(*items.value_at(i)) {
                 growing.visits.push(Visit::Enter(inside, place))?;
             }
         }

@@ -13,14 +13,14 @@ use Rattle.wac_shapes.specs.declared.component.ValueType.{ValueType}
 use Rattle.wac_shapes.specs.declared.component.ValueType.TheVariants as val
 use Rattle.wac_shapes.specs.declared.component.«Type».TheVariants as ty
 use Rattle.wac_shapes.specs.declared.component.ItemKind.{ItemKind}
-use Rattle.wac_primitives.specs.Tree.{Side, imported, exported, Tree, primitive, function, type_equal, function_item, instance_item}
+use Rattle.wac_primitives.specs.Tree.{Side, imported, exported, Tree, primitive, function, instance, type_equal, function_item, instance_item}
 use Rattle.wac_collection.specs.Collection.{Collection, IsWellFormed, item_at}
 use Rattle.wac_collection.specs.Aliases.{value_resolved}
 use Rattle.wac_collection.specs.Bound.{Bindings}
 use Rattle.wac_binary.specs.declared.sorts.Description.{Description}
 use Rattle.wac_binary.specs.declared.sorts.Description.TheVariants as e
 use Rattle.wac_binary.specs.declared.sorts.Sort.TheVariants as sort
-use Rattle.wac_binary.specs.HasMeaning.{IsType, IsFunction, IsFree}
+use Rattle.wac_binary.specs.HasMeaning.{IsType, IsFunction, IsInstance, IsFree}
 use Rattle.wac_binary.specs.Indexes.{space}
 use Rattle.wac_binary.specs.Items.{TypeDef, value_def, primitive_def}
 use Rattle.wac_binary.specs.Unfold.{Scope as Env, with_item}
@@ -115,6 +115,17 @@ pub function-type-declared : (c : Collection) (side : Side) (old now new : Scope
 function-type-declared c side old now new n f k j adds declares m ms o os g free =
     let r = adds m ms o os g in
     let l = declares c m ms o os r.0 r.3.0.0 (free-after c m ms side old now o os n r.3.0 free) (function-is-type r.0 r.2) r.3.1 in
+    (type_equal r.0, (refl, r.1), declares-after c m ms side old now new o os n (type_equal r.0) r.3.0 l.0)
+
+-- and that of an instance
+instance-is-type : (t : Tree) → IsInstance t → IsType t
+instance-is-type (instance exports) h = tt
+instance-is-type t h = absurd h
+
+pub interface-type-declared : (c : Collection) (side : Side) (old now new : Scope) (n : Name) (i : InterfaceId) (k j : ℕ) → AddsHeldInterface c old now i k → DeclaresType side now new n k j → DeclaresHeld c side old new n (kind.TypeItem (ty.Interface i))
+interface-type-declared c side old now new n i k j adds declares m ms o os g free =
+    let r = adds m ms o os g in
+    let l = declares c m ms o os r.0 r.3.0.0 (free-after c m ms side old now o os n r.3.0 free) (instance-is-type r.0 r.2) r.3.1 in
     (type_equal r.0, (refl, r.1), declares-after c m ms side old now new o os n (type_equal r.0) r.3.0 l.0)
 
 -- an instance
@@ -218,6 +229,16 @@ instance-written c side old now new n i it k j es found listed w there declares 
   named = subst (λ (q : ℕ). AlsoLists now q (listed_definitions c (option_case (item_at c.interfaces i.0) [] (λ y. y.exports))) new) index (subst (λ (ds : List (DefinedTypeId × Name)). AlsoLists now j ds new) (listed ∙ ap (λ (x : Option Interface). listed_definitions c (option_case x [] (λ y. y.exports))) (sym found)) lists);
 }
 
+pub interface-type-written : (c : Collection) (side : Side) (old now new : Scope) (n : Name) (i : InterfaceId) (k : ℕ) → WritesFor c 0 (NeededBy c (kind.Instance i)) old now → IsInterfaceAt c old now i k → new ≡ record now { content = and_declared now.content side n (e.Equal k) } → DeclaresItem c side old new n (kind.TypeItem (ty.Interface i))
+interface-type-written c side old now new n i k w there declares = record {
+  now = now;
+  behind = w;
+  description = e.Equal k;
+  described = there;
+  appended = declared-so side now new n (e.Equal k) declares;
+  named = same-records side now new n (e.Equal k) declares;
+}
+
 -- refusals
 
 pub primitive-refused : (A B : Type 0) (c : Collection) → StaysOnward → (side : Side) (old : Scope) (n : Name) (v : ValueType) (p : PrimitiveType) (f : EncodeFault) → value_resolved c v ≡ val.Primitive p → WritesUnlessTooLarge {A = A} (Err f) (ContentFits (and_type old.content (value_def (primitive_def p)))) → IsItemRefused {A = B} c side n (kind.TypeItem (ty.Value v)) old (Err f)
@@ -249,6 +270,11 @@ pub instance-refused : (A B : Type 0) (c : Collection) (side : Side) (old : Scop
 instance-refused A B c side old n i (fault.Write g) h = h
 instance-refused A B c side old n i fault.TooLarge h = record { scope = h.0; types = 0; behind = aliases-for c i old h.0 h.1; large = inl h.2 }
 instance-refused A B c side old n i fault.OutOfMemory h = tt
+
+pub interface-type-refused : (A B : Type 0) (c : Collection) (side : Side) (old : Scope) (n : Name) (i : InterfaceId) (f : EncodeFault) → IsInstanceRefused {A = A} c i old (Err f) → IsItemRefused {A = B} c side n (kind.TypeItem (ty.Interface i)) old (Err f)
+interface-type-refused A B c side old n i (fault.Write g) h = h
+interface-type-refused A B c side old n i fault.TooLarge h = record { scope = h.0; types = 0; behind = aliases-for c i old h.0 h.1; large = inl h.2 }
+interface-type-refused A B c side old n i fault.OutOfMemory h = tt
 
 -- where the item does not fit
 pub item-too-large : (A B : Type 0) (c : Collection) (side : Side) (old now : Scope) (n : Name) (k : ItemKind) (types : ℕ) (d : Description) (f : EncodeFault) → WritesFor c types (NeededBy c k) old now → IsDeclaredAs c old now k d → FitsUnlessTooLarge {A = A} (Err f) (ContentFits (and_declared now.content side n d)) → IsItemRefused {A = B} c side n k old (Err f)

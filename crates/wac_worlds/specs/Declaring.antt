@@ -34,6 +34,7 @@ abbrev pub is_declarable : Collection → ItemKind → Bool
 is_declarable c (kind.TypeItem (ty.Value v)) = true
 is_declarable c (kind.TypeItem (ty.Func f)) = true
 is_declarable c (kind.TypeItem (ty.Module m)) = true
+is_declarable c (kind.TypeItem (ty.Interface i)) = lists_plain c i
 is_declarable c (kind.TypeItem t) = false
 is_declarable c (kind.Instance i) = lists_plain c i
 is_declarable c k = true
@@ -69,6 +70,7 @@ pub record IsDeclaredOrder (c : Collection) (es order : List (Name × ItemKind))
 -- what an item is described by, where its types were written since old
 abbrev pub IsDeclaredAs : Collection → Scope → Scope → ItemKind → Description → Type 0
 IsDeclaredAs c old now (kind.Instance i) (e.Instance j) = IsInterfaceAt c old now i j
+IsDeclaredAs c old now (kind.TypeItem (ty.Interface i)) (e.Equal j) = IsInterfaceAt c old now i j
 IsDeclaredAs c old now k d = IsDescribed c old now k d
 
 -- a definition that was not written before is recorded at the item's own index, and so written by its name from then on
@@ -109,6 +111,7 @@ pub record DeclaresSide (c : Collection) (side : Side) (old : Scope) (es : List 
 -- which of an item's types does not fit behind what is written
 abbrev pub DeclaredTypeDoesNotFit : Collection → ItemKind → Scope → Type 0
 DeclaredTypeDoesNotFit c (kind.Instance i) s = InterfaceDoesNotFit c i s
+DeclaredTypeDoesNotFit c (kind.TypeItem (ty.Interface i)) s = InterfaceDoesNotFit c i s
 DeclaredTypeDoesNotFit c k s = TypeDoesNotFit c k s
 
 -- the item itself does not
@@ -130,6 +133,7 @@ IsItemFault c (kind.TypeItem (ty.Func g)) s f = (f ≡ write.UnboundResource) ×
 IsItemFault c (kind.Func g) s f = (f ≡ write.UnboundResource) × HasHandle (IsOfFunc c g)
 IsItemFault c (kind.TypeItem (ty.Module m)) s f = f ≡ write.ModuleAsType
 IsItemFault c (kind.Instance i) s f = IsInstanceRefused {A = Unit {0}} c i s (Err (fault.Write f))
+IsItemFault c (kind.TypeItem (ty.Interface i)) s f = IsInstanceRefused {A = Unit {0}} c i s (Err (fault.Write f))
 IsItemFault c k s f = f ≡ write.NestedItem
 
 -- what stands where an item is refused in a scope

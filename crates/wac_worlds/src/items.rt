@@ -195,6 +195,26 @@ impl<'a> WorldEncoder<'a> {
         Ok(())
     }
 
+    /// Writes an interface as an instance type, and declares a type item that equals it. It is still written by the index that it has.
+    fn interface_type_item(
+        &self,
+        scope: &mut Scope,
+        side: Side,
+        name: &str,
+        interface: InterfaceId,
+    ) -> Result<(), EncodeFault>
+        requires held { HasInterface self.now.types.now interface }
+        requires plain { lists_plain self.now.types.now interface ≡ true }
+        requires open { IsOpenComponent scope.old.content }
+        ensures listed { OnOk result (DeclaresHeld self.now.types.now (side_of side) scope.old scope.new name.now (kind.TypeItem (ty.Interface interface))) }
+        ensures wrote { OnOk result (DeclaresItem self.now.types.now (side_of side) scope.old scope.new name.now (kind.TypeItem (ty.Interface interface))) }
+        ensures fault { IsItemRefused self.now.types.now (side_of side) name.now (kind.TypeItem (ty.Interface interface)) scope.old result }
+    {
+        let index = self.instance(scope, interface)?;
+        scope.declare_type(side, name, index)?;
+        Ok(())
+    }
+
     /// Writes what an item is made of, and declares it under its name.
     fn item(
         &self,
@@ -212,6 +232,9 @@ impl<'a> WorldEncoder<'a> {
         match item {
             ItemKind::TypeItem(Type::Value(value)) => self.type_item(scope, side, name, value),
             ItemKind::TypeItem(Type::Func(func)) => self.func_type_item(scope, side, name, func),
+            ItemKind::TypeItem(Type::Interface(interface)) => {
+                self.interface_type_item(scope, side, name, interface)
+            }
             ItemKind::Func(func) => self.func_item(scope, side, name, func),
             ItemKind::Instance(interface) => self.instance_item(scope, side, name, interface),
             ItemKind::TypeItem(Type::Module(_)) => {

@@ -1,56 +1,10 @@
 -- What is importable stays so where it offers less.
-use Rattle.std.proofs.Common.{◌≡◌, ◌≢◌, Bool, true, false, refl, ap, sym, subst}
+use Rattle.std.proofs.Common.{◌≢◌}
 use Rattle.wac_primitives.specs.Name.{Name}
-use Rattle.wac_primitives.specs.Tree.{TypeTree, absent, type_equal, instance_item}
+use Rattle.wac_primitives.specs.Tree.{TypeTree, absent, instance_item}
 use Rattle.wac_subtyping.specs.Subtype.{Sub}
-use Rattle.wac_meaning.specs.Importable.{IsPlainItem, IsPlainWhereThere, IsImportable}
-
-abbrev is_absent : {L : Type 0} → TypeTree L → Bool
-is_absent absent = true
-is_absent _ = false
-
-absent_of : {L : Type 0} (t : TypeTree L) → is_absent t ≡ true → t ≡ absent
-absent_of absent h = refl
-absent_of t h = cc
-
--- a type item of a value type is one both ways
-plain_type : {L : Type 0} (a b : TypeTree L) → Sub a b → IsPlainItem (type_equal a) → IsPlainItem (type_equal b)
-plain_type a b (Sub.same _ p) h = h
-plain_type a b (Sub.instances _ _ f) h = absurd h
-plain_type a b (Sub.components _ _ _ _ f g) h = absurd h
-plain_type a b (Sub.modules _ _ _ _ f g) h = absurd h
-plain_type a b (Sub.type_items _ _ s t) h = absurd h
-plain_type a b (Sub.instance_items _ _ s) h = absurd h
-plain_type a b (Sub.component_items _ _ s) h = absurd h
-plain_type a b (Sub.module_items _ _ s) h = absurd h
-
--- what stands under a name in what exports less
-at_name : {L : Type 0} (y : TypeTree L) → (y ≢ absent → IsPlainWhereThere y) → IsPlainWhereThere y
-at_name {L} y h = split (is_absent y) refl where
-  two : {e : Bool} → e ≡ true → e ≡ false → ⊥
-  two p q = cc
-
-  split : (e : Bool) → is_absent y ≡ e → IsPlainWhereThere y
-  split true is = subst (λ (t : TypeTree L). IsPlainWhereThere t) (sym (absent_of y is)) tt
-  split false is = h (λ none. two (ap is_absent none) is)
-
--- an item, and an instance that exports less
-plain_item : {L : Type 0} (a b : TypeTree L) → Sub a b → IsPlainWhereThere a → IsPlainWhereThere b
-plain_item a b (Sub.same _ p) h = h
-plain_item a b (Sub.instances _ _ f) h = absurd h
-plain_item a b (Sub.components _ _ _ _ f g) h = absurd h
-plain_item a b (Sub.modules _ _ _ _ f g) h = absurd h
-plain_item a b (Sub.type_items c d s t) h = plain_type c d s h
-plain_item a b (Sub.instance_items _ _ (Sub.same _ p)) h = h
-plain_item a b (Sub.instance_items _ _ (Sub.instances xs ys f)) h = λ n. at_name (ys n) (λ there. plain_item (xs n) (ys n) (f n there) (h n))
-plain_item a b (Sub.instance_items _ _ (Sub.components _ _ _ _ f g)) h = absurd h
-plain_item a b (Sub.instance_items _ _ (Sub.modules _ _ _ _ f g)) h = absurd h
-plain_item a b (Sub.instance_items _ _ (Sub.type_items _ _ s t)) h = absurd h
-plain_item a b (Sub.instance_items _ _ (Sub.instance_items _ _ s)) h = absurd h
-plain_item a b (Sub.instance_items _ _ (Sub.component_items _ _ s)) h = absurd h
-plain_item a b (Sub.instance_items _ _ (Sub.module_items _ _ s)) h = absurd h
-plain_item a b (Sub.component_items _ _ s) h = absurd h
-plain_item a b (Sub.module_items _ _ s) h = absurd h
+use Rattle.wac_meaning.specs.Importable.{IsPlainWhereThere, IsImportable}
+use Rattle.wac_meaning.proofs.PlainLemmas.{at_name, plain_item}
 
 -- an instance that exports less
 exports_less : {L : Type 0} (xs ys : Name → TypeTree L) → ((n : Name) → ys n ≢ absent → Sub (xs n) (ys n)) → ((n : Name) → IsPlainWhereThere (xs n)) → (n : Name) → IsPlainWhereThere (ys n)

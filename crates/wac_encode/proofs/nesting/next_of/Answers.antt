@@ -1,19 +1,18 @@
-use Rattle.std.specs.Prelude.{◌≡◌, Some, slice_get}
-use Rattle.std.proofs.Common.{sym, subst}
+use Rattle.std.specs.Prelude.{◌≡◌, None, Some, slice_get}
+use Rattle.std.proofs.Common.{sym, subst, ◌∙◌}
 use Rattle.wac_shapes.specs.Named.{named_pairs}
 use Rattle.wac_shapes.proofs.Names.{named_pairs-at}
-use Rattle.wac_shapes.specs.declared.component.ItemKind.{ItemKind}
 use Rattle.wac_encode.proofs.nesting.next_of.Goals as goal
 
 pub returns-in-None : goal.returns-in-None
 returns-in-None c =
     let level = c.args.level.now in
     let at = named_pairs-at level.order.items level.next c.entry_of-item.result.0 c.entry_of-item.result.1 (subst (λ xs. slice_get xs level.next ≡ Some c.entry_of-item.result) c.as_slice.ensures.value c.entry_of-item.ensures) in
-    (c.entry_of-item.result.0.now, subst (λ (k : ItemKind). slice_get (named_pairs level.order.items) level.next ≡ Some (c.entry_of-item.result.0.now, k)) c.in-Instance.is at, sym c.in-None.ensures.is)
+    ((c.entry_of-item.result.0.now, c.entry_of-item.result.1), at, sym c.interface_of.ensures ∙ c.in-Some.is, sym c.in-None.ensures.is)
 
 pub returns-in_default : goal.returns-in_default
 returns-in_default c =
     let level = c.args.level.now in (
       named_pairs-at level.order.items level.next c.entry_of-item.result.0 c.entry_of-item.result.1 (subst (λ xs. slice_get xs level.next ≡ Some c.entry_of-item.result) c.as_slice.ensures.value c.entry_of-item.ensures),
-      λ j e. absurd (c.in_default.not-Instance j e),
+      λ j e. let none_some : None ≡ Some j = sym c.in_default.is ∙ c.interface_of.ensures ∙ e in cc,
     )

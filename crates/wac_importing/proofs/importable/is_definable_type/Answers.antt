@@ -15,7 +15,7 @@ pub returns-in-Value-clause-not : goal.returns-in-Value-clause-not
 returns-in-Value-clause-not c h so = c.has_no_handle.ensures.some h (values_free c.args.types.now c.args.ty (is_of_values c.args.ty c.in-Value.is) so)
 
 pub returns-in_default : goal.returns-in_default
-returns-in_default c = record { definable = λ h. cc; not = λ h. type_not_definable c.args.types.now c.law.ensures c.args.ty c.requires.held (not_of_values c.args.ty c.in_default.not-Value c.in_default.not-Func) c.in_default.not-Interface c.in_default.not-World }
+returns-in_default c = record { definable = λ h. cc; free = λ h. cc; not = λ h. type_not_definable c.args.types.now c.law.ensures c.args.ty c.requires.held (not_of_values c.args.ty c.in_default.not-Value c.in_default.not-Func) c.in_default.not-Interface c.in_default.not-World }
 
 pub returns-in-Interface-clause-definable : goal.returns-in-Interface-clause-definable
 returns-in-Interface-clause-definable c h = subst (λ (a : AnyType). IsDefinableKind c.args.types.now (kind.TypeItem a)) (sym c.in-Interface.is) (c.is_definable_interface.ensures.definable h)

@@ -23,8 +23,3 @@ pub returns-in-Func-clause-listed : goal.returns-in-Func-clause-listed
 returns-in-Func-clause-listed c =
     let same : c.args.item ≡ kind.Func c.in-Func.func = cc in
     subst (λ (k : ItemKind). OnOk c.func_item.result (ListsHeld c.args.self.now.types.now c.args.scope.now c.func_item.new.scope c.args.name.now k)) (sym same) c.func_item.ensures.listed
-
-pub returns-in-Instance-clause-listed : goal.returns-in-Instance-clause-listed
-returns-in-Instance-clause-listed c =
-    let same : c.args.item ≡ kind.Instance c.in-Instance.interface = cc in
-    subst (λ (k : ItemKind). OnOk c.instance_item.result (ListsHeld c.args.self.now.types.now c.args.scope.now c.instance_item.new.scope c.args.name.now k)) (sym same) c.instance_item.ensures.listed

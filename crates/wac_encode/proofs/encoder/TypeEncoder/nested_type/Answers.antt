@@ -3,7 +3,6 @@ use Rattle.std.proofs.Common.{ap, sym, subst, ◌∙◌, arith, nat_lt}
 use Rattle.std.proofs.lemmas.Option.{slice_get_within}
 use Rattle.std.proofs.lemmas.Result.{err_from_is_err_and}
 use Rattle.wac_shapes.specs.Named.{named_pairs}
-use Rattle.wac_shapes.specs.declared.component.ItemKind.TheVariants as kind
 use Rattle.wac_shapes.specs.declared.component.InterfaceId.{InterfaceId}
 use Rattle.wac_shapes.specs.declared.component.«Type».TheVariants as ty
 use Rattle.wac_collection.specs.Collection.{HasInterface, size}
@@ -14,7 +13,7 @@ use Rattle.wac_encode.specs.declared.level.Level.{Level}
 use Rattle.wac_encode.specs.Items.{nothing_inside}
 use Rattle.wac_planning.specs.Plans.{IsOneOf, Takes, HasName, places_of}
 use Rattle.wac_encode.specs.Plans.{AreAtPlaces}
-use Rattle.wac_encode.specs.Levels.{IsChain, PutsInstance, InstanceNotPut}
+use Rattle.wac_encode.specs.Levels.{IsChain, PutsItem, ItemNotPut}
 use Rattle.wac_encode.proofs.Ordered.{pairs-length}
 use Rattle.wac_encode.proofs.Remaining.{weight, less-by-item, less-by-opening, less-by-closing}
 use Rattle.wac_encode.proofs.Chains.{begins-chain, chain-can-list, chain-listed, chain-open, chain-can-close, chain-inside-held, chain-item, chain-item-refused, chain-inside, chain-alias-refused, chain-says, chain-writes, closed-at, closed-held, closed-open, closed-unwritten, closed-says, chain-put, chain-put-refused}
@@ -69,27 +68,27 @@ nesting-preserved-in-Continue-branch-3 c =
 pub open_inside-requires-clause-held : goal.open_inside-requires-clause-held
 open_inside-requires-clause-held c =
     let t = c.args.self.now.types.now in
-    let held : nat_lt c.in-Inside.inside.0 (length t.interfaces) ≡ true = chain-inside-held t c.law.ensures c.args.around.now c.args.interface c.nesting.levels.items c.nesting.level c.in-Inside.ensures.0 c.in-Inside.inside c.in-Inside.ensures.1 c.nesting.invariant.0 in
+    let held : nat_lt c.in-Inside.inside.0 (length t.interfaces) ≡ true = chain-inside-held t c.law.ensures c.args.around.now c.args.interface c.nesting.levels.items c.nesting.level c.in-Inside.ensures.0 c.in-Inside.inside c.in-Inside.ensures.1 c.in-Inside.ensures.2 c.nesting.invariant.0 in
     grind (arith, held)
 
 pub returns-in_err-inner-in-Inside-clause-fault : goal.returns-in_err-inner-in-Inside-clause-fault
 returns-in_err-inner-in-Inside-clause-fault c =
     let p = err_from_is_err_and c.from_residual-in_err-inner-in-Inside.result c.from_residual-in_err-inner-in-Inside.ensures.1 in
-    rw (p.1, p.2) (chain-alias-refused c.args.self.now.types.now c.law.ensures c.args.around.now c.args.interface c.nesting.levels.items c.nesting.level (Unit {0}) (List Decl) c.open_inside.new.level.scope c.in-Inside.ensures.0 c.in-Inside.inside c.in_err-inner-in-Inside.field-0.0 c.in-Inside.ensures.1 c.in_err-inner-in-Inside.ensures.aliases c.in_err-inner-in-Inside.ensures.fault c.nesting.invariant.0)
+    rw (p.1, p.2) (chain-alias-refused c.args.self.now.types.now c.law.ensures c.args.around.now c.args.interface c.nesting.levels.items c.nesting.level (Unit {0}) (List Decl) c.open_inside.new.level.scope c.in-Inside.ensures.0 c.in-Inside.inside c.in_err-inner-in-Inside.field-0.0 c.in-Inside.ensures.1 c.in-Inside.ensures.2 c.in_err-inner-in-Inside.ensures.aliases c.in_err-inner-in-Inside.ensures.fault c.nesting.invariant.0)
 
 pub nesting-smaller-in-Inside : goal.nesting-smaller-in-Inside
 nesting-smaller-in-Inside c =
     let t = c.args.self.now.types.now in
     let made = c.in_ok-inner-in-Inside.ensures in
     subst (λ (ks : List Level). weight (size t) t ks c.in_ok-inner-in-Inside.inner < weight (size t) t c.nesting.levels.items c.nesting.level) (sym c.in_ok-push-in-Inside.ensures.items)
-    (less-by-opening t c.nesting.levels.items c.nesting.level c.open_inside.new.level c.in_ok-inner-in-Inside.inner c.open_inside.new.level.scope c.in-Inside.ensures.0 c.in-Inside.inside (ap (λ (l : Level). l.order) made.kept) (ap (λ (l : Level). l.next) made.kept) c.in-Inside.ensures.1 made.begun (size t) c.args.around.now c.args.interface c.nesting.invariant.0)
+    (less-by-opening t c.nesting.levels.items c.nesting.level c.open_inside.new.level c.in_ok-inner-in-Inside.inner c.open_inside.new.level.scope c.in-Inside.ensures.0 c.in-Inside.inside (ap (λ (l : Level). l.order) made.kept) (ap (λ (l : Level). l.next) made.kept) c.in-Inside.ensures.1 c.in-Inside.ensures.2 made.begun (size t) c.args.around.now c.args.interface c.nesting.invariant.0)
 
 pub nesting-preserved-in-Inside : goal.nesting-preserved-in-Inside
 nesting-preserved-in-Inside c =
     let t = c.args.self.now.types.now in
     let made = c.in_ok-inner-in-Inside.ensures in
     let chain = subst (λ (ks : List Level). IsChain (size t) t c.args.around.now c.args.interface ks c.in_ok-inner-in-Inside.inner) (sym c.in_ok-push-in-Inside.ensures.items)
-    (chain-inside t c.law.ensures c.args.around.now c.args.interface c.nesting.levels.items c.nesting.level c.closing_law.ensures.opens_interface c.open_inside.new.level c.in_ok-inner-in-Inside.inner c.in-Inside.ensures.0 c.in-Inside.inside (ap (λ (l : Level). l.interface) made.kept) (ap (λ (l : Level). l.order) made.kept) (ap (λ (l : Level). l.next) made.kept) c.in-Inside.ensures.1 c.in-Inside.ensures.2 made.aliases made.all made.begun c.nesting.invariant.0) in
+    (chain-inside t c.law.ensures c.args.around.now c.args.interface c.nesting.levels.items c.nesting.level c.closing_law.ensures.opens_interface c.open_inside.new.level c.in_ok-inner-in-Inside.inner c.in-Inside.ensures.0 c.in-Inside.inside (ap (λ (l : Level). l.interface) made.kept) (ap (λ (l : Level). l.order) made.kept) (ap (λ (l : Level). l.next) made.kept) c.in-Inside.ensures.1 c.in-Inside.ensures.2 c.in-Inside.ensures.3 made.aliases made.all made.begun c.nesting.invariant.0) in
     (chain, subst (AreAtPlaces t (places_of c.in_ok-plan.plan)) (sym c.in_ok-push-in-Inside.ensures.items) (one-waits t (places_of c.in_ok-plan.plan) c.nesting.levels.items c.open_inside.new.level c.nesting.invariant.1 made.outer), made.inner)
 
 pub open_inside-requires-clause-planned : goal.open_inside-requires-clause-planned
@@ -100,8 +99,8 @@ open_inside-requires-clause-placed c = c.nesting.invariant.2
 
 pub open_inside-requires-clause-listed : goal.open_inside-requires-clause-listed
 open_inside-requires-clause-listed c =
-    let at = chain-listed c.args.self.now.types.now c.law.ensures c.args.around.now c.args.interface c.nesting.levels.items c.nesting.level c.in-Inside.ensures.0 (kind.Instance c.in-Inside.inside) c.in-Inside.ensures.1 c.nesting.invariant.0 in
-    (at.0, c.in-Inside.ensures.0, at.1)
+    let at = chain-listed c.args.self.now.types.now c.law.ensures c.args.around.now c.args.interface c.nesting.levels.items c.nesting.level c.in-Inside.ensures.0.0 c.in-Inside.ensures.0.1 c.in-Inside.ensures.1 c.nesting.invariant.0 in
+    (at.0, c.in-Inside.ensures.0, at.1, c.in-Inside.ensures.2)
 
 pub closed-declarations-requires : goal.closed-declarations-requires
 closed-declarations-requires c = chain-can-close c.args.self.now.types.now c.law.ensures c.args.around.now c.args.interface c.nesting.levels.items c.nesting.level c.nesting.invariant.0
@@ -166,8 +165,8 @@ returns-in_err-put_nested-in-End-clause-fault c =
     let chain = subst (λ (ks : List Level). IsChain (size t) t c.args.around.now c.args.interface ks c.nesting.level) c.in-Some.ensures.items c.nesting.invariant.0 in
     let at = closed-at t c.law.ensures c.args.around.now c.args.interface c.pop.new.self.items outer c.nesting.level c.closed-declarations.result.1 c.in-End.ensures c.closed-declarations.ensures.declarations chain in
     let says = closed-says t c.law.ensures c.args.around.now c.args.interface c.pop.new.self.items outer c.nesting.level c.closed-declarations.result.1 c.in-End.ensures c.closed-declarations.ensures.declarations c.closing_law.ensures.opens_over c.closing_law.ensures.holds_interface c.closing_law.ensures.closes_instance c.listing_law.ensures.lists_in_any_order chain in
-    let refused = subst (λ (j : InterfaceId). InstanceNotPut {A = Unit {0}} t outer.scope at.0 j c.closed-declarations.result.1 (Err c.in_err-put_nested-in-End.field-0.0)) c.closed-declarations.ensures.interface (c.in_err-put_nested-in-End.ensures.fault (at.0, kind.Instance c.nesting.level.interface) at.1) in
-    rw (p.1, p.2) (chain-put-refused t c.law.ensures c.args.around.now c.args.interface c.pop.new.self.items outer c.nesting.level c.closed-declarations.result.1 c.in-End.ensures c.closed-declarations.ensures.declarations (Unit {0}) (List Decl) c.step_law.ensures.follows c.still_law.ensures at.0 (kind.Instance c.nesting.level.interface) c.in_err-put_nested-in-End.field-0.0 at.1 refused says chain)
+    let refused = subst (λ (j : InterfaceId). ItemNotPut {A = Unit {0}} t outer.scope at.0.0 at.0.1 j c.closed-declarations.result.1 (Err c.in_err-put_nested-in-End.field-0.0)) c.closed-declarations.ensures.interface (c.in_err-put_nested-in-End.ensures.fault at.0 at.1) in
+    rw (p.1, p.2) (chain-put-refused t c.law.ensures c.args.around.now c.args.interface c.pop.new.self.items outer c.nesting.level c.closed-declarations.result.1 c.in-End.ensures c.closed-declarations.ensures.declarations (Unit {0}) (List Decl) c.step_law.ensures.follows c.still_law.ensures at.0.0 at.0.1 c.in_err-put_nested-in-End.field-0.0 at.1 refused says chain)
 
 pub nesting-smaller : goal.nesting-smaller
 nesting-smaller c =
@@ -187,9 +186,9 @@ nesting-preserved c =
     let made = c.in_ok-put_nested-in-End.ensures.kept in
     let at = closed-at t c.law.ensures c.args.around.now c.args.interface c.pop.new.self.items outer c.nesting.level c.closed-declarations.result.1 c.in-End.ensures c.closed-declarations.ensures.declarations chain in
     let says = closed-says t c.law.ensures c.args.around.now c.args.interface c.pop.new.self.items outer c.nesting.level c.closed-declarations.result.1 c.in-End.ensures c.closed-declarations.ensures.declarations c.closing_law.ensures.opens_over c.closing_law.ensures.holds_interface c.closing_law.ensures.closes_instance c.listing_law.ensures.lists_in_any_order chain in
-    let put = subst (λ (j : InterfaceId). PutsInstance t outer.scope c.put_nested.new.level.scope at.0 j c.closed-declarations.result.1) c.closed-declarations.ensures.interface (c.in_ok-put_nested-in-End.ensures.put (at.0, kind.Instance c.nesting.level.interface) at.1) in
+    let put = subst (λ (j : InterfaceId). PutsItem t outer.scope c.put_nested.new.level.scope at.0.0 at.0.1 j c.closed-declarations.result.1) c.closed-declarations.ensures.interface (c.in_ok-put_nested-in-End.ensures.put at.0 at.1) in
     let waiting = first-wait t ps c.pop.new.self.items outer (subst (AreAtPlaces t ps) c.in-Some.ensures.items c.nesting.invariant.1) in (
-      chain-put t c.law.ensures c.args.around.now c.args.interface c.pop.new.self.items outer c.nesting.level c.closed-declarations.result.1 c.in-End.ensures c.closed-declarations.ensures.declarations c.step_law.ensures.follows c.still_law.ensures c.listing_law.ensures.lists_one_more c.put_nested.new.level at.0 (kind.Instance c.nesting.level.interface) (ap (λ (l : Level). l.interface) made) (ap (λ (l : Level). l.order) made) (ap (λ (l : Level). l.next) made) at.1 put says chain,
+      chain-put t c.law.ensures c.args.around.now c.args.interface c.pop.new.self.items outer c.nesting.level c.closed-declarations.result.1 c.in-End.ensures c.closed-declarations.ensures.declarations c.step_law.ensures.follows c.still_law.ensures c.listing_law.ensures.lists_one_more c.put_nested.new.level at.0.0 at.0.1 (ap (λ (l : Level). l.interface) made) (ap (λ (l : Level). l.order) made) (ap (λ (l : Level). l.next) made) at.1 put says chain,
       waiting.0,
-      placed-put t ps outer c.put_nested.new.level at.0 c.nesting.level.interface c.closed-declarations.result.1 (ap (λ (l : Level). l.place) made) (ap (λ (l : Level). l.interface) made) put waiting.1,
+      placed-put t ps outer c.put_nested.new.level at.0.0 at.0.1 c.nesting.level.interface c.closed-declarations.result.1 (ap (λ (l : Level). l.place) made) (ap (λ (l : Level). l.interface) made) put waiting.1,
     )

@@ -1,10 +1,12 @@
-use Rattle.std.specs.Prelude.{ℕ, suc, ◌≡◌, ◌-◌, ◌++◌, length, drop}
+use Rattle.std.specs.Prelude.{ℕ, suc, ◌≡◌, ◌-◌, [], ◌∷◌, ◌++◌, length, drop, Option}
 use Rattle.std.proofs.Common.{refl, arith, ap, sym, ◌∙◌}
 use Rattle.std.proofs.lemmas.List.{append-nil}
 use Rattle.wac_collection.specs.Collection.{interface_exports}
-use Rattle.wac_shapes.specs.declared.component.ItemKind.{ItemKind}
+use Rattle.wac_primitives.specs.Name.{option_case}
+use Rattle.wac_shapes.specs.declared.component.InterfaceId.{InterfaceId}
 use Rattle.wac_planning.specs.declared.growing.Growing.{Growing}
-use Rattle.wac_planning.specs.Planning.{enters, enter_of}
+use Rattle.wac_planning.specs.declared.growing.Visit.TheVariants.{Enter}
+use Rattle.wac_planning.specs.Planning.{enters}
 use Rattle.wac_planning.proofs.Looking.{exports-of, item-read, enters-more, enters-none, enters-all, enters-not}
 use Rattle.wac_planning.proofs.planner.Planner.put_inside.Goals as goal
 
@@ -23,7 +25,7 @@ loop-i-preserved-in-Continue-1 c =
       kept = ap (λ (g : Growing). let x : Growing = record g { visits = c.push.new.self } in x) c.loop-i.invariant.kept;
       within = omega (arith, c.loop-i.invariant.within);
       waits = enters-more c.args.place es (c.loop-i.i - 1) c.value_at.result.now c.loop-i.growing.visits.items c.push.new.self.items c.args.growing.now.visits.items (item-read t c.args.interface c.index.result.now (c.loop-i.i - 1) c.value_at.result.now c.index.ensures c.value_at.ensures)
-          (c.loop-i.invariant.waits ∙ ap (λ (n : ℕ). c.args.growing.now.visits.items ++ enters c.args.place (drop n es)) (sym one)) (c.in_ok-push.ensures.items ∙ ap (λ (x : ItemKind). c.loop-i.growing.visits.items ++ enter_of c.args.place x) (sym c.in-Instance.is));
+          (c.loop-i.invariant.waits ∙ ap (λ (n : ℕ). c.args.growing.now.visits.items ++ enters c.args.place (drop n es)) (sym one)) (c.in_ok-push.ensures.items ∙ ap (λ (o : Option InterfaceId). c.loop-i.growing.visits.items ++ option_case o [] (λ j. Enter j c.args.place ∷ [])) (sym c.in-Some.is ∙ c.interface_of.ensures));
     }
 
 pub loop-i-preserved : goal.loop-i-preserved
@@ -34,7 +36,7 @@ loop-i-preserved c =
       kept = c.loop-i.invariant.kept;
       within = omega (arith, c.loop-i.invariant.within);
       waits = enters-more c.args.place es (c.loop-i.i - 1) c.value_at.result.now c.loop-i.growing.visits.items c.loop-i.growing.visits.items c.args.growing.now.visits.items (item-read t c.args.interface c.index.result.now (c.loop-i.i - 1) c.value_at.result.now c.index.ensures c.value_at.ensures)
-          (c.loop-i.invariant.waits ∙ ap (λ (n : ℕ). c.args.growing.now.visits.items ++ enters c.args.place (drop n es)) (sym one)) (sym (append-nil c.loop-i.growing.visits.items) ∙ ap (λ vs. c.loop-i.growing.visits.items ++ vs) (enters-not c.args.place c.value_at.result.now c.in_default.not-Instance));
+          (c.loop-i.invariant.waits ∙ ap (λ (n : ℕ). c.args.growing.now.visits.items ++ enters c.args.place (drop n es)) (sym one)) (sym (append-nil c.loop-i.growing.visits.items) ∙ ap (λ vs. c.loop-i.growing.visits.items ++ vs) (enters-not c.args.place c.value_at.result.now (sym c.interface_of.ensures ∙ c.in_default.is)));
     }
 
 pub returns-clause-enters : goal.returns-clause-enters

@@ -29,3 +29,9 @@ returns-in-TypeItem-Func-clause-listed c =
     let inner = rw c.in-TypeItem-Func.is at c.in-TypeItem-Func.field-0-is in
     let same : c.args.item ≡ kind.TypeItem (ty.Func c.in-TypeItem-Func.func) = c.in-TypeItem-Func.is ∙ ap (λ (w : AnyType). kind.TypeItem w) inner in
     subst (λ (k : ItemKind). OnOk c.func_type_item.result (DeclaresHeld c.args.self.now.types.now (side_of c.args.side) c.args.scope.now c.func_type_item.new.scope c.args.name.now k)) (sym same) c.func_type_item.ensures.listed
+
+pub returns-in-TypeItem-Interface-clause-listed : goal.returns-in-TypeItem-Interface-clause-listed
+returns-in-TypeItem-Interface-clause-listed c =
+    let inner = rw c.in-TypeItem-Interface.is at c.in-TypeItem-Interface.field-0-is in
+    let same : c.args.item ≡ kind.TypeItem (ty.Interface c.in-TypeItem-Interface.interface) = c.in-TypeItem-Interface.is ∙ ap (λ (w : AnyType). kind.TypeItem w) inner in
+    subst (λ (k : ItemKind). OnOk c.interface_type_item.result (DeclaresHeld c.args.self.now.types.now (side_of c.args.side) c.args.scope.now c.interface_type_item.new.scope c.args.name.now k)) (sym same) c.interface_type_item.ensures.listed
