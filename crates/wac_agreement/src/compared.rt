@@ -57,31 +57,41 @@ fn source_item<'a>(
     listed_item(memo, nodes, source, kind, listings.as_slice())
 }
 
+/// Entries that are asked for, of a collection, and what their classes bind.
+#[derive(Clone, Copy)]
+struct Asked<'a, 'b> {
+    /// The collection, from which nodes borrow names.
+    types: &'a Types,
+    /// The entries.
+    entries: &'b [Entry],
+    /// What their classes bind.
+    bindings: &'b Bindings,
+}
+
 /// What an entry of a class is compared as.
 fn entry_item<'a>(
     alloc: Global,
     memo: &mut Memo,
     nodes: &mut Nodes<'a>,
-    types: &'a Types,
-    entries: &[Entry],
-    bindings: &Bindings,
+    asked: &Asked<'a, '_>,
     class: usize,
     kind: ItemKind,
 ) -> Result<Item, AllocError>
-    requires held { holds_type types.now (kind_type kind) ≡ true }
-    requires bindings { AreBindings types.now entries.now bindings.now }
-    requires class { class < length (class_names by_names entries.now) }
+    requires held { holds_type asked.now.types.now (kind_type kind) ≡ true }
+    requires bindings { AreBindings asked.now.types.now asked.now.entries.now asked.now.bindings.now }
+    requires class { class < length (class_names by_names asked.now.entries.now) }
     ensures grown { IsGrown nodes.old nodes.new }
-    ensures item { IfOk result (λ x. (name : Name) → slice_get (class_names by_names entries.now) class ≡ Some name → IsItemOf nodes.new types.now entries.now name kind (item_view x)) }
+    ensures item { IfOk result (λ x. (name : Name) → slice_get (class_names by_names asked.now.entries.now) class ≡ Some name → IsItemOf nodes.new asked.now.types.now asked.now.entries.now name kind (item_view x)) }
 {
+    let types = asked.types;
     let scopes = Scopes::new(alloc, types, kind)?;
     let found = bound_in(alloc, types, &scopes)?;
     let bound = found.as_slice();
     let ways = outward_in(alloc, &scopes, bound)?;
     let outward = ways.as_slice();
     let calls = Calls {
-        entries,
-        bindings,
+        entries: asked.entries,
+        bindings: asked.bindings,
         class,
         kind,
         scopes: &scopes,
@@ -113,15 +123,18 @@ pub fn entry_items<'a>(
     ensures counted { IfOk result (λ xs. length xs.items ≡ length entries.now) }
     ensures items { IfOk result (λ xs. AreCompared nodes.new types.now entries.now (map item_view xs.items)) }
 {
+    let asked = Asked {
+        types,
+        entries,
+        bindings,
+    };
     let numbers = classes.numbers();
     let mut memo = Memo::new(alloc);
     let mut items = Vec::new(alloc);
     for i in 0..entries.len() {
         let kind = entries[i].kind();
         let class = numbers[i];
-        items.push(entry_item(
-            alloc, &mut memo, nodes, types, entries, bindings, class, kind,
-        )?)?;
+        items.push(entry_item(alloc, &mut memo, nodes, &asked, class, kind)?)?;
     }
     Ok(items)
 }

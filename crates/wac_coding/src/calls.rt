@@ -56,11 +56,10 @@ impl<'a> Calls<'a> {
                     scopes: self.scopes,
                     bound: self.bound,
                     outward: self.outward,
+                    kind: self.kind,
                 };
-                let (bindings, class, kind) = (self.bindings, self.class, self.kind);
-                called(
-                    alloc, types, &around, bindings, class, kind, scope, resource,
-                )
+                let (bindings, class) = (self.bindings, self.class);
+                called(alloc, types, &around, bindings, class, scope, resource)
             }
             None => called_outside(alloc, types, self.bindings, self.class, resource),
         }

@@ -90,26 +90,27 @@ pub struct BoundScopes<'a> {
     pub bound: &'a [Bound],
     /// The next one on the way out of each.
     pub outward: &'a [Option<Outward>],
+    /// The item.
+    pub kind: ItemKind,
 }
 
-/// What a resource is called in a scope.
+/// What a resource is called in a scope of an entry of a class.
 pub fn called(
     alloc: Global,
     types: &Types,
     around: &BoundScopes,
     bindings: &Bindings,
     class: usize,
-    kind: ItemKind,
     scope: usize,
     resource: ResourceId,
 ) -> Result<Called, AllocError>
-    requires scopes { AreScopes types.now (opened_by kind) around.now.scopes.now }
+    requires scopes { AreScopes types.now (opened_by around.now.kind) around.now.scopes.now }
     requires bound { AreBound types.now around.now.scopes.now around.now.bound.now }
     requires outward { AreOutward around.now.scopes.now around.now.bound.now around.now.outward.now }
     requires within { scope < length around.now.scopes.now }
     requires held { HasResource types.now resource }
     ensures { IfOk result (λ x. (es : List classes.Entry) (name : Name) → AreBindings types.now es bindings.now → slice_get (class_names by_names es) class ≡ Some name
-        → called_in types.now (called_in_root by_names types.now es name kind) around.now.scopes.now scope (resolved types.now resource) ≡ Some (called_view x)) }
+        → called_in types.now (called_in_root by_names types.now es name around.now.kind) around.now.scopes.now scope (resolved types.now resource) ≡ Some (called_view x)) }
 {
     types.law();
     let resource = types.resolve_resource(resource);
@@ -123,7 +124,7 @@ pub fn called(
             return Ok(Called::Bound(out, place.side, path, name));
         }
         let Some(next) = outward[position] else {
-            return past_scopes(alloc, types, bindings, class, kind, out, resource);
+            return past_scopes(alloc, types, bindings, class, around.kind, out, resource);
         };
         position = next.position;
         out += next.out;

@@ -1,7 +1,12 @@
 //! The merged imports of entries that have a merge, and the collection of their types.
 ghost use Rattle.std.specs.Prelude.{Contains, List, Some, length, map, slice_get, string_bytes, true, ℕ, ◌<◌, ◌≡◌, ◌↔◌, IfOk, OnOk};
 ghost use Rattle.std.specs.Option.{option_map};
-ghost use Rattle.wac_collection.specs.Collection.{HasInterface, holds_type};
+ghost use Rattle.wac_collection.specs.Bound.{by_place};
+ghost use Rattle.wac_collection.specs.Collection.{HasInterface, IsWellFormed, holds_type};
+ghost use Rattle.wac_collection.specs.Uses.{IsSound};
+ghost use Rattle.wac_subtyping.specs.Called.{by_binding};
+ghost use Rattle.wac_subtyping.specs.Subtype.{by_name};
+ghost use Rattle.wac_subtyping.specs.TreeLaws.{IsDeepEnough};
 ghost use Rattle.wac_shapes.specs.Kinds.{kind_type};
 ghost use Rattle.wac_primitives.specs.Name.{Name as AName};
 ghost use Rattle.wac_shapes.specs.declared.component.DefinedTypeId.{DefinedTypeId as Defined};
@@ -195,83 +200,84 @@ fn interface_at(written: &[InterfaceId], position: usize) -> Option<InterfaceId>
 
 /// What a class became.
 fn class_kind(
-    alloc: Global,
     merged: &mut Types,
     renamed: &mut Renamed,
-    types: &Types,
-    became: &Became<'_>,
+    renaming: &Renaming<'_>,
     written: &[InterfaceId],
     number: usize,
     entry: &Entry,
 ) -> Result<ItemKind, AllocError>
-    requires held { holds_type types.now (kind_type entry.now.kind) ≡ true }
-    requires known { CanRenameAll merged.old types.now became.now }
+    requires outside { renaming.now.part ≡ None }
+    requires held { holds_type renaming.now.types.now (kind_type entry.now.kind) ≡ true }
+    requires known { CanRenameAll merged.old renaming.now.types.now renaming.now.became.now }
     requires given { IsGiven merged.old entry.now.kind (slice_get written.now number) }
-    requires made { AreMade types.now became.now.named.now merged.old renamed.old.made }
+    requires made { AreMade renaming.now.types.now renaming.now.became.now.named.now merged.old renamed.old.made }
     ensures extended { IsExtended merged.old merged.new }
-    ensures made { OnOk result (AreMade types.now became.now.named.now merged.new renamed.new.made) }
-    ensures kind { IfOk result (λ k. IsClassKind types.now merged.new became.now.parts.now became.now.bindings.now became.now.fresh.now written.now number entry.now k) }
-    ensures once { IfOk result (λ k. IsKindMadeOf types.now merged.new became.now.named.now renamed.new.made entry.now.kind k) }
+    ensures made { OnOk result (AreMade renaming.now.types.now renaming.now.became.now.named.now merged.new renamed.new.made) }
+    ensures kind { IfOk result (λ k. IsClassKind renaming.now.types.now merged.new renaming.now.became.now.parts.now renaming.now.became.now.bindings.now renaming.now.became.now.fresh.now written.now number entry.now k) }
+    ensures once { IfOk result (λ k. IsKindMadeOf renaming.now.types.now merged.new renaming.now.became.now.named.now renamed.new.made entry.now.kind k) }
     ensures stay { OnOk result (StayMade renamed.old.made renamed.new.made) }
 {
-    if let Some(resource) = became.fresh.whole(number) {
+    if let Some(resource) = renaming.became.fresh.whole(number) {
         return Ok(ItemKind::TypeItem(Type::Resource(resource)));
     }
-    let renaming = Renaming {
-        alloc,
-        types,
-        became,
-        part: None,
-    };
     renamed.forget();
     let inner = interface_at(written, number);
-    write_kind(
-        merged,
-        renamed,
-        &renaming,
-        inner,
-        entry.name(),
-        entry.kind(),
-    )
+    write_kind(merged, renamed, renaming, inner, entry.name(), entry.kind())
 }
 
 /// The imports in an order of their classes.
 fn class_imports(
-    alloc: Global,
+    asked: &Asked<'_>,
     merged: &mut Types,
     renamed: &mut Renamed,
-    types: &Types,
-    entries: &[Entry],
-    classes: &Classes,
     became: &Became<'_>,
     written: &[InterfaceId],
     order: &[usize],
 ) -> Result<Named<ItemKind>, AllocError>
-    requires held { AreHeld types.now entries.now }
-    requires classes { AreClasses by_names entries.now classes.now.numbers.items classes.now.positions.items classes.now.names }
-    requires known { CanRenameAll merged.old types.now became.now }
-    requires given { (i k : ℕ) (class : AName) (e : AnEntry) → slice_get entries.now i ≡ Some e → slice_get (class_names by_names entries.now) k ≡ Some class → same_class by_names entries.now class e.name ≡ true → IsGiven merged.old e.kind (slice_get written.now k) }
-    requires each { (k : ℕ) → Contains order.now k → k < length (class_names by_names entries.now) }
+    requires held { AreHeld asked.now.types.now asked.now.entries.now }
+    requires classes { AreClasses by_names asked.now.entries.now asked.now.classes.now.numbers.items asked.now.classes.now.positions.items asked.now.classes.now.names }
+    requires known { CanRenameAll merged.old asked.now.types.now became.now }
+    requires given { (i k : ℕ) (class : AName) (e : AnEntry) → slice_get asked.now.entries.now i ≡ Some e → slice_get (class_names by_names asked.now.entries.now) k ≡ Some class → same_class by_names asked.now.entries.now class e.name ≡ true → IsGiven merged.old e.kind (slice_get written.now k) }
+    requires each { (k : ℕ) → Contains order.now k → k < length (class_names by_names asked.now.entries.now) }
     requires once { (i j k : ℕ) → slice_get order.now i ≡ Some k → slice_get order.now j ≡ Some k → i ≡ j }
-    requires made { AreMade types.now became.now.named.now merged.old renamed.old.made }
+    requires made { AreMade asked.now.types.now became.now.named.now merged.old renamed.old.made }
     ensures extended { IsExtended merged.old merged.new }
-    ensures made { OnOk result (AreMade types.now became.now.named.now merged.new renamed.new.made) }
-    ensures imports { IfOk result (λ is. AreImports types.now merged.new entries.now became.now.parts.now became.now.bindings.now became.now.fresh.now written.now order.now (import_entries is)) }
-    ensures once { IfOk result (λ is. AreImportsMadeOf types.now merged.new became.now.named.now renamed.new.made entries.now classes.now.positions.items order.now (import_entries is)) }
+    ensures made { OnOk result (AreMade asked.now.types.now became.now.named.now merged.new renamed.new.made) }
+    ensures imports { IfOk result (λ is. AreImports asked.now.types.now merged.new asked.now.entries.now became.now.parts.now became.now.bindings.now became.now.fresh.now written.now order.now (import_entries is)) }
+    ensures once { IfOk result (λ is. AreImportsMadeOf asked.now.types.now merged.new became.now.named.now renamed.new.made asked.now.entries.now asked.now.classes.now.positions.items order.now (import_entries is)) }
     ensures stay { OnOk result (StayMade renamed.old.made renamed.new.made) }
 {
     merged.law();
-    let positions = classes.positions();
-    let mut imports = Named::new(alloc);
+    let entries = asked.entries;
+    let positions = asked.classes.positions();
+    let renaming = Renaming {
+        alloc: asked.alloc,
+        types: asked.types,
+        became,
+        part: None,
+    };
+    let mut imports = Named::new(asked.alloc);
     for i in 0..order.len() {
         let number = order[i];
         let entry = &entries[positions[number]];
-        let kind = class_kind(
-            alloc, merged, renamed, types, became, written, number, entry,
-        )?;
-        put_item(alloc, &mut imports, entry.name(), kind)?;
+        let kind = class_kind(merged, renamed, &renaming, written, number, entry)?;
+        put_item(asked.alloc, &mut imports, entry.name(), kind)?;
     }
     Ok(imports)
+}
+
+/// The laws of a collection, and that its trees are whole.
+fn laws(types: &Types)
+    ensures well_formed { IsWellFormed types.now }
+    ensures sound { IsSound types.now }
+    ensures named { IsDeepEnough by_name types.now }
+    ensures placed { IsDeepEnough (by_place types.now) types.now }
+    ensures bound { IsDeepEnough (by_binding types.now) types.now }
+{
+    types.law();
+    types.uses_law();
+    trees_are_whole(types);
 }
 
 /// The law of interfaces: none lists a name twice.
@@ -386,39 +392,41 @@ impl Basis {
 
 /// The imports in an order of their classes, behind the unions, which are written first.
 fn write_imports(
-    alloc: Global,
+    asked: &Asked<'_>,
     merged: &mut Types,
-    types: &Types,
-    entries: &[Entry],
-    classes: &Classes,
     bindings: &Bindings,
     basis: &Basis,
     order: &[usize],
 ) -> Result<Named<ItemKind>, AllocError>
-    requires held { AreHeld types.now entries.now }
-    requires classes { AreClasses by_names entries.now classes.now.numbers.items classes.now.positions.items classes.now.names }
-    requires bindings { AreBindings types.now entries.now bindings.now }
-    requires agreed { AllMembersAgree by_names types.now entries.now }
-    requires basis { IsBasis types.now merged.old entries.now classes.now.numbers.items classes.now.positions.items bindings.now basis.now }
-    requires each { (k : ℕ) → Contains order.now k → k < length (class_names by_names entries.now) }
+    requires held { AreHeld asked.now.types.now asked.now.entries.now }
+    requires classes { AreClasses by_names asked.now.entries.now asked.now.classes.now.numbers.items asked.now.classes.now.positions.items asked.now.classes.now.names }
+    requires bindings { AreBindings asked.now.types.now asked.now.entries.now bindings.now }
+    requires agreed { AllMembersAgree by_names asked.now.types.now asked.now.entries.now }
+    requires basis { IsBasis asked.now.types.now merged.old asked.now.entries.now asked.now.classes.now.numbers.items asked.now.classes.now.positions.items bindings.now basis.now }
+    requires each { (k : ℕ) → Contains order.now k → k < length (class_names by_names asked.now.entries.now) }
     requires once { (i j k : ℕ) → slice_get order.now i ≡ Some k → slice_get order.now j ≡ Some k → i ≡ j }
     ensures extended { IsExtended merged.old merged.new }
-    ensures imports { IfOk result (λ is. AreWrittenImports types.now merged.new entries.now basis.now.unions.unions.items basis.now.unions.parts.items bindings.now basis.now.fresh order.now (import_entries is)) }
-    ensures once { IfOk result (λ is. AreMadeOnce types.now merged.new entries.now basis.now.unions.unions.items basis.now.unions.parts.items bindings.now basis.now.fresh basis.now.named classes.now.positions.items order.now (import_entries is)) }
+    ensures imports { IfOk result (λ is. AreWrittenImports asked.now.types.now merged.new asked.now.entries.now basis.now.unions.unions.items basis.now.unions.parts.items bindings.now basis.now.fresh order.now (import_entries is)) }
+    ensures once { IfOk result (λ is. AreMadeOnce asked.now.types.now merged.new asked.now.entries.now basis.now.unions.unions.items basis.now.unions.parts.items bindings.now basis.now.fresh basis.now.named asked.now.classes.now.positions.items order.now (import_entries is)) }
 {
+    let (alloc, types) = (asked.alloc, asked.types);
     types.law();
     types.uses_law();
     merged.law();
     let unions = &basis.unions;
     let became = basis.became(bindings);
-    let ids = union_ids(alloc, types, entries, classes, unions)?;
+    let ids = union_ids(alloc, types, asked.entries, asked.classes, unions)?;
     let ids = ids.as_slice();
     let mut memo = Renamed::new(alloc);
-    let written = write_unions(alloc, merged, &mut memo, types, unions, &became, ids)?;
+    let renaming = Renaming {
+        alloc,
+        types,
+        became: &became,
+        part: None,
+    };
+    let written = write_unions(merged, &mut memo, &renaming, unions, ids)?;
     let written = written.as_slice();
-    class_imports(
-        alloc, merged, &mut memo, types, entries, classes, &became, written, order,
-    )
+    class_imports(asked, merged, &mut memo, &became, written, order)
 }
 
 /// The merged imports, in the order in which they are written, and the collection of their types.
@@ -463,46 +471,38 @@ impl Merged {
         ensures holds { IfOk result (λ m. AreHeld m.types m.imports) }
         ensures asked { IfOk result (λ m. AreHeld m.types entries.now) }
     {
-        types.law();
-        types.uses_law();
-        trees_are_whole(types);
-        let mut made = types.clone()?;
-        let basis = Basis::of(alloc, &mut made, types, entries, classes, bindings)?;
-        made.law();
-        let bare = write_imports(
-            alloc, &mut made, types, entries, classes, bindings, &basis, order,
-        )?;
-        made.law();
-        let merge = Merged::using(alloc, types, entries, classes, made, &bare)?;
-        merge.types.law();
-        trees_are_whole(&merge.types);
-        Ok(merge)
-    }
-
-    /// Imports that use none of each other, with what they use.
-    fn using(
-        alloc: Global,
-        types: &Types,
-        entries: &[Entry],
-        classes: &Classes,
-        mut merged: Types,
-        bare: &Named<ItemKind>,
-    ) -> Result<Merged, AllocError>
-        requires classes { AreClasses by_names entries.now classes.now.numbers.items classes.now.positions.items classes.now.names }
-        requires asked { AreHeld types.now entries.now }
-        requires held { AreHeld merged (import_entries bare.now) }
-        requires named { (p : ℕ) (e : AnEntry) → slice_get (import_entries bare.now) p ≡ Some e → is_asked entries.now e.name ≡ true }
-        requires bare { AreBareImports merged (import_entries bare.now) }
-        ensures extended { IfOk result (λ m. IsExtended merged m.types) }
-        ensures using { IfOk result (λ m. AreUsing by_names types.now entries.now m.types (import_entries bare.now) m.imports) }
-    {
         let asked = Asked {
             alloc,
             types,
             entries,
             classes,
         };
-        let imports = imports_with_uses(&asked, &mut merged, bare)?;
+        laws(types);
+        let mut made = types.clone()?;
+        let basis = Basis::of(alloc, &mut made, types, entries, classes, bindings)?;
+        made.law();
+        let bare = write_imports(&asked, &mut made, bindings, &basis, order)?;
+        made.law();
+        let merge = Merged::using(&asked, made, &bare)?;
+        laws(&merge.types);
+        Ok(merge)
+    }
+
+    /// Imports that use none of each other, with what they use.
+    fn using(
+        asked: &Asked<'_>,
+        mut merged: Types,
+        bare: &Named<ItemKind>,
+    ) -> Result<Merged, AllocError>
+        requires classes { AreClasses by_names asked.now.entries.now asked.now.classes.now.numbers.items asked.now.classes.now.positions.items asked.now.classes.now.names }
+        requires asked { AreHeld asked.now.types.now asked.now.entries.now }
+        requires held { AreHeld merged (import_entries bare.now) }
+        requires named { (p : ℕ) (e : AnEntry) → slice_get (import_entries bare.now) p ≡ Some e → is_asked asked.now.entries.now e.name ≡ true }
+        requires bare { AreBareImports merged (import_entries bare.now) }
+        ensures extended { IfOk result (λ m. IsExtended merged m.types) }
+        ensures using { IfOk result (λ m. AreUsing by_names asked.now.types.now asked.now.entries.now m.types (import_entries bare.now) m.imports) }
+    {
+        let imports = imports_with_uses(asked, &mut merged, bare)?;
         Ok(Merged {
             types: merged,
             imports,

@@ -23,11 +23,21 @@ use wac_collection::{
     AddTypeError, Interface, InterfaceId, ItemKind, Named, Resource, ResourceId, ShapeError, Text,
     Type, Types,
 };
-use wac_renaming::became::Became;
 use wac_renaming::renamer::{Renamed, Renaming};
 use wac_subtyping::laws::growth_keeps_trees;
 use wac_terms::parts::Export;
 use wac_uniting::unions::Unions;
+
+/// A union to write as an interface, and what those behind it became.
+#[derive(Clone, Copy)]
+struct NextUnion<'a> {
+    /// All unions.
+    unions: &'a Unions,
+    /// What those behind it became, from the last on.
+    written: &'a [InterfaceId],
+    /// Its position.
+    union: usize,
+}
 
 /// Adds an alias of a resource, under a name.
 fn add_alias(
@@ -146,28 +156,26 @@ fn write_export(
     merged: &mut Types,
     renamed: &mut Renamed,
     renaming: &Renaming<'_>,
-    unions: &Unions,
-    written: &[InterfaceId],
-    union: usize,
+    next: &NextUnion<'_>,
     name: &str,
     export: &Export,
 ) -> Result<ItemKind, AllocError>
-    requires writing { CanWrite renaming.now.types.now merged.old unions.now.unions.items renaming.now.became.now written.now union }
-    requires export { HasExport unions.now.unions.items union name.now export.now }
+    requires writing { CanWrite renaming.now.types.now merged.old next.now.unions.now.unions.items renaming.now.became.now next.now.written.now next.now.union }
+    requires export { HasExport next.now.unions.now.unions.items next.now.union name.now export.now }
     requires part { renaming.now.part ≡ Some export.now.part }
     requires right { AreRenamed merged.old renaming.now renamed.old }
     ensures extended { IsExtended merged.old merged.new }
     ensures right { OnOk result (AreRenamed merged.new renaming.now renamed.new) }
-    ensures written { IfOk result (IsWrittenItem renaming.now.types.now merged.new renaming.now.became.now (length unions.now.unions.items) written.now union name.now export.now) }
+    ensures written { IfOk result (IsWrittenItem renaming.now.types.now merged.new renaming.now.became.now (length next.now.unions.now.unions.items) next.now.written.now next.now.union name.now export.now) }
     ensures once { IfOk result (λ k. IsKindMadeOf renaming.now.types.now merged.new renaming.now.became.now.named.now renamed.new.made export.now.kind k) }
     ensures stay { OnOk result (StayMade renamed.old.made renamed.new.made) }
 {
     if export.is_own {
-        let own = renaming.became.fresh.own_in(union, name).unwrap();
+        let own = renaming.became.fresh.own_in(next.union, name).unwrap();
         return Ok(ItemKind::TypeItem(Type::Resource(own)));
     }
     renaming.types.law();
-    let inner = written_inner(written, unions.unions.len(), export.inner);
+    let inner = written_inner(next.written, next.unions.unions.len(), export.inner);
     write_kind(merged, renamed, renaming, inner, name, export.kind)
 }
 
@@ -201,41 +209,32 @@ pub(crate) fn put_item(
 }
 
 /// What the exports of a union become.
-fn write_exports<'a>(
-    alloc: Global,
+fn write_exports(
     merged: &mut Types,
     renamed: &mut Renamed,
-    types: &'a Types,
-    unions: &Unions,
-    became: &'a Became<'a>,
-    written: &[InterfaceId],
-    union: usize,
+    renaming: &Renaming<'_>,
+    next: &NextUnion<'_>,
 ) -> Result<Named<ItemKind>, AllocError>
-    requires writing { CanWrite types.now merged.old unions.now.unions.items became.now written.now union }
-    requires made { AreMade types.now became.now.named.now merged.old renamed.old.made }
+    requires writing { CanWrite renaming.now.types.now merged.old next.now.unions.now.unions.items renaming.now.became.now next.now.written.now next.now.union }
+    requires made { AreMade renaming.now.types.now renaming.now.became.now.named.now merged.old renamed.old.made }
     ensures extended { IsExtended merged.old merged.new }
-    ensures made { OnOk result (AreMade types.now became.now.named.now merged.new renamed.new.made) }
-    ensures written { IfOk result (λ ks. (x : AUnion) → slice_get unions.now.unions.items union ≡ Some x → AreWrittenItems types.now merged.new became.now (length unions.now.unions.items) written.now union x.exports ks) }
-    ensures once { IfOk result (λ ks. (x : AUnion) → slice_get unions.now.unions.items union ≡ Some x → AreItemsMadeOf types.now merged.new became.now.named.now renamed.new.made x.exports ks) }
+    ensures made { OnOk result (AreMade renaming.now.types.now renaming.now.became.now.named.now merged.new renamed.new.made) }
+    ensures written { IfOk result (λ ks. (x : AUnion) → slice_get next.now.unions.now.unions.items next.now.union ≡ Some x → AreWrittenItems renaming.now.types.now merged.new renaming.now.became.now (length next.now.unions.now.unions.items) next.now.written.now next.now.union x.exports ks) }
+    ensures once { IfOk result (λ ks. (x : AUnion) → slice_get next.now.unions.now.unions.items next.now.union ≡ Some x → AreItemsMadeOf renaming.now.types.now merged.new renaming.now.became.now.named.now renamed.new.made x.exports ks) }
     ensures stay { OnOk result (StayMade renamed.old.made renamed.new.made) }
 {
     merged.law();
-    let exports = &unions.unions[union].exports;
+    let exports = &next.unions.unions[next.union].exports;
     exports.law();
-    let mut items = Named::with_capacity(alloc, exports.len())?;
+    let mut items = Named::with_capacity(renaming.alloc, exports.len())?;
     renamed.forget();
     let mut part = None;
     for i in 0..exports.len() {
         let (name, export) = exports.entry_at(i);
         begin(renamed, &mut part, export.part);
-        let here = Renaming {
-            alloc,
-            types,
-            became,
-            part,
-        };
-        let item = write_export(merged, renamed, &here, unions, written, union, name, export)?;
-        put_item(alloc, &mut items, name, item)?;
+        let here = Renaming { part, ..*renaming };
+        let item = write_export(merged, renamed, &here, next, name, export)?;
+        put_item(renaming.alloc, &mut items, name, item)?;
     }
     Ok(items)
 }
@@ -268,72 +267,66 @@ fn alone(types: &Types, unions: &Unions, union: usize, id: &Option<Text>) -> Opt
 }
 
 /// Writes a union as an interface, after those behind it.
-fn write_union<'a>(
-    alloc: Global,
+fn write_union(
     merged: &mut Types,
     renamed: &mut Renamed,
     shared: &mut Shared,
-    types: &'a Types,
-    unions: &Unions,
-    became: &'a Became<'a>,
-    written: &[InterfaceId],
-    union: usize,
+    renaming: &Renaming<'_>,
+    next: &NextUnion<'_>,
     id: &Option<String>,
 ) -> Result<InterfaceId, AllocError>
-    requires writing { CanWrite types.now merged.old unions.now.unions.items became.now written.now union }
-    requires parts { became.now.parts.now ≡ unions.now.parts.items }
-    requires made { AreMade types.now became.now.named.now merged.old renamed.old.made }
+    requires writing { CanWrite renaming.now.types.now merged.old next.now.unions.now.unions.items renaming.now.became.now next.now.written.now next.now.union }
+    requires parts { renaming.now.became.now.parts.now ≡ next.now.unions.now.parts.items }
+    requires made { AreMade renaming.now.types.now renaming.now.became.now.named.now merged.old renamed.old.made }
     requires there { (i v : AnId) → first_in shared.old i ≡ Some v → HasInterface merged.old v }
     ensures extended { IsExtended merged.old merged.new }
-    ensures made { OnOk result (AreMade types.now became.now.named.now merged.new renamed.new.made) }
-    ensures shared { IfOk result (λ w. (x : AUnion) → slice_get unions.now.unions.items union ≡ Some x → Shares (IsAloneIn types.now unions.now.parts.items (option_map string_bytes id.now) x.parts.items) merged.old merged.new (first_in shared.old) (first_in shared.new) w) }
-    ensures written { IfOk result (λ w. (x : AUnion) → slice_get unions.now.unions.items union ≡ Some x → IsWrittenUnion types.now merged.new became.now (length unions.now.unions.items) written.now union x (option_map string_bytes id.now) w) }
-    ensures once { IfOk result (λ w. (x : AUnion) → slice_get unions.now.unions.items union ≡ Some x → IsUnionMadeOf types.now merged.new became.now.named.now renamed.new.made x w) }
+    ensures made { OnOk result (AreMade renaming.now.types.now renaming.now.became.now.named.now merged.new renamed.new.made) }
+    ensures shared { IfOk result (λ w. (x : AUnion) → slice_get next.now.unions.now.unions.items next.now.union ≡ Some x → Shares (IsAloneIn renaming.now.types.now next.now.unions.now.parts.items (option_map string_bytes id.now) x.parts.items) merged.old merged.new (first_in shared.old) (first_in shared.new) w) }
+    ensures written { IfOk result (λ w. (x : AUnion) → slice_get next.now.unions.now.unions.items next.now.union ≡ Some x → IsWrittenUnion renaming.now.types.now merged.new renaming.now.became.now (length next.now.unions.now.unions.items) next.now.written.now next.now.union x (option_map string_bytes id.now) w) }
+    ensures once { IfOk result (λ w. (x : AUnion) → slice_get next.now.unions.now.unions.items next.now.union ≡ Some x → IsUnionMadeOf renaming.now.types.now merged.new renaming.now.became.now.named.now renamed.new.made x w) }
     ensures stay { OnOk result (StayMade renamed.old.made renamed.new.made) }
 {
-    let exports = write_exports(
-        alloc, merged, renamed, types, unions, became, written, union,
-    )?;
-    let id = copied(alloc, id)?;
-    let source = alone(types, unions, union, &id);
-    let uses = Named::new(alloc);
+    let exports = write_exports(merged, renamed, renaming, next)?;
+    let id = copied(renaming.alloc, id)?;
+    let source = alone(renaming.types, next.unions, next.union, &id);
+    let uses = Named::new(renaming.alloc);
     shared.write(merged, source, Interface { id, uses, exports })
 }
 
 /// Writes unions as interfaces behind what is there, each under the id that is given for it, from the last to the first.
-pub fn write_unions<'a>(
-    alloc: Global,
+pub fn write_unions(
     merged: &mut Types,
     renamed: &mut Renamed,
-    types: &'a Types,
+    renaming: &Renaming<'_>,
     unions: &Unions,
-    became: &'a Became<'a>,
     ids: &[Option<String>],
 ) -> Result<Vec<InterfaceId>, AllocError>
-    requires unions { (roots : List (List AnId)) × AreUnions types.now roots unions.now.unions.items unions.now.parts.items }
-    requires parts { became.now.parts.now ≡ unions.now.parts.items }
+    requires unions { (roots : List (List AnId)) × AreUnions renaming.now.types.now roots unions.now.unions.items unions.now.parts.items }
+    requires parts { renaming.now.became.now.parts.now ≡ unions.now.parts.items }
     requires counted { length ids.now ≡ length unions.now.unions.items }
-    requires fresh { AreFresh types.now unions.now.unions.items became.now.bindings.now became.now.fresh.now merged.old }
-    requires known { CanRenameAll merged.old types.now became.now }
-    requires made { AreMade types.now became.now.named.now merged.old renamed.old.made }
+    requires fresh { AreFresh renaming.now.types.now unions.now.unions.items renaming.now.became.now.bindings.now renaming.now.became.now.fresh.now merged.old }
+    requires known { CanRenameAll merged.old renaming.now.types.now renaming.now.became.now }
+    requires made { AreMade renaming.now.types.now renaming.now.became.now.named.now merged.old renamed.old.made }
     ensures extended { IsExtended merged.old merged.new }
-    ensures made { OnOk result (AreMade types.now became.now.named.now merged.new renamed.new.made) }
-    ensures written { IfOk result (λ ws. AreWritten types.now merged.new unions.now.unions.items unions.now.parts.items became.now.bindings.now became.now.fresh.now (map (option_map string_bytes) ids.now) ws.items) }
-    ensures shared { IfOk result (λ ws. AreSharedUnions types.now merged.new unions.now.unions.items unions.now.parts.items (map (option_map string_bytes) ids.now) ws.items) }
-    ensures once { IfOk result (λ ws. AreUnionsMadeOf types.now merged.new became.now.named.now renamed.new.made unions.now.unions.items ws.items) }
+    ensures made { OnOk result (AreMade renaming.now.types.now renaming.now.became.now.named.now merged.new renamed.new.made) }
+    ensures written { IfOk result (λ ws. AreWritten renaming.now.types.now merged.new unions.now.unions.items unions.now.parts.items renaming.now.became.now.bindings.now renaming.now.became.now.fresh.now (map (option_map string_bytes) ids.now) ws.items) }
+    ensures shared { IfOk result (λ ws. AreSharedUnions renaming.now.types.now merged.new unions.now.unions.items unions.now.parts.items (map (option_map string_bytes) ids.now) ws.items) }
+    ensures once { IfOk result (λ ws. AreUnionsMadeOf renaming.now.types.now merged.new renaming.now.became.now.named.now renamed.new.made unions.now.unions.items ws.items) }
     ensures stay { OnOk result (StayMade renamed.old.made renamed.new.made) }
 {
     merged.law();
     let count = unions.unions.len();
-    let mut seen = Shared::new(alloc);
-    let mut written = Vec::new(alloc);
+    let mut seen = Shared::new(renaming.alloc);
+    let mut written = Vec::new(renaming.alloc);
     for done in 0..count {
         let union = count - 1 - done;
-        let behind = written.as_slice();
+        let next = NextUnion {
+            unions,
+            written: written.as_slice(),
+            union,
+        };
         let id = &ids[union];
-        let interface = write_union(
-            alloc, merged, renamed, &mut seen, types, unions, became, behind, union, id,
-        )?;
+        let interface = write_union(merged, renamed, &mut seen, renaming, &next, id)?;
         written.push(interface)?;
     }
     written.reverse();

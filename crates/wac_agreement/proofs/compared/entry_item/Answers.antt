@@ -16,13 +16,13 @@ outward_in-requires-clause-counted c = ap (λ (bs : List (List (ResourceId × Le
 
 pub source_item-requires-clause-named : goal.source_item-requires-clause-named
 source_item-requires-clause-named c =
-    let w = some-at (class_names by_names c.args.entries.now) c.args.class c.requires.class in
+    let w = some-at (class_names by_names c.args.asked.now.entries.now) c.args.class c.requires.class in
     record {
       name = w.0;
       class = w.1;
       bindings = c.requires.bindings;
       scopes = c.in_ok-scopes.ensures;
-      bound = subst (λ bs. AreBound c.args.types.now c.in_ok-scopes.scopes bs) (sym c.as_slice-bound.ensures.value) c.in_ok-found.ensures;
+      bound = subst (λ bs. AreBound c.args.asked.now.types.now c.in_ok-scopes.scopes bs) (sym c.as_slice-bound.ensures.value) c.in_ok-found.ensures;
       outward = subst (λ (ws : List (Option Outward)). AreOutward c.in_ok-scopes.scopes c.as_slice-bound.result.now ws) (sym c.as_slice-outward.ensures.value) c.in_ok-ways.ensures;
       within = tt;
     }

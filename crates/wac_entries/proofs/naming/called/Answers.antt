@@ -25,9 +25,9 @@ returns-in-Some c = λ es name are at.
     let within : n < length ss = omega (arith, c.walk.invariant.near, c.requires.within) in
     let s = some-at ss n within in
     let h : binds t s.0.opener r ≡ Some (place_view c.in-Some.place.now) = bound-at t ss c.args.around.now.bound.now c.requires.bound n s.0 c.index-bound-position.result r s.1 c.index-bound-position.is ∙ sym c.in-Some.ensures in
-    let walked = walk-bound t r c.args.kind ss c.requires.scopes c.args.scope c.walk.out n s.0 s.1 c.walk.invariant es name (side_view c.in-Some.place.now.side) (path_view c.in-Some.place.now.path.items) h in
+    let walked = walk-bound t r c.args.around.now.kind ss c.requires.scopes c.args.scope c.walk.out n s.0 s.1 c.walk.invariant es name (side_view c.in-Some.place.now.side) (path_view c.in-Some.place.now.path.items) h in
     let path : path_view c.in_ok-path.path.items ≡ path_view c.in-Some.place.now.path.items = c.in_ok-path.ensures ∙ ap path_view c.as_slice.ensures.value in
-    ap (λ q. called_in t (called_in_root by_names t es name c.args.kind) ss c.args.scope q) (sym c.resolve_resource-resource.ensures.end)
+    ap (λ q. called_in t (called_in_root by_names t es name c.args.around.now.kind) ss c.args.scope q) (sym c.resolve_resource-resource.ensures.end)
     ∙ (walked ∙ (λ i. Some (bound_at (record { out = c.walk.out; side = side_view c.in-Some.place.now.side; path = sym path i }) (sym c.in_ok-name.ensures i))))
 
 pub past_scopes-requires-clause-held : goal.past_scopes-requires-clause-held
@@ -49,9 +49,9 @@ returns-in_default-outward c =
     let alone = ends ss c.args.around.now.bound.now s.parent None (c.requires.outward.ways n s None at (read-at ws n None known ∙ ap (λ (o : Option Outward). Some o) way)) refl in
     if-ok c.past_scopes.result
     (λ x is es name are class.
-    let walked = walk-past t r c.args.kind ss c.requires.scopes c.args.scope c.walk.out n s at c.walk.invariant es name alone none in
-    ap (λ q. called_in t (called_in_root by_names t es name c.args.kind) ss c.args.scope q) (sym c.resolve_resource-resource.ensures.end)
-    ∙ (walked ∙ ap (λ y. Some y) (sym (is ∙ (λ i. past t r (is_instance c.args.kind) c.walk.out (are.paths c.args.class name r class i) (are.firsts r i))))))
+    let walked = walk-past t r c.args.around.now.kind ss c.requires.scopes c.args.scope c.walk.out n s at c.walk.invariant es name alone none in
+    ap (λ q. called_in t (called_in_root by_names t es name c.args.around.now.kind) ss c.args.scope q) (sym c.resolve_resource-resource.ensures.end)
+    ∙ (walked ∙ ap (λ y. Some y) (sym (is ∙ (λ i. past t r (is_instance c.args.around.now.kind) c.walk.out (are.paths c.args.class name r class i) (are.firsts r i))))))
     c.past_scopes.ensures
 
 pub overflow_add-out : goal.overflow_add-out
@@ -83,7 +83,7 @@ walk-smaller c =
     let way : get_or ws n None ≡ Some next = c.in-Some-outward.is in
     let known : n < length ws = omega (arith, within, c.requires.outward.counted) in
     let leads = c.requires.outward.ways n s (Some next) at (read-at ws n None known ∙ ap (λ (o : Option Outward). Some o) way) in
-    walk-nearer t r c.args.kind ss c.requires.scopes c.args.scope c.walk.out n s at c.walk.invariant c.args.around.now.bound.now next leads
+    walk-nearer t r c.args.around.now.kind ss c.requires.scopes c.args.scope c.walk.out n s at c.walk.invariant c.args.around.now.bound.now next leads
 
 pub walk-preserved : goal.walk-preserved
 walk-preserved c =
@@ -99,4 +99,4 @@ walk-preserved c =
     let way : get_or ws n None ≡ Some next = c.in-Some-outward.is in
     let known : n < length ws = omega (arith, within, c.requires.outward.counted) in
     let leads = c.requires.outward.ways n s (Some next) at (read-at ws n None known ∙ ap (λ (o : Option Outward). Some o) way) in
-    walk-out t r c.args.kind ss c.requires.scopes c.args.scope c.walk.out n s at c.walk.invariant c.args.around.now.bound.now next c.requires.bound leads none
+    walk-out t r c.args.around.now.kind ss c.requires.scopes c.args.scope c.walk.out n s at c.walk.invariant c.args.around.now.bound.now next c.requires.bound leads none

@@ -7,4 +7,4 @@ use Rattle.wac_terms.specs.Renaming.{IsExtended}
 use Rattle.wac_unions.proofs.merged.class_imports.Given as goal
 
 abbrev pub invariant-loop-i : goal.invariant-loop-i
-invariant-loop-i l = record { extended : IsExtended l.fn.merged l.merged; made : AreMade l.types l.became.named.now l.merged l.renamed.made; once : AreImportsMadeOf l.types l.merged l.became.named.now l.renamed.made l.entries l.classes.positions.items (take l.i l.order) (import_entries l.imports); stay : StayMade l.fn.renamed.made l.renamed.made; imports : AreImports l.types l.merged l.entries l.became.parts.now l.became.bindings.now l.became.fresh.now l.written (take l.i l.order) (import_entries l.imports) }
+invariant-loop-i l = record { extended : IsExtended l.fn.merged l.merged; made : AreMade l.asked.types.now l.renaming.became.now.named.now l.merged l.renamed.made; once : AreImportsMadeOf l.asked.types.now l.merged l.renaming.became.now.named.now l.renamed.made l.asked.entries.now l.asked.classes.now.positions.items (take l.i l.order) (import_entries l.imports); stay : StayMade l.fn.renamed.made l.renamed.made; imports : AreImports l.asked.types.now l.merged l.asked.entries.now l.renaming.became.now.parts.now l.renaming.became.now.bindings.now l.renaming.became.now.fresh.now l.written (take l.i l.order) (import_entries l.imports) }

@@ -21,12 +21,12 @@ write_unions-requires-clause-fresh c = rw (c.became-became.ensures.bindings, c.b
 
 pub write_unions-requires-clause-known : goal.write_unions-requires-clause-known
 write_unions-requires-clause-known c =
-    basis-known c.args.types.now c.args.merged.now c.args.entries.now _ _ c.args.bindings.now c.args.basis.now c.became-became.result c.requires.basis c.became-became.ensures c.law.ensures c.uses_law.ensures c.requires.bindings c.requires.held c.requires.agreed
+    basis-known c.args.asked.now.types.now c.args.merged.now c.args.asked.now.entries.now _ _ c.args.bindings.now c.args.basis.now c.became-became.result c.requires.basis c.became-became.ensures c.law.ensures c.uses_law.ensures c.requires.bindings c.requires.held c.requires.agreed
 
 pub class_imports-requires-clause-known : goal.class_imports-requires-clause-known
 class_imports-requires-clause-known c =
-    still_can_all c.args.merged.now c.write_unions.new.merged c.write_unions.ensures.extended c.law-2.ensures c.args.types.now c.became-became.result
-    (basis-known c.args.types.now c.args.merged.now c.args.entries.now _ _ c.args.bindings.now c.args.basis.now c.became-became.result c.requires.basis c.became-became.ensures c.law.ensures c.uses_law.ensures c.requires.bindings c.requires.held c.requires.agreed)
+    still_can_all c.args.merged.now c.write_unions.new.merged c.write_unions.ensures.extended c.law-2.ensures c.args.asked.now.types.now c.became-became.result
+    (basis-known c.args.asked.now.types.now c.args.merged.now c.args.asked.now.entries.now _ _ c.args.bindings.now c.args.basis.now c.became-became.result c.requires.basis c.became-became.ensures c.law.ensures c.uses_law.ensures c.requires.bindings c.requires.held c.requires.agreed)
 
 pub class_imports-requires-clause-given : goal.class_imports-requires-clause-given
 class_imports-requires-clause-given c i k class e at known one =
@@ -34,7 +34,7 @@ class_imports-requires-clause-given c i k class e at known one =
     let x = c.args.basis.now in
     let b = c.became-became.result in
     rw c.as_slice-written.ensures.value
-    (written-given c.args.types.now c.write_unions.new.merged c.args.entries.now u.roots x.unions.unions.items x.unions.parts.items b.bindings.now b.fresh.now (map (option_map string_bytes) c.as_slice-ids.result.now) c.in_ok-written.written.items
+    (written-given c.args.asked.now.types.now c.write_unions.new.merged c.args.asked.now.entries.now u.roots x.unions.unions.items x.unions.parts.items b.bindings.now b.fresh.now (map (option_map string_bytes) c.as_slice-ids.result.now) c.in_ok-written.written.items
     u.rooted.counted u.unions c.in_ok-written.ensures.written k class e.kind known)
 
 pub returns-clause-extended : goal.returns-clause-extended
@@ -42,9 +42,9 @@ returns-clause-extended c = extended_twice c.args.merged.now c.write_unions.new.
 
 pub returns-clause-imports : goal.returns-clause-imports
 returns-clause-imports c =
-    let t = c.args.types.now in
+    let t = c.args.asked.now.types.now in
     let m = c.class_imports.new.merged in
-    let es = c.args.entries.now in
+    let es = c.args.asked.now.entries.now in
     let x = c.args.basis.now in
     let us = x.unions.unions.items in
     let ps = x.unions.parts.items in
@@ -63,10 +63,10 @@ returns-clause-imports c =
 
 pub returns-clause-once : goal.returns-clause-once
 returns-clause-once c =
-    let t = c.args.types.now in
+    let t = c.args.asked.now.types.now in
     let first = c.write_unions.new.merged in
     let m = c.class_imports.new.merged in
-    let es = c.args.entries.now in
+    let es = c.args.asked.now.entries.now in
     let x = c.args.basis.now in
     let us = x.unions.unions.items in
     let ps = x.unions.parts.items in
@@ -91,9 +91,9 @@ returns-clause-once c =
       unions = λ u y w at there. by-basis (λ p bs f n. IsUnionMadeOf t m n made y w) x c.args.bindings.now b c.became-became.ensures
           (still-union-made t first m c.class_imports.ensures.extended b.named.now c.write_unions.new.renamed.made made stay y w
           (c.in_ok-written.ensures.once u y w at (ap (λ l. slice_get l u) (sym c.as_slice-written.ensures.value) ∙ there)));
-      imported = by-basis (λ p bs f n. AreImportsMadeOf t m n made es c.args.classes.now.positions.items c.args.order.now (import_entries is)) x c.args.bindings.now b c.became-became.ensures once;
+      imported = by-basis (λ p bs f n. AreImportsMadeOf t m n made es c.args.asked.now.classes.now.positions.items c.args.order.now (import_entries is)) x c.args.bindings.now b c.became-became.ensures once;
     })
     c.class_imports.ensures.made c.class_imports.ensures.stay c.class_imports.ensures.imports c.class_imports.ensures.once
 
 pub write_unions-requires-clause-made : goal.write_unions-requires-clause-made
-write_unions-requires-clause-made c = c.new-memo.ensures.made c.args.types.now c.args.merged.now c.became-became.result.named.now
+write_unions-requires-clause-made c = c.new-memo.ensures.made c.args.asked.now.types.now c.args.merged.now c.became-became.result.named.now

@@ -7,9 +7,9 @@ use Rattle.wac_unions.proofs.writing.write_exports.Given as goal
 abbrev pub invariant-loop-i : goal.invariant-loop-i
 invariant-loop-i l = record {
   extended : IsExtended l.initial.merged l.merged;
-  right : AreRenamedIn l.types l.merged l.became l.part l.renamed;
-  written : AreWrittenItems l.types l.merged l.became (length l.unions.unions.items) l.written l.union (take l.i l.exports) l.items;
-  once : AreItemsMadeOf l.types l.merged l.became.named.now l.renamed.made (take l.i l.exports) l.items;
+  right : AreRenamedIn l.renaming.types.now l.merged l.renaming.became.now l.part l.renamed;
+  written : AreWrittenItems l.renaming.types.now l.merged l.renaming.became.now (length l.next.unions.now.unions.items) l.next.written.now l.next.union (take l.i l.exports) l.items;
+  once : AreItemsMadeOf l.renaming.types.now l.merged l.renaming.became.now.named.now l.renamed.made (take l.i l.exports) l.items;
   stay : StayMade l.fn.renamed.made l.renamed.made;
   names : map (λ e. e.0) l.items ≡ map (λ e. e.0) (take l.i l.exports);
 }

@@ -22,25 +22,25 @@ always (Err e) p = tt
 pub alone-source-requires-clause-unions : goal.alone-source-requires-clause-unions
 alone-source-requires-clause-unions c =
     let u = c.requires.writing.unions in
-    (u.0, subst (λ (ps : List Part). AreUnions c.args.types.now u.0 c.args.unions.now.unions.items ps) c.requires.parts u.1)
+    (u.0, subst (λ (ps : List Part). AreUnions c.args.renaming.now.types.now u.0 c.args.next.now.unions.now.unions.items ps) c.requires.parts u.1)
 
 pub alone-source-requires-clause-within : goal.alone-source-requires-clause-within
 alone-source-requires-clause-within c = let count = c.requires.writing.counted in omega (arith, count)
 
 pub write-requires-clause-held : goal.write-requires-clause-held
 write-requires-clause-held c =
-    let us = c.args.unions.now.unions.items in
+    let us = c.args.next.now.unions.now.unions.items in
     let count = c.requires.writing.counted in
-    let low : c.args.union < length us = omega (arith, count) in
-    let x = some-at us c.args.union low in
+    let low : c.args.next.now.union < length us = omega (arith, count) in
+    let x = some-at us c.args.next.now.union low in
     (c.in_ok-exports.ensures.written x.0 x.1).held
 
 pub write-requires-clause-named : goal.write-requires-clause-named
 write-requires-clause-named c =
-    let us = c.args.unions.now.unions.items in
+    let us = c.args.next.now.unions.now.unions.items in
     let count = c.requires.writing.counted in
-    let low : c.args.union < length us = omega (arith, count) in
-    let x = some-at us c.args.union low in
+    let low : c.args.next.now.union < length us = omega (arith, count) in
+    let x = some-at us c.args.next.now.union low in
     (c.in_ok-exports.ensures.written x.0 x.1).named
 
 pub write-requires-clause-there : goal.write-requires-clause-there
@@ -51,13 +51,13 @@ returns-clause-extended c = extended_twice c.args.merged.now c.write_exports.new
 
 pub returns-clause-made : goal.returns-clause-made
 returns-clause-made c =
-    always c.write.result (still_made c.write_exports.new.merged c.write.new.merged c.write.ensures.extended c.args.types.now c.args.became.now.named.now c.write_exports.new.renamed.made c.in_ok-exports.ensures.made)
+    always c.write.result (still_made c.write_exports.new.merged c.write.new.merged c.write.ensures.extended c.args.renaming.now.types.now c.args.renaming.now.became.now.named.now c.write_exports.new.renamed.made c.in_ok-exports.ensures.made)
 
 pub returns-clause-written : goal.returns-clause-written
 returns-clause-written c =
     if-ok c.write.result
     (λ w at x there.
-    union-written c.args.types.now c.write_exports.new.merged c.write.new.merged c.args.became.now (length c.args.unions.now.unions.items) c.args.written.now c.args.union x
+    union-written c.args.renaming.now.types.now c.write_exports.new.merged c.write.new.merged c.args.renaming.now.became.now (length c.args.next.now.unions.now.unions.items) c.args.next.now.written.now c.args.next.now.union x
     c.in_ok-id.id _ c.in_ok-exports.exports w c.write.ensures.extended c.in_ok-id.ensures (c.in_ok-exports.ensures.written x there)
     (at ∙ ap (λ (us : List (Name × UsedType)). Some (record { id = c.in_ok-id.id; uses = us; exports = c.in_ok-exports.exports })) c.new-uses.ensures))
     c.write.ensures.added
@@ -69,7 +69,7 @@ returns-clause-once c =
     (λ w at x there. record {
       interface = record { id = c.in_ok-id.id; uses = c.new-uses.result; exports = c.in_ok-exports.exports };
       there = at;
-      items = still-items c.args.types.now c.write_exports.new.merged c.write.new.merged c.write.ensures.extended c.args.became.now.named.now made made (λ f e is. is) x.exports c.in_ok-exports.exports (c.in_ok-exports.ensures.once x there);
+      items = still-items c.args.renaming.now.types.now c.write_exports.new.merged c.write.new.merged c.write.ensures.extended c.args.renaming.now.became.now.named.now made made (λ f e is. is) x.exports c.in_ok-exports.exports (c.in_ok-exports.ensures.once x there);
     })
     c.write.ensures.added
 
@@ -82,8 +82,8 @@ if-some P (Some b) a is h = subst P (some_same b a is) h
 
 pub returns-clause-shared : goal.returns-clause-shared
 returns-clause-shared c =
-    let t = c.args.types.now in
-    let ps = c.args.unions.now.parts.items in
+    let t = c.args.renaming.now.types.now in
+    let ps = c.args.next.now.unions.now.parts.items in
     if-ok c.write.result
     (λ w shares x there.
     shares-along (λ i. c.alone-source.result ≡ Some i) (IsAloneIn t ps (option_map string_bytes c.args.id.now) x.parts.items) c.args.merged.now c.write_exports.new.merged c.write.new.merged (first_in c.args.shared.now) (first_in c.write.new.self) w

@@ -30,7 +30,7 @@ loop-done-init c =
       once = λ j u w x at place there. absurd (at-empty c.new-written.result.items j w empty at);
       stay = λ f e is. is;
       written = λ j u w x id at place there named. absurd (at-empty c.new-written.result.items j w empty at);
-      shared = none-shared c.args.types.now c.args.merged.now c.args.unions.now.unions.items c.args.unions.now.parts.items (map (option_map string_bytes) c.args.ids.now) c.new-written.result.items (first_in c.new-seen.result) empty c.new-seen.ensures;
+      shared = none-shared c.args.renaming.now.types.now c.args.merged.now c.args.unions.now.unions.items c.args.unions.now.parts.items (map (option_map string_bytes) c.args.ids.now) c.new-written.result.items (first_in c.new-seen.result) empty c.new-seen.ensures;
     }
 
 pub write_union-requires-clause-there : goal.write_union-requires-clause-there
@@ -40,16 +40,16 @@ write_union-requires-clause-there c i v at =
 
 pub write_union-requires-clause-writing : goal.write_union-requires-clause-writing
 write_union-requires-clause-writing c =
-    let t = c.args.types.now in
+    let t = c.args.renaming.now.types.now in
     let us = c.args.unions.now.unions.items in
-    let b = c.args.became.now in
+    let b = c.args.renaming.now.became.now in
     let m = c.args.merged.now in
     let now = c.loop-done.merged in
     let v = c.loop-done.invariant in
     let count : c.len-count.result ≡ length us = omega (arith, c.len-count.ensures, c.args.unions.now.unions.ok.0) in
     let low : c.loop-done.done < c.len-count.result = c.loop-done-test.true in
     let done = v.counted in
-    subst (λ (l : List InterfaceId). CanWrite t now us b l (c.len-count.result - 1 - c.loop-done.done)) (sym c.as_slice-behind.ensures.value)
+    subst (λ (l : List InterfaceId). CanWrite t now us b l (c.len-count.result - 1 - c.loop-done.done)) (sym c.as_slice.ensures.value)
     (record {
       unions = (c.requires.unions.0, subst (λ (ps : List Part). AreUnions t c.requires.unions.0 us ps) (sym c.requires.parts) c.requires.unions.1);
       fresh = still_fresh m now v.extended c.law.ensures t us b.bindings.now b.fresh.now c.requires.fresh;
@@ -66,10 +66,10 @@ returns-in_err-push-clause-extended c = extended_twice c.args.merged.now c.loop-
 
 pub loop-done-preserved : goal.loop-done-preserved
 loop-done-preserved c =
-    let t = c.args.types.now in
+    let t = c.args.renaming.now.types.now in
     let ps = c.args.unions.now.parts.items in
     let us = c.args.unions.now.unions.items in
-    let b = c.args.became.now in
+    let b = c.args.renaming.now.became.now in
     let now = c.loop-done.merged in
     let more = c.write_union.new.merged in
     let v = c.loop-done.invariant in
@@ -89,7 +89,7 @@ loop-done-preserved c =
     let name : Option Name = option_map string_bytes id in
     let view : slice_get views u ≡ Some name = slice_get-map (option_map string_bytes) ids u ∙ ap (option_map (option_map string_bytes)) at in
     let is : (x : Union) → slice_get us u ≡ Some x → IsWrittenUnion t more b (length us) written u x name w =
-    λ x there. subst (λ (l : List InterfaceId). IsWrittenUnion t more b (length us) l u x name w) c.as_slice-behind.ensures.value (c.in_ok-interface.ensures.written x there) in
+    λ x there. subst (λ (l : List InterfaceId). IsWrittenUnion t more b (length us) l u x name w) c.as_slice.ensures.value (c.in_ok-interface.ensures.written x there) in
     let x = some-at us u near in
     let items : c.push.new.self.items ≡ written ++ w ∷ [] = c.in_ok-push.ensures.items in
     record {
@@ -108,9 +108,9 @@ loop-done-preserved c =
 
 pub returns-clause-written : goal.returns-clause-written
 returns-clause-written c =
-    let t = c.args.types.now in
+    let t = c.args.renaming.now.types.now in
     let us = c.args.unions.now.unions.items in
-    let b = c.args.became.now in
+    let b = c.args.renaming.now.became.now in
     let v = c.loop-done.invariant in
     let ids = c.args.ids.now in
     let views = map (option_map string_bytes) ids in
@@ -121,7 +121,7 @@ returns-clause-written c =
 
 pub returns-clause-shared : goal.returns-clause-shared
 returns-clause-shared c =
-    let t = c.args.types.now in
+    let t = c.args.renaming.now.types.now in
     let us = c.args.unions.now.unions.items in
     let ps = c.args.unions.now.parts.items in
     let v = c.loop-done.invariant in
@@ -133,9 +133,9 @@ returns-clause-shared c =
 
 pub returns-clause-once : goal.returns-clause-once
 returns-clause-once c =
-    let t = c.args.types.now in
+    let t = c.args.renaming.now.types.now in
     let us = c.args.unions.now.unions.items in
-    let n = c.args.became.now.named.now in
+    let n = c.args.renaming.now.became.now.named.now in
     let v = c.loop-done.invariant in
     let done = v.counted in
     let all : length c.loop-done.written.items ≡ length us = omega (arith, done, c.len-count.ensures, c.args.unions.now.unions.ok.0, c.loop-done-test.false, c.loop-done.auto.done-end) in

@@ -13,11 +13,11 @@ use Rattle.wac_unions.proofs.writing.write_unions.Given as goal
 abbrev pub invariant-loop-done : goal.invariant-loop-done
 invariant-loop-done l = record {
   extended : IsExtended l.initial.merged l.merged;
-  made : AreMade l.types l.became.named.now l.merged l.renamed.made;
+  made : AreMade l.renaming.types.now l.renaming.became.now.named.now l.merged l.renamed.made;
   counted : length l.written.items ≡ l.done;
   held : (j : ℕ) (w : InterfaceId) → slice_get l.written.items j ≡ Some w → HasInterface l.merged w;
-  once : (j u : ℕ) (w : InterfaceId) (x : Union) → slice_get l.written.items j ≡ Some w → j + u + 1 ≡ length l.unions.unions.items → slice_get l.unions.unions.items u ≡ Some x → IsUnionMadeOf l.types l.merged l.became.named.now l.renamed.made x w;
+  once : (j u : ℕ) (w : InterfaceId) (x : Union) → slice_get l.written.items j ≡ Some w → j + u + 1 ≡ length l.unions.unions.items → slice_get l.unions.unions.items u ≡ Some x → IsUnionMadeOf l.renaming.types.now l.merged l.renaming.became.now.named.now l.renamed.made x w;
   stay : StayMade l.initial.renamed.made l.renamed.made;
-  shared : AreShared l.types l.merged l.unions.unions.items l.unions.parts.items (map (option_map string_bytes) l.ids) (first_in l.seen) (IsWrittenLast (length l.unions.unions.items) l.written.items);
-  written : AreAllWritten l.types l.merged l.became l.unions.unions.items (map (option_map string_bytes) l.ids) l.written.items;
+  shared : AreShared l.renaming.types.now l.merged l.unions.unions.items l.unions.parts.items (map (option_map string_bytes) l.ids) (first_in l.seen) (IsWrittenLast (length l.unions.unions.items) l.written.items);
+  written : AreAllWritten l.renaming.types.now l.merged l.renaming.became.now l.unions.unions.items (map (option_map string_bytes) l.ids) l.written.items;
 }

@@ -31,7 +31,7 @@ using-requires-clause-held c =
     let bare = import_entries c.in_ok-bare.bare in
     let u = basis.unions in
     let w = c.in_ok-bare.ensures.imports in
-    let first = first-assembled t started m es us ps bs f c.args.order.now bare u w c.law.ensures c.law-2.ensures c.law-3.ensures c.uses_law.ensures basis.extended c.write_imports.ensures.extended
+    let first = first-assembled t started m es us ps bs f c.args.order.now bare u w c.laws.ensures.well_formed c.law.ensures c.law-2.ensures c.laws.ensures.sound basis.extended c.write_imports.ensures.extended
     basis.listed c.requires.bindings basis.fresh c.requires.held (agreed-pairs t es c.requires.agreed) c.requires.written c.requires.each c.requires.once in
     imports-held t m es u.roots us ps bs f w.ids w.ws c.args.order.now bare first
 
@@ -49,7 +49,7 @@ using-requires-clause-named c =
     let bare = import_entries c.in_ok-bare.bare in
     let u = basis.unions in
     let w = c.in_ok-bare.ensures.imports in
-    let first = first-assembled t started m es us ps bs f c.args.order.now bare u w c.law.ensures c.law-2.ensures c.law-3.ensures c.uses_law.ensures basis.extended c.write_imports.ensures.extended
+    let first = first-assembled t started m es us ps bs f c.args.order.now bare u w c.laws.ensures.well_formed c.law.ensures c.law-2.ensures c.laws.ensures.sound basis.extended c.write_imports.ensures.extended
     basis.listed c.requires.bindings basis.fresh c.requires.held (agreed-pairs t es c.requires.agreed) c.requires.written c.requires.each c.requires.once in
     imports-asked t m es u.roots us ps bs f w.ids w.ws c.args.order.now bare first
 
@@ -67,7 +67,7 @@ using-requires-clause-bare c =
     let bare = import_entries c.in_ok-bare.bare in
     let u = basis.unions in
     let w = c.in_ok-bare.ensures.imports in
-    let first = first-assembled t started m es us ps bs f c.args.order.now bare u w c.law.ensures c.law-2.ensures c.law-3.ensures c.uses_law.ensures basis.extended c.write_imports.ensures.extended
+    let first = first-assembled t started m es us ps bs f c.args.order.now bare u w c.laws.ensures.well_formed c.law.ensures c.law-2.ensures c.laws.ensures.sound basis.extended c.write_imports.ensures.extended
     basis.listed c.requires.bindings basis.fresh c.requires.held (agreed-pairs t es c.requires.agreed) c.requires.written c.requires.each c.requires.once in
     imports-bare t m es u.roots us ps bs f w.ids w.ws c.args.order.now bare first
 
@@ -85,26 +85,26 @@ returns c =
     let bare = import_entries c.in_ok-bare.bare in
     let u = basis.unions in
     let w = c.in_ok-bare.ensures.imports in
-    let first = first-assembled t started m es us ps bs f c.args.order.now bare u w c.law.ensures c.law-2.ensures c.law-3.ensures c.uses_law.ensures basis.extended c.write_imports.ensures.extended
+    let first = first-assembled t started m es us ps bs f c.args.order.now bare u w c.laws.ensures.well_formed c.law.ensures c.law-2.ensures c.laws.ensures.sound basis.extended c.write_imports.ensures.extended
     basis.listed c.requires.bindings basis.fresh c.requires.held (agreed-pairs t es c.requires.agreed) c.requires.written c.requires.each c.requires.once in
     let more = c.in_ok-merge.merge.types in
     let same : c.merge.inside.types ≡ more = ap (λ x. x.types) c.merge.view_is in
-    let well = subst IsWellFormed same c.law-4.ensures in
+    let well = subst IsWellFormed same c.laws-2.ensures.well_formed in
     let grown = c.in_ok-merge.ensures.extended in
     let imports = c.in_ok-merge.merge.imports in
-    let all = still-assembled t m more grown c.law-3.ensures well es us ps bs f c.args.order.now bare u.roots w.ids w.ws first in
+    let all = still-assembled t m more grown c.law-2.ensures well es us ps bs f c.args.order.now bare u.roots w.ids w.ws first in
     let named = c.in_ok-basis.basis.named in
     let positions = c.args.classes.now.positions.items in
-    let o = still-once t m more grown c.law-3.ensures well es us ps bs f c.args.order.now bare named positions c.in_ok-bare.ensures.once in
+    let o = still-once t m more grown c.law-2.ensures well es us ps bs f c.args.order.now bare named positions c.in_ok-bare.ensures.once in
     let using = c.in_ok-merge.ensures.using in
-    let assembled = first-assembled t started more es us ps bs f c.args.order.now bare u o.written c.law.ensures c.law-2.ensures well c.uses_law.ensures basis.extended (extended_twice started m more c.write_imports.ensures.extended grown)
+    let assembled = first-assembled t started more es us ps bs f c.args.order.now bare u o.written c.laws.ensures.well_formed c.law.ensures well c.laws.ensures.sound basis.extended (extended_twice started m more c.write_imports.ensures.extended grown)
     basis.listed c.requires.bindings basis.fresh c.requires.held (agreed-pairs t es c.requires.agreed) c.requires.written c.requires.each c.requires.once in
     let whole : AreDeep t c.merge.inside.types = record {
-      placed = c.trees_are_whole.ensures.placed;
-      merged_placed = c.trees_are_whole-2.ensures.placed;
-      bound = c.trees_are_whole.ensures.bound;
-      named = c.trees_are_whole.ensures.named;
-      merged_named = c.trees_are_whole-2.ensures.named;
+      placed = c.laws.ensures.placed;
+      merged_placed = c.laws-2.ensures.placed;
+      bound = c.laws.ensures.bound;
+      named = c.laws.ensures.named;
+      merged_named = c.laws-2.ensures.named;
     } in
     let deep = subst (AreDeep t) same whole in
     record {
