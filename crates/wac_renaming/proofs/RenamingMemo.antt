@@ -1,6 +1,7 @@
 -- One more definition, or function type, that became another.
-use Rattle.std.proofs.Common.{◌≡◌, Bool, true, false, cond, nat_eq, None, Some, Result, Ok, Err, OnOk, refl, ap, sym, ◌∙◌, subst}
+use Rattle.std.proofs.Common.{◌≡◌, List, [], ◌∷◌, Bool, true, false, cond, nat_eq, None, Some, Result, Ok, Err, OnOk, refl, ap, sym, ◌∙◌, subst}
 use Rattle.std.proofs.lemmas.Bool.{eqb-true}
+use Rattle.std.specs.List.{AllByRecursion}
 use Rattle.std.specs.Prelude.{IsSome}
 use Rattle.std.specs.declared.alloc.AllocError.{AllocError}
 use Rattle.wac_collection.specs.Collection.{Collection, item_at}
@@ -14,8 +15,10 @@ use Rattle.wac_shapes.specs.declared.component.«Type».TheVariants as ty
 use Rattle.wac_renaming.specs.Made.{AreApart, AreMade, AreThere, IsFuncMadeOf, IsMadeFor, IsMadeOf, StayMade, anew, other_name}
 use Rattle.wac_renaming.specs.declared.made.Made.{Made}
 use Rattle.wac_renaming.specs.RenamedTypes.{AreRenamed, becomes, defined_at, defined_in, func_at, func_in}
+use Rattle.wac_entries.specs.Tasks.{task_id}
+use Rattle.wac_entries.specs.declared.tasks.Task.{Task}
 use Rattle.wac_terms.specs.Renaming.{IsExtended, IsRenamed}
-use Rattle.wac_renaming.specs.RenamingSteps.{HasDefinedToo, HasFuncToo, HaveOneFuncShape, HaveOneShape, IsDefinedBehind, IsFuncBehind, IsMore, IsRenamedIn, IsRenamedValue}
+use Rattle.wac_renaming.specs.RenamingSteps.{HasDefinedToo, HasFuncToo, HasSame, HaveOneFuncShape, HaveOneShape, IsDefinedBehind, IsDone, IsFuncBehind, IsMore, IsRenamedIn, IsRenamedValue}
 use Rattle.wac_renaming.specs.declared.renamer.Renamed.{Renamed}
 use Rattle.wac_renaming.specs.declared.renamer.Renaming.{Renaming}
 use Rattle.wac_renaming.proofs.Extending.{still_all_renamed, still_renamed}
@@ -85,7 +88,7 @@ module _ (old mid new : Renamed) (d e : DefinedTypeId) (same : mid.defined ≡ o
   more_put (Err _) put = put
 
 -- where more was made, and the collection grew
-pub still_with : (s : Renaming) (m more : Collection) (x : IsExtended m more) (memo : Renamed) (new : Made) → StayMade memo.made new → AreThere more new → AreApart s.types.now s.became.now.named.now new → AreRenamed m s memo → AreRenamed more s (record { defined = memo.defined; funcs = memo.funcs; made = new })
+pub still_with : (s : Renaming) (m more : Collection) (x : IsExtended m more) (memo : Renamed) (new : Made) → StayMade memo.made new → AreThere more new → AreApart s.types.now s.became.now.named.now new → AreRenamed m s memo → AreRenamed more s (record { defined = memo.defined; funcs = memo.funcs; made = new; tasks = memo.tasks })
 still_with s m more x memo new stay there apart r =
     let t = s.became.now.named.now in
     let still = still_all_renamed m more x s memo r in
@@ -96,6 +99,31 @@ still_with s m more x memo new stay there apart r =
       once = λ d e is. still_of s.types.now t memo.made new stay (val.Defined d) (val.Defined e) (still.once d e is);
       once_funcs = λ f g is. still_func_of s.types.now t memo.made new stay m more x f g (r.once_funcs f g is);
     }
+
+-- where the memory for tasks is another
+module _ (old new : Renamed) (same : HasSame old new) where
+  pub same_right : (m : Collection) (s : Renaming) → AreRenamed m s old → AreRenamed m s new
+  same_right m s r =
+      let t = s.became.now.named.now in
+      let were : (d e : DefinedTypeId) → defined_in new d ≡ Some e → defined_in old d ≡ Some e = λ d e is. ap (λ x. defined_at x d) (sym same.defined) ∙ is in
+      let became : (f g : FuncTypeId) → func_in new f ≡ Some g → func_in old f ≡ Some g = λ f g is. ap (λ x. func_at x f) (sym same.funcs) ∙ is in
+      record {
+        defined = λ d e is. r.defined d e (were d e is);
+        funcs = λ f g is. r.funcs f g (became f g is);
+        made = subst (AreMade s.types.now t m) (sym same.made) r.made;
+        once = λ d e is. subst (λ (made : Made). IsMadeOf s.types.now t made (val.Defined d) (val.Defined e)) (sym same.made) (r.once d e (were d e is));
+        once_funcs = λ f g is. subst (λ (made : Made). IsFuncMadeOf s.types.now m t made f g) (sym same.made) (r.once_funcs f g (became f g is));
+      }
+
+  pub same_done : (ts : List Task) → AllByRecursion (IsDone old) ts → AllByRecursion (IsDone new) ts
+  same_done [] h = tt
+  same_done (t ∷ ts) h = (subst (λ x. IsSome (defined_at x (task_id t))) (sym same.defined) h.0, same_done ts h.1)
+
+  pub same_stay : (made : Made) → StayMade made old.made → StayMade made new.made
+  same_stay made stay = subst (StayMade made) (sym same.made) stay
+
+  pub same_first : (made : Made) → StayMade new.made made → StayMade old.made made
+  same_first made stay = subst (λ (x : Made). StayMade x made) same.made stay
 
 -- ---- what was added behind is what it was made of
 module _ (s : Renaming) (m more : Collection) (wc : AreWhole s.types.now) (wm : AreWhole more) (made : Made) where
@@ -115,11 +143,11 @@ module _ (s : Renaming) (m more : Collection) (wc : AreWhole s.types.now) (wm : 
 -- a definition that is no other name became what was made of it
 pub closed : (s : Renaming) (m more : Collection) → AreWhole s.types.now → AreWhole more → (memo : Renamed) (made : Made) (new : Renamed) (d e : DefinedTypeId) (x y : DefinedType) → item_at s.types.now.defined d.0 ≡ Some x → other_name x ≡ None → IsDefinedBehind m more y e
     → IsMadeFor made (named_type s.became.now.named.now d) y e → StayMade memo.made made → AreThere more made → AreApart s.types.now s.became.now.named.now made → HaveOneShape (IsRenamedIn s m memo.made) x y → AreRenamed m s memo
-    → (r : Result (Unit {0}) AllocError) → OnOk r (HasDefinedToo (record { defined = memo.defined; funcs = memo.funcs; made = made }) d e new) → OnOk r (AreRenamed more s new)
+    → (r : Result (Unit {0}) AllocError) → OnOk r (HasDefinedToo (record { defined = memo.defined; funcs = memo.funcs; made = made; tasks = memo.tasks }) d e new) → OnOk r (AreRenamed more s new)
 closed s m more wc wm memo made new d e x y at other behind made_for stay there apart shape right r put =
     let t = s.became.now.named.now in
     let R = IsRenamedIn s m memo.made in
-    let mid : Renamed = record { defined = memo.defined; funcs = memo.funcs; made = made } in
+    let mid : Renamed = record { defined = memo.defined; funcs = memo.funcs; made = made; tasks = memo.tasks } in
     let once : IsMadeOf s.types.now t made (val.Defined d) (val.Defined e) =
     anew (val.Defined d) (val.Defined e) d e x y refl refl at other made_for (outlined R x y shape) (λ i a b p q. still_of s.types.now t memo.made made stay a b (shape_pairs R x y shape i a b p q).1) in
     defined_put s more mid new d e r put (still_with s m more behind.extended memo made stay there apart right) (defined_closed s m more wc wm memo.made d e x y at behind shape, once)

@@ -178,6 +178,11 @@ pub ready_after : (memo : Renamed) (vs : List ValueType) (ts : List Task) (r : R
 ready_after memo vs ts (Ok _) is done = ready_values memo vs (subst (λ (l : List Task). AllByRecursion (IsDone memo) l) is done)
 ready_after memo vs ts (Err _) is done = done
 
+-- what follows where a call went well
+pub on_ok : {A B : Type 0} (r : Result (Unit {0}) AllocError) → (A → B) → OnOk r A → OnOk r B
+on_ok (Ok _) f h = f h
+on_ok (Err _) f h = h
+
 -- a definition is put off behind its parts
 pub did_put_off : (c : Collection) (t : Task) (d : DefinedTypeId) (x : DefinedType) (memo : Renamed) (left mid now : List Task) (r : Result (Unit {0}) AllocError) → t ≡ Open d → item_at c.defined d.0 ≡ Some x → mid ≡ left ++ Close d ∷ []
     → OnOk r (now ≡ mid ++ openings (defined_values x)) → OnOk r (Did c t memo memo left now)

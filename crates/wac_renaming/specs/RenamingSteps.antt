@@ -57,6 +57,12 @@ pub record HasFuncToo (old : Renamed) (f g : FuncTypeId) (new : Renamed) : Type 
   pub defined : new.defined ≡ old.defined
   pub made : new.made ≡ old.made
 
+-- with another memory for tasks
+pub record HasSame (old new : Renamed) : Type 0 where
+  pub defined : new.defined ≡ old.defined
+  pub funcs : new.funcs ≡ old.funcs
+  pub made : new.made ≡ old.made
+
 -- optional value types that go together
 abbrev pub GoTogether : (ValueType → ValueType → Type 0) → Option ValueType → Option ValueType → Type 0
 GoTogether R None None = Unit {0}

@@ -15,7 +15,7 @@ ghost use Rattle.wac_terms.specs.Became.{AreBoundParts};
 ghost use Rattle.wac_renaming.specs.RenamedTypes.{AreRenamed, CanRename, becomes, defined_in, func_in};
 ghost use Rattle.wac_terms.specs.Renaming.{IsExtended, IsRenamed};
 ghost use Rattle.wac_renaming.specs.Ways.{AreOutward};
-ghost use Rattle.wac_renaming.specs.RenamingSteps.{AllStay, AreReady, CasesGoTogether, Did, FieldsGoTogether, GoTogether, HasDefinedToo, HasFuncToo, HaveOneFuncShape, HaveOneShape, IsBecome, IsDone, IsMore, IsReady, MayBeDone, Stays};
+ghost use Rattle.wac_renaming.specs.RenamingSteps.{AllStay, AreReady, CasesGoTogether, Did, FieldsGoTogether, GoTogether, HasDefinedToo, HasFuncToo, HasSame, HaveOneFuncShape, HaveOneShape, IsBecome, IsDone, IsMore, IsReady, MayBeDone, Stays};
 ghost use Rattle.wac_entries.specs.Tasks.{IsHeldTask, IsOpening, parts_of, AreHeldValues};
 ghost use Rattle.wac_terms.specs.Unions.{AreAround, IsPart};
 ghost use Rattle.wac_renaming.specs.declared.renamer.Renaming.{Renaming as ARenaming};
@@ -24,6 +24,7 @@ ghost use Rattle.wac_values.specs.declared.named.NamedTypes.{NamedTypes as AName
 use crate::became::Became;
 use crate::made::Made;
 use std::alloc::{AllocError, Global};
+use std::mem::replace;
 use wac_collection::{
     DefinedType, DefinedTypeId, Enum, Flags, FuncType, FuncTypeId, Labels, Named, Record,
     ResourceId, ShapeError, Types, ValueType, Variant,
@@ -65,6 +66,8 @@ pub struct Renamed {
     /// That of what a function type became.
     funcs: Numbers,
     made: Made,
+    /// Memory for the tasks of a type. None is left between calls.
+    tasks: Vec<Task>,
 }
 
 /// What was made is let go of here, and not anew at each place where a `Renamed` goes out of scope.
@@ -74,6 +77,7 @@ impl Drop for Renamed {
             defined: _,
             funcs: _,
             made: _,
+            tasks: _,
         } = self;
     }
 }
@@ -130,6 +134,7 @@ impl Renamed {
             defined: Numbers::new(alloc),
             funcs: Numbers::new(alloc),
             made: Made::new(alloc),
+            tasks: Vec::new(alloc),
         }
     }
 
@@ -170,6 +175,23 @@ impl Renamed {
         ensures { OnOk result (HasFuncToo self.old id became self.new) }
     {
         self.funcs.put(id.0, became.0)
+    }
+
+    /// Takes the memory for tasks out. None is in it.
+    fn take_tasks(&mut self, alloc: Global) -> Vec<Task>
+        ensures none { result.items ≡ [] }
+        ensures same { HasSame self.old self.new }
+    {
+        let mut tasks = replace(&mut self.tasks, Vec::new(alloc));
+        tasks.clear();
+        tasks
+    }
+
+    /// Keeps memory for tasks.
+    fn keep_tasks(&mut self, tasks: Vec<Task>)
+        ensures { HasSame self.old self.new }
+    {
+        self.tasks = tasks;
     }
 
     /// What a value type becomes, where its definition became something if it has one.
@@ -555,6 +577,7 @@ impl Renamed {
         while let Some(task) = tasks.pop() {
             self.perform(merged, renaming, task, &mut tasks)?;
         }
+        self.keep_tasks(tasks);
         Ok(())
     }
 
@@ -573,7 +596,7 @@ impl Renamed {
         ensures ready { OnOk result (AreReady self.new (func_values func.now)) }
         ensures stay { OnOk result (StayMade self.old.made self.new.made) }
     {
-        let mut tasks = Vec::new(renaming.alloc);
+        let mut tasks = self.take_tasks(renaming.alloc);
         open_optional(&mut tasks, func.result)?;
         open_fields(&mut tasks, &func.params)?;
         self.finish(merged, renaming, tasks)
@@ -601,7 +624,7 @@ impl Renamed {
             }
         }
         merged.law();
-        let mut tasks = Vec::new(renaming.alloc);
+        let mut tasks = self.take_tasks(renaming.alloc);
         open_value(&mut tasks, value)?;
         self.finish(merged, renaming, tasks)?;
         Ok(self.part(merged, renaming, value))

@@ -9,6 +9,7 @@ ghost use Rattle.wac_uniting.specs.GroupViews.{listed_items};
 use indexmap::IndexMap;
 use std::alloc::{AllocError, Global};
 use std::marker::Model;
+use std::mem::replace;
 use std::slice;
 use wac_collection::{ItemKind, Named, Types};
 use wac_terms::parts::Part;
@@ -33,14 +34,19 @@ impl Listed {
         }
     }
 
-    /// Puts one more behind the others.
-    fn push(&mut self, alloc: Global, more: (usize, ItemKind)) -> Result<(), AllocError>
+    /// Puts one more behind the others. Where that takes memory, spare memory is taken first.
+    fn push(
+        &mut self,
+        alloc: Global,
+        spare: &mut Vec<Vec<(usize, ItemKind)>>,
+        more: (usize, ItemKind),
+    ) -> Result<(), AllocError>
         ensures { OnOk result (listed_items self.new ≡ listed_items self.old ++ more ∷ []) }
     {
         match self {
             Listed::Several(listed) => listed.push(more)?,
             Listed::One(first) => {
-                let mut listed = Vec::with_capacity(alloc, 4)?;
+                let mut listed = empty(alloc, spare)?;
                 listed.push(*first)?;
                 listed.push(more)?;
                 *self = Listed::Several(listed);
@@ -50,10 +56,43 @@ impl Listed {
     }
 }
 
+/// An empty list, in spare memory where there is some.
+fn empty(
+    alloc: Global,
+    spare: &mut Vec<Vec<(usize, ItemKind)>>,
+) -> Result<Vec<(usize, ItemKind)>, AllocError>
+    ensures { IfOk result (λ l. l.items ≡ []) }
+{
+    let Some(mut list) = spare.pop() else {
+        return Vec::with_capacity(alloc, 4);
+    };
+    list.clear();
+    Ok(list)
+}
+
+/// Takes the entries away. The memory of their lists is spare then, as far as there is room to keep it.
+fn take_back(
+    alloc: Global,
+    entries: &mut IndexMap<&str, Listed>,
+    spare: &mut Vec<Vec<(usize, ItemKind)>>,
+)
+    ensures { entries.new.entries ≡ [] }
+{
+    for listed in entries.values_mut() {
+        if let Listed::Several(listed) = listed {
+            let _ = spare.push(replace(listed, Vec::new(alloc)));
+        }
+    }
+    // In time by what goes, however much room there is.
+    entries.truncate(0);
+}
+
 /// What interfaces list under each name, in order of first appearance. The names are borrowed from the collection.
 #[derive(Drop)]
 pub(crate) struct Grouped<'a> {
     entries: IndexMap<&'a str, Listed>,
+    /// Memory for lists.
+    spare: Vec<Vec<(usize, ItemKind)>>,
 }
 
 impl<'a> Model for Grouped<'a> {
@@ -71,27 +110,41 @@ impl<'a> Model for Grouped<'a> {
 }
 
 impl<'a> Grouped<'a> {
-    /// What the parts of a union list.
-    pub(crate) fn new(
+    /// Nothing yet.
+    pub(crate) fn new(alloc: Global) -> Grouped<'a> {
+        Grouped {
+            entries: IndexMap::new(alloc),
+            spare: Vec::new(alloc),
+        }
+    }
+
+    /// Lets go of what is grouped, and keeps the memory.
+    fn clear(&mut self, alloc: Global)
+        ensures { self.new ≡ [] }
+    {
+        take_back(alloc, &mut self.entries, &mut self.spare);
+    }
+
+    /// What the parts of a union list, in place of what was grouped before, and in its memory.
+    pub(crate) fn group(
+        &mut self,
         alloc: Global,
         types: &'a Types,
         parts: &[Part],
         members: &[usize],
-    ) -> Result<Grouped<'a>, AllocError>
+    ) -> Result<(), AllocError>
         requires { AllByRecursion (IsHeldPart types.now parts.now) members.now }
-        ensures grouped { IfOk result (λ g. g ≡ grouped types.now parts.now [] members.now) }
+        ensures grouped { OnOk result (self.new ≡ grouped types.now parts.now [] members.now) }
         ensures names { OnOk result (AllByRecursion (λ p. NoNameTwice (part_lists types.now parts.now p)) members.now) }
     {
-        let mut grouped = Grouped {
-            entries: IndexMap::new(alloc),
-        };
+        self.clear(alloc);
         for index in 0..members.len() {
             let part = members[index];
             let exports = &types[parts[part].interface].exports;
             exports.law();
-            grouped.put_all(alloc, part, exports)?;
+            self.put_all(alloc, part, exports)?;
         }
-        Ok(grouped)
+        Ok(())
     }
 
     /// The law of what is grouped: no name stands twice.
@@ -132,7 +185,7 @@ impl<'a> Grouped<'a> {
         if let Some(others) = others {
             let listed = self.entries.get_index_mut(index).unwrap();
             *listed = others;
-            listed.push(alloc, (part, kind))?;
+            listed.push(alloc, &mut self.spare, (part, kind))?;
         }
         Ok(())
     }

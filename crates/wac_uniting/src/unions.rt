@@ -94,9 +94,10 @@ impl Unions {
         for index in 0..roots.len() {
             unions.push_root(alloc, roots[index].as_slice())?;
         }
+        let mut grouped = Grouped::new(alloc);
         let mut position = 0;
         while position < unions.unions.len() {
-            unions.join(alloc, types, position)?;
+            unions.join(alloc, types, position, &mut grouped)?;
             position += 1;
         }
         Ok(unions)
@@ -240,16 +241,22 @@ impl Unions {
         Ok(exports)
     }
 
-    /// Joins what the parts of the union at a position list. Puts the unions in it behind the others.
-    fn join(&mut self, alloc: Global, types: &Types, position: usize) -> Result<(), AllocError>
+    /// Joins what the parts of the union at a position list, in memory for what is grouped. Puts the unions in it behind the others.
+    fn join<'a>(
+        &mut self,
+        alloc: Global,
+        types: &'a Types,
+        position: usize,
+        grouped: &mut Grouped<'a>,
+    ) -> Result<(), AllocError>
         requires formed { IsWellFormed types.now }
         requires within { position < length self.old.unions.items }
         requires seated { AreSeated types.now self.old.unions.items self.old.parts.items }
         ensures { OnOk result (IsJoined types.now self.old.unions.items self.old.parts.items position self.new.unions.items self.new.parts.items) }
     {
         let members = self.unions[position].parts.as_slice();
-        let grouped = Grouped::new(alloc, types, self.parts.as_slice(), members)?;
-        let exports = self.exports(alloc, types, position, &grouped)?;
+        grouped.group(alloc, types, self.parts.as_slice(), members)?;
+        let exports = self.exports(alloc, types, position, grouped)?;
         self.unions[position].exports = exports;
         Ok(())
     }

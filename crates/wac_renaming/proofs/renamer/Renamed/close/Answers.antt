@@ -91,12 +91,12 @@ returns-in-Some-clause-right c =
 
 pub returns-clause-more : goal.returns-clause-more
 returns-clause-more c =
-    let mid : Renamed = record { defined = c.args.self.now.defined; funcs = c.args.self.now.funcs; made = c.make.new.self } in
+    let mid : Renamed = record { defined = c.args.self.now.defined; funcs = c.args.self.now.funcs; made = c.make.new.self; tasks = c.args.self.now.tasks } in
     more_put c.args.self.now mid c.put_defined-2.new.self c.args.id c.in_ok-became.became refl c.in_ok-became.ensures.stay c.put_defined-2.result c.put_defined-2.ensures
 
 pub returns-then-definition_stays-clause-more : goal.returns-then-definition_stays-clause-more
 returns-then-definition_stays-clause-more c =
-    let mid : Renamed = record { defined = c.args.self.now.defined; funcs = c.args.self.now.funcs; made = c.keep.new.self } in
+    let mid : Renamed = record { defined = c.args.self.now.defined; funcs = c.args.self.now.funcs; made = c.keep.new.self; tasks = c.args.self.now.tasks } in
     more_put c.args.self.now mid c.put_defined-then-definition_stays.new.self c.args.id c.in_ok-kept.kept refl c.in_ok-kept.ensures.stay c.put_defined-then-definition_stays.result c.put_defined-then-definition_stays.ensures
 
 pub returns-in-Some-clause-more : goal.returns-in-Some-clause-more

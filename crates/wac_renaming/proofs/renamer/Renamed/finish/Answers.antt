@@ -6,6 +6,7 @@ use Rattle.wac_renaming.specs.RenamingSteps.{AreCovered, IsUnderWay}
 use Rattle.wac_entries.proofs.TaskLemmas.{all_last}
 use Rattle.wac_renaming.proofs.Extending.{extended_twice, still_can}
 use Rattle.wac_renaming.proofs.OneIds.{stay_twice}
+use Rattle.wac_renaming.proofs.RenamingMemo.{same_done, same_right, same_stay}
 use Rattle.wac_renaming.proofs.RenamingTasks.{all_done, did_stay, less_to_do, may_be_done, still_under_way, under_way}
 use Rattle.wac_renaming.proofs.renamer.Renamed.finish.Goals as goal
 
@@ -53,17 +54,18 @@ returns-clause-done c =
     let s = c.args.renaming.now in
     let rest : c.pop.new.self.items ≡ [] = c.in_default.ensures.rest ∙ ap (λ k. take (k - 1) c.loop-task.tasks.items) c.in_default.ensures.cases.0 in
     let none : c.loop-task.tasks.items ≡ [] = c.in_default.ensures.items ∙ ap (λ (ts : List Task). ts ++ []) rest in
-    all_done s c.args.merged.now c.loop-task.merged c.args.tasks.items c.loop-task.self
-    (subst (λ (ts : List Task). IsUnderWay s c.args.merged.now c.args.tasks.items c.loop-task.merged c.loop-task.self ts) none c.loop-task.invariant.under)
+    same_done c.loop-task.self c.keep_tasks.new.self c.keep_tasks.ensures c.args.tasks.items
+    (all_done s c.args.merged.now c.loop-task.merged c.args.tasks.items c.loop-task.self
+    (subst (λ (ts : List Task). IsUnderWay s c.args.merged.now c.args.tasks.items c.loop-task.merged c.loop-task.self ts) none c.loop-task.invariant.under))
 
 pub returns-clause-stay : goal.returns-clause-stay
-returns-clause-stay c = c.loop-task.invariant.stay
+returns-clause-stay c = same_stay c.loop-task.self c.keep_tasks.new.self c.keep_tasks.ensures c.args.self.now.made c.loop-task.invariant.stay
 
 pub returns-clause-extended : goal.returns-clause-extended
 returns-clause-extended c = c.loop-task.invariant.under.extended
 
 pub returns-clause-right : goal.returns-clause-right
-returns-clause-right c = c.loop-task.invariant.under.right
+returns-clause-right c = same_right c.loop-task.self c.keep_tasks.new.self c.keep_tasks.ensures c.loop-task.merged c.args.renaming.now c.loop-task.invariant.under.right
 
 pub perform-requires-clause-right : goal.perform-requires-clause-right
 perform-requires-clause-right c = c.loop-task.invariant.under.right

@@ -160,7 +160,7 @@ returns-clause-right c =
     let more = c.make_func.new.merged in
     let memo = c.reach.new.self in
     let made = c.make_func.new.self in
-    let mid : Renamed = record { defined = memo.defined; funcs = memo.funcs; made = made } in
+    let mid : Renamed = record { defined = memo.defined; funcs = memo.funcs; made = made; tasks = memo.tasks } in
     let put = c.in_ok-put_func-2.ensures in
     let right = c.in_ok-reach.ensures.right in
     func_right s more mid c.put_func-2.new.self c.args.id c.in_ok-became.became put

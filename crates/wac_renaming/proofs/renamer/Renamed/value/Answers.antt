@@ -5,6 +5,7 @@ use Rattle.wac_renaming.specs.Made.{IsMadeOf}
 use Rattle.wac_renaming.specs.RenamedTypes.{becomes}
 use Rattle.wac_renaming.specs.RenamingSteps.{IsBecome, IsRenamedIn, IsRenamedValue}
 use Rattle.wac_renaming.proofs.Extending.{extended_none, still_can}
+use Rattle.wac_renaming.proofs.RenamingMemo.{same_first, same_right}
 use Rattle.wac_renaming.proofs.Staying.{become_renamed}
 use Rattle.wac_renaming.proofs.renamer.Renamed.value.Goals as goal
 use Rattle.wac_renaming.proofs.renamer.Renamed.value.Goals.{in-Defined+in_default-defined, in_default}
@@ -50,3 +51,9 @@ returns-clause-value c = (is-renamed c).0
 
 pub returns-clause-once : goal.returns-clause-once
 returns-clause-once c = (is-renamed c).1
+
+pub finish-requires-clause-right : goal.finish-requires-clause-right
+finish-requires-clause-right c = same_right c.args.self.now c.take_tasks-tasks.new.self c.take_tasks-tasks.ensures.same c.args.merged.now c.args.renaming.now c.requires.right
+
+pub returns-clause-stay : goal.returns-clause-stay
+returns-clause-stay c = same_first c.args.self.now c.take_tasks-tasks.new.self c.take_tasks-tasks.ensures.same c.finish.new.self.made c.in_ok-finish.ensures.stay

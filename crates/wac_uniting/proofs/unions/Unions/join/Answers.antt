@@ -13,8 +13,8 @@ use Rattle.wac_uniting.proofs.UnionPlaces.{members_held}
 use Rattle.wac_uniting.proofs.UnionJoins.{groups_held, join_done}
 use Rattle.wac_uniting.proofs.unions.Unions.join.Goals as goal
 
-pub new-requires : goal.new-requires
-new-requires c =
+pub group-requires : goal.group-requires
+group-requires c =
     let t = c.args.types.now in
     let us = c.args.self.now.unions.items in
     let ps = c.args.self.now.parts.items in
@@ -30,7 +30,7 @@ exports-requires-clause-held c =
     let ps = c.args.self.now.parts.items in
     let x : Union = c.index.result.now in
     let at : slice_get us c.args.position ≡ Some x = slice_get_read us (length us) c.args.position x refl c.requires.within c.index.ensures in
-    let is : c.in_ok-grouped.grouped ≡ grouped t ps [] x.parts.items = c.in_ok-grouped.ensures.grouped ∙ (λ i. grouped t (c.as_slice.ensures.value i) [] (c.as_slice-members.ensures.value i)) in
+    let is : c.group.new.self ≡ grouped t ps [] x.parts.items = c.in_ok-group.ensures.grouped ∙ (λ i. grouped t (c.as_slice.ensures.value i) [] (c.as_slice-members.ensures.value i)) in
     subst (λ (gs : List (Name × List (ℕ × ItemKind))). AllByRecursion (IsHeldGroup t ps) gs) (sym is) (groups_held t c.requires.formed us ps c.args.position x at c.requires.seated)
 
 pub index_mut-requires : goal.index_mut-requires
@@ -55,10 +55,10 @@ returns c =
     let es = c.in_ok-exports.exports in
     let z : Union = record { parts = y.parts; exports = es } in
     let at : slice_get us n ≡ Some x = slice_get_read us (length us) n x refl c.requires.within c.index.ensures in
-    let is : c.in_ok-grouped.grouped ≡ grouped t ps [] x.parts.items = c.in_ok-grouped.ensures.grouped ∙ (λ i. grouped t (c.as_slice.ensures.value i) [] (c.as_slice-members.ensures.value i)) in
+    let is : c.group.new.self ≡ grouped t ps [] x.parts.items = c.in_ok-group.ensures.grouped ∙ (λ i. grouped t (c.as_slice.ensures.value i) [] (c.as_slice-members.ensures.value i)) in
     let once : AllByRecursion (λ p. NoNameTwice (part_lists t ps p)) x.parts.items =
     subst (λ (qs : List Part). AllByRecursion (λ p. NoNameTwice (part_lists t qs p)) x.parts.items) c.as_slice.ensures.value
-    (subst (λ (l : List ℕ). AllByRecursion (λ p. NoNameTwice (part_lists t c.as_slice.result.now p)) l) c.as_slice-members.ensures.value c.in_ok-grouped.ensures.names) in
+    (subst (λ (l : List ℕ). AllByRecursion (λ p. NoNameTwice (part_lists t c.as_slice.result.now p)) l) c.as_slice-members.ensures.value c.in_ok-group.ensures.names) in
     let opened : AreOpen t us ps n (grouped t ps [] x.parts.items) vs qs es = subst (λ (gs : List (Name × List (ℕ × ItemKind))). AreOpen t us ps n gs vs qs es) is c.in_ok-exports.ensures in
     let there : slice_get vs n ≡ Some x = opened.unions n x at in
     let now : slice_get vs n ≡ Some y = slice_get_read vs (length vs) n y refl (slice_get_within vs n x there) c.index_mut.ensures.value in
