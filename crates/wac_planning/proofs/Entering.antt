@@ -138,7 +138,7 @@ same-then ps qs rs a b = record {
   kept = λ n d h. b.kept n d (a.kept n d h);
 }
 
-none-at : (c : Collection) (s : Scope) (k : ℕ × InterfaceId) (ks : List (ℕ × InterfaceId)) (d : DefinedTypeId) (T : ℕ → Type 0) → IsSourceAt (lists c d) (HasName s d) T k ks None → IsTakenAlong (lists c d) (HasName s d) T (k ∷ ks)
+pub none-at : (c : Collection) (s : Scope) (k : ℕ × InterfaceId) (ks : List (ℕ × InterfaceId)) (d : DefinedTypeId) (T : ℕ → Type 0) → IsSourceAt (lists c d) (HasName s d) T k ks None → IsTakenAlong (lists c d) (HasName s d) T (k ∷ ks)
 none-at c s k ks d T (inl h) = let no_some : None ≡ Some (Some k.0) = h.0 in cc
 none-at c s k ks d T (inr h) = (λ named. absurd (h.1 named), none-named (lists c d) (HasName s d) T ks h.1)
 

@@ -21,9 +21,9 @@ use Rattle.wac_planning.specs.declared.growing.Visit.{Visit}
 use Rattle.wac_planning.specs.declared.growing.Visit.TheVariants.{Enter}
 use Rattle.wac_planning.specs.Listed.{listed_definition}
 use Rattle.wac_planning.specs.Plans.{IsOneOf, HasName}
-use Rattle.wac_planning.specs.Planning.{name_at, source_at, lists, IsTakenAlong, IsTakenAt, IsOwn, Serves, IsEntering, SamePlaces, TakesFrom, TakesAll, NamesFirst, Forgets, Renames, enters, enter_of}
+use Rattle.wac_planning.specs.Planning.{name_at, source_at, lists, IsTakenAlong, IsTakenAt, IsSourceAt, IsOwn, Serves, IsEntering, SamePlaces, TakesFrom, TakesAll, NamesFirst, Forgets, Renames, enters, enter_of}
 use Rattle.wac_planning.proofs.Along.{all-more}
-use Rattle.wac_planning.proofs.Entering.{same-id, other-id, same-places, same-then, IsTaken, entering-take}
+use Rattle.wac_planning.proofs.Entering.{same-id, other-id, same-places, same-then, IsTaken, none-at, entering-take}
 use Rattle.wac_planning.proofs.Leaving.{IsNaming, NamesOne, names-one}
 
 pub held-item : {A : Type 0} (xs : List (Held A)) (n : ℕ) → n < length xs → (x : A) × (item_at xs n ≡ Some x)
@@ -82,6 +82,15 @@ taking-ends c s k ks ds n old new past all h = record {
   same = h.same;
   entering = h.entering;
   serves = λ d own. (let at = all d own in let less = slice_get_within ds at.0 d at.1 in h.done at.0 d (omega (arith, less, past)) at.1);
+}
+
+-- nothing is taken where nothing has a name
+pub takes-none : (c : Collection) (s : Scope) (k : ℕ × InterfaceId) (ks : List (ℕ × InterfaceId)) (g : Growing) → IsEntering c s k ks g → ((d : DefinedTypeId) → source_at s g d ≡ None) → TakesAll c s k ks g g
+takes-none c s k ks g h none = record {
+  visits = refl;
+  same = same-places g.places.items;
+  entering = h;
+  serves = λ d own. none-at c s k ks d (IsTakenAt g.places.items d) (subst (IsSourceAt (lists c d) (HasName s d) (IsTakenAt g.places.items d) k ks) (none d) (h.sources d));
 }
 
 -- what its type items list is named

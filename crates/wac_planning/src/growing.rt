@@ -1,6 +1,7 @@
 //! A plan that is being made.
 
-ghost use Rattle.std.specs.Prelude.{◌≡◌, ◌<◌, ℕ, nat_eq, List, [], Some, IfOk, OnOk, length, slice_get};
+ghost use Rattle.std.specs.Prelude.{◌≡◌, ◌<◌, ℕ, nat_eq, List, [], None, Some, IfOk, OnOk, length, slice_get};
+ghost use Rattle.std.specs.Bool.{OnTrue};
 ghost use Rattle.std.specs.HashMap.{Updates};
 ghost use Rattle.wac_shapes.specs.declared.component.DefinedTypeId.{DefinedTypeId as AnId};
 ghost use Rattle.wac_shapes.specs.declared.component.InterfaceId.{InterfaceId as AnInterface};
@@ -45,6 +46,13 @@ impl Growing {
                 None => None,
             },
         }
+    }
+
+    /// Whether no definition has a name, at a place or in the scope around.
+    pub(crate) fn has_no_names(&self, around: &Scope) -> bool
+        ensures { OnTrue result ((id : AnId) → source_at around.now self.now id ≡ None) }
+    {
+        self.named.is_empty() && around.has_no_definition()
     }
 
     /// Names a definition at a place.

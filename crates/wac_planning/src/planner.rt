@@ -87,6 +87,9 @@ impl<'a> Planner<'a> {
         requires entering { (ks : List (ℕ × AnInterface)) × IsEntering self.now.types.now self.now.around.now (place, interface) ks growing.old }
         ensures takes { OnOk result ((ks : List (ℕ × AnInterface)) → IsEntering self.now.types.now self.now.around.now (place, interface) ks growing.old → TakesAll self.now.types.now self.now.around.now (place, interface) ks growing.old growing.new) }
     {
+        if growing.has_no_names(self.around) {
+            return Ok(());
+        }
         let definitions = own_definitions_of(self.types, interface)?;
         for i in 0..definitions.len() {
             growing.take(self.around, place, definitions[i])?;

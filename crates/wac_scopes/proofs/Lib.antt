@@ -3,3 +3,4 @@ pub mod ScopedLaws
 pub mod ImportLaws
 pub mod SideLaws
 pub mod Rooted
+pub mod Undefined

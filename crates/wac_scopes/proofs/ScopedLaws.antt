@@ -12,6 +12,7 @@ use Rattle.wac_shapes.specs.declared.component.DefinedTypeId.{DefinedTypeId}
 use Rattle.wac_primitives.specs.declared.component.PrimitiveType.{PrimitiveType}
 use Rattle.wac_shapes.specs.declared.component.FuncTypeId.{FuncTypeId}
 use Rattle.wac_shapes.specs.declared.component.InterfaceId.{InterfaceId}
+use Rattle.wac_shapes.specs.declared.component.WorldId.{WorldId}
 use Rattle.wac_shapes.specs.declared.component.ValueType.{ValueType}
 use Rattle.wac_shapes.specs.declared.component.ValueType.TheVariants as val
 use Rattle.wac_shapes.specs.declared.component.«Type».{«Type» as AnyType}
@@ -23,7 +24,7 @@ use Rattle.wac_collection.specs.Uses.{same_type}
 use Rattle.wac_binary.specs.declared.types.ComponentValType.TheVariants.{Primitive, Index}
 use Rattle.wac_binary.specs.declared.sorts.Sort.TheVariants as s
 use Rattle.wac_binary.specs.declared.sorts.Description.TheVariants as e
-use Rattle.wac_binary.specs.Items.{ValueDef, TypeDef, ModuleDecl, Decl, decls, value_def, primitive_def, instance_def, Alias, export_alias, outer_alias}
+use Rattle.wac_binary.specs.Items.{ValueDef, TypeDef, ModuleDecl, Decl, decls, value_def, primitive_def, instance_def, component_def, Alias, export_alias, outer_alias}
 use Rattle.wac_binary.specs.Indexes.{space, core_types}
 use Rattle.wac_binary.specs.Unfold.{module_tree}
 use Rattle.wac_scopes.specs.declared.encodable.Encodable.{Encodable}
@@ -37,7 +38,7 @@ use Rattle.wac_stacks.specs.Good.{At, IsHeld, IsOf, Onward, top}
 use Rattle.wac_stacks.specs.Laws.{Adds, DefinesValue, DefinesFunc, DefinesPrimitive, SettlesValue, BringsValue, IsRecorded, StandsRecorded}
 use Rattle.wac_stacks.specs.Listed.{Lists, ListsEqual, ListsFunc, ListsComponent, ListsInstance}
 use Rattle.wac_stacks.specs.Modules.{and_module, module_count, with_module, DefinesModule}
-use Rattle.wac_scopes.specs.Scoped.{index_of, named_index, type_index, value_index, named_at, listed_at, and_listed, IsAsBefore, listed_type, listing, place, recorded_type, opened, HasToo, IsThere, IsAt, AliasesValue, AddsValue, AddsFunc, AddsPrimitive, AddsInstance, AddsClosed, AddsModule, ListsType, ListsValue, ListsFunction, ListsInstanceOf, ListsComponentOf, AliasFits, FitsUnlessTooLarge}
+use Rattle.wac_scopes.specs.Scoped.{index_of, named_index, type_index, value_index, named_at, listed_at, and_listed, IsAsBefore, listed_type, listing, place, recorded_type, opened, HasToo, IsThere, IsAt, AliasesValue, AddsValue, AddsFunc, AddsPrimitive, AddsInstance, AddsWorld, AddsClosed, AddsModule, ListsType, ListsValue, ListsFunction, ListsInstanceOf, ListsComponentOf, AliasFits, FitsUnlessTooLarge}
 use Rattle.wac_scopes.proofs.ContentLaws.{content-and-type, content-and-alias, content-and-around, content-and-module, types-counted, modules-counted, lists-type-in, lists-function-in, lists-component-in, lists-instance-in}
 use Rattle.wac_stacks.proofs.Meant.{value-type}
 use Rattle.wac_stacks.proofs.Moved.{ap2}
@@ -80,16 +81,16 @@ pub listing-same : (old new : Scope) → ((d : DefinedTypeId) → listed_at new 
 listing-same old new same a = ap (λ (at : DefinedTypeId → Option Listed). listed_type at a) (fun_ext same)
 
 -- the same is recorded where each map records the same
-pub same-types : (old new : Scope) → ((d : DefinedTypeId) → value_index new d ≡ value_index old d) → ((f : FuncTypeId) → type_index new (ty.Func f) ≡ type_index old (ty.Func f)) → ((i : InterfaceId) → type_index new (ty.Interface i) ≡ type_index old (ty.Interface i)) → (a : AnyType) → type_index new a ≡ type_index old a
-same-types old new values funcs interfaces (ty.Value (val.Defined d)) = values d
-same-types old new values funcs interfaces (ty.Value (val.Primitive p)) = refl
-same-types old new values funcs interfaces (ty.Value (val.Own r)) = refl
-same-types old new values funcs interfaces (ty.Value (val.Borrow r)) = refl
-same-types old new values funcs interfaces (ty.Func f) = funcs f
-same-types old new values funcs interfaces (ty.Interface i) = interfaces i
-same-types old new values funcs interfaces (ty.Resource r) = refl
-same-types old new values funcs interfaces (ty.World w) = refl
-same-types old new values funcs interfaces (ty.Module m) = refl
+pub same-types : (old new : Scope) → ((d : DefinedTypeId) → value_index new d ≡ value_index old d) → ((f : FuncTypeId) → type_index new (ty.Func f) ≡ type_index old (ty.Func f)) → ((i : InterfaceId) → type_index new (ty.Interface i) ≡ type_index old (ty.Interface i)) → ((w : WorldId) → type_index new (ty.World w) ≡ type_index old (ty.World w)) → (a : AnyType) → type_index new a ≡ type_index old a
+same-types old new values funcs interfaces worlds (ty.Value (val.Defined d)) = values d
+same-types old new values funcs interfaces worlds (ty.Value (val.Primitive p)) = refl
+same-types old new values funcs interfaces worlds (ty.Value (val.Own r)) = refl
+same-types old new values funcs interfaces worlds (ty.Value (val.Borrow r)) = refl
+same-types old new values funcs interfaces worlds (ty.Func f) = funcs f
+same-types old new values funcs interfaces worlds (ty.Interface i) = interfaces i
+same-types old new values funcs interfaces worlds (ty.Resource r) = refl
+same-types old new values funcs interfaces worlds (ty.World w) = worlds w
+same-types old new values funcs interfaces worlds (ty.Module m) = refl
 
 -- what a map with one more entry records
 
@@ -100,20 +101,20 @@ place_at s d = get (λ a b. nat_eq a.0 b.0) s.values d
 abbrev placed : ℕ → Bool → Place
 placed k named_ = record { index = k; named = named_ }
 
-pub value-too : (old new : Scope) (d : DefinedTypeId) (k : ℕ) (named_ : Bool) → ((f : FuncTypeId) → type_index new (ty.Func f) ≡ type_index old (ty.Func f)) → ((i : InterfaceId) → type_index new (ty.Interface i) ≡ type_index old (ty.Interface i)) → ((j : DefinedTypeId) → place_at new j ≡ cond (nat_eq d.0 j.0) (Some (record { index = k; named = named_ })) (place_at old j)) → (b : AnyType) → type_index new b ≡ cond (same_type b (ty.Value (val.Defined d))) (Some k) (type_index old b)
-value-too old new d k named_ funcs interfaces too (ty.Value (val.Defined j)) = ap index_of (too j) ∙ by_case (nat_eq d.0 j.0) (place_at old j) ∙ ap (λ (z : Bool). cond z (Some k) (value_index old j)) (same-number d.0 j.0)
+pub value-too : (old new : Scope) (d : DefinedTypeId) (k : ℕ) (named_ : Bool) → ((f : FuncTypeId) → type_index new (ty.Func f) ≡ type_index old (ty.Func f)) → ((i : InterfaceId) → type_index new (ty.Interface i) ≡ type_index old (ty.Interface i)) → ((w : WorldId) → type_index new (ty.World w) ≡ type_index old (ty.World w)) → ((j : DefinedTypeId) → place_at new j ≡ cond (nat_eq d.0 j.0) (Some (record { index = k; named = named_ })) (place_at old j)) → (b : AnyType) → type_index new b ≡ cond (same_type b (ty.Value (val.Defined d))) (Some k) (type_index old b)
+value-too old new d k named_ funcs interfaces worlds too (ty.Value (val.Defined j)) = ap index_of (too j) ∙ by_case (nat_eq d.0 j.0) (place_at old j) ∙ ap (λ (z : Bool). cond z (Some k) (value_index old j)) (same-number d.0 j.0)
   where
     by_case : (z : Bool) (o : Option Place) → index_of (cond z (Some (placed k named_)) o) ≡ cond z (Some k) (index_of o)
     by_case true o = refl
     by_case false o = refl
-value-too old new d k named_ funcs interfaces too (ty.Value (val.Primitive p)) = refl
-value-too old new d k named_ funcs interfaces too (ty.Value (val.Own r)) = refl
-value-too old new d k named_ funcs interfaces too (ty.Value (val.Borrow r)) = refl
-value-too old new d k named_ funcs interfaces too (ty.Func f) = funcs f
-value-too old new d k named_ funcs interfaces too (ty.Interface i) = interfaces i
-value-too old new d k named_ funcs interfaces too (ty.Resource r) = refl
-value-too old new d k named_ funcs interfaces too (ty.World w) = refl
-value-too old new d k named_ funcs interfaces too (ty.Module m) = refl
+value-too old new d k named_ funcs interfaces worlds too (ty.Value (val.Primitive p)) = refl
+value-too old new d k named_ funcs interfaces worlds too (ty.Value (val.Own r)) = refl
+value-too old new d k named_ funcs interfaces worlds too (ty.Value (val.Borrow r)) = refl
+value-too old new d k named_ funcs interfaces worlds too (ty.Func f) = funcs f
+value-too old new d k named_ funcs interfaces worlds too (ty.Interface i) = interfaces i
+value-too old new d k named_ funcs interfaces worlds too (ty.Resource r) = refl
+value-too old new d k named_ funcs interfaces worlds too (ty.World w) = worlds w
+value-too old new d k named_ funcs interfaces worlds too (ty.Module m) = refl
 
 -- the others have a name where they had, and this one where it is so
 pub names-too : (old new : Scope) (d : DefinedTypeId) (k : ℕ) (named_ : Bool) → ((j : DefinedTypeId) → place_at new j ≡ cond (nat_eq d.0 j.0) (Some (record { index = k; named = named_ })) (place_at old j)) → (j : DefinedTypeId) → same_type (ty.Value (val.Defined j)) (ty.Value (val.Defined d)) ≡ false → named_at new j ≡ named_at old j
@@ -122,27 +123,38 @@ names-too old new d k named_ too j other = ap named_index (too j) ∙ ap (λ (z 
 pub name-too : (old new : Scope) (d : DefinedTypeId) (k : ℕ) (named_ : Bool) → ((j : DefinedTypeId) → place_at new j ≡ cond (nat_eq d.0 j.0) (Some (record { index = k; named = named_ })) (place_at old j)) → named_at new d ≡ cond named_ (Some k) None
 name-too old new d k named_ too = let itself : nat_eq d.0 d.0 ≡ true = grind arith in ap named_index (too d) ∙ ap (λ (z : Bool). named_index (cond z (Some (placed k named_)) (place_at old d))) itself
 
-pub func-too : (old new : Scope) (f : FuncTypeId) (k : ℕ) → ((d : DefinedTypeId) → value_index new d ≡ value_index old d) → ((i : InterfaceId) → type_index new (ty.Interface i) ≡ type_index old (ty.Interface i)) → ((j : FuncTypeId) → type_index new (ty.Func j) ≡ cond (nat_eq f.0 j.0) (Some k) (type_index old (ty.Func j))) → (b : AnyType) → type_index new b ≡ cond (same_type b (ty.Func f)) (Some k) (type_index old b)
-func-too old new f k values interfaces too (ty.Value (val.Defined j)) = values j
-func-too old new f k values interfaces too (ty.Value (val.Primitive p)) = refl
-func-too old new f k values interfaces too (ty.Value (val.Own r)) = refl
-func-too old new f k values interfaces too (ty.Value (val.Borrow r)) = refl
-func-too old new f k values interfaces too (ty.Func j) = too j ∙ ap (λ (z : Bool). cond z (Some k) (type_index old (ty.Func j))) (same-number f.0 j.0)
-func-too old new f k values interfaces too (ty.Interface i) = interfaces i
-func-too old new f k values interfaces too (ty.Resource r) = refl
-func-too old new f k values interfaces too (ty.World w) = refl
-func-too old new f k values interfaces too (ty.Module m) = refl
+pub func-too : (old new : Scope) (f : FuncTypeId) (k : ℕ) → ((d : DefinedTypeId) → value_index new d ≡ value_index old d) → ((i : InterfaceId) → type_index new (ty.Interface i) ≡ type_index old (ty.Interface i)) → ((w : WorldId) → type_index new (ty.World w) ≡ type_index old (ty.World w)) → ((j : FuncTypeId) → type_index new (ty.Func j) ≡ cond (nat_eq f.0 j.0) (Some k) (type_index old (ty.Func j))) → (b : AnyType) → type_index new b ≡ cond (same_type b (ty.Func f)) (Some k) (type_index old b)
+func-too old new f k values interfaces worlds too (ty.Value (val.Defined j)) = values j
+func-too old new f k values interfaces worlds too (ty.Value (val.Primitive p)) = refl
+func-too old new f k values interfaces worlds too (ty.Value (val.Own r)) = refl
+func-too old new f k values interfaces worlds too (ty.Value (val.Borrow r)) = refl
+func-too old new f k values interfaces worlds too (ty.Func j) = too j ∙ ap (λ (z : Bool). cond z (Some k) (type_index old (ty.Func j))) (same-number f.0 j.0)
+func-too old new f k values interfaces worlds too (ty.Interface i) = interfaces i
+func-too old new f k values interfaces worlds too (ty.Resource r) = refl
+func-too old new f k values interfaces worlds too (ty.World w) = worlds w
+func-too old new f k values interfaces worlds too (ty.Module m) = refl
 
-pub interface-too : (old new : Scope) (i : InterfaceId) (k : ℕ) → ((d : DefinedTypeId) → value_index new d ≡ value_index old d) → ((f : FuncTypeId) → type_index new (ty.Func f) ≡ type_index old (ty.Func f)) → ((j : InterfaceId) → type_index new (ty.Interface j) ≡ cond (nat_eq i.0 j.0) (Some k) (type_index old (ty.Interface j))) → (b : AnyType) → type_index new b ≡ cond (same_type b (ty.Interface i)) (Some k) (type_index old b)
-interface-too old new i k values funcs too (ty.Value (val.Defined j)) = values j
-interface-too old new i k values funcs too (ty.Value (val.Primitive p)) = refl
-interface-too old new i k values funcs too (ty.Value (val.Own r)) = refl
-interface-too old new i k values funcs too (ty.Value (val.Borrow r)) = refl
-interface-too old new i k values funcs too (ty.Func f) = funcs f
-interface-too old new i k values funcs too (ty.Interface j) = too j ∙ ap (λ (z : Bool). cond z (Some k) (type_index old (ty.Interface j))) (same-number i.0 j.0)
-interface-too old new i k values funcs too (ty.Resource r) = refl
-interface-too old new i k values funcs too (ty.World w) = refl
-interface-too old new i k values funcs too (ty.Module m) = refl
+pub interface-too : (old new : Scope) (i : InterfaceId) (k : ℕ) → ((d : DefinedTypeId) → value_index new d ≡ value_index old d) → ((f : FuncTypeId) → type_index new (ty.Func f) ≡ type_index old (ty.Func f)) → ((w : WorldId) → type_index new (ty.World w) ≡ type_index old (ty.World w)) → ((j : InterfaceId) → type_index new (ty.Interface j) ≡ cond (nat_eq i.0 j.0) (Some k) (type_index old (ty.Interface j))) → (b : AnyType) → type_index new b ≡ cond (same_type b (ty.Interface i)) (Some k) (type_index old b)
+interface-too old new i k values funcs worlds too (ty.Value (val.Defined j)) = values j
+interface-too old new i k values funcs worlds too (ty.Value (val.Primitive p)) = refl
+interface-too old new i k values funcs worlds too (ty.Value (val.Own r)) = refl
+interface-too old new i k values funcs worlds too (ty.Value (val.Borrow r)) = refl
+interface-too old new i k values funcs worlds too (ty.Func f) = funcs f
+interface-too old new i k values funcs worlds too (ty.Interface j) = too j ∙ ap (λ (z : Bool). cond z (Some k) (type_index old (ty.Interface j))) (same-number i.0 j.0)
+interface-too old new i k values funcs worlds too (ty.Resource r) = refl
+interface-too old new i k values funcs worlds too (ty.World w) = worlds w
+interface-too old new i k values funcs worlds too (ty.Module m) = refl
+
+pub world-too : (old new : Scope) (w : WorldId) (k : ℕ) → ((d : DefinedTypeId) → value_index new d ≡ value_index old d) → ((f : FuncTypeId) → type_index new (ty.Func f) ≡ type_index old (ty.Func f)) → ((i : InterfaceId) → type_index new (ty.Interface i) ≡ type_index old (ty.Interface i)) → ((v : WorldId) → type_index new (ty.World v) ≡ cond (nat_eq w.0 v.0) (Some k) (type_index old (ty.World v))) → (b : AnyType) → type_index new b ≡ cond (same_type b (ty.World w)) (Some k) (type_index old b)
+world-too old new w k values funcs interfaces too (ty.Value (val.Defined j)) = values j
+world-too old new w k values funcs interfaces too (ty.Value (val.Primitive p)) = refl
+world-too old new w k values funcs interfaces too (ty.Value (val.Own r)) = refl
+world-too old new w k values funcs interfaces too (ty.Value (val.Borrow r)) = refl
+world-too old new w k values funcs interfaces too (ty.Func f) = funcs f
+world-too old new w k values funcs interfaces too (ty.Interface i) = interfaces i
+world-too old new w k values funcs interfaces too (ty.Resource r) = refl
+world-too old new w k values funcs interfaces too (ty.World v) = too v ∙ ap (λ (z : Bool). cond z (Some k) (type_index old (ty.World v))) (same-number w.0 v.0)
+world-too old new w k values funcs interfaces too (ty.Module m) = refl
 
 -- one type definition more, recorded
 opened-recorded : (old new : Scope) (a : AnyType) (y : TypeDef) (k : ℕ) → new.content ≡ and_type old.content y → HasToo old a k new → (o : Open) → opened new o ≡ remember_at a (at_type k) (with_def y (opened old o))
@@ -203,6 +215,9 @@ adds-func old new f y k law index appended too c wf m ms o os v g at w =
 
 pub adds-instance : (old new : Scope) (i : InterfaceId) (ds : List Decl) (k : ℕ) → k ≡ count (space s.Type) old.content → new.content ≡ and_type old.content (instance_def (decls ds)) → HasToo old (ty.Interface i) k new → AddsInstance old new i ds k
 adds-instance old new i ds k index appended too c m ms o os t held inst adds = adds-recorded old new (ty.Interface i) (instance_def (decls ds)) k index appended too c m ms o os t held inst adds
+
+pub adds-world : (old new : Scope) (w : WorldId) (ds : List Decl) (k : ℕ) → k ≡ count (space s.Type) old.content → new.content ≡ and_type old.content (component_def (decls ds)) → HasToo old (ty.World w) k new → AddsWorld old new w ds k
+adds-world old new w ds k index appended too c m ms o os t held comp adds = adds-recorded old new (ty.World w) (component_def (decls ds)) k index appended too c m ms o os t held comp adds
 
 pub adds-primitive : (old : Scope) (x : Encodable) (p : PrimitiveType) (k : ℕ) → DefinesPrimitive → k ≡ count (space s.Type) old.content → x ≡ and_type old.content (value_def (primitive_def p)) → AddsPrimitive old (record old { content = x }) p k
 adds-primitive old x p k law index appended c m ms o os g =

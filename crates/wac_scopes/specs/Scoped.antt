@@ -10,6 +10,7 @@ use Rattle.wac_shapes.specs.declared.component.FuncType.{FuncType}
 use Rattle.wac_shapes.specs.declared.component.ValueType.{ValueType}
 use Rattle.wac_shapes.specs.declared.component.ValueType.TheVariants as val
 use Rattle.wac_shapes.specs.declared.component.InterfaceId.{InterfaceId}
+use Rattle.wac_shapes.specs.declared.component.WorldId.{WorldId}
 use Rattle.wac_shapes.specs.declared.component.«Type».{«Type» as AnyType}
 use Rattle.wac_shapes.specs.declared.component.«Type».TheVariants as ty
 use Rattle.wac_collection.specs.Uses.{same_type}
@@ -49,11 +50,12 @@ abbrev pub named_index : Option Place → Option ℕ
 named_index None = None
 named_index (Some p) = cond p.named (Some p.index) None
 
--- the type index of a definition, a function type or an interface, where it is written
+-- the type index of a definition, a function type, an interface or a world, where it is written
 abbrev pub type_index : Scope → AnyType → Option ℕ
 type_index s (ty.Value (val.Defined d)) = index_of (get (λ a b. nat_eq a.0 b.0) s.values d)
 type_index s (ty.Func f) = get (λ a b. nat_eq a.0 b.0) s.funcs f
 type_index s (ty.Interface i) = get (λ a b. nat_eq a.0 b.0) s.interfaces i
+type_index s (ty.World w) = get (λ a b. nat_eq a.0 b.0) s.worlds w
 type_index s a = None
 
 abbrev pub value_index : Scope → DefinedTypeId → Option ℕ
@@ -202,7 +204,12 @@ abbrev pub AddsInstance : Scope → Scope → InterfaceId → List Decl → ℕ 
 AddsInstance old new i ds k = (c : Collection) (m : Bindings) (ms : List Bindings) (o : Open) (os : Stack) (t : Tree) → IsHeld c m (ty.Interface i) t → IsInstance t
     → Adds c (m ∷ ms) (opened old o ∷ os) (with_def (instance_def (decls ds)) (opened old o) ∷ os) (next_type (opened old o)) t → Adds c (m ∷ ms) (opened old o ∷ os) (opened new o ∷ os) k t
 
--- and as a component type
+-- and of declarations, closed as a component type that is the held world
+abbrev pub AddsWorld : Scope → Scope → WorldId → List Decl → ℕ → Type 0
+AddsWorld old new w ds k = (c : Collection) (m : Bindings) (ms : List Bindings) (o : Open) (os : Stack) (t : Tree) → IsHeld c m (ty.World w) t → IsComponent t
+    → Adds c (m ∷ ms) (opened old o ∷ os) (with_def (component_def (decls ds)) (opened old o) ∷ os) (next_type (opened old o)) t → Adds c (m ∷ ms) (opened old o ∷ os) (opened new o ∷ os) k t
+
+-- and as any component type
 abbrev pub AddsComponent : Scope → Scope → List Decl → ℕ → Type 0
 AddsComponent old new ds k = AddsClosed old new (component_def (decls ds)) k
 

@@ -1,7 +1,9 @@
 //! An open scope: what is written there, and where types stand among it.
 
-ghost use Rattle.std.specs.Prelude.{cond, ◌≡◌, ◌<◌, ◌≤◌, ◌+◌, ◌++◌, ◌∷◌, [], length, IfOk, OnOk, OnErr, IfSome, IsSome, None, is_some};
+ghost use Rattle.std.specs.Prelude.{cond, ◌≡◌, ◌↔◌, true, ◌<◌, ◌≤◌, ◌+◌, ◌++◌, ◌∷◌, [], length, IfOk, OnOk, OnErr, IfSome, IsSome, None, is_some};
+ghost use Rattle.std.specs.Bool.{OnTrue};
 ghost use Rattle.std.specs.HashMap.{spare};
+ghost use Rattle.wac_shapes.specs.declared.component.DefinedTypeId.{DefinedTypeId as AnyDefinition};
 ghost use Rattle.wac_shapes.specs.declared.component.ValueType.TheVariants as val;
 ghost use Rattle.wac_shapes.specs.declared.component.«Type».{«Type» as AnyType};
 ghost use Rattle.wac_shapes.specs.declared.component.«Type».TheVariants as ty;
@@ -13,7 +15,7 @@ ghost use Rattle.wac_binary.specs.Indexes.{space};
 ghost use Rattle.wac_binary.specs.Views.{arguments_of, defined_of, func_of};
 ghost use Rattle.wac_scopes.specs.declared.encodable.Encodable.TheVariants.{Builder};
 ghost use Rattle.wac_scopes.specs.Contents.{IsRoot, IsOpenType, and_type, and_core_module, and_export, and_import, count, items_of, ContentFits};
-ghost use Rattle.wac_scopes.specs.Scoped.{IfThere, IsThere, AddsValue, AddsFunc, AddsPrimitive, AddsInstance, AddsComponent, AddsModule, ListsType, ListsValue, ListsFunction, ListsInstanceOf, ListsComponentOf, RootImportsType, RootImportsValue, RootImportsFunction, RootImportsInstance, RootImportsModule, RootImportsComponent, RootImportsListing, HasToo, IsAsBefore, AlsoLists, ListsAround, AliasesValue, IsAliased, AliasFits, IsAt, type_index, value_index, named_at, listed_at, listing, in_use, WritesUnlessTooLarge, FitsUnlessTooLarge, RecordsUnlessTooLarge};
+ghost use Rattle.wac_scopes.specs.Scoped.{IfThere, IsThere, AddsValue, AddsFunc, AddsPrimitive, AddsInstance, AddsWorld, AddsComponent, AddsModule, ListsType, ListsValue, ListsFunction, ListsInstanceOf, ListsComponentOf, RootImportsType, RootImportsValue, RootImportsFunction, RootImportsInstance, RootImportsModule, RootImportsComponent, RootImportsListing, HasToo, IsAsBefore, AlsoLists, ListsAround, AliasesValue, IsAliased, AliasFits, IsAt, type_index, value_index, named_at, listed_at, listing, in_use, WritesUnlessTooLarge, FitsUnlessTooLarge, RecordsUnlessTooLarge};
 ghost use Rattle.wac_scopes.specs.Rooted.{ExportsRight, ListsRight};
 ghost use Rattle.wac_scopes.specs.Sides.{side_of, IsOpenComponent, and_declared, DeclaresType, DeclaresValue, DeclaresFunction, DeclaresInstance, DeclaresListing};
 
@@ -28,7 +30,9 @@ use wac_builder::{
     BinaryFault, ComponentType, ComponentValType, DefinedType, Description, FuncType, InstanceType,
     ModuleType, Sort,
 };
-use wac_collection::{DefinedTypeId, FuncTypeId, InterfaceId, PrimitiveType, Text, ValueType};
+use wac_collection::{
+    DefinedTypeId, FuncTypeId, InterfaceId, PrimitiveType, Text, ValueType, WorldId,
+};
 use wac_reach::TypeHasher;
 use wac_stacks::{listing_law, module_law, root_law, step_law};
 
@@ -64,6 +68,8 @@ pub struct Scope {
     funcs: HashMap<FuncTypeId, u32, TypeHash>,
     /// That of the instance type of each interface.
     interfaces: HashMap<InterfaceId, u32, TypeHash>,
+    /// That of the component type of each world.
+    worlds: HashMap<WorldId, u32, TypeHash>,
     /// Where each definition is listed that an imported instance lists, by the first of them, or that has a name in the scope around.
     listed: HashMap<DefinedTypeId, Listed, TypeHash>,
 }
@@ -76,6 +82,7 @@ impl Drop for Scope {
             values: _,
             funcs: _,
             interfaces: _,
+            worlds: _,
             listed: _,
         } = self;
     }
@@ -93,6 +100,7 @@ impl Scope {
             values: HashMap::with_hasher(alloc, BuildHasherDefault::new()),
             funcs: HashMap::with_hasher(alloc, BuildHasherDefault::new()),
             interfaces: HashMap::with_hasher(alloc, BuildHasherDefault::new()),
+            worlds: HashMap::with_hasher(alloc, BuildHasherDefault::new()),
             listed: HashMap::with_hasher(alloc, BuildHasherDefault::new()),
         }
     }
@@ -125,6 +133,14 @@ impl Scope {
         }
     }
 
+    /// Whether no definition is written here.
+    pub fn has_no_definition(&self) -> bool
+        ensures is { (result ≡ true) ↔ ((id : AnyDefinition) → value_index self.now id ≡ None) }
+        ensures unnamed { OnTrue result ((id : AnyDefinition) → named_at self.now id ≡ None) }
+    {
+        self.values.is_empty()
+    }
+
     /// The type index of a function type, where it is written here.
     pub fn func(&self, id: FuncTypeId) -> Option<u32>
         ensures is { result ≡ type_index self.now (ty.Func id) }
@@ -144,6 +160,18 @@ impl Scope {
     {
         step_law();
         match self.interfaces.get(&id) {
+            Some(index) => Some(*index),
+            None => None,
+        }
+    }
+
+    /// The type index of a world's component type, where it is written here.
+    pub fn world(&self, id: WorldId) -> Option<u32>
+        ensures is { result ≡ type_index self.now (ty.World id) }
+        ensures stands { IfSome result (IsAt self.now (ty.World id)) }
+    {
+        step_law();
+        match self.worlds.get(&id) {
             Some(index) => Some(*index),
             None => None,
         }
@@ -232,6 +260,14 @@ impl Scope {
         self.interfaces.reserve(1)
     }
 
+    /// Makes room to record one more world.
+    fn make_world_room(&mut self) -> Result<(), AllocError>
+        ensures same { IsAsBefore self.old self.new }
+        ensures room { OnOk result (0 < spare self.new.worlds) }
+    {
+        self.worlds.reserve(1)
+    }
+
     /// Records that a definition is written at a type index, and whether that has a name. There is room for it.
     fn record_value(&mut self, id: DefinedTypeId, index: u32, named: bool)
         requires { 0 < spare self.old.values }
@@ -264,6 +300,18 @@ impl Scope {
         ensures kept { self.new.content ≡ self.old.content }
     {
         match self.interfaces.insert(id, index) {
+            Ok(_) => {}
+            Err(_) => unreachable!(),
+        }
+    }
+
+    /// Records that the component type of a world is written at a type index. There is room for it.
+    fn record_world(&mut self, id: WorldId, index: u32)
+        requires { 0 < spare self.old.worlds }
+        ensures recorded { HasToo self.old (ty.World id) index self.new }
+        ensures kept { self.new.content ≡ self.old.content }
+    {
+        match self.worlds.insert(id, index) {
             Ok(_) => {}
             Err(_) => unreachable!(),
         }
@@ -354,6 +402,24 @@ impl Scope {
     {
         let index = self.content.component_type(t)?;
         Ok(index)
+    }
+
+    /// Writes a component type with these declarations, which is the held world, and records it. Answers its type index.
+    ///
+    /// Answers `TooLarge` where what is written would not fit, and `OutOfMemory` where memory was refused, be it before it is known
+    /// whether it fits. Then nothing is written or recorded.
+    pub fn define_world(&mut self, id: WorldId, t: &ComponentType) -> Result<u32, EncodeFault>
+        ensures index { IfOk result (λ k. k ≡ count (space s.Type) self.old.content) }
+        ensures stands { IfOk result (λ k. AddsWorld self.old self.new id t.now k) }
+        ensures recorded { IfOk result (λ k. HasToo self.old (ty.World id) k self.new) }
+        ensures appended { OnOk result (self.new.content ≡ and_type self.old.content (component_def (decls t.now))) }
+        ensures refused { OnErr result (IsAsBefore self.old self.new) }
+        ensures too_large { FitsUnlessTooLarge result (ContentFits (and_type self.old.content (component_def (decls t.now)))) }
+    {
+        self.make_world_room()?;
+        let at = self.content.component_type(t)?;
+        self.record_world(id, at);
+        Ok(at)
     }
 
     /// Writes a core module type. Answers its index among the core types.
@@ -903,6 +969,7 @@ impl Scope {
             values: _,
             funcs: _,
             interfaces: _,
+            worlds: _,
             listed: _,
         } = self;
         content

@@ -11,7 +11,7 @@ use Rattle.wac_collection.specs.Bound.{Bindings, by_place, held_tree}
 use Rattle.wac_binary.specs.declared.types.ComponentValType.{ComponentValType}
 use Rattle.wac_binary.specs.declared.types.ComponentValType.TheVariants.{Primitive, Index}
 use Rattle.wac_binary.specs.Unfold.{Scope, Bound, scope_at, bound_type}
-use Rattle.wac_binary.specs.HasMeaning.{IsValue, IsType, IsFunction, IsInstance}
+use Rattle.wac_binary.specs.HasMeaning.{IsValue, IsType, IsFunction, IsInstance, IsComponent}
 use Rattle.wac_stacks.specs.Scopes.{root, ContentHasMeaning, Where, at_type, at_export, at_around, Open, Stack, env, envs}
 use Rattle.wac_binary.specs.Items.{Item}
 
@@ -82,11 +82,12 @@ IsHeld c m a t = (f : Leaf → Leaf) (m' : Bindings) → Carries f m m' → held
 abbrev pub seen_inside : Option Leaf → Option Leaf
 seen_inside o = option_case o None (λ l. Some (further_out l))
 
--- a tree of the sort of what is recorded: a value type, a function type, or an interface's instance type
+-- a tree of the sort of what is recorded: a value type, a function type, an interface's instance type, or a world's component type
 abbrev pub IsOf : AnyType → Tree → Type 0
 IsOf (ty.Value v) t = IsValue t
 IsOf (ty.Func f) t = IsFunction t
 IsOf (ty.Interface i) t = IsInstance t
+IsOf (ty.World w) t = IsComponent t
 IsOf a t = ⊥
 
 -- An open scope over scopes out, in which resources are called by m, and around it by mo.
@@ -100,7 +101,7 @@ pub record GoodScope (c : Collection) (m mo : Bindings) (o : Open) (out : List S
   pub binds : (r : ResourceId) (w : Where) → o.binds r ≡ Some w → (l : Leaf) × (m r ≡ Some l) × Stands (env o out) (resource l) w
   -- what is neither recorded nor pending is called as the scopes around it call it, one further out, if there are any
   pub unbound : (r : ResourceId) → is_bottom out ≡ false → o.binds r ≡ None → o.pending r ≡ false → m r ≡ seen_inside (mo r)
-  -- where a type is recorded, a value type, a function type or an interface, stands its held tree under m, be it around
+  -- where a type is recorded, a value type, a function type, an interface or a world, stands its held tree under m, be it around
   pub memo : (a : AnyType) (w : Where) → o.memo a ≡ Some w → (t : Tree) × IsHeld c m a t × IsOf a t × StandsFrom (env o out) out t w
   -- and a type by a name
   pub named : (n : Name) (a : AnyType) (w : Where) → o.named n ≡ Some (a, w) → (t : Tree) × IsHeld c m a t × Stands (env o out) t w

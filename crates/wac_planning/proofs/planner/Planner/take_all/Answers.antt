@@ -1,8 +1,12 @@
 use Rattle.std.specs.Prelude.{◌≡◌, ◌<◌, ◌∷◌, Some, slice_get, length}
 use Rattle.std.proofs.Common.{refl, arith}
 use Rattle.std.proofs.lemmas.Option.{slice_get_read}
-use Rattle.wac_planning.proofs.Looking.{own-in, taking-starts, taking-on, taking-ends}
+use Rattle.std.proofs.lemmas.Bool.{OnTrue_at}
+use Rattle.wac_planning.proofs.Looking.{own-in, takes-none, taking-starts, taking-on, taking-ends}
 use Rattle.wac_planning.proofs.planner.Planner.take_all.Goals as goal
+
+pub returns-then-has_no_names : goal.returns-then-has_no_names
+returns-then-has_no_names c = record { takes = λ ks h. takes-none c.args.self.now.types.now c.args.self.now.around.now (c.args.place, c.args.interface) ks c.args.growing.now h (OnTrue_at c.if-has_no_names.true c.has_no_names.ensures) }
 
 pub loop-i-init : goal.loop-i-init
 loop-i-init c ks h = taking-starts c.args.self.now.types.now c.args.self.now.around.now (c.args.place, c.args.interface) ks c.in_ok-definitions.definitions.items c.args.growing.now h

@@ -9,7 +9,7 @@ use Rattle.wac_scopes.proofs.scope.Scope.list_around.Goals as goal
 pub returns-clause-listed : goal.returns-clause-listed
 returns-clause-listed c = record {
   content = c.in_ok-make_listed_room.ensures.same.content;
-  types = λ a. same-types c.make_listed_room.new.self (record c.make_listed_room.new.self { listed = c.insert.new.self }) (λ d. refl) (λ f. refl) (λ i. refl) a ∙ c.in_ok-make_listed_room.ensures.same.types a;
+  types = λ a. same-types c.make_listed_room.new.self (record c.make_listed_room.new.self { listed = c.insert.new.self }) (λ d. refl) (λ f. refl) (λ i. refl) (λ w. refl) a ∙ c.in_ok-make_listed_room.ensures.same.types a;
   listed = λ e. c.in-Ok.ensures.updates.0 e ∙ ap (cond (nat_eq c.args.id.0 e.0) (Some (Around c.args.index))) (c.in_ok-make_listed_room.ensures.same.listed (ty.Value (val.Defined e)));
   names = c.in_ok-make_listed_room.ensures.same.names;
 }

@@ -6,7 +6,7 @@ use Rattle.wac_scopes.proofs.scope.Scope.make_room.Goals as goal
 pub returns-clause-same : goal.returns-clause-same
 returns-clause-same c = record {
   content = refl;
-  types = same-types c.args.self.now (record c.args.self.now { values = c.reserve.new.self }) (λ d. ap index_of (c.reserve.ensures.entries.2 d)) (λ f. refl) (λ i. refl);
+  types = same-types c.args.self.now (record c.args.self.now { values = c.reserve.new.self }) (λ d. ap index_of (c.reserve.ensures.entries.2 d)) (λ f. refl) (λ i. refl) (λ w. refl);
   listed = λ a. refl;
   names = λ d. ap named_index (c.reserve.ensures.entries.2 d);
 }
