@@ -28,6 +28,7 @@ use Rattle.wac_stacks.specs.Laws.{Adds, IsItsTree}
 use Rattle.wac_stacks.specs.Listed.{declaring, OpensWorld, ClosesComponent}
 use Rattle.wac_scopes.specs.Rooted.{unbound, IsRightRoot}
 use Rattle.wac_scopes.specs.Scoped.{recorded_type, opened, AddsComponent, ListsComponentOf, WritesUnlessTooLarge, FitsUnlessTooLarge}
+use Rattle.wac_encode.specs.declared.worlds.Worlds.{Worlds}
 use Rattle.wac_encode.specs.Written.{GoesOn, WritesFor}
 use Rattle.wac_encode.specs.Instances.{IsBare}
 use Rattle.wac_encode.proofs.Rows.{writes-type}
@@ -35,7 +36,8 @@ use Rattle.wac_root.specs.Components.{held_world_under_id, world_component_tree}
 use Rattle.wac_root.specs.Defining.{WritesDefinition, MadeFor}
 use Rattle.wac_root.proofs.Defining.{StandsBehind, stands-last, at-root, defined-so, content-is}
 use Rattle.wac_root.proofs.Imported.{still-root}
-use Rattle.wac_worlds.specs.Worlds.{is_plain_world, SaysWorld, WritesWorld, IsWorldRefused}
+use Rattle.wac_encode.specs.Worlds.{SaysWorld}
+use Rattle.wac_worlds.specs.Worlds.{is_plain_world, WritesWorld, IsWorldRefused}
 use Rattle.wac_worlds.proofs.Whole.{new-opened}
 use Rattle.wac_components.specs.Imports.{and_component_type, next_index}
 use Rattle.wac_components.specs.Definitions.{HasWorldId, IsDefinableWorld, SaysUnderId, under_world_id, WritesUnderId, IsUnderIdRefused, DefinesWorld, IsWorldNotDefined}
@@ -51,15 +53,15 @@ same-id c w id h = ap (λ (o : Option World). option_case o [] of_world) h.1 ∙
     of_world : World → List (Name × Tree)
     of_world x = of_id x.id
 
-pub world-definable : (c : Collection) (w : WorldId) (x : World) → item_at c.worlds w.0 ≡ Some x → is_some x.id ≡ true → is_plain_world c w ≡ true → IsDefinableWorld c w
-world-definable c w x found some plain = (by_id x.id refl some, plain)
+pub world-definable : (ws : Worlds) (c : Collection) (w : WorldId) (x : World) → item_at c.worlds w.0 ≡ Some x → is_some x.id ≡ true → is_plain_world ws c w ≡ true → IsDefinableWorld ws c w
+world-definable ws c w x found some plain = (by_id x.id refl some, plain)
   where
     by_id : (o : Option Name) → x.id ≡ o → is_some o ≡ true → (id : Name) × HasWorldId c w id
     by_id None none some = let both : false ≡ true = some in cc
     by_id (Some id) named some = (id, (x, found, named))
 
-pub no-id : (c : Collection) (w : WorldId) (x : World) → item_at c.worlds w.0 ≡ Some x → is_some x.id ≡ false → IsDefinableWorld c w → ⊥
-no-id c w x found none h =
+pub no-id : (ws : Worlds) (c : Collection) (w : WorldId) (x : World) → item_at c.worlds w.0 ≡ Some x → is_some x.id ≡ false → IsDefinableWorld ws c w → ⊥
+no-id ws c w x found none h =
     let same : Some h.0.1.0 ≡ Some x = sym h.0.1.1 ∙ found in
     let one : h.0.1.0 ≡ x = cc in
     let some : is_some x.id ≡ true = ap is_some (subst (λ (y : World). y.id ≡ Some h.0.0) one h.0.1.2) in
@@ -100,8 +102,8 @@ under-id-is id ds k start mid new empty typed index listed =
     listed ∙ ap (λ (x : Encodable). and_export x id (e.Component k)) (typed ∙ ap (λ (x : Encodable). and_component_type x ds) empty)
     ∙ ap (λ (n : ℕ). Component (type_decl (component_def (decls ds)) ∷ export_decl id (e.Component n) ∷ [])) (index ∙ ap next_index empty)
 
-pub writes-under-id : (c : Collection) (w : WorldId) (id : Name) (ds es : List Decl) (k : ℕ) (start mid new : Encodable) → HasWorldId c w id → WritesWorld c w ds → start ≡ Component [] → mid ≡ and_component_type start ds → k ≡ next_index start → new ≡ and_export mid id (e.Component k) → new ≡ Component es → WritesUnderId c w es
-writes-under-id c w id ds es k start mid new named written empty typed index listed is = record {
+pub writes-under-id : (ws : Worlds) (c : Collection) (w : WorldId) (id : Name) (ds es : List Decl) (k : ℕ) (start mid new : Encodable) → HasWorldId c w id → WritesWorld ws c w ds → start ≡ Component [] → mid ≡ and_component_type start ds → k ≡ next_index start → new ≡ and_export mid id (e.Component k) → new ≡ Component es → WritesUnderId ws c w es
+writes-under-id ws c w id ds es k start mid new named written empty typed index listed is = record {
   id = id;
   named = named;
   declarations = ds;
@@ -111,32 +113,32 @@ writes-under-id c w id ds es k start mid new named written empty typed index lis
 
 -- its refusals
 
-pub world-refused : (A B : Type 0) (c : Collection) (w : WorldId) (f : EncodeFault) → IsWorldRefused {A = A} c w (Err f) → IsUnderIdRefused {A = B} c w (Err f)
-world-refused A B c w (fault.Write g) h = h
-world-refused A B c w fault.TooLarge h = inl h
-world-refused A B c w fault.OutOfMemory h = tt
+pub world-refused : (A B : Type 0) (ws : Worlds) (c : Collection) (w : WorldId) (f : EncodeFault) → IsWorldRefused {A = A} ws c w (Err f) → IsUnderIdRefused {A = B} ws c w (Err f)
+world-refused A B ws c w (fault.Write g) h = h
+world-refused A B ws c w fault.TooLarge h = inl h
+world-refused A B ws c w fault.OutOfMemory h = tt
 
-pub inner-too-large : (A B : Type 0) (c : Collection) (w : WorldId) (id : Name) (ds : List Decl) (start : Encodable) (f : EncodeFault) → HasWorldId c w id → WritesWorld c w ds → start ≡ Component [] → WritesUnlessTooLarge {A = A} (Err f) (ContentFits (and_component_type start ds)) → IsUnderIdRefused {A = B} c w (Err f)
-inner-too-large A B c w id ds start (fault.Write g) named written empty h = absurd h
-inner-too-large A B c w id ds start fault.TooLarge named written empty h = inr (record {
+pub inner-too-large : (A B : Type 0) (ws : Worlds) (c : Collection) (w : WorldId) (id : Name) (ds : List Decl) (start : Encodable) (f : EncodeFault) → HasWorldId c w id → WritesWorld ws c w ds → start ≡ Component [] → WritesUnlessTooLarge {A = A} (Err f) (ContentFits (and_component_type start ds)) → IsUnderIdRefused {A = B} ws c w (Err f)
+inner-too-large A B ws c w id ds start (fault.Write g) named written empty h = absurd h
+inner-too-large A B ws c w id ds start fault.TooLarge named written empty h = inr (record {
   id = id;
   named = named;
   declarations = ds;
   written = written;
   large = inl (subst (λ (x : Encodable). ContentFits (and_component_type x ds) → ⊥) empty h);
 })
-inner-too-large A B c w id ds start fault.OutOfMemory named written empty h = tt
+inner-too-large A B ws c w id ds start fault.OutOfMemory named written empty h = tt
 
-pub export-too-large : (A B : Type 0) (c : Collection) (w : WorldId) (id : Name) (ds : List Decl) (k : ℕ) (start mid : Encodable) (f : EncodeFault) → HasWorldId c w id → WritesWorld c w ds → start ≡ Component [] → mid ≡ and_component_type start ds → k ≡ next_index start → WritesUnlessTooLarge {A = A} (Err f) (ContentFits (and_export mid id (e.Component k))) → IsUnderIdRefused {A = B} c w (Err f)
-export-too-large A B c w id ds k start mid (fault.Write g) named written empty typed index h = absurd h
-export-too-large A B c w id ds k start mid fault.TooLarge named written empty typed index h = inr (record {
+pub export-too-large : (A B : Type 0) (ws : Worlds) (c : Collection) (w : WorldId) (id : Name) (ds : List Decl) (k : ℕ) (start mid : Encodable) (f : EncodeFault) → HasWorldId c w id → WritesWorld ws c w ds → start ≡ Component [] → mid ≡ and_component_type start ds → k ≡ next_index start → WritesUnlessTooLarge {A = A} (Err f) (ContentFits (and_export mid id (e.Component k))) → IsUnderIdRefused {A = B} ws c w (Err f)
+export-too-large A B ws c w id ds k start mid (fault.Write g) named written empty typed index h = absurd h
+export-too-large A B ws c w id ds k start mid fault.TooLarge named written empty typed index h = inr (record {
   id = id;
   named = named;
   declarations = ds;
   written = written;
   large = inr (subst (λ (x : Encodable). ContentFits x → ⊥) (under-id-is id ds k start mid (and_export mid id (e.Component k)) empty typed index refl) h);
 })
-export-too-large A B c w id ds k start mid fault.OutOfMemory named written empty typed index h = tt
+export-too-large A B ws c w id ds k start mid fault.OutOfMemory named written empty typed index h = tt
 
 -- the component type in the root
 
@@ -154,8 +156,8 @@ world-defined behind c old now new n w ds i k r says adds same index exports ans
     (λ good means. stands-last behind c old now (component_def (decls ds)) i (world_component_tree c w) r same index means (at-root now i (world_component_tree c w) is_root (adds c (nothing_bound ∷ []) unbound [] (world_component_tree c w) (says nothing_bound [] (opened old unbound) [] good)).1))
     (content-is now new (Builder (items_of now.content ++ export_item n sort.«Type» i ∷ [])) exports) answer
 
-module _ (c : Collection) (old now : Scope) (n : Name) (w : WorldId) (ds : List Decl) (i : ℕ) (written : WritesUnderId c w ds) (same : now ≡ record old { content = and_component_type old.content ds }) (at : i ≡ next_index old.content) where
-  pub defines-world : (new : Scope) (k : ℕ) → new ≡ record now { content = Builder (items_of now.content ++ export_item n sort.«Type» i ∷ []) } → k ≡ next_index now.content → DefinesWorld c w n old new k
+module _ (ws : Worlds) (c : Collection) (old now : Scope) (n : Name) (w : WorldId) (ds : List Decl) (i : ℕ) (written : WritesUnderId ws c w ds) (same : now ≡ record old { content = and_component_type old.content ds }) (at : i ≡ next_index old.content) where
+  pub defines-world : (new : Scope) (k : ℕ) → new ≡ record now { content = Builder (items_of now.content ++ export_item n sort.«Type» i ∷ []) } → k ≡ next_index now.content → DefinesWorld ws c w n old new k
   defines-world new k exports index = record {
     declarations = ds;
     written = written;
@@ -164,17 +166,17 @@ module _ (c : Collection) (old now : Scope) (n : Name) (w : WorldId) (ds : List 
   }
 
   -- refusals
-  pub name-too-large : (A B : Type 0) (f : EncodeFault) → FitsUnlessTooLarge {A = A} (Err f) (Fits (items_of now.content ++ export_item n sort.«Type» i ∷ [])) → IsWorldNotDefined {A = B} c w n old (Err f)
+  pub name-too-large : (A B : Type 0) (f : EncodeFault) → FitsUnlessTooLarge {A = A} (Err f) (Fits (items_of now.content ++ export_item n sort.«Type» i ∷ [])) → IsWorldNotDefined {A = B} ws c w n old (Err f)
   name-too-large A B (fault.Write g) h = absurd h
   name-too-large A B fault.TooLarge h = inr (ds, written, inr (subst (λ (s : Scope). Fits (items_of s.content ++ export_item n sort.«Type» (next_index old.content) ∷ []) → ⊥) same (subst (λ (j : ℕ). Fits (items_of now.content ++ export_item n sort.«Type» j ∷ []) → ⊥) at h)))
   name-too-large A B fault.OutOfMemory h = tt
 
-pub under-id-refused : (A B : Type 0) (c : Collection) (w : WorldId) (n : Name) (s : Scope) (f : EncodeFault) → IsUnderIdRefused {A = A} c w (Err f) → IsWorldNotDefined {A = B} c w n s (Err f)
-under-id-refused A B c w n s (fault.Write g) h = h
-under-id-refused A B c w n s fault.TooLarge h = inl h
-under-id-refused A B c w n s fault.OutOfMemory h = tt
+pub under-id-refused : (A B : Type 0) (ws : Worlds) (c : Collection) (w : WorldId) (n : Name) (s : Scope) (f : EncodeFault) → IsUnderIdRefused {A = A} ws c w (Err f) → IsWorldNotDefined {A = B} ws c w n s (Err f)
+under-id-refused A B ws c w n s (fault.Write g) h = h
+under-id-refused A B ws c w n s fault.TooLarge h = inl h
+under-id-refused A B ws c w n s fault.OutOfMemory h = tt
 
-pub type-too-large : (A B : Type 0) (c : Collection) (w : WorldId) (n : Name) (s : Scope) (ds : List Decl) (f : EncodeFault) → WritesUnderId c w ds → WritesUnlessTooLarge {A = A} (Err f) (ContentFits (and_component_type s.content ds)) → IsWorldNotDefined {A = B} c w n s (Err f)
-type-too-large A B c w n s ds (fault.Write g) written h = absurd h
-type-too-large A B c w n s ds fault.TooLarge written h = inr (ds, written, inl h)
-type-too-large A B c w n s ds fault.OutOfMemory written h = tt
+pub type-too-large : (A B : Type 0) (ws : Worlds) (c : Collection) (w : WorldId) (n : Name) (s : Scope) (ds : List Decl) (f : EncodeFault) → WritesUnderId ws c w ds → WritesUnlessTooLarge {A = A} (Err f) (ContentFits (and_component_type s.content ds)) → IsWorldNotDefined {A = B} ws c w n s (Err f)
+type-too-large A B ws c w n s ds (fault.Write g) written h = absurd h
+type-too-large A B ws c w n s ds fault.TooLarge written h = inr (ds, written, inl h)
+type-too-large A B ws c w n s ds fault.OutOfMemory written h = tt

@@ -20,13 +20,15 @@ use Rattle.wac_scopes.specs.declared.scope.Scope.{Scope}
 use Rattle.wac_scopes.specs.Contents.{and_type, and_import, count, ContentFits}
 use Rattle.wac_scopes.specs.Scoped.{opened, AddsComponent, RootImportsType, RootImportsComponent, WritesUnlessTooLarge}
 use Rattle.wac_stacks.specs.Laws.{Follows, IsItsTree}
+use Rattle.wac_encode.specs.declared.worlds.Worlds.{Worlds}
 use Rattle.wac_encode.specs.Written.{GoesOn, WritesFor}
 use Rattle.wac_encode.specs.Listing.{NeededBy}
 use Rattle.wac_encode.proofs.Rows.{writes-type}
 use Rattle.wac_root.specs.Importing.{ImportsHeld}
 use Rattle.wac_root.proofs.Imported.{ListsOneMore}
 use Rattle.wac_root.proofs.Importing.{as-held, imports-after, still-new}
-use Rattle.wac_worlds.specs.Worlds.{SaysWorld, WritesWorld, IsWorldRefused}
+use Rattle.wac_encode.specs.Worlds.{SaysWorld}
+use Rattle.wac_worlds.specs.Worlds.{WritesWorld, IsWorldRefused}
 use Rattle.wac_components.specs.Imports.{and_component_type, next_index, ImportsWorld, IsWorldNotImported}
 
 -- the component type in the root
@@ -62,8 +64,8 @@ module _ (law : ListsOneMore) (c : Collection) (follows : Follows) (tree : IsIts
 
 -- which is written
 
-module _ (c : Collection) (old now : Scope) (n : Name) (described : ℕ → Description) (w : WorldId) (ds : List Decl) (i : ℕ) (written : WritesWorld c w ds) (same : now ≡ record old { content = and_component_type old.content ds }) (at : i ≡ next_index old.content) where
-  pub imports-world : (new : Scope) (k : ℕ) → new ≡ record now { content = and_import now.content n (described i) } → k ≡ count (space (described_sort (described i))) now.content → ImportsWorld c old new n described w k
+module _ (ws : Worlds) (c : Collection) (old now : Scope) (n : Name) (described : ℕ → Description) (w : WorldId) (ds : List Decl) (i : ℕ) (written : WritesWorld ws c w ds) (same : now ≡ record old { content = and_component_type old.content ds }) (at : i ≡ next_index old.content) where
+  pub imports-world : (new : Scope) (k : ℕ) → new ≡ record now { content = and_import now.content n (described i) } → k ≡ count (space (described_sort (described i))) now.content → ImportsWorld ws c old new n described w k
   imports-world new k imports index = record {
     declarations = ds;
     written = written;
@@ -72,17 +74,17 @@ module _ (c : Collection) (old now : Scope) (n : Name) (described : ℕ → Desc
   }
 
   -- refusals
-  pub import-too-large : (A B : Type 0) (f : EncodeFault) → WritesUnlessTooLarge {A = A} (Err f) (ContentFits (and_import now.content n (described i))) → IsWorldNotImported {A = B} c n described w old (Err f)
+  pub import-too-large : (A B : Type 0) (f : EncodeFault) → WritesUnlessTooLarge {A = A} (Err f) (ContentFits (and_import now.content n (described i))) → IsWorldNotImported {A = B} ws c n described w old (Err f)
   import-too-large A B (fault.Write g) h = absurd h
   import-too-large A B fault.TooLarge h = inr (ds, written, inr (subst (λ (s : Scope). ContentFits (and_import s.content n (described (next_index old.content))) → ⊥) same (subst (λ (j : ℕ). ContentFits (and_import now.content n (described j)) → ⊥) at h)))
   import-too-large A B fault.OutOfMemory h = tt
 
-pub world-not-imported : (A B : Type 0) (c : Collection) (n : Name) (described : ℕ → Description) (w : WorldId) (s : Scope) (f : EncodeFault) → IsWorldRefused {A = A} c w (Err f) → IsWorldNotImported {A = B} c n described w s (Err f)
-world-not-imported A B c n described w s (fault.Write g) h = h
-world-not-imported A B c n described w s fault.TooLarge h = inl h
-world-not-imported A B c n described w s fault.OutOfMemory h = tt
+pub world-not-imported : (A B : Type 0) (ws : Worlds) (c : Collection) (n : Name) (described : ℕ → Description) (w : WorldId) (s : Scope) (f : EncodeFault) → IsWorldRefused {A = A} ws c w (Err f) → IsWorldNotImported {A = B} ws c n described w s (Err f)
+world-not-imported A B ws c n described w s (fault.Write g) h = h
+world-not-imported A B ws c n described w s fault.TooLarge h = inl h
+world-not-imported A B ws c n described w s fault.OutOfMemory h = tt
 
-pub type-too-large : (A B : Type 0) (c : Collection) (n : Name) (described : ℕ → Description) (w : WorldId) (s : Scope) (ds : List Decl) (f : EncodeFault) → WritesWorld c w ds → WritesUnlessTooLarge {A = A} (Err f) (ContentFits (and_component_type s.content ds)) → IsWorldNotImported {A = B} c n described w s (Err f)
-type-too-large A B c n described w s ds (fault.Write g) written h = absurd h
-type-too-large A B c n described w s ds fault.TooLarge written h = inr (ds, written, inl h)
-type-too-large A B c n described w s ds fault.OutOfMemory written h = tt
+pub type-too-large : (A B : Type 0) (ws : Worlds) (c : Collection) (n : Name) (described : ℕ → Description) (w : WorldId) (s : Scope) (ds : List Decl) (f : EncodeFault) → WritesWorld ws c w ds → WritesUnlessTooLarge {A = A} (Err f) (ContentFits (and_component_type s.content ds)) → IsWorldNotImported {A = B} ws c n described w s (Err f)
+type-too-large A B ws c n described w s ds (fault.Write g) written h = absurd h
+type-too-large A B ws c n described w s ds fault.TooLarge written h = inr (ds, written, inl h)
+type-too-large A B ws c n described w s ds fault.OutOfMemory written h = tt

@@ -12,6 +12,7 @@ use Rattle.wac_scopes.specs.declared.fault.EncodeFault.{EncodeFault}
 use Rattle.wac_scopes.specs.declared.fault.EncodeFault.TheVariants as fault
 use Rattle.wac_scopes.specs.declared.scope.Scope.{Scope}
 use Rattle.wac_scopes.specs.Contents.{and_type, and_import, count, ContentFits}
+use Rattle.wac_encode.specs.declared.worlds.Worlds.{Worlds}
 use Rattle.wac_worlds.specs.Worlds.{WritesWorld, HasRefusedItem, IsWorldRefused}
 
 -- the component type of these declarations behind what is written
@@ -27,26 +28,26 @@ abbrev pub and_world_import : Encodable → List Decl → Name → (ℕ → Desc
 and_world_import x ds n described = and_import (and_component_type x ds) n (described (next_index x))
 
 -- From old to new, the component type of the world is written, and an import behind it that is described by it so, at index k of its sort; nothing is recorded of it.
-pub record ImportsWorld (c : Collection) (old new : Scope) (n : Name) (described : ℕ → Description) (w : WorldId) (k : ℕ) : Type 0 where
+pub record ImportsWorld (ws : Worlds) (c : Collection) (old new : Scope) (n : Name) (described : ℕ → Description) (w : WorldId) (k : ℕ) : Type 0 where
   pub declarations : List Decl
-  pub written : WritesWorld c w declarations
+  pub written : WritesWorld ws c w declarations
   pub imported : new ≡ record old { content = and_world_import old.content declarations n described }
   pub index : k ≡ count (space (described_sort (described (next_index old.content)))) (and_component_type old.content declarations)
 
 -- the same of an answer that may be none
-abbrev pub ImportsWorldIfThere : Collection → Scope → Scope → Name → (ℕ → Description) → WorldId → Option ℕ → Type 0
-ImportsWorldIfThere c old new n described w None = new ≡ old
-ImportsWorldIfThere c old new n described w (Some k) = ImportsWorld c old new n described w k
+abbrev pub ImportsWorldIfThere : Worlds → Collection → Scope → Scope → Name → (ℕ → Description) → WorldId → Option ℕ → Type 0
+ImportsWorldIfThere ws c old new n described w None = new ≡ old
+ImportsWorldIfThere ws c old new n described w (Some k) = ImportsWorld ws c old new n described w k
 
 -- behind what is written, the component type of the world does not fit, or the import behind it does not
-abbrev pub ComponentTypeDoesNotFit : Collection → Name → (ℕ → Description) → WorldId → Scope → Type 0
-ComponentTypeDoesNotFit c n described w s = (ds : List Decl) × WritesWorld c w ds × ((ContentFits (and_component_type s.content ds) → ⊥) ⊎ (ContentFits (and_world_import s.content ds n described) → ⊥))
+abbrev pub ComponentTypeDoesNotFit : Worlds → Collection → Name → (ℕ → Description) → WorldId → Scope → Type 0
+ComponentTypeDoesNotFit ws c n described w s = (ds : List Decl) × WritesWorld ws c w ds × ((ContentFits (and_component_type s.content ds) → ⊥) ⊎ (ContentFits (and_world_import s.content ds n described) → ⊥))
 
 -- what is written of an item of the world does not fit, or that type does not
-abbrev pub WorldDoesNotFit : Collection → Name → (ℕ → Description) → WorldId → Scope → Type 0
-WorldDoesNotFit c n described w s = HasRefusedItem c w fault.TooLarge ⊎ ComponentTypeDoesNotFit c n described w s
+abbrev pub WorldDoesNotFit : Worlds → Collection → Name → (ℕ → Description) → WorldId → Scope → Type 0
+WorldDoesNotFit ws c n described w s = HasRefusedItem ws c w fault.TooLarge ⊎ ComponentTypeDoesNotFit ws c n described w s
 
 -- what stands where an import of a world is refused: what stands where the world is, or what does not fit
-abbrev pub IsWorldNotImported : {A : Type 0} → Collection → Name → (ℕ → Description) → WorldId → Scope → Result A EncodeFault → Type 0
-IsWorldNotImported c n described w s (Err fault.TooLarge) = WorldDoesNotFit c n described w s
-IsWorldNotImported c n described w s r = IsWorldRefused c w r
+abbrev pub IsWorldNotImported : {A : Type 0} → Worlds → Collection → Name → (ℕ → Description) → WorldId → Scope → Result A EncodeFault → Type 0
+IsWorldNotImported ws c n described w s (Err fault.TooLarge) = WorldDoesNotFit ws c n described w s
+IsWorldNotImported ws c n described w s r = IsWorldRefused ws c w r

@@ -6,6 +6,7 @@ ghost use Rattle.wac_collection.specs.Collection.{HasWorld};
 ghost use Rattle.wac_scopes.specs.declared.encodable.Encodable.TheVariants.{Component};
 ghost use Rattle.wac_scopes.specs.Rooted.{IsRightRoot};
 ghost use Rattle.wac_scopes.specs.Sides.{IsOpenComponent};
+ghost use Rattle.wac_encode.specs.Worlds.{SayWorlds};
 ghost use Rattle.wac_root.specs.Defining.{WritesDefinition, WritesTypesFor};
 ghost use Rattle.wac_worlds.specs.Worlds.{is_plain_world};
 ghost use Rattle.wac_components.specs.Definitions.{HasWorldId, IsDefinableWorld, SaysUnderId, WritesUnderId, IsUnderIdRefused, DefinesWorld, IsWorldNotDefined};
@@ -24,11 +25,12 @@ impl<'a> ComponentEncoder<'a> {
     /// does not fit into the other; `OutOfMemory` where memory was refused.
     fn world_component(&self, world: WorldId, id: &str) -> Result<ComponentType, EncodeFault>
         requires held { HasWorld self.now.types.now world }
-        requires plain { is_plain_world self.now.types.now world ≡ true }
+        requires say { SayWorlds self.now.types.now self.now.worlds.now }
+        requires plain { is_plain_world self.now.worlds.now self.now.types.now world ≡ true }
         requires id { HasWorldId self.now.types.now world id.now }
         ensures says { IfOk result (SaysUnderId self.now.types.now world) }
-        ensures written { IfOk result (WritesUnderId self.now.types.now world) }
-        ensures fault { IsUnderIdRefused self.now.types.now world result }
+        ensures written { IfOk result (WritesUnderId self.now.worlds.now self.now.types.now world) }
+        ensures fault { IsUnderIdRefused self.now.worlds.now self.now.types.now world result }
     {
         closing_law();
         step_law();
@@ -47,8 +49,8 @@ impl<'a> ComponentEncoder<'a> {
     /// Answers `AllocError` where memory ran out.
     pub fn is_definable(&self, world: WorldId) -> Result<bool, AllocError>
         requires { HasWorld self.now.types.now world }
-        ensures definable { result ≡ Answers true → IsDefinableWorld self.now.types.now world }
-        ensures not { result ≡ Answers false → IsDefinableWorld self.now.types.now world → ⊥ }
+        ensures definable { result ≡ Answers true → IsDefinableWorld self.now.worlds.now self.now.types.now world }
+        ensures not { result ≡ Answers false → IsDefinableWorld self.now.worlds.now self.now.types.now world → ⊥ }
     {
         if self.types[world].id.is_none() {
             return Ok(false);
@@ -68,13 +70,14 @@ impl<'a> ComponentEncoder<'a> {
         world: WorldId,
     ) -> Result<u32, EncodeFault>
         requires held { HasWorld self.now.types.now world }
-        requires definable { IsDefinableWorld self.now.types.now world }
+        requires say { SayWorlds self.now.types.now self.now.worlds.now }
+        requires definable { IsDefinableWorld self.now.worlds.now self.now.types.now world }
         requires right { IsRightRoot self.now.types.now root.old }
         ensures definition { IfOk result (WritesDefinition self.now.types.now (ty.World world) name.now root.old root.new) }
-        ensures written { IfOk result (DefinesWorld self.now.types.now world name.now root.old root.new) }
+        ensures written { IfOk result (DefinesWorld self.now.worlds.now self.now.types.now world name.now root.old root.new) }
         ensures right { IsRightRoot self.now.types.now root.new }
         ensures refused { OnErr result (WritesTypesFor self.now.types.now (ty.World world) root.old root.new) }
-        ensures fault { IsWorldNotDefined self.now.types.now world name.now root.old result }
+        ensures fault { IsWorldNotDefined self.now.worlds.now self.now.types.now world name.now root.old result }
     {
         rooted_law();
         step_law();

@@ -3,11 +3,13 @@
 ghost use Rattle.std.specs.Prelude.{◌≡◌, ◌⊎◌, true, false, None, Ok as Answers, Err as Refused, IfOk};
 ghost use Rattle.wac_collection.specs.Collection.{HasWorld};
 ghost use Rattle.wac_scopes.specs.declared.fault.EncodeFault.TheVariants.{OutOfMemory};
+ghost use Rattle.wac_encode.specs.Worlds.{SayWorlds};
 ghost use Rattle.wac_worlds.specs.Worlds.{is_plain_world, SaysIfThere, WritesIfThere, IsWorldRefused};
 
 use std::alloc::AllocError;
 use wac_builder::ComponentType;
 use wac_collection::{Types, WorldId};
+use wac_encode::Worlds;
 use wac_scopes::EncodeFault;
 use wac_worlds::WorldEncoder;
 
@@ -16,33 +18,37 @@ use wac_worlds::WorldEncoder;
 pub struct ComponentEncoder<'a> {
     /// The collection.
     pub(crate) types: &'a Types,
+    /// The component types of the worlds that are inside what is imported and defined, which are written ahead.
+    pub(crate) worlds: &'a Worlds,
 }
 
 impl<'a> ComponentEncoder<'a> {
-    /// A writer of what is held in this collection.
-    pub fn new(types: &'a Types) -> ComponentEncoder<'a>
-        ensures { result.types.now ≡ types.now }
+    /// A writer of what is held in this collection, with the component types of worlds that are inside, which are written ahead.
+    pub fn new(types: &'a Types, worlds: &'a Worlds) -> ComponentEncoder<'a>
+        ensures types { result.types.now ≡ types.now }
+        ensures worlds { result.worlds.now ≡ worlds.now }
     {
-        ComponentEncoder { types }
+        ComponentEncoder { types, worlds }
     }
 
     /// Writes a held world as a component type, as `WorldEncoder::world_type` does.
     pub(crate) fn world_type(&self, world: WorldId) -> Result<Option<ComponentType>, EncodeFault>
-        requires { HasWorld self.now.types.now world }
-        ensures none { result ≡ Answers None → is_plain_world self.now.types.now world ≡ false }
-        ensures not_plain { is_plain_world self.now.types.now world ≡ false → (result ≡ Answers None) ⊎ (result ≡ Refused OutOfMemory) }
+        requires held { HasWorld self.now.types.now world }
+        requires say { SayWorlds self.now.types.now self.now.worlds.now }
+        ensures none { result ≡ Answers None → is_plain_world self.now.worlds.now self.now.types.now world ≡ false }
+        ensures not_plain { is_plain_world self.now.worlds.now self.now.types.now world ≡ false → (result ≡ Answers None) ⊎ (result ≡ Refused OutOfMemory) }
         ensures says { IfOk result (SaysIfThere self.now.types.now world) }
-        ensures written { IfOk result (WritesIfThere self.now.types.now world) }
-        ensures fault { IsWorldRefused self.now.types.now world result }
+        ensures written { IfOk result (WritesIfThere self.now.worlds.now self.now.types.now world) }
+        ensures fault { IsWorldRefused self.now.worlds.now self.now.types.now world result }
     {
-        WorldEncoder::new(self.types).world_type(world)
+        WorldEncoder::new(self.types, self.worlds).world_type(world)
     }
 
     /// Whether a world is written so far, as `WorldEncoder::is_plain` answers it.
     pub(crate) fn is_plain(&self, world: WorldId) -> Result<bool, AllocError>
         requires { HasWorld self.now.types.now world }
-        ensures { IfOk result (λ plain. plain ≡ is_plain_world self.now.types.now world) }
+        ensures { IfOk result (λ plain. plain ≡ is_plain_world self.now.worlds.now self.now.types.now world) }
     {
-        WorldEncoder::new(self.types).is_plain(world)
+        WorldEncoder::new(self.types, self.worlds).is_plain(world)
     }
 }

@@ -7,6 +7,7 @@ ghost use Rattle.wac_collection.specs.Collection.{HasWorld};
 ghost use Rattle.wac_binary.specs.declared.sorts.Description.TheVariants as e;
 ghost use Rattle.wac_scopes.specs.declared.fault.EncodeFault.TheVariants.{OutOfMemory};
 ghost use Rattle.wac_scopes.specs.Contents.{IsRoot};
+ghost use Rattle.wac_encode.specs.Worlds.{SayWorlds};
 ghost use Rattle.wac_root.specs.Importing.{ImportsIfThere, WritesTypesOf};
 ghost use Rattle.wac_worlds.specs.Worlds.{is_plain_world};
 ghost use Rattle.wac_components.specs.Imports.{ImportsWorldIfThere, IsWorldNotImported};
@@ -30,13 +31,14 @@ impl<'a> ComponentEncoder<'a> {
         world: WorldId,
     ) -> Result<Option<u32>, EncodeFault>
         requires held { HasWorld self.now.types.now world }
+        requires say { SayWorlds self.now.types.now self.now.worlds.now }
         requires root { IsRoot root.old.content }
-        ensures none { result ≡ Answers None → is_plain_world self.now.types.now world ≡ false }
-        ensures not { is_plain_world self.now.types.now world ≡ false → (result ≡ Answers None) ⊎ (result ≡ Refused OutOfMemory) }
+        ensures none { result ≡ Answers None → is_plain_world self.now.worlds.now self.now.types.now world ≡ false }
+        ensures not { is_plain_world self.now.worlds.now self.now.types.now world ≡ false → (result ≡ Answers None) ⊎ (result ≡ Refused OutOfMemory) }
         ensures imports { IfOk result (ImportsIfThere self.now.types.now root.old root.new name.now (kind.Component world)) }
-        ensures written { IfOk result (ImportsWorldIfThere self.now.types.now root.old root.new name.now e.Component world) }
+        ensures written { IfOk result (ImportsWorldIfThere self.now.worlds.now self.now.types.now root.old root.new name.now e.Component world) }
         ensures refused { OnErr result (WritesTypesOf self.now.types.now (kind.Component world) root.old root.new) }
-        ensures fault { IsWorldNotImported self.now.types.now name.now e.Component world root.old result }
+        ensures fault { IsWorldNotImported self.now.worlds.now self.now.types.now name.now e.Component world root.old result }
         ensures root { IsRoot root.new.content }
     {
         listed_law();
@@ -63,13 +65,14 @@ impl<'a> ComponentEncoder<'a> {
         world: WorldId,
     ) -> Result<Option<u32>, EncodeFault>
         requires held { HasWorld self.now.types.now world }
+        requires say { SayWorlds self.now.types.now self.now.worlds.now }
         requires root { IsRoot root.old.content }
-        ensures none { result ≡ Answers None → is_plain_world self.now.types.now world ≡ false }
-        ensures not { is_plain_world self.now.types.now world ≡ false → (result ≡ Answers None) ⊎ (result ≡ Refused OutOfMemory) }
+        ensures none { result ≡ Answers None → is_plain_world self.now.worlds.now self.now.types.now world ≡ false }
+        ensures not { is_plain_world self.now.worlds.now self.now.types.now world ≡ false → (result ≡ Answers None) ⊎ (result ≡ Refused OutOfMemory) }
         ensures imports { IfOk result (ImportsIfThere self.now.types.now root.old root.new name.now (kind.TypeItem (ty.World world))) }
-        ensures written { IfOk result (ImportsWorldIfThere self.now.types.now root.old root.new name.now e.Equal world) }
+        ensures written { IfOk result (ImportsWorldIfThere self.now.worlds.now self.now.types.now root.old root.new name.now e.Equal world) }
         ensures refused { OnErr result (WritesTypesOf self.now.types.now (kind.TypeItem (ty.World world)) root.old root.new) }
-        ensures fault { IsWorldNotImported self.now.types.now name.now e.Equal world root.old result }
+        ensures fault { IsWorldNotImported self.now.worlds.now self.now.types.now name.now e.Equal world root.old result }
         ensures root { IsRoot root.new.content }
     {
         listed_law();

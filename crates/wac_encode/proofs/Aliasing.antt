@@ -22,6 +22,7 @@ use Rattle.wac_binary.specs.Unfold.{Bound}
 use Rattle.wac_stacks.specs.Good.{IsHeld}
 use Rattle.wac_stacks.specs.Instances.{Exports, ExportsEnd, BindsInstance}
 use Rattle.wac_planning.specs.Listed.{definition_of, listed_definition}
+use Rattle.wac_encode.specs.declared.worlds.Worlds.{Worlds}
 use Rattle.wac_encode.specs.Instances.{listed_definitions}
 use Rattle.wac_encode.specs.Listing.{lists_plain, lists_plain_to}
 use Rattle.wac_encode.proofs.Around.{owns-nothing}
@@ -72,15 +73,15 @@ listed-from c (x ∷ es) p e at = by_row (λ there. listed-from c es p e there) 
     by_row rest (inr here) = let r = by-kind c x.0 x.1 here.0 e here.1 in (zero, r.0, (λ i. Some (r.3 i, r.1 i)), r.2)
 
 -- what is plain has no resource of its own
-owns-none : (c : Collection) (d : ℕ) (i : InterfaceId) (it : Interface) (r : ResourceId) → item_at c.interfaces i.0 ≡ Some it → lists_plain_to d c i ≡ true → own_name c it.uses it.exports r ≡ None
-owns-none c zero i it r found plain = let both : false ≡ true = plain in cc
-owns-none c (suc d) i it r found plain = owns-nothing c (lists_plain_to d c) it.uses it.exports r (sym (plain-of c d i it found) ∙ plain)
+owns-none : (ws : Worlds) (c : Collection) (d : ℕ) (i : InterfaceId) (it : Interface) (r : ResourceId) → item_at c.interfaces i.0 ≡ Some it → lists_plain_to d ws c i ≡ true → own_name c it.uses it.exports r ≡ None
+owns-none ws c zero i it r found plain = let both : false ≡ true = plain in cc
+owns-none ws c (suc d) i it r found plain = owns-nothing ws c (lists_plain_to d ws c) it.uses it.exports r (sym (plain-of ws c d i it found) ∙ plain)
 
 -- an instance of the interface exports what it lists
-pub exports-listed : ExportsEnd → (c : Collection) → IsWellFormed c → (m : Bindings) (i : InterfaceId) (it : Interface) (b : Bound) → item_at c.interfaces i.0 ≡ Some it → lists_plain c i ≡ true → NoNameTwice it.exports → IsHeld c m (ty.Interface i) b.type → (p : ℕ) (e : DefinedTypeId × Name) → slice_get (listed_definitions c it.exports) p ≡ Some e → Exports c m b e.0 e.1
-exports-listed ends c wf m i it b found plain once held p e at =
+pub exports-listed : ExportsEnd → (ws : Worlds) (c : Collection) → IsWellFormed c → (m : Bindings) (i : InterfaceId) (it : Interface) (b : Bound) → item_at c.interfaces i.0 ≡ Some it → lists_plain ws c i ≡ true → NoNameTwice it.exports → IsHeld c m (ty.Interface i) b.type → (p : ℕ) (e : DefinedTypeId × Name) → slice_get (listed_definitions c it.exports) p ≡ Some e → Exports c m b e.0 e.1
+exports-listed ends ws c wf m i it b found plain once held p e at =
     let from = listed-from c it.exports p e at in
-    let none : BindsInstance c it b.side b.path m = (λ r n own. let both : None ≡ Some n = sym (owns-none c (size c) i it r found plain) ∙ own in cc) in
+    let none : BindsInstance c it b.side b.path m = (λ r n own. let both : None ≡ Some n = sym (owns-none ws c (size c) i it r found plain) ∙ own in cc) in
     ends c wf m i it b from.1 e.0 e.1 found held none (find_name-at it.exports from.0 e.1 (kind.TypeItem (ty.Value from.1)) once from.2) (held-items c wf i it found from.0 (e.1, kind.TypeItem (ty.Value from.1)) from.2) from.3
 
 -- the definitions that items list from a position on

@@ -33,6 +33,7 @@ use Rattle.wac_stacks.specs.Laws.{Follows, StaysOnward}
 use Rattle.wac_stacks.specs.Listed.{has_own, OpensOver}
 use Rattle.wac_scopes.proofs.ScopedLaws.{recorded-at}
 use Rattle.wac_listing.specs.Made.{AreMadeOf}
+use Rattle.wac_encode.specs.declared.worlds.Worlds.{Worlds}
 use Rattle.wac_encode.specs.Written.{IsLargeFrom}
 use Rattle.wac_planning.specs.Plans.{IsOneOf, AreOfItems}
 use Rattle.wac_encode.specs.Plans.{IsOpenedFor}
@@ -43,13 +44,13 @@ use Rattle.wac_encode.proofs.Answering.{as-it-was}
 use Rattle.wac_encode.proofs.Stacks.{writes-none, writes-more, writes-then, recorded-now, recorded-there, new-is, is-there}
 
 -- an interface whose items are plain has no resource of its own
-pub owns-nothing : (c : Collection) (P : InterfaceId → Bool) (uses : List (Name × UsedType)) (es : List (Name × ItemKind)) (r : ResourceId) → are_plain P es ≡ true → own_name c uses es r ≡ None
-owns-nothing c P uses [] r plain = refl
-owns-nothing c P uses ((n, k) ∷ es) r plain =
-    let both = both-true (is_plain P k) (are_plain P es) plain in
-    by_item k both.0 (owns-nothing c P uses es r both.1)
+pub owns-nothing : (ws : Worlds) (c : Collection) (P : InterfaceId → Bool) (uses : List (Name × UsedType)) (es : List (Name × ItemKind)) (r : ResourceId) → are_plain ws P es ≡ true → own_name c uses es r ≡ None
+owns-nothing ws c P uses [] r plain = refl
+owns-nothing ws c P uses ((n, k) ∷ es) r plain =
+    let both = both-true (is_plain ws P k) (are_plain ws P es) plain in
+    by_item k both.0 (owns-nothing ws c P uses es r both.1)
   where
-    by_item : (k : ItemKind) → is_plain P k ≡ true → own_name c uses es r ≡ None → own_name c uses ((n, k) ∷ es) r ≡ None
+    by_item : (k : ItemKind) → is_plain ws P k ≡ true → own_name c uses es r ≡ None → own_name c uses ((n, k) ∷ es) r ≡ None
     by_item (kind.TypeItem (ty.Resource q)) here rest = let both : false ≡ true = here in cc
     by_item (kind.TypeItem (ty.Value x)) here rest = rest
     by_item (kind.TypeItem (ty.Func x)) here rest = rest
@@ -79,10 +80,10 @@ abbrev Known : Scope → AnyType → Where → Type 0
 Known around a w = (v : ValueType) × (j : ℕ) × (a ≡ ty.Value v) × (w ≡ at_around j) × (recorded_type around a ≡ Some (at_type j))
 
 -- a scope that is opened over another is good over it
-pub starts-good : (c : Collection) → OpensOver → (P : InterfaceId → Bool) (i : InterfaceId) (it : Interface) (around start : Scope) → are_plain P it.exports ≡ true → IsOpened c i around start → (m : Bindings) (ms : List Bindings) (o : Open) (os : Stack) → Good c (m ∷ ms) (opened around o ∷ os)
+pub starts-good : (ws : Worlds) (c : Collection) → OpensOver → (P : InterfaceId → Bool) (i : InterfaceId) (it : Interface) (around start : Scope) → are_plain ws P it.exports ≡ true → IsOpened c i around start → (m : Bindings) (ms : List Bindings) (o : Open) (os : Stack) → Good c (m ∷ ms) (opened around o ∷ os)
     → Good c (inside_interface c it m ∷ m ∷ ms) (opened start (opening (has_own c it)) ∷ opened around o ∷ os)
-starts-good c over P i it around start plain begun m ms o os g =
-    let there = over c m ms (opened around o) os it (recorded_type start) g (λ r. owns-nothing c P it.uses it.exports r plain) known in
+starts-good ws c over P i it around start plain begun m ms o os g =
+    let there = over c m ms (opened around o) os it (recorded_type start) g (λ r. owns-nothing ws c P it.uses it.exports r plain) known in
     subst (λ (x : Encodable). Good c (inside_interface c it m ∷ m ∷ ms) (record (opening (has_own c it)) { content = content_of x; memo = recorded_type start } ∷ opened around o ∷ os)) (sym begun.content) there
   where
     by_name : (d : DefinedTypeId) (l : Listed) (n : Option ℕ) → named_at around d ≡ n → around_at n ≡ Some l → Known around (ty.Value (val.Defined d)) (place_listed l)

@@ -39,11 +39,12 @@ missing-less at now d i (suc n) l none too = by_case (nat_eq d n) refl (λ less.
         let rest : suc (missing_below now n) ≡ missing_below at n = below less in
         omega (arith, here, rest)
 
--- one of the collection's definitions, function types and interfaces
+-- one of the collection's definitions, function types, interfaces and worlds
 abbrev pub IsCounted : Collection → AnyType → Type 0
 IsCounted c (ty.Value (val.Defined d)) = d.0 < length c.defined
 IsCounted c (ty.Func f) = f.0 < length c.funcs
 IsCounted c (ty.Interface i) = i.0 < length c.interfaces
+IsCounted c (ty.World w) = w.0 < length c.worlds
 IsCounted c a = ⊥
 
 -- by their sorts
@@ -56,27 +57,40 @@ funcs_at s n = type_index s (ty.Func (record { 0 = n }))
 abbrev pub interfaces_at : Scope → ℕ → Option ℕ
 interfaces_at s n = type_index s (ty.Interface (record { 0 = n }))
 
+abbrev pub worlds_at : Scope → ℕ → Option ℕ
+worlds_at s n = type_index s (ty.World (record { 0 = n }))
+
 pub unwritten-same : (c : Collection) (old new : Scope) → ((a : AnyType) → type_index new a ≡ type_index old a) → unwritten c new ≡ unwritten c old
 unwritten-same c old new same =
     let values : missing_below (values_at new) (length c.defined) ≡ missing_below (values_at old) (length c.defined) = missing-same (values_at old) (values_at new) (length c.defined) (λ k l. same (ty.Value (val.Defined (record { 0 = k })))) in
     let funcs : missing_below (funcs_at new) (length c.funcs) ≡ missing_below (funcs_at old) (length c.funcs) = missing-same (funcs_at old) (funcs_at new) (length c.funcs) (λ k l. same (ty.Func (record { 0 = k }))) in
     let interfaces : missing_below (interfaces_at new) (length c.interfaces) ≡ missing_below (interfaces_at old) (length c.interfaces) = missing-same (interfaces_at old) (interfaces_at new) (length c.interfaces) (λ k l. same (ty.Interface (record { 0 = k }))) in
-    omega (arith, values, funcs, interfaces)
+    let worlds : missing_below (worlds_at new) (length c.worlds) ≡ missing_below (worlds_at old) (length c.worlds) = missing-same (worlds_at old) (worlds_at new) (length c.worlds) (λ k l. same (ty.World (record { 0 = k }))) in
+    omega (arith, values, funcs, interfaces, worlds)
 
 pub unwritten-less : (c : Collection) (old new : Scope) (a : AnyType) (i : ℕ) → IsCounted c a → type_index old a ≡ None → HasToo old a i new → suc (unwritten c new) ≡ unwritten c old
 unwritten-less c old new (ty.Value (val.Defined d)) i l none too =
     let values : suc (missing_below (values_at new) (length c.defined)) ≡ missing_below (values_at old) (length c.defined) = missing-less (values_at old) (values_at new) d.0 i (length c.defined) l none (λ k. too.types (ty.Value (val.Defined (record { 0 = k }))) ∙ ap (λ (b : Bool). cond b (Some i) (values_at old k)) (other-way k d.0)) in
     let funcs : missing_below (funcs_at new) (length c.funcs) ≡ missing_below (funcs_at old) (length c.funcs) = missing-same (funcs_at old) (funcs_at new) (length c.funcs) (λ k l. too.types (ty.Func (record { 0 = k }))) in
     let interfaces : missing_below (interfaces_at new) (length c.interfaces) ≡ missing_below (interfaces_at old) (length c.interfaces) = missing-same (interfaces_at old) (interfaces_at new) (length c.interfaces) (λ k l. too.types (ty.Interface (record { 0 = k }))) in
-    omega (arith, values, funcs, interfaces)
+    let worlds : missing_below (worlds_at new) (length c.worlds) ≡ missing_below (worlds_at old) (length c.worlds) = missing-same (worlds_at old) (worlds_at new) (length c.worlds) (λ k l. too.types (ty.World (record { 0 = k }))) in
+    omega (arith, values, funcs, interfaces, worlds)
 unwritten-less c old new (ty.Func f) i l none too =
     let values : missing_below (values_at new) (length c.defined) ≡ missing_below (values_at old) (length c.defined) = missing-same (values_at old) (values_at new) (length c.defined) (λ k l. too.types (ty.Value (val.Defined (record { 0 = k })))) in
     let funcs : suc (missing_below (funcs_at new) (length c.funcs)) ≡ missing_below (funcs_at old) (length c.funcs) = missing-less (funcs_at old) (funcs_at new) f.0 i (length c.funcs) l none (λ k. too.types (ty.Func (record { 0 = k })) ∙ ap (λ (b : Bool). cond b (Some i) (funcs_at old k)) (other-way k f.0)) in
     let interfaces : missing_below (interfaces_at new) (length c.interfaces) ≡ missing_below (interfaces_at old) (length c.interfaces) = missing-same (interfaces_at old) (interfaces_at new) (length c.interfaces) (λ k l. too.types (ty.Interface (record { 0 = k }))) in
-    omega (arith, values, funcs, interfaces)
+    let worlds : missing_below (worlds_at new) (length c.worlds) ≡ missing_below (worlds_at old) (length c.worlds) = missing-same (worlds_at old) (worlds_at new) (length c.worlds) (λ k l. too.types (ty.World (record { 0 = k }))) in
+    omega (arith, values, funcs, interfaces, worlds)
 unwritten-less c old new (ty.Interface j) i l none too =
     let values : missing_below (values_at new) (length c.defined) ≡ missing_below (values_at old) (length c.defined) = missing-same (values_at old) (values_at new) (length c.defined) (λ k l. too.types (ty.Value (val.Defined (record { 0 = k })))) in
     let funcs : missing_below (funcs_at new) (length c.funcs) ≡ missing_below (funcs_at old) (length c.funcs) = missing-same (funcs_at old) (funcs_at new) (length c.funcs) (λ k l. too.types (ty.Func (record { 0 = k }))) in
     let interfaces : suc (missing_below (interfaces_at new) (length c.interfaces)) ≡ missing_below (interfaces_at old) (length c.interfaces) = missing-less (interfaces_at old) (interfaces_at new) j.0 i (length c.interfaces) l none (λ k. too.types (ty.Interface (record { 0 = k })) ∙ ap (λ (b : Bool). cond b (Some i) (interfaces_at old k)) (other-way k j.0)) in
-    omega (arith, values, funcs, interfaces)
+    let worlds : missing_below (worlds_at new) (length c.worlds) ≡ missing_below (worlds_at old) (length c.worlds) = missing-same (worlds_at old) (worlds_at new) (length c.worlds) (λ k l. too.types (ty.World (record { 0 = k }))) in
+    omega (arith, values, funcs, interfaces, worlds)
+unwritten-less c old new (ty.World j) i l none too =
+    let values : missing_below (values_at new) (length c.defined) ≡ missing_below (values_at old) (length c.defined) = missing-same (values_at old) (values_at new) (length c.defined) (λ k l. too.types (ty.Value (val.Defined (record { 0 = k })))) in
+    let funcs : missing_below (funcs_at new) (length c.funcs) ≡ missing_below (funcs_at old) (length c.funcs) = missing-same (funcs_at old) (funcs_at new) (length c.funcs) (λ k l. too.types (ty.Func (record { 0 = k }))) in
+    let interfaces : missing_below (interfaces_at new) (length c.interfaces) ≡ missing_below (interfaces_at old) (length c.interfaces) = missing-same (interfaces_at old) (interfaces_at new) (length c.interfaces) (λ k l. too.types (ty.Interface (record { 0 = k }))) in
+    let worlds : suc (missing_below (worlds_at new) (length c.worlds)) ≡ missing_below (worlds_at old) (length c.worlds) = missing-less (worlds_at old) (worlds_at new) j.0 i (length c.worlds) l none (λ k. too.types (ty.World (record { 0 = k })) ∙ ap (λ (b : Bool). cond b (Some i) (worlds_at old k)) (other-way k j.0)) in
+    omega (arith, values, funcs, interfaces, worlds)
 unwritten-less c old new a i l none too = absurd l

@@ -23,6 +23,7 @@ use Rattle.wac_reach.specs.Found.{with_all}
 use Rattle.wac_reach.specs.Reach.{IsIn}
 use Rattle.wac_reach.proofs.Lists.{in_at, at_in, all_old, all_new, all_only, all_grown}
 use Rattle.wac_reach.proofs.Universe.{types_of, found_few}
+use Rattle.wac_encode.specs.declared.worlds.Worlds.{Worlds}
 use Rattle.wac_encode.specs.Listing.{is_plain, lists_plain, lists_plain_to}
 use Rattle.wac_encode.specs.Inside.{IsInsideBy, IsInside, AreInside, are_plain_alone, lists_plain_alone, and_inside, with_inside, IsHeldInterface, PutsInside}
 use Rattle.wac_planning.proofs.Listing.{listed-before, held-items}
@@ -114,9 +115,9 @@ found-first c i held = record {
     by_place t (inr none) = absurd none
 
 -- what an interface lists is plain where it is
-pub of-plain : (c : Collection) (d : ℕ) (i : InterfaceId) (it : Interface) → item_at c.interfaces i.0 ≡ Some it → lists_plain_to d c i ≡ true → (k : ℕ) (e : Name × ItemKind) → slice_get it.exports k ≡ Some e → (b : ℕ) × (is_plain (lists_plain_to b c) e.1 ≡ true)
-of-plain c zero i it at all k e here = let both : false ≡ true = all in cc
-of-plain c (suc d) i it at all k e here = (d, plain-each (lists_plain_to d c) it.exports (sym (plain-of c d i it at) ∙ all) k e here)
+pub of-plain : (ws : Worlds) (c : Collection) (d : ℕ) (i : InterfaceId) (it : Interface) → item_at c.interfaces i.0 ≡ Some it → lists_plain_to d ws c i ≡ true → (k : ℕ) (e : Name × ItemKind) → slice_get it.exports k ≡ Some e → (b : ℕ) × (is_plain ws (lists_plain_to b ws c) e.1 ≡ true)
+of-plain ws c zero i it at all k e here = let both : false ≡ true = all in cc
+of-plain ws c (suc d) i it at all k e here = (d, plain-each ws (lists_plain_to d ws c) it.exports (sym (plain-of ws c d i it at) ∙ all) k e here)
 
 -- positions of a list that has grown
 
@@ -202,8 +203,8 @@ module _ (c : Collection) (i : InterfaceId) (ts : List AnyType) (next : ℕ) (pa
   }
 
 -- where all inside are plain as far as they go alone
-module _ (c : Collection) (wf : IsWellFormed c) (i : InterfaceId) (alone : (j : InterfaceId) → IsInside c i j → are_plain_alone (interface_exports c j) ≡ true) where
-  plain-to : (d : ℕ) (j : InterfaceId) → IsInside c i j → IsBefore c d (ty.Interface j) → lists_plain_to d c j ≡ true
+module _ (ws : Worlds) (c : Collection) (wf : IsWellFormed c) (i : InterfaceId) (alone : (j : InterfaceId) → IsInside c i j → are_plain_alone ws (interface_exports c j) ≡ true) where
+  plain-to : (d : ℕ) (j : InterfaceId) → IsInside c i j → IsBefore c d (ty.Interface j) → lists_plain_to d ws c j ≡ true
   plain-to zero j h before = absurd (never (slice_get c.interfaces j.0) before)
     where
       never : (o : Option (Held Interface)) → AddedBefore 0 o → ⊥
@@ -211,17 +212,17 @@ module _ (c : Collection) (wf : IsWellFormed c) (i : InterfaceId) (alone : (j : 
       never (Some x) low = omega (arith, low)
   plain-to (suc d) j h before = by_interface (plain-to d) (slice_get c.interfaces j.0) refl before
     where
-      by_interface : ((l : InterfaceId) → IsInside c i l → IsBefore c d (ty.Interface l) → lists_plain_to d c l ≡ true) → (o : Option (Held Interface)) → slice_get c.interfaces j.0 ≡ o → AddedBefore (suc d) o → lists_plain_to (suc d) c j ≡ true
+      by_interface : ((l : InterfaceId) → IsInside c i l → IsBefore c d (ty.Interface l) → lists_plain_to d ws c l ≡ true) → (o : Option (Held Interface)) → slice_get c.interfaces j.0 ≡ o → AddedBefore (suc d) o → lists_plain_to (suc d) ws c j ≡ true
       by_interface inner None is low = absurd low
       by_interface inner (Some x) is low =
           let found : item_at c.interfaces j.0 ≡ Some x.item = ap item_of is in
           let same : interface_exports c j ≡ x.item.exports = exports-are c j x.item found in
-          let plain : are_plain_alone x.item.exports ≡ true = ap are_plain_alone (sym same) ∙ alone j h in
-          plain-of c d j x.item found ∙ each-plain (lists_plain_to d c) x.item.exports (λ k e at. plain-inside (lists_plain_to d c) e.1 (plain-each (λ n. true) x.item.exports plain k e at)
+          let plain : are_plain_alone ws x.item.exports ≡ true = ap (are_plain_alone ws) (sym same) ∙ alone j h in
+          plain-of ws c d j x.item found ∙ each-plain ws (lists_plain_to d ws c) x.item.exports (λ k e at. plain-inside ws (lists_plain_to d ws c) e.1 (plain-each ws (λ n. true) x.item.exports plain k e at)
           (λ l of. inner l (inside-further c i j l k e h (ap (λ (es : List (Name × ItemKind)). slice_get es k) same ∙ at) of)
           (subst (IsBefore c d) (type-of e.1 l of) (listed-before c wf d j x.item before found k e at))))
 
-  pub all-plain : holds_type c (ty.Interface i) ≡ true → lists_plain c i ≡ true
+  pub all-plain : holds_type c (ty.Interface i) ≡ true → lists_plain ws c i ≡ true
   all-plain held = plain-to (size c) i (0, refl) (type_before c wf (ty.Interface i) held)
 
 -- what is listed is of an interface that is there
@@ -233,23 +234,23 @@ exported-there c k p e at = by_item (item_at c.interfaces k.0) refl at
     by_item (Some it) is here = (it, is, here)
 
 -- what is inside is plain where the interface is
-inside-plain : (c : Collection) (i : InterfaceId) → lists_plain c i ≡ true → (d : ℕ) (j : InterfaceId) → IsInsideBy d c i j → (b : ℕ) × (lists_plain_to b c j ≡ true)
-inside-plain c i all zero j is = (size c, subst (λ (x : InterfaceId). lists_plain_to (size c) c x ≡ true) (sym is) all)
-inside-plain c i all (suc d) j (k, inner, p, e, at, of) =
-    let outer = inside-plain c i all d k inner in
+inside-plain : (ws : Worlds) (c : Collection) (i : InterfaceId) → lists_plain ws c i ≡ true → (d : ℕ) (j : InterfaceId) → IsInsideBy d c i j → (b : ℕ) × (lists_plain_to b ws c j ≡ true)
+inside-plain ws c i all zero j is = (size c, subst (λ (x : InterfaceId). lists_plain_to (size c) ws c x ≡ true) (sym is) all)
+inside-plain ws c i all (suc d) j (k, inner, p, e, at, of) =
+    let outer = inside-plain ws c i all d k inner in
     let x = exported-there c k p e at in
-    let plain = of-plain c outer.0 k x.0 x.1 outer.1 p e x.2 in
-    (plain.0, sym (one-plain e.1 j of (lists_plain_to plain.0 c)) ∙ plain.1)
+    let plain = of-plain ws c outer.0 k x.0 x.1 outer.1 p e x.2 in
+    (plain.0, sym (one-plain e.1 j of ws (lists_plain_to plain.0 ws c)) ∙ plain.1)
 
 -- one is not plain as far as it goes alone
-pub one-not-plain : (c : Collection) (i j : InterfaceId) (it : Interface) → IsInside c i j → item_at c.interfaces j.0 ≡ Some it → are_plain_alone it.exports ≡ false → lists_plain c i ≡ false
-one-not-plain c i j it h found alone = by_all (lists_plain c i) refl
+pub one-not-plain : (ws : Worlds) (c : Collection) (i j : InterfaceId) (it : Interface) → IsInside c i j → item_at c.interfaces j.0 ≡ Some it → are_plain_alone ws it.exports ≡ false → lists_plain ws c i ≡ false
+one-not-plain ws c i j it h found alone = by_all (lists_plain ws c i) refl
   where
-    by_all : (b : Bool) → lists_plain c i ≡ b → b ≡ false
+    by_all : (b : Bool) → lists_plain ws c i ≡ b → b ≡ false
     by_all false is = refl
     by_all true is =
-        let here = inside-plain c i is h.0 j h.1 in
-        let plain : are_plain_alone it.exports ≡ true = each-plain (λ n. true) it.exports (λ k e at. let b = of-plain c here.0 j it found here.1 k e at in plain-alone (lists_plain_to b.0 c) e.1 b.1) in
+        let here = inside-plain ws c i is h.0 j h.1 in
+        let plain : are_plain_alone ws it.exports ≡ true = each-plain ws (λ n. true) it.exports (λ k e at. let b = of-plain ws c here.0 j it found here.1 k e at in plain-alone ws (lists_plain_to b.0 ws c) e.1 b.1) in
         sym plain ∙ alone
 
 -- so many are found at most
@@ -281,8 +282,8 @@ found-on c wf i ts new next t at f put =
 
 -- of those inside, some were looked at, and are plain as far as they go alone
 
-abbrev pub ArePlainBefore : Collection → List AnyType → ℕ → Type 0
-ArePlainBefore c ts i = (n : ℕ) (t : AnyType) → n < i → slice_get ts n ≡ Some t → lists_plain_alone c t ≡ true
+abbrev pub ArePlainBefore : Worlds → Collection → List AnyType → ℕ → Type 0
+ArePlainBefore ws c ts i = (n : ℕ) (t : AnyType) → n < i → slice_get ts n ≡ Some t → lists_plain_alone ws c t ≡ true
 
 pub inside-held : (c : Collection) (i : InterfaceId) (ts : List AnyType) (next : ℕ) (t : AnyType) → AreInside c i ts → slice_get ts next ≡ Some t → IsHeldInterface c t
 inside-held c i ts next t a at =
@@ -290,24 +291,24 @@ inside-held c i ts next t a at =
     let low : nat_lt here.0.0 (length c.interfaces) ≡ true = subst (λ (u : AnyType). holds_type c u ≡ true) here.1 here.2 in
     subst (IsHeldInterface c) (sym here.1) (let less : here.0.0 < length c.interfaces = grind (arith, low) in less)
 
-pub plain-next : (c : Collection) (ts : List AnyType) (next : ℕ) (t : AnyType) → slice_get ts next ≡ Some t → lists_plain_alone c t ≡ true → ArePlainBefore c ts next → ArePlainBefore c ts (next + 1)
-plain-next c ts next t at plain before n u less is = elim (split n next less) [
+pub plain-next : (ws : Worlds) (c : Collection) (ts : List AnyType) (next : ℕ) (t : AnyType) → slice_get ts next ≡ Some t → lists_plain_alone ws c t ≡ true → ArePlainBefore ws c ts next → ArePlainBefore ws c ts (next + 1)
+plain-next ws c ts next t at plain before n u less is = elim (split n next less) [
   | inl low ↦ before n u low is
   | inr same ↦ (
       let both : Some u ≡ Some t = sym is ∙ ap (slice_get ts) same ∙ at in
       let one : u ≡ t = cc in
-      ap (lists_plain_alone c) one ∙ plain)
+      ap (lists_plain_alone ws c) one ∙ plain)
 ]
 
-pub plain-all : (c : Collection) → IsWellFormed c → (i : InterfaceId) (ts : List AnyType) (next : ℕ) → AreInside c i ts → length ts ≤ next → ArePlainBefore c ts next → holds_type c (ty.Interface i) ≡ true → lists_plain c i ≡ true
-plain-all c wf i ts next a past before held = all-plain c wf i (λ j h. let place = at_in (ty.Interface j) ts (a.all j h) in before place.0 (ty.Interface j) (omega (arith, place.1, past)) place.2) held
+pub plain-all : (ws : Worlds) (c : Collection) → IsWellFormed c → (i : InterfaceId) (ts : List AnyType) (next : ℕ) → AreInside c i ts → length ts ≤ next → ArePlainBefore ws c ts next → holds_type c (ty.Interface i) ≡ true → lists_plain ws c i ≡ true
+plain-all ws c wf i ts next a past before held = all-plain ws c wf i (λ j h. let place = at_in (ty.Interface j) ts (a.all j h) in before place.0 (ty.Interface j) (omega (arith, place.1, past)) place.2) held
 
-pub not-all : (c : Collection) (i : InterfaceId) (ts : List AnyType) (next : ℕ) (t : AnyType) → AreInside c i ts → slice_get ts next ≡ Some t → lists_plain_alone c t ≡ false → lists_plain c i ≡ false
-not-all c i ts next t a at none =
+pub not-all : (ws : Worlds) (c : Collection) (i : InterfaceId) (ts : List AnyType) (next : ℕ) (t : AnyType) → AreInside c i ts → slice_get ts next ≡ Some t → lists_plain_alone ws c t ≡ false → lists_plain ws c i ≡ false
+not-all ws c i ts next t a at none =
     let here = a.only t (in_at t ts next at) in
     let low : nat_lt here.0.0 (length c.interfaces) ≡ true = subst (λ (u : AnyType). holds_type c u ≡ true) here.1 here.2 in
     let x = there-is c.interfaces here.0.0 (grind (arith, low)) in
-    one-not-plain c i here.0 x.0 here.3 x.1 (ap are_plain_alone (sym (exports-are c here.0 x.0 x.1)) ∙ ap (lists_plain_alone c) (sym here.1) ∙ none)
+    one-not-plain ws c i here.0 x.0 here.3 x.1 (ap (are_plain_alone ws) (sym (exports-are c here.0 x.0 x.1)) ∙ ap (lists_plain_alone ws c) (sym here.1) ∙ none)
 
 -- one more item was looked at
 pub inside-more : (es : List (Name × ItemKind)) (n : ℕ) (e : Name × ItemKind) (old new first : List AnyType) → slice_get es n ≡ Some e → new ≡ and_inside old e.1 → with_inside old (drop n es) ≡ first → with_inside new (drop (n + 1) es) ≡ first

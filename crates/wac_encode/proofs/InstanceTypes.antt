@@ -15,6 +15,7 @@ use Rattle.wac_scopes.specs.declared.scope.Scope.{Scope}
 use Rattle.wac_scopes.specs.Contents.{and_type, count, ContentFits}
 use Rattle.wac_stacks.specs.Laws.{Follows, StaysOnward}
 use Rattle.wac_scopes.specs.Scoped.{type_index, opened, HasToo, IsAt, AddsInstance, FitsUnlessTooLarge}
+use Rattle.wac_encode.specs.declared.worlds.Worlds.{Worlds}
 use Rattle.wac_encode.specs.Written.{WritesFor, defined}
 use Rattle.wac_encode.specs.Listing.{IsOfItems, AliasesFor, AllAliased, IsAliasRefused, SaysInterface, WritesInterface, NeededBy, IsInstanceTypeFrom, IsInstanceTypeAt, IsInterfaceRefused}
 use Rattle.wac_encode.specs.Instances.{AddsHeldInterface, IsInstanceRefused}
@@ -80,17 +81,17 @@ ends-with-interface I c old mid now i ds k none aliases all written is too index
 
 -- refusals
 
-pub aliases-refused : (A B : Type 0) (c : Collection) (i : InterfaceId) (old s : Scope) (f : EncodeFault) → AliasesFor c i old s → IsAliasRefused {A = A} c i s (Err f) → IsInstanceRefused {A = B} c i old (Err f)
-aliases-refused A B c i old s (fault.Write g) w h = absurd h
-aliases-refused A B c i old s fault.TooLarge w h = (s, w, inl h)
-aliases-refused A B c i old s fault.OutOfMemory w h = tt
+pub aliases-refused : (A B : Type 0) (ws : Worlds) (c : Collection) (i : InterfaceId) (old s : Scope) (f : EncodeFault) → AliasesFor c i old s → IsAliasRefused {A = A} c i s (Err f) → IsInstanceRefused {A = B} ws c i old (Err f)
+aliases-refused A B ws c i old s (fault.Write g) w h = absurd h
+aliases-refused A B ws c i old s fault.TooLarge w h = (s, w, inl h)
+aliases-refused A B ws c i old s fault.OutOfMemory w h = tt
 
-pub interface-refused : (A B : Type 0) (c : Collection) (i : InterfaceId) (old s : Scope) (f : EncodeFault) → AliasesFor c i old s → IsInterfaceRefused {A = A} c s i (Err f) → IsInstanceRefused {A = B} c i old (Err f)
-interface-refused A B c i old s (fault.Write g) w h = (s, w, h)
-interface-refused A B c i old s fault.TooLarge w h = (s, w, inr (inl h))
-interface-refused A B c i old s fault.OutOfMemory w h = tt
+pub interface-refused : (A B : Type 0) (ws : Worlds) (c : Collection) (i : InterfaceId) (old s : Scope) (f : EncodeFault) → AliasesFor c i old s → IsInterfaceRefused {A = A} ws c s i (Err f) → IsInstanceRefused {A = B} ws c i old (Err f)
+interface-refused A B ws c i old s (fault.Write g) w h = (s, w, h)
+interface-refused A B ws c i old s fault.TooLarge w h = (s, w, inr (inl h))
+interface-refused A B ws c i old s fault.OutOfMemory w h = tt
 
-pub instance-too-large : (A B : Type 0) (c : Collection) (i : InterfaceId) (old s : Scope) (ds : List Decl) (f : EncodeFault) → AliasesFor c i old s → WritesInterface c s i ds → FitsUnlessTooLarge {A = A} (Err f) (ContentFits (and_type s.content (instance_def (decls ds)))) → IsInstanceRefused {A = B} c i old (Err f)
-instance-too-large A B c i old s ds (fault.Write g) w written h = absurd h
-instance-too-large A B c i old s ds fault.TooLarge w written h = (s, w, inr (inr (ds, written, h)))
-instance-too-large A B c i old s ds fault.OutOfMemory w written h = tt
+pub instance-too-large : (A B : Type 0) (ws : Worlds) (c : Collection) (i : InterfaceId) (old s : Scope) (ds : List Decl) (f : EncodeFault) → AliasesFor c i old s → WritesInterface ws c s i ds → FitsUnlessTooLarge {A = A} (Err f) (ContentFits (and_type s.content (instance_def (decls ds)))) → IsInstanceRefused {A = B} ws c i old (Err f)
+instance-too-large A B ws c i old s ds (fault.Write g) w written h = absurd h
+instance-too-large A B ws c i old s ds fault.TooLarge w written h = (s, w, inr (inr (ds, written, h)))
+instance-too-large A B ws c i old s ds fault.OutOfMemory w written h = tt

@@ -28,6 +28,7 @@ use Rattle.wac_stacks.specs.Laws.{Follows, StaysOnward}
 use Rattle.wac_stacks.specs.Listed.{OpensInterface, OpensOver, ClosesInstance, HoldsInterface, ListsOneMore, ListsInAnyOrder}
 use Rattle.wac_listing.specs.Made.{interface_of}
 use Rattle.wac_listing.proofs.Interfaces.{type-of}
+use Rattle.wac_encode.specs.declared.worlds.Worlds.{Worlds}
 use Rattle.wac_encode.specs.declared.level.Level.{Level}
 use Rattle.wac_encode.specs.Written.{WritesFor}
 use Rattle.wac_encode.specs.Listing.{SaysInterface, lists_plain_to, IsOrder, AliasesFor, AllAliased, IsAliasRefused, NeededBy, IsInstanceTypeFrom, IsItemDescribed, WritesItem, WritesItems, WritesInterfaceTo, InsideDoesNotFit, ItemTypeDoesNotFit, IsFaultIn, IsItemRefused, IsRefusedTo, IsInterfaceRefused}
@@ -47,35 +48,40 @@ inside-at : (I : Scope → InterfaceId → List Decl → Type 0) (c : Collection
 inside-at I c old now i j (Some k) is = is
 inside-at I c old now i j None ends = absurd ends.written
 
-described-inside : (I : Scope → InterfaceId → List Decl → Type 0) (c : Collection) (old now : Scope) (k : ItemKind) (d : Description) → IsItemDescribed nothing_inside c old now k d → IsItemDescribed I c old now k d
-described-inside I c old now (kind.Instance i) (e.Instance j) h = inside-at I c old now i j (type_index old (ty.Interface i)) h
-described-inside I c old now (kind.Instance i) (e.CoreModule j) h = h
-described-inside I c old now (kind.Instance i) (e.Func j) h = h
-described-inside I c old now (kind.Instance i) (e.Equal j) h = h
-described-inside I c old now (kind.Instance i) e.Fresh h = h
-described-inside I c old now (kind.Instance i) (e.Component j) h = h
-described-inside I c old now (kind.TypeItem (ty.Interface i)) (e.Equal j) h = inside-at I c old now i j (type_index old (ty.Interface i)) h
-described-inside I c old now (kind.TypeItem (ty.Interface i)) (e.CoreModule j) h = h
-described-inside I c old now (kind.TypeItem (ty.Interface i)) (e.Func j) h = h
-described-inside I c old now (kind.TypeItem (ty.Interface i)) (e.Instance j) h = h
-described-inside I c old now (kind.TypeItem (ty.Interface i)) e.Fresh h = h
-described-inside I c old now (kind.TypeItem (ty.Interface i)) (e.Component j) h = h
-described-inside I c old now (kind.TypeItem (ty.Value v)) d h = h
-described-inside I c old now (kind.TypeItem (ty.Func f)) d h = h
-described-inside I c old now (kind.TypeItem (ty.Resource r)) d h = h
-described-inside I c old now (kind.TypeItem (ty.World w)) d h = h
-described-inside I c old now (kind.TypeItem (ty.Module m)) d h = h
-described-inside I c old now (kind.Func f) d h = h
-described-inside I c old now (kind.Component w) d h = h
-described-inside I c old now (kind.Module m) d h = h
-described-inside I c old now (kind.Value v) d h = h
+described-inside : (I : Scope → InterfaceId → List Decl → Type 0) (ws : Worlds) (c : Collection) (old now : Scope) (k : ItemKind) (d : Description) → IsItemDescribed nothing_inside ws c old now k d → IsItemDescribed I ws c old now k d
+described-inside I ws c old now (kind.Instance i) (e.Instance j) h = inside-at I c old now i j (type_index old (ty.Interface i)) h
+described-inside I ws c old now (kind.Instance i) (e.CoreModule j) h = h
+described-inside I ws c old now (kind.Instance i) (e.Func j) h = h
+described-inside I ws c old now (kind.Instance i) (e.Equal j) h = h
+described-inside I ws c old now (kind.Instance i) e.Fresh h = h
+described-inside I ws c old now (kind.Instance i) (e.Component j) h = h
+described-inside I ws c old now (kind.TypeItem (ty.Interface i)) (e.Equal j) h = inside-at I c old now i j (type_index old (ty.Interface i)) h
+described-inside I ws c old now (kind.TypeItem (ty.Interface i)) (e.CoreModule j) h = h
+described-inside I ws c old now (kind.TypeItem (ty.Interface i)) (e.Func j) h = h
+described-inside I ws c old now (kind.TypeItem (ty.Interface i)) (e.Instance j) h = h
+described-inside I ws c old now (kind.TypeItem (ty.Interface i)) e.Fresh h = h
+described-inside I ws c old now (kind.TypeItem (ty.Interface i)) (e.Component j) h = h
+described-inside I ws c old now (kind.TypeItem (ty.Value v)) d h = h
+described-inside I ws c old now (kind.TypeItem (ty.Func f)) d h = h
+described-inside I ws c old now (kind.TypeItem (ty.Resource r)) d h = h
+described-inside I ws c old now (kind.TypeItem (ty.World w)) (e.Equal j) h = h
+described-inside I ws c old now (kind.TypeItem (ty.World w)) (e.CoreModule j) h = h
+described-inside I ws c old now (kind.TypeItem (ty.World w)) (e.Func j) h = h
+described-inside I ws c old now (kind.TypeItem (ty.World w)) (e.Instance j) h = h
+described-inside I ws c old now (kind.TypeItem (ty.World w)) e.Fresh h = h
+described-inside I ws c old now (kind.TypeItem (ty.World w)) (e.Component j) h = h
+described-inside I ws c old now (kind.TypeItem (ty.Module m)) d h = h
+described-inside I ws c old now (kind.Func f) d h = h
+described-inside I ws c old now (kind.Component w) d h = h
+described-inside I ws c old now (kind.Module m) d h = h
+described-inside I ws c old now (kind.Value v) d h = h
 
-pub wrote-inside : (I : Scope → InterfaceId → List Decl → Type 0) (c : Collection) (old new : Scope) (n : Name) (k : ItemKind) → WritesItem nothing_inside c old new n k → WritesItem I c old new n k
-wrote-inside I c old new n k w = record {
+pub wrote-inside : (I : Scope → InterfaceId → List Decl → Type 0) (ws : Worlds) (c : Collection) (old new : Scope) (n : Name) (k : ItemKind) → WritesItem nothing_inside ws c old new n k → WritesItem I ws c old new n k
+wrote-inside I ws c old new n k w = record {
   now = w.now;
   behind = w.behind;
   description = w.description;
-  described = described-inside I c old w.now k w.description w.described;
+  described = described-inside I ws c old w.now k w.description w.described;
   appended = w.appended;
   named = w.named;
 }
@@ -98,33 +104,33 @@ large-inside I R c i s (inl alias) = inl alias
 large-inside I R c i s (inr (inl none)) = absurd none
 large-inside I R c i s (inr (inr none)) = absurd none.1
 
-type-inside : (I : Scope → InterfaceId → List Decl → Type 0) (R : Scope → InterfaceId → EncodeFault → Type 0) (c : Collection) (k : ItemKind) (s : Scope) → ItemTypeDoesNotFit nothing_inside none_refused c k s → ItemTypeDoesNotFit I R c k s
-type-inside I R c (kind.Instance i) s h = large-inside I R c i s h
-type-inside I R c (kind.TypeItem (ty.Interface i)) s h = large-inside I R c i s h
-type-inside I R c (kind.TypeItem (ty.Value v)) s h = h
-type-inside I R c (kind.TypeItem (ty.Func g)) s h = h
-type-inside I R c (kind.TypeItem (ty.Resource r)) s h = h
-type-inside I R c (kind.TypeItem (ty.World w)) s h = h
-type-inside I R c (kind.TypeItem (ty.Module m)) s h = h
-type-inside I R c (kind.Func g) s h = h
-type-inside I R c (kind.Component w) s h = h
-type-inside I R c (kind.Module m) s h = h
-type-inside I R c (kind.Value v) s h = h
+type-inside : (I : Scope → InterfaceId → List Decl → Type 0) (R : Scope → InterfaceId → EncodeFault → Type 0) (ws : Worlds) (c : Collection) (k : ItemKind) (s : Scope) → ItemTypeDoesNotFit nothing_inside none_refused ws c k s → ItemTypeDoesNotFit I R ws c k s
+type-inside I R ws c (kind.Instance i) s h = large-inside I R c i s h
+type-inside I R ws c (kind.TypeItem (ty.Interface i)) s h = large-inside I R c i s h
+type-inside I R ws c (kind.TypeItem (ty.Value v)) s h = h
+type-inside I R ws c (kind.TypeItem (ty.Func g)) s h = h
+type-inside I R ws c (kind.TypeItem (ty.Resource r)) s h = h
+type-inside I R ws c (kind.TypeItem (ty.World w)) s h = h
+type-inside I R ws c (kind.TypeItem (ty.Module m)) s h = h
+type-inside I R ws c (kind.Func g) s h = h
+type-inside I R ws c (kind.Component w) s h = h
+type-inside I R ws c (kind.Module m) s h = h
+type-inside I R ws c (kind.Value v) s h = h
 
-pub refused-inside : (A B : Type 0) (I : Scope → InterfaceId → List Decl → Type 0) (R : Scope → InterfaceId → EncodeFault → Type 0) (c : Collection) (n : Name) (k : ItemKind) (s : Scope) (f : EncodeFault) → IsItemRefused {A = A} nothing_inside none_refused c n k s (Err f) → IsItemRefused {A = B} I R c n k s (Err f)
-refused-inside A B I R c n k s (fault.Write g) h = fault-inside R c s k g h
-refused-inside A B I R c n k s fault.TooLarge h = record {
+pub refused-inside : (A B : Type 0) (I : Scope → InterfaceId → List Decl → Type 0) (R : Scope → InterfaceId → EncodeFault → Type 0) (ws : Worlds) (c : Collection) (n : Name) (k : ItemKind) (s : Scope) (f : EncodeFault) → IsItemRefused {A = A} nothing_inside none_refused ws c n k s (Err f) → IsItemRefused {A = B} I R ws c n k s (Err f)
+refused-inside A B I R ws c n k s (fault.Write g) h = fault-inside R c s k g h
+refused-inside A B I R ws c n k s fault.TooLarge h = record {
   scope = h.scope;
   types = h.types;
   behind = h.behind;
-  large = elim h.large [ inl t ↦ inl (type-inside I R c k h.scope t) | inr x ↦ inr (x.0, described-inside I c s h.scope k x.0 x.1, x.2) ];
+  large = elim h.large [ inl t ↦ inl (type-inside I R ws c k h.scope t) | inr x ↦ inr (x.0, described-inside I ws c s h.scope k x.0 x.1, x.2) ];
 }
-refused-inside A B I R c n k s fault.OutOfMemory h = tt
+refused-inside A B I R ws c n k s fault.OutOfMemory h = tt
 
 -- a level
 
-pub begins-level : (c : Collection) → OpensInterface → (d : ℕ) (around : Scope) (i : InterfaceId) (l : Level) → lists_plain_to (suc d) c i ≡ true → IsBefore c (suc d) (ty.Interface i) → IsBegun c around i l → IsLevel d c around i l l.scope
-begins-level c opens d around i l plain before b = record {
+pub begins-level : (ws : Worlds) (c : Collection) → OpensInterface → (d : ℕ) (around : Scope) (i : InterfaceId) (l : Level) → lists_plain_to (suc d) ws c i ≡ true → IsBefore c (suc d) (ty.Interface i) → IsBegun c around i l → IsLevel d ws c around i l l.scope
+begins-level ws c opens d around i l plain before b = record {
   is = b.is;
   plain = plain;
   before = before;
@@ -134,12 +140,12 @@ begins-level c opens d around i l plain before b = record {
   ordered = b.ordered;
   start = l.scope;
   opened_ = b.opened_;
-  so_far = subst (λ (n : ℕ). SoFar (WritesInterfaceTo d c) c b.interface l.scope l.scope (named_pairs l.order.items) n) (sym b.first) (starts (WritesInterfaceTo d c) c opens b.interface l.scope (named_pairs l.order.items) b.opened_.content);
+  so_far = subst (λ (n : ℕ). SoFar (WritesInterfaceTo d ws c) ws c b.interface l.scope l.scope (named_pairs l.order.items) n) (sym b.first) (starts (WritesInterfaceTo d ws c) ws c opens b.interface l.scope (named_pairs l.order.items) b.opened_.content);
 }
 
 -- the same level with its next item listed
-pub next-level : (c : Collection) → ListsOneMore → (d : ℕ) (around : Scope) (i : InterfaceId) (l m : Level) (now : Scope) (n : Name) (k : ItemKind) → m.interface ≡ l.interface → m.order ≡ l.order → m.next ≡ l.next + 1 → slice_get (named_pairs l.order.items) l.next ≡ Some (n, k) → IsLevel d c around i l now → ListsHeld c now m.scope n k → WritesItem (WritesInterfaceTo d c) c now m.scope n k → IsLevel d c around i m m.scope
-next-level c more d around i l m now n k same order further at x listed wrote = record {
+pub next-level : (ws : Worlds) (c : Collection) → ListsOneMore → (d : ℕ) (around : Scope) (i : InterfaceId) (l m : Level) (now : Scope) (n : Name) (k : ItemKind) → m.interface ≡ l.interface → m.order ≡ l.order → m.next ≡ l.next + 1 → slice_get (named_pairs l.order.items) l.next ≡ Some (n, k) → IsLevel d ws c around i l now → ListsHeld c now m.scope n k → WritesItem (WritesInterfaceTo d ws c) ws c now m.scope n k → IsLevel d ws c around i m m.scope
+next-level ws c more d around i l m now n k same order further at x listed wrote = record {
   is = same ∙ x.is;
   plain = x.plain;
   before = x.before;
@@ -149,46 +155,46 @@ next-level c more d around i l m now n k same order further at x listed wrote = 
   ordered = subst (λ o. IsOrder c x.interface.exports (named_pairs o.items)) (sym order) x.ordered;
   start = x.start;
   opened_ = x.opened_;
-  so_far = subst (λ o. SoFar (WritesInterfaceTo d c) c x.interface x.start m.scope (named_pairs o.items) m.next) (sym order)
-      (subst (λ (j : ℕ). SoFar (WritesInterfaceTo d c) c x.interface x.start m.scope (named_pairs l.order.items) j) (sym further)
-      (goes-further (WritesInterfaceTo d c) c more x.interface x.start now m.scope (named_pairs l.order.items) l.next n k (once-ordered x.interface.exports (named_pairs l.order.items) x.ordered.permutation x.once) at x.so_far listed wrote));
+  so_far = subst (λ o. SoFar (WritesInterfaceTo d ws c) ws c x.interface x.start m.scope (named_pairs o.items) m.next) (sym order)
+      (subst (λ (j : ℕ). SoFar (WritesInterfaceTo d ws c) ws c x.interface x.start m.scope (named_pairs l.order.items) j) (sym further)
+      (goes-further (WritesInterfaceTo d ws c) ws c more x.interface x.start now m.scope (named_pairs l.order.items) l.next n k (once-ordered x.interface.exports (named_pairs l.order.items) x.ordered.permutation x.once) at x.so_far listed wrote));
 }
 
 -- an item of a level
-there-at : (c : Collection) (d : ℕ) (around : Scope) (i : InterfaceId) (l : Level) (now : Scope) (k : Name × ItemKind) → slice_get (named_pairs l.order.items) l.next ≡ Some k → (x : IsLevel d c around i l now) → (j : ℕ) × (slice_get x.interface.exports j ≡ Some k)
-there-at c d around i l now k at x = stands-there (named_pairs l.order.items) x.interface.exports (IsPermutation-sym x.interface.exports (named_pairs l.order.items) x.ordered.permutation) l.next k at
+there-at : (ws : Worlds) (c : Collection) (d : ℕ) (around : Scope) (i : InterfaceId) (l : Level) (now : Scope) (k : Name × ItemKind) → slice_get (named_pairs l.order.items) l.next ≡ Some k → (x : IsLevel d ws c around i l now) → (j : ℕ) × (slice_get x.interface.exports j ≡ Some k)
+there-at ws c d around i l now k at x = stands-there (named_pairs l.order.items) x.interface.exports (IsPermutation-sym x.interface.exports (named_pairs l.order.items) x.ordered.permutation) l.next k at
 
 -- as one of the interface's exports
-pub exported-at : (c : Collection) (d : ℕ) (around : Scope) (i : InterfaceId) (l : Level) (now : Scope) (k : Name × ItemKind) → slice_get (named_pairs l.order.items) l.next ≡ Some k → IsLevel d c around i l now → (p : ℕ) × (slice_get (interface_exports c l.interface) p ≡ Some k)
-exported-at c d around i l now k at x =
-    let there = there-at c d around i l now k at x in
+pub exported-at : (ws : Worlds) (c : Collection) (d : ℕ) (around : Scope) (i : InterfaceId) (l : Level) (now : Scope) (k : Name × ItemKind) → slice_get (named_pairs l.order.items) l.next ≡ Some k → IsLevel d ws c around i l now → (p : ℕ) × (slice_get (interface_exports c l.interface) p ≡ Some k)
+exported-at ws c d around i l now k at x =
+    let there = there-at ws c d around i l now k at x in
     (there.0, subst (λ (o : Option Interface). slice_get (option_case o [] (λ it. it.exports)) there.0 ≡ Some k) (sym (ap (λ (j : InterfaceId). item_at c.interfaces j.0) x.is ∙ x.found)) there.1)
 
-pub can-list : (c : Collection) → IsWellFormed c → (d : ℕ) (around : Scope) (i : InterfaceId) (l : Level) (now : Scope) (k : Name × ItemKind) → slice_get (named_pairs l.order.items) l.next ≡ Some k → IsLevel d c around i l now → CanList c k.1
-can-list c wf d around i l now k at x =
-    let there = there-at c d around i l now k at x in (
+pub can-list : (ws : Worlds) (c : Collection) → IsWellFormed c → (d : ℕ) (around : Scope) (i : InterfaceId) (l : Level) (now : Scope) (k : Name × ItemKind) → slice_get (named_pairs l.order.items) l.next ≡ Some k → IsLevel d ws c around i l now → CanList ws c k.1
+can-list ws c wf d around i l now k at x =
+    let there = there-at ws c d around i l now k at x in (
       held-items c wf i x.interface x.found there.0 k there.1,
-      plain-alone (lists_plain_to d c) k.1 (plain-each (lists_plain_to d c) x.interface.exports (sym (plain-of c d i x.interface x.found) ∙ x.plain) there.0 k there.1),
+      plain-alone ws (lists_plain_to d ws c) k.1 (plain-each ws (lists_plain_to d ws c) x.interface.exports (sym (plain-of ws c d i x.interface x.found) ∙ x.plain) there.0 k there.1),
     )
 
-pub open-level : (c : Collection) (d : ℕ) (around : Scope) (i : InterfaceId) (l : Level) (now : Scope) → IsLevel d c around i l now → IsOpenType now.content
-open-level c d around i l now x = closes-open now.content x.so_far.closes
+pub open-level : (ws : Worlds) (c : Collection) (d : ℕ) (around : Scope) (i : InterfaceId) (l : Level) (now : Scope) → IsLevel d ws c around i l now → IsOpenType now.content
+open-level ws c d around i l now x = closes-open now.content x.so_far.closes
 
 -- an interface that is listed
-record Listed (d : ℕ) (c : Collection) (j : InterfaceId) : Type 0 where
-  pub plain : lists_plain_to d c j ≡ true
+record Listed (d : ℕ) (ws : Worlds) (c : Collection) (j : InterfaceId) : Type 0 where
+  pub plain : lists_plain_to d ws c j ≡ true
   pub before : IsBefore c d (ty.Interface j)
 
-inside-of : (c : Collection) → IsWellFormed c → (d : ℕ) (around : Scope) (i : InterfaceId) (l : Level) (now : Scope) (x : Name × ItemKind) (j : InterfaceId) → slice_get (named_pairs l.order.items) l.next ≡ Some x → interface_of x.1 ≡ Some j → IsLevel d c around i l now → Listed d c j
-inside-of c wf d around i l now x j at of h =
-    let there = there-at c d around i l now x at h in
+inside-of : (ws : Worlds) (c : Collection) → IsWellFormed c → (d : ℕ) (around : Scope) (i : InterfaceId) (l : Level) (now : Scope) (x : Name × ItemKind) (j : InterfaceId) → slice_get (named_pairs l.order.items) l.next ≡ Some x → interface_of x.1 ≡ Some j → IsLevel d ws c around i l now → Listed d ws c j
+inside-of ws c wf d around i l now x j at of h =
+    let there = there-at ws c d around i l now x at h in
     record {
-      plain = sym (one-plain x.1 j of (lists_plain_to d c)) ∙ plain-each (lists_plain_to d c) h.interface.exports (sym (plain-of c d i h.interface h.found) ∙ h.plain) there.0 x there.1;
+      plain = sym (one-plain x.1 j of ws (lists_plain_to d ws c)) ∙ plain-each ws (lists_plain_to d ws c) h.interface.exports (sym (plain-of ws c d i h.interface h.found) ∙ h.plain) there.0 x there.1;
       before = subst (IsBefore c d) (type-of x.1 j of) (listed-before c wf d i h.interface h.before h.found there.0 x there.1);
     }
 
-pub inside-held : (c : Collection) → IsWellFormed c → (d : ℕ) (around : Scope) (i : InterfaceId) (l : Level) (now : Scope) (x : Name × ItemKind) (j : InterfaceId) → slice_get (named_pairs l.order.items) l.next ≡ Some x → interface_of x.1 ≡ Some j → IsLevel d c around i l now → holds_type c (ty.Interface j) ≡ true
-inside-held c wf d around i l now x j at of h = type_within c d (ty.Interface j) (inside-of c wf d around i l now x j at of h).before
+pub inside-held : (ws : Worlds) (c : Collection) → IsWellFormed c → (d : ℕ) (around : Scope) (i : InterfaceId) (l : Level) (now : Scope) (x : Name × ItemKind) (j : InterfaceId) → slice_get (named_pairs l.order.items) l.next ≡ Some x → interface_of x.1 ≡ Some j → IsLevel d ws c around i l now → holds_type c (ty.Interface j) ≡ true
+inside-held ws c wf d around i l now x j at of h = type_within c d (ty.Interface j) (inside-of ws c wf d around i l now x j at of h).before
 
 -- a level all of whose items are listed
 
@@ -198,14 +204,14 @@ taken-all [] (suc n) le = refl
 taken-all (x ∷ es) zero le = absurd (omega (arith, le))
 taken-all {A} (x ∷ es) (suc n) le = ap (λ (ys : List A). x ∷ ys) (taken-all es n (omega (arith, le)))
 
-pub says-level : (c : Collection) → IsWellFormed c → OpensOver → HoldsInterface → ClosesInstance → ListsInAnyOrder → (d : ℕ) (around : Scope) (i : InterfaceId) (l : Level) (ds : List Decl) → length (named_pairs l.order.items) ≤ l.next → l.scope.content ≡ Instance ds → IsLevel d c around i l l.scope → SaysInterface c around i ds
-says-level c wf over holds closes any d around i l ds past is x =
+pub says-level : (ws : Worlds) (c : Collection) → IsWellFormed c → OpensOver → HoldsInterface → ClosesInstance → ListsInAnyOrder → (d : ℕ) (around : Scope) (i : InterfaceId) (l : Level) (ds : List Decl) → length (named_pairs l.order.items) ≤ l.next → l.scope.content ≡ Instance ds → IsLevel d ws c around i l l.scope → SaysInterface c around i ds
+says-level ws c wf over holds closes any d around i l ds past is x =
     let order : List (Name × ItemKind) = named_pairs l.order.items in
-    says-interface c (lists_plain_to d c) wf over holds closes any i x.interface around x.start l.scope ds order x.found (sym (plain-of c d i x.interface x.found) ∙ x.plain) x.opened_
+    says-interface ws c (lists_plain_to d ws c) wf over holds closes any i x.interface around x.start l.scope ds order x.found (sym (plain-of ws c d i x.interface x.found) ∙ x.plain) x.opened_
     (same-under x.interface.exports order x.ordered.permutation x.once) (subst (λ (es : List (Name × ItemKind)). HasListed c x.interface x.start l.scope es) (taken-all order l.next past) x.so_far.listed) is x.so_far.closes
 
-pub writes-level : (c : Collection) (d : ℕ) (around : Scope) (i : InterfaceId) (l : Level) (ds : List Decl) → length (named_pairs l.order.items) ≤ l.next → l.scope.content ≡ Instance ds → IsLevel d c around i l l.scope → WritesInterfaceTo (suc d) c around i ds
-writes-level c d around i l ds past is x = record {
+pub writes-level : (ws : Worlds) (c : Collection) (d : ℕ) (around : Scope) (i : InterfaceId) (l : Level) (ds : List Decl) → length (named_pairs l.order.items) ≤ l.next → l.scope.content ≡ Instance ds → IsLevel d ws c around i l l.scope → WritesInterfaceTo (suc d) ws c around i ds
+writes-level ws c d around i l ds past is x = record {
   interface = x.interface;
   found = x.found;
   order = named_pairs l.order.items;
@@ -213,82 +219,82 @@ writes-level c d around i l ds past is x = record {
   start = x.start;
   opened_ = x.opened_;
   scope = l.scope;
-  written = subst (λ (es : List (Name × ItemKind)). WritesItems (WritesInterfaceTo d c) c x.start es l.scope) (taken-all (named_pairs l.order.items) l.next past) x.so_far.written;
+  written = subst (λ (es : List (Name × ItemKind)). WritesItems (WritesInterfaceTo d ws c) ws c x.start es l.scope) (taken-all (named_pairs l.order.items) l.next past) x.so_far.written;
   is = is;
 }
 
 -- what is refused at a level, of a fault that is no want of memory
-abbrev pub Stands : ℕ → Collection → Scope → InterfaceId → EncodeFault → Type 0
-Stands d c around i (fault.Write f) = IsRefusedTo d c around i (fault.Write f)
-Stands d c around i fault.TooLarge = IsRefusedTo d c around i fault.TooLarge
-Stands d c around i fault.OutOfMemory = Unit {0}
+abbrev pub Stands : ℕ → Worlds → Collection → Scope → InterfaceId → EncodeFault → Type 0
+Stands d ws c around i (fault.Write f) = IsRefusedTo d ws c around i (fault.Write f)
+Stands d ws c around i fault.TooLarge = IsRefusedTo d ws c around i fault.TooLarge
+Stands d ws c around i fault.OutOfMemory = Unit {0}
 
-pub refused-level : (A : Type 0) (c : Collection) (d : ℕ) (around : Scope) (i : InterfaceId) (l : Level) (now : Scope) (n : Name) (k : ItemKind) (f : EncodeFault) → slice_get (named_pairs l.order.items) l.next ≡ Some (n, k) → IsLevel d c around i l now → IsItemRefused {A = A} (WritesInterfaceTo d c) (IsRefusedTo d c) c n k now (Err f) → Stands (suc d) c around i f
-refused-level A c d around i l now n k (fault.Write g) at x h = record { interface = x.interface; found = x.found; order = named_pairs l.order.items; ordered = x.ordered; start = x.start; opened_ = x.opened_; stopped = stops-at (WritesInterfaceTo d c) (IsRefusedTo d c) c x.interface x.start now (named_pairs l.order.items) l.next n k (fault.Write g) at x.so_far h }
-refused-level A c d around i l now n k fault.TooLarge at x h = record { interface = x.interface; found = x.found; order = named_pairs l.order.items; ordered = x.ordered; start = x.start; opened_ = x.opened_; stopped = stops-at (WritesInterfaceTo d c) (IsRefusedTo d c) c x.interface x.start now (named_pairs l.order.items) l.next n k fault.TooLarge at x.so_far (record { scope = h.scope; types = h.types; behind = h.behind; large = h.large }) }
-refused-level A c d around i l now n k fault.OutOfMemory at x h = tt
+pub refused-level : (A : Type 0) (ws : Worlds) (c : Collection) (d : ℕ) (around : Scope) (i : InterfaceId) (l : Level) (now : Scope) (n : Name) (k : ItemKind) (f : EncodeFault) → slice_get (named_pairs l.order.items) l.next ≡ Some (n, k) → IsLevel d ws c around i l now → IsItemRefused {A = A} (WritesInterfaceTo d ws c) (IsRefusedTo d ws c) ws c n k now (Err f) → Stands (suc d) ws c around i f
+refused-level A ws c d around i l now n k (fault.Write g) at x h = record { interface = x.interface; found = x.found; order = named_pairs l.order.items; ordered = x.ordered; start = x.start; opened_ = x.opened_; stopped = stops-at (WritesInterfaceTo d ws c) (IsRefusedTo d ws c) ws c x.interface x.start now (named_pairs l.order.items) l.next n k (fault.Write g) at x.so_far h }
+refused-level A ws c d around i l now n k fault.TooLarge at x h = record { interface = x.interface; found = x.found; order = named_pairs l.order.items; ordered = x.ordered; start = x.start; opened_ = x.opened_; stopped = stops-at (WritesInterfaceTo d ws c) (IsRefusedTo d ws c) ws c x.interface x.start now (named_pairs l.order.items) l.next n k fault.TooLarge at x.so_far (record { scope = h.scope; types = h.types; behind = h.behind; large = h.large }) }
+refused-level A ws c d around i l now n k fault.OutOfMemory at x h = tt
 
 -- what is refused inside a level that waits is refused there
-pub waiting-refused : (c : Collection) (d : ℕ) (around : Scope) (i : InterfaceId) (l : Level) (j : InterfaceId) (f : EncodeFault) → IsWaiting d c around i l j → Stands d c l.scope j f → Stands (suc d) c around i f
-waiting-refused c d around i l j (fault.Write g) w h = refused-level (Unit {0}) c d around i l w.now w.name w.item (fault.Write g) w.here w.level (one-fault w.item j w.of (IsRefusedTo d c) c w.now g (l.scope, w.aliases, h))
-waiting-refused c d around i l j fault.TooLarge w h = refused-level (Unit {0}) c d around i l w.now w.name w.item fault.TooLarge w.here w.level (record { scope = l.scope; types = 0; behind = one-needed w.item j w.of c 0 w.now l.scope (aliases-for c j w.now l.scope w.aliases); large = inl (one-large w.item j w.of (WritesInterfaceTo d c) (IsRefusedTo d c) c l.scope (inr (inl h))) })
-waiting-refused c d around i l j fault.OutOfMemory w h = tt
+pub waiting-refused : (ws : Worlds) (c : Collection) (d : ℕ) (around : Scope) (i : InterfaceId) (l : Level) (j : InterfaceId) (f : EncodeFault) → IsWaiting d ws c around i l j → Stands d ws c l.scope j f → Stands (suc d) ws c around i f
+waiting-refused ws c d around i l j (fault.Write g) w h = refused-level (Unit {0}) ws c d around i l w.now w.name w.item (fault.Write g) w.here w.level (one-fault w.item j w.of (IsRefusedTo d ws c) c w.now g (l.scope, w.aliases, h))
+waiting-refused ws c d around i l j fault.TooLarge w h = refused-level (Unit {0}) ws c d around i l w.now w.name w.item fault.TooLarge w.here w.level (record { scope = l.scope; types = 0; behind = one-needed w.item j w.of c 0 w.now l.scope (aliases-for c j w.now l.scope w.aliases); large = inl (one-large w.item j w.of (WritesInterfaceTo d ws c) (IsRefusedTo d ws c) ws c l.scope (inr (inl h))) })
+waiting-refused ws c d around i l j fault.OutOfMemory w h = tt
 
 -- chains of levels
 
 -- where what is told of a level that waits follows from what is told of the next, it is told of the first
-module _ (c : Collection) (M : ℕ → Scope → InterfaceId → Type 0) where
-  pub of-chain : (ls : List Level) (l : Level) → ((d : ℕ) (a : Scope) (i : InterfaceId) (k : Level) (j : InterfaceId) → IsWaiting d c a i k j → M d k.scope j → M (suc d) a i) → ((d : ℕ) (a : Scope) (i : InterfaceId) → IsLevel d c a i l l.scope → M (suc d) a i)
-      → (d : ℕ) (a : Scope) (i : InterfaceId) → IsChain d c a i ls l → M d a i
+module _ (ws : Worlds) (c : Collection) (M : ℕ → Scope → InterfaceId → Type 0) where
+  pub of-chain : (ls : List Level) (l : Level) → ((d : ℕ) (a : Scope) (i : InterfaceId) (k : Level) (j : InterfaceId) → IsWaiting d ws c a i k j → M d k.scope j → M (suc d) a i) → ((d : ℕ) (a : Scope) (i : InterfaceId) → IsLevel d ws c a i l l.scope → M (suc d) a i)
+      → (d : ℕ) (a : Scope) (i : InterfaceId) → IsChain d ws c a i ls l → M d a i
   of-chain ls l step last zero a i h = absurd h
   of-chain [] l step last (suc d) a i h = last d a i h
   of-chain (k ∷ ks) l step last (suc d) a i h = step d a i k h.0 h.1 (of-chain ks l step last d k.scope h.0 h.2)
 
-  pub of-chain-closed : (ls : List Level) (k l : Level) → ((d : ℕ) (a : Scope) (i : InterfaceId) (k : Level) (j : InterfaceId) → IsWaiting d c a i k j → M d k.scope j → M (suc d) a i) → ((d : ℕ) (a : Scope) (i : InterfaceId) (j : InterfaceId) → IsWaiting (suc d) c a i k j → IsLevel d c k.scope j l l.scope → M (suc (suc d)) a i)
-      → (d : ℕ) (a : Scope) (i : InterfaceId) → IsChain d c a i (ls ++ k ∷ []) l → M d a i
+  pub of-chain-closed : (ls : List Level) (k l : Level) → ((d : ℕ) (a : Scope) (i : InterfaceId) (k : Level) (j : InterfaceId) → IsWaiting d ws c a i k j → M d k.scope j → M (suc d) a i) → ((d : ℕ) (a : Scope) (i : InterfaceId) (j : InterfaceId) → IsWaiting (suc d) ws c a i k j → IsLevel d ws c k.scope j l l.scope → M (suc (suc d)) a i)
+      → (d : ℕ) (a : Scope) (i : InterfaceId) → IsChain d ws c a i (ls ++ k ∷ []) l → M d a i
   of-chain-closed ls k l step last zero a i h = absurd h
   of-chain-closed [] k l step last (suc zero) a i h = absurd h.2
   of-chain-closed [] k l step last (suc (suc d)) a i h = last d a i h.0 h.1 h.2
   of-chain-closed (x ∷ xs) k l step last (suc d) a i h = step d a i x h.0 h.1 (of-chain-closed xs k l step last d x.scope h.0 h.2)
 
 -- the last level of a chain goes on
-pub chain-on : (c : Collection) (ls : List Level) (l m : Level) → ((d : ℕ) (a : Scope) (i : InterfaceId) → IsLevel d c a i l l.scope → IsLevel d c a i m m.scope) → (d : ℕ) (a : Scope) (i : InterfaceId) → IsChain d c a i ls l → IsChain d c a i ls m
-chain-on c ls l m on zero a i h = absurd h
-chain-on c [] l m on (suc d) a i h = on d a i h
-chain-on c (k ∷ ks) l m on (suc d) a i h = (h.0, h.1, chain-on c ks l m on d k.scope h.0 h.2)
+pub chain-on : (ws : Worlds) (c : Collection) (ls : List Level) (l m : Level) → ((d : ℕ) (a : Scope) (i : InterfaceId) → IsLevel d ws c a i l l.scope → IsLevel d ws c a i m m.scope) → (d : ℕ) (a : Scope) (i : InterfaceId) → IsChain d ws c a i ls l → IsChain d ws c a i ls m
+chain-on ws c ls l m on zero a i h = absurd h
+chain-on ws c [] l m on (suc d) a i h = on d a i h
+chain-on ws c (k ∷ ks) l m on (suc d) a i h = (h.0, h.1, chain-on ws c ks l m on d k.scope h.0 h.2)
 
 -- it waits for one behind it
-pub chain-opens : (c : Collection) (ls : List Level) (l k m : Level) → ((d : ℕ) (a : Scope) (i : InterfaceId) → IsLevel d c a i l l.scope → IsChain (suc d) c a i (k ∷ []) m) → (d : ℕ) (a : Scope) (i : InterfaceId) → IsChain d c a i ls l → IsChain d c a i (ls ++ k ∷ []) m
-chain-opens c ls l k m on zero a i h = absurd h
-chain-opens c [] l k m on (suc d) a i h = on d a i h
-chain-opens c (x ∷ xs) l k m on (suc d) a i h = (h.0, h.1, chain-opens c xs l k m on d x.scope h.0 h.2)
+pub chain-opens : (ws : Worlds) (c : Collection) (ls : List Level) (l k m : Level) → ((d : ℕ) (a : Scope) (i : InterfaceId) → IsLevel d ws c a i l l.scope → IsChain (suc d) ws c a i (k ∷ []) m) → (d : ℕ) (a : Scope) (i : InterfaceId) → IsChain d ws c a i ls l → IsChain d ws c a i (ls ++ k ∷ []) m
+chain-opens ws c ls l k m on zero a i h = absurd h
+chain-opens ws c [] l k m on (suc d) a i h = on d a i h
+chain-opens ws c (x ∷ xs) l k m on (suc d) a i h = (h.0, h.1, chain-opens ws c xs l k m on d x.scope h.0 h.2)
 
 -- it is closed, and the one before it goes on
-pub chain-closes : (c : Collection) (ls : List Level) (k l m : Level) → ((d : ℕ) (a : Scope) (i j : InterfaceId) → IsWaiting (suc d) c a i k j → IsLevel d c k.scope j l l.scope → IsLevel (suc d) c a i m m.scope) → (d : ℕ) (a : Scope) (i : InterfaceId) → IsChain d c a i (ls ++ k ∷ []) l → IsChain d c a i ls m
-chain-closes c ls k l m on zero a i h = absurd h
-chain-closes c [] k l m on (suc zero) a i h = absurd h.2
-chain-closes c [] k l m on (suc (suc d)) a i h = on d a i h.0 h.1 h.2
-chain-closes c (x ∷ xs) k l m on (suc d) a i h = (h.0, h.1, chain-closes c xs k l m on d x.scope h.0 h.2)
+pub chain-closes : (ws : Worlds) (c : Collection) (ls : List Level) (k l m : Level) → ((d : ℕ) (a : Scope) (i j : InterfaceId) → IsWaiting (suc d) ws c a i k j → IsLevel d ws c k.scope j l l.scope → IsLevel (suc d) ws c a i m m.scope) → (d : ℕ) (a : Scope) (i : InterfaceId) → IsChain d ws c a i (ls ++ k ∷ []) l → IsChain d ws c a i ls m
+chain-closes ws c ls k l m on zero a i h = absurd h
+chain-closes ws c [] k l m on (suc zero) a i h = absurd h.2
+chain-closes ws c [] k l m on (suc (suc d)) a i h = on d a i h.0 h.1 h.2
+chain-closes ws c (x ∷ xs) k l m on (suc d) a i h = (h.0, h.1, chain-closes ws c xs k l m on d x.scope h.0 h.2)
 
 -- a fault at the last level stands at the first
-pub chain-refused : (B : Type 0) (c : Collection) (around : Scope) (i : InterfaceId) (f : EncodeFault) → Stands (size c) c around i f → IsInterfaceRefused {A = B} c around i (Err f)
-chain-refused B c around i (fault.Write g) h = (size c, h)
-chain-refused B c around i fault.TooLarge h = (size c, h)
-chain-refused B c around i fault.OutOfMemory h = tt
+pub chain-refused : (B : Type 0) (ws : Worlds) (c : Collection) (around : Scope) (i : InterfaceId) (f : EncodeFault) → Stands (size c) ws c around i f → IsInterfaceRefused {A = B} ws c around i (Err f)
+chain-refused B ws c around i (fault.Write g) h = (size c, h)
+chain-refused B ws c around i fault.TooLarge h = (size c, h)
+chain-refused B ws c around i fault.OutOfMemory h = tt
 
 -- an interface inside is opened
 
-opens-chain : (c : Collection) → OpensInterface → (d : ℕ) (a : Scope) (i : InterfaceId) (k m : Level) (j : InterfaceId) → IsWaiting d c a i k j → Listed d c j → IsBegun c k.scope j m → IsChain (suc d) c a i (k ∷ []) m
-opens-chain c opens zero a i k m j w h b = absurd (never (slice_get c.interfaces j.0) h.before)
+opens-chain : (ws : Worlds) (c : Collection) → OpensInterface → (d : ℕ) (a : Scope) (i : InterfaceId) (k m : Level) (j : InterfaceId) → IsWaiting d ws c a i k j → Listed d ws c j → IsBegun c k.scope j m → IsChain (suc d) ws c a i (k ∷ []) m
+opens-chain ws c opens zero a i k m j w h b = absurd (never (slice_get c.interfaces j.0) h.before)
   where
     never : (o : Option (Held Interface)) → AddedBefore 0 o → ⊥
     never None low = low
     never (Some x) low = omega (arith, low)
-opens-chain c opens (suc d) a i k m j w h b = (j, w, begins-level c opens d k.scope j m h.plain h.before b)
+opens-chain ws c opens (suc d) a i k m j w h b = (j, w, begins-level ws c opens d k.scope j m h.plain h.before b)
 
-pub opens-inside : (c : Collection) → IsWellFormed c → OpensInterface → (d : ℕ) (a : Scope) (i : InterfaceId) (l k m : Level) (e : Name × ItemKind) (j : InterfaceId) → k.interface ≡ l.interface → k.order ≡ l.order → k.next ≡ l.next → slice_get (named_pairs l.order.items) l.next ≡ Some e → interface_of e.1 ≡ Some j → type_index l.scope (ty.Interface j) ≡ None
-    → AliasesFor c j l.scope k.scope → AllAliased c j l.scope k.scope → IsBegun c k.scope j m → IsLevel d c a i l l.scope → IsChain (suc d) c a i (k ∷ []) m
-opens-inside c wf opens d a i l k m e j same order further at of none aliases all b x = opens-chain c opens d a i k m j (record {
+pub opens-inside : (ws : Worlds) (c : Collection) → IsWellFormed c → OpensInterface → (d : ℕ) (a : Scope) (i : InterfaceId) (l k m : Level) (e : Name × ItemKind) (j : InterfaceId) → k.interface ≡ l.interface → k.order ≡ l.order → k.next ≡ l.next → slice_get (named_pairs l.order.items) l.next ≡ Some e → interface_of e.1 ≡ Some j → type_index l.scope (ty.Interface j) ≡ None
+    → AliasesFor c j l.scope k.scope → AllAliased c j l.scope k.scope → IsBegun c k.scope j m → IsLevel d ws c a i l l.scope → IsChain (suc d) ws c a i (k ∷ []) m
+opens-inside ws c wf opens d a i l k m e j same order further at of none aliases all b x = opens-chain ws c opens d a i k m j (record {
   now = l.scope;
   level = record {
     is = same ∙ x.is;
@@ -300,7 +306,7 @@ opens-inside c wf opens d a i l k m e j same order further at of none aliases al
     ordered = subst (λ o. IsOrder c x.interface.exports (named_pairs o.items)) (sym order) x.ordered;
     start = x.start;
     opened_ = x.opened_;
-    so_far = subst (λ o. SoFar (WritesInterfaceTo d c) c x.interface x.start l.scope (named_pairs o.items) k.next) (sym order) (subst (λ (q : ℕ). SoFar (WritesInterfaceTo d c) c x.interface x.start l.scope (named_pairs l.order.items) q) (sym further) x.so_far);
+    so_far = subst (λ o. SoFar (WritesInterfaceTo d ws c) ws c x.interface x.start l.scope (named_pairs o.items) k.next) (sym order) (subst (λ (q : ℕ). SoFar (WritesInterfaceTo d ws c) ws c x.interface x.start l.scope (named_pairs l.order.items) q) (sym further) x.so_far);
   };
   name = e.0;
   item = e.1;
@@ -309,13 +315,13 @@ opens-inside c wf opens d a i l k m e j same order further at of none aliases al
   unwritten = none;
   aliases = aliases;
   all = all;
-}) (inside-of c wf d a i l l.scope e j at of x) b
+}) (inside-of ws c wf d a i l l.scope e j at of x) b
 
 -- its aliases are refused
-pub alias-stands : (A : Type 0) (c : Collection) (d : ℕ) (a : Scope) (i : InterfaceId) (l : Level) (s : Scope) (e : Name × ItemKind) (j : InterfaceId) (f : EncodeFault) → slice_get (named_pairs l.order.items) l.next ≡ Some e → interface_of e.1 ≡ Some j → AliasesFor c j l.scope s → IsAliasRefused {A = A} c j s (Err f) → IsLevel d c a i l l.scope → Stands (suc d) c a i f
-alias-stands A c d a i l s e j (fault.Write g) at of aliases h x = absurd h
-alias-stands A c d a i l s e j fault.TooLarge at of aliases h x = refused-level (Unit {0}) c d a i l l.scope e.0 e.1 fault.TooLarge at x (record { scope = s; types = 0; behind = one-needed e.1 j of c 0 l.scope s (aliases-for c j l.scope s aliases); large = inl (one-large e.1 j of (WritesInterfaceTo d c) (IsRefusedTo d c) c s (inl h)) })
-alias-stands A c d a i l s e j fault.OutOfMemory at of aliases h x = tt
+pub alias-stands : (A : Type 0) (ws : Worlds) (c : Collection) (d : ℕ) (a : Scope) (i : InterfaceId) (l : Level) (s : Scope) (e : Name × ItemKind) (j : InterfaceId) (f : EncodeFault) → slice_get (named_pairs l.order.items) l.next ≡ Some e → interface_of e.1 ≡ Some j → AliasesFor c j l.scope s → IsAliasRefused {A = A} c j s (Err f) → IsLevel d ws c a i l l.scope → Stands (suc d) ws c a i f
+alias-stands A ws c d a i l s e j (fault.Write g) at of aliases h x = absurd h
+alias-stands A ws c d a i l s e j fault.TooLarge at of aliases h x = refused-level (Unit {0}) ws c d a i l l.scope e.0 e.1 fault.TooLarge at x (record { scope = s; types = 0; behind = one-needed e.1 j of c 0 l.scope s (aliases-for c j l.scope s aliases); large = inl (one-large e.1 j of (WritesInterfaceTo d ws c) (IsRefusedTo d ws c) ws c s (inl h)) })
+alias-stands A ws c d a i l s e j fault.OutOfMemory at of aliases h x = tt
 
 -- an interface inside is closed
 
@@ -334,44 +340,44 @@ same-interface l n item w j at here of =
     let same : (n, item) ≡ w = cc in
     ap (λ (x : Name × ItemKind). interface_of x.1) same ∙ of
 
-pub closes-inside : (c : Collection) → IsWellFormed c → Follows → StaysOnward → ListsOneMore → (d : ℕ) (a : Scope) (i : InterfaceId) (k m : Level) (j : InterfaceId) (n : Name) (item : ItemKind) (ds : List Decl) → m.interface ≡ k.interface → m.order ≡ k.order → m.next ≡ k.next + 1 → slice_get (named_pairs k.order.items) k.next ≡ Some (n, item)
-    → PutsItem c k.scope m.scope n item j ds → WritesInterfaceTo d c k.scope j ds → SaysInterface c k.scope j ds → IsWaiting d c a i k j → IsLevel d c a i m m.scope
-closes-inside c wf follows stays more d a i k m j n item ds same order further at p writes says w =
+pub closes-inside : (ws : Worlds) (c : Collection) → IsWellFormed c → Follows → StaysOnward → ListsOneMore → (d : ℕ) (a : Scope) (i : InterfaceId) (k m : Level) (j : InterfaceId) (n : Name) (item : ItemKind) (ds : List Decl) → m.interface ≡ k.interface → m.order ≡ k.order → m.next ≡ k.next + 1 → slice_get (named_pairs k.order.items) k.next ≡ Some (n, item)
+    → PutsItem c k.scope m.scope n item j ds → WritesInterfaceTo d ws c k.scope j ds → SaysInterface c k.scope j ds → IsWaiting d ws c a i k j → IsLevel d ws c a i m m.scope
+closes-inside ws c wf follows stays more d a i k m j n item ds same order further at p writes says w =
     let of : interface_of item ≡ Some j = same-interface k n item (w.name, w.item) j at w.here w.of in
     let adds : AddsHeldInterface c w.now p.now j p.index = adds-behind c follows j w.now k.scope p.now p.index w.aliases (adds-now c k.scope p.now j ds p.index says p.adds) in
-    let held = inside-held c wf d a i k w.now (n, item) j at of w.level in
-    next-level c more d a i k m w.now n item same order further at w.level
+    let held = inside-held ws c wf d a i k w.now (n, item) j at of w.level in
+    next-level ws c more d a i k m w.now n item same order further at w.level
     (one-listed item j of c w.now p.now m.scope n p.index p.own adds p.lists)
     (record {
       now = p.now;
       behind = one-behind item j of c w.now p.now (behind-now c follows stays w.now k.scope p.now j ds p.index held w.aliases w.unwritten says p.adds p.recorded p.next p.appended);
       description = described_by item p.index;
-      described = one-described item j of (WritesInterfaceTo d c) c w.now p.now p.index (ends-with-interface (WritesInterfaceTo d c) c w.now k.scope p.now j ds p.index w.unwritten w.aliases w.all writes p.appended p.recorded p.next);
+      described = one-described item j of (WritesInterfaceTo d ws c) ws c w.now p.now p.index (ends-with-interface (WritesInterfaceTo d ws c) c w.now k.scope p.now j ds p.index w.unwritten w.aliases w.all writes p.appended p.recorded p.next);
       appended = ap (λ (s : Scope). s.content) p.is;
       named = one-named item j of c w.now p.now m.scope n (record { types = λ b. ap (λ (s : Scope). type_index s b) p.is; listed = λ b. ap (λ (s : Scope). listing s b) p.is; names = λ b. ap (λ (s : Scope). named_at s b) p.is });
     })
 
 -- it, or the item, does not fit
-pub closed-stands : (A : Type 0) (c : Collection) → IsWellFormed c → Follows → StaysOnward → (d : ℕ) (a : Scope) (i : InterfaceId) (k : Level) (j : InterfaceId) (n : Name) (item : ItemKind) (ds : List Decl) (f : EncodeFault) → slice_get (named_pairs k.order.items) k.next ≡ Some (n, item)
-    → ItemNotPut {A = A} c k.scope n item j ds (Err f) → WritesInterfaceTo d c k.scope j ds → SaysInterface c k.scope j ds → IsWaiting d c a i k j → Stands (suc d) c a i f
-closed-stands A c wf follows stays d a i k j n item ds (fault.Write g) at h writes says w = absurd h
-closed-stands A c wf follows stays d a i k j n item ds fault.OutOfMemory at h writes says w = tt
-closed-stands A c wf follows stays d a i k j n item ds fault.TooLarge at (inl h) writes says w =
+pub closed-stands : (A : Type 0) (ws : Worlds) (c : Collection) → IsWellFormed c → Follows → StaysOnward → (d : ℕ) (a : Scope) (i : InterfaceId) (k : Level) (j : InterfaceId) (n : Name) (item : ItemKind) (ds : List Decl) (f : EncodeFault) → slice_get (named_pairs k.order.items) k.next ≡ Some (n, item)
+    → ItemNotPut {A = A} c k.scope n item j ds (Err f) → WritesInterfaceTo d ws c k.scope j ds → SaysInterface c k.scope j ds → IsWaiting d ws c a i k j → Stands (suc d) ws c a i f
+closed-stands A ws c wf follows stays d a i k j n item ds (fault.Write g) at h writes says w = absurd h
+closed-stands A ws c wf follows stays d a i k j n item ds fault.OutOfMemory at h writes says w = tt
+closed-stands A ws c wf follows stays d a i k j n item ds fault.TooLarge at (inl h) writes says w =
     let of : interface_of item ≡ Some j = same-interface k n item (w.name, w.item) j at w.here w.of in
-    refused-level (Unit {0}) c d a i k w.now n item fault.TooLarge at w.level (record {
+    refused-level (Unit {0}) ws c d a i k w.now n item fault.TooLarge at w.level (record {
       scope = k.scope;
       types = 0;
       behind = one-needed item j of c 0 w.now k.scope (aliases-for c j w.now k.scope w.aliases);
-      large = inl (one-large item j of (WritesInterfaceTo d c) (IsRefusedTo d c) c k.scope (inr (inr (ds, writes, h))));
+      large = inl (one-large item j of (WritesInterfaceTo d ws c) (IsRefusedTo d ws c) ws c k.scope (inr (inr (ds, writes, h))));
     })
-closed-stands A c wf follows stays d a i k j n item ds fault.TooLarge at (inr (now, index, adds, too, is, next, large)) writes says w =
+closed-stands A ws c wf follows stays d a i k j n item ds fault.TooLarge at (inr (now, index, adds, too, is, next, large)) writes says w =
     let of : interface_of item ≡ Some j = same-interface k n item (w.name, w.item) j at w.here w.of in
-    let held = inside-held c wf d a i k w.now (n, item) j at of w.level in
-    refused-level (Unit {0}) c d a i k w.now n item fault.TooLarge at w.level (record {
+    let held = inside-held ws c wf d a i k w.now (n, item) j at of w.level in
+    refused-level (Unit {0}) ws c d a i k w.now n item fault.TooLarge at w.level (record {
       scope = now;
       types = 0;
       behind = one-needed item j of c 0 w.now now (behind-now c follows stays w.now k.scope now j ds index held w.aliases w.unwritten says adds too next is);
-      large = inr (described_by item index, one-described item j of (WritesInterfaceTo d c) c w.now now index (ends-with-interface (WritesInterfaceTo d c) c w.now k.scope now j ds index w.unwritten w.aliases w.all writes is too next), large);
+      large = inr (described_by item index, one-described item j of (WritesInterfaceTo d ws c) ws c w.now now index (ends-with-interface (WritesInterfaceTo d ws c) c w.now k.scope now j ds index w.unwritten w.aliases w.all writes is too next), large);
     })
 
 -- where it is put

@@ -12,9 +12,12 @@ pub mod Plain
 pub mod Around
 pub mod Aliasing
 pub mod InstanceTypes
+pub mod WorldTypes
+pub mod Growing
 pub mod Levels
 pub mod Chains
 pub mod Remaining
 pub mod Inside
+pub mod Flat
 pub mod Placed
 pub mod OfInterface

@@ -9,6 +9,7 @@ use Rattle.wac_shapes.specs.declared.component.DefinedTypeId.{DefinedTypeId}
 use Rattle.wac_shapes.specs.declared.component.FuncTypeId.{FuncTypeId}
 use Rattle.wac_shapes.specs.declared.component.Interface.{Interface}
 use Rattle.wac_shapes.specs.declared.component.InterfaceId.{InterfaceId}
+use Rattle.wac_shapes.specs.declared.component.WorldId.{WorldId}
 use Rattle.wac_shapes.specs.declared.component.ItemKind.{ItemKind}
 use Rattle.wac_shapes.specs.declared.component.ItemKind.TheVariants as kind
 use Rattle.wac_primitives.specs.declared.component.PrimitiveType.{PrimitiveType}
@@ -19,7 +20,7 @@ use Rattle.wac_primitives.specs.Tree.{exported, Tree, absent, primitive, resourc
 use Rattle.wac_collection.specs.Collection.{Collection, IsWellFormed, item_at}
 use Rattle.wac_collection.specs.Aliases.{value_resolved}
 use Rattle.wac_collection.specs.Bound.{Bindings, inside_interface}
-use Rattle.wac_binary.specs.HasMeaning.{ImportNothing, IsFree, IsValue, IsFunction, IsInstance, IsType}
+use Rattle.wac_binary.specs.HasMeaning.{ImportNothing, IsFree, IsValue, IsFunction, IsInstance, IsComponent, IsType}
 use Rattle.wac_binary.specs.Items.{TypeDef, Decl, decls, core_type_decl, type_decl, alias_decl, import_decl, export_decl}
 use Rattle.wac_binary.specs.Unfold.{Scope as Env, with_item}
 use Rattle.wac_binary.specs.declared.sorts.Description.{Description}
@@ -34,8 +35,10 @@ use Rattle.wac_stacks.specs.Laws.{IsItsEnd, IsRecorded}
 use Rattle.wac_stacks.specs.Listed.{IsUnder, IsNewName, Lists, AreListed, has_own, declaring, ListsOneMore, ListsInAnyOrder, OpensInterface, OpensOver, ClosesInstance, HoldsInterface}
 use Rattle.wac_scopes.specs.Scoped.{value_index, recorded_type, opened, AddsPrimitive, ListsType, ListsValue, ListsFunction, ListsInstanceOf}
 use Rattle.wac_stacks.proofs.Values.{primitive-held}
+use Rattle.wac_encode.specs.declared.worlds.Worlds.{Worlds}
 use Rattle.wac_encode.specs.Written.{GoesOn, with_types, AddsHeldFunc, NewType, defined, aliased, as_decl}
 use Rattle.wac_encode.specs.Listing.{SaysInterface, WritesItem, WritesItems, IsOpened, IsItemRefused, IsStopped}
+use Rattle.wac_encode.specs.Worlds.{AddsHeldWorld}
 use Rattle.wac_encode.specs.Instances.{AddsHeldInterface}
 use Rattle.wac_encode.specs.Listing.{are_plain}
 use Rattle.wac_encode.proofs.Around.{starts-good}
@@ -134,6 +137,17 @@ interface-type-listed c old now new n i k j adds lists m ms o os g free =
     let l = lists c m ms o os r.0 r.3.0.0 (free-after c m ms old now o os n r.3.0 free) (instance-is-type r.0 r.2) r.3.1 in
     (type_equal r.0, (refl, r.1), lists-after c m ms old now new o os n (type_equal r.0) r.3.0 l.0)
 
+component-is-type : (t : Tree) → IsComponent t → IsType t
+component-is-type (component imports exports) h = tt
+component-is-type t h = absurd h
+
+-- and the type of a component
+pub world-type-listed : (c : Collection) (old now new : Scope) (n : Name) (w : WorldId) (k j : ℕ) → AddsHeldWorld c old now w k → ListsType now new n k j → ListsHeld c old new n (kind.TypeItem (ty.World w))
+world-type-listed c old now new n w k j adds lists m ms o os g free =
+    let r = adds m ms o os g in
+    let l = lists c m ms o os r.0 r.3.0.0 (free-after c m ms old now o os n r.3.0 free) (component-is-type r.0 r.2) r.3.1 in
+    (type_equal r.0, (refl, r.1), lists-after c m ms old now new o os n (type_equal r.0) r.3.0 l.0)
+
 -- one more item of an interface
 listed-more : (c : Collection) → ListsOneMore → (it : Interface) (old new : Scope) (start : Scope) (es : List (Name × ItemKind)) (n : Name) (k : ItemKind) → HasListed c it start old es → ListsHeld c old new n k → find_name es n ≡ None → HasListed c it start new (es ++ (n, k) ∷ [])
 listed-more c more it old new start es n k had item missing ms st g =
@@ -170,8 +184,8 @@ closes-more (Builder items) ys n d h = absurd h
 closes-more (Instance ds) ys n d h = import-nothing-more ds ys n d h
 closes-more (Component ds) ys n d h = absurd h
 
-still-closes : (I : Scope → InterfaceId → List Decl → Type 0) (c : Collection) (old new : Scope) (n : Name) (k : ItemKind) → WritesItem I c old new n k → CanClose old.content → CanClose new.content
-still-closes I c old new n k item h = subst CanClose (sym (item.appended ∙ ap (λ (x : Encodable). and_export x n item.description) item.behind.appended)) (closes-more old.content item.behind.types n item.description h)
+still-closes : (I : Scope → InterfaceId → List Decl → Type 0) (ws : Worlds) (c : Collection) (old new : Scope) (n : Name) (k : ItemKind) → WritesItem I ws c old new n k → CanClose old.content → CanClose new.content
+still-closes I ws c old new n k item h = subst CanClose (sym (item.appended ∙ ap (λ (x : Encodable). and_export x n item.description) item.behind.appended)) (closes-more old.content item.behind.types n item.description h)
 
 -- what can be closed is a type that is open
 
@@ -199,40 +213,40 @@ still-open-behind x z y is h = subst IsOpenType (sym is) (and-type-open x y h)
 
 -- items, one after the other
 
-writes-one-more : (I : Scope → InterfaceId → List Decl → Type 0) (c : Collection) (old now new : Scope) (es : List (Name × ItemKind)) (n : Name) (k : ItemKind) → WritesItems I c old es now → WritesItem I c now new n k → WritesItems I c old (es ++ (n, k) ∷ []) new
-writes-one-more I c old now new [] n k w item = (new, subst (λ (s : Scope). WritesItem I c s new n k) w item, refl)
-writes-one-more I c old now new (e ∷ es) n k w item = (w.0, w.1, writes-one-more I c w.0 now new es n k w.2 item)
+writes-one-more : (I : Scope → InterfaceId → List Decl → Type 0) (ws : Worlds) (c : Collection) (old now new : Scope) (es : List (Name × ItemKind)) (n : Name) (k : ItemKind) → WritesItems I ws c old es now → WritesItem I ws c now new n k → WritesItems I ws c old (es ++ (n, k) ∷ []) new
+writes-one-more I ws c old now new [] n k w item = (new, subst (λ (s : Scope). WritesItem I ws c s new n k) w item, refl)
+writes-one-more I ws c old now new (e ∷ es) n k w item = (w.0, w.1, writes-one-more I ws c w.0 now new es n k w.2 item)
 
 -- what stands after some of them
 
-pub starts : (I : Scope → InterfaceId → List Decl → Type 0) (c : Collection) → OpensInterface → (it : Interface) (s : Scope) (order : List (Name × ItemKind)) → s.content ≡ Instance [] → SoFar I c it s s order 0
-starts I c opens it s order empty = record {
+pub starts : (I : Scope → InterfaceId → List Decl → Type 0) (ws : Worlds) (c : Collection) → OpensInterface → (it : Interface) (s : Scope) (order : List (Name × ItemKind)) → s.content ≡ Instance [] → SoFar I ws c it s s order 0
+starts I ws c opens it s order empty = record {
   listed = none-listed c opens it s empty;
   closes = subst CanClose (sym empty) tt;
   written = refl;
 }
 
-pub goes-further : (I : Scope → InterfaceId → List Decl → Type 0) (c : Collection) → ListsOneMore → (it : Interface) (start now new : Scope) (order : List (Name × ItemKind)) (i : ℕ) (n : Name) (k : ItemKind) → NoNameTwice order → slice_get order i ≡ Some (n, k) → SoFar I c it start now order i → ListsHeld c now new n k → WritesItem I c now new n k → SoFar I c it start new order (i + 1)
-goes-further I c more it start now new order i n k once at so_far item wrote =
+pub goes-further : (I : Scope → InterfaceId → List Decl → Type 0) (ws : Worlds) (c : Collection) → ListsOneMore → (it : Interface) (start now new : Scope) (order : List (Name × ItemKind)) (i : ℕ) (n : Name) (k : ItemKind) → NoNameTwice order → slice_get order i ≡ Some (n, k) → SoFar I ws c it start now order i → ListsHeld c now new n k → WritesItem I ws c now new n k → SoFar I ws c it start new order (i + 1)
+goes-further I ws c more it start now new order i n k once at so_far item wrote =
     let longer : take (suc i) order ≡ take i order ++ (n, k) ∷ [] = take_at order i (n, k) at in
-    subst (λ (j : ℕ). SoFar I c it start new order j) (sym (add-one i)) (record {
+    subst (λ (j : ℕ). SoFar I ws c it start new order j) (sym (add-one i)) (record {
       listed = subst (λ (es : List (Name × ItemKind)). HasListed c it start new es) (sym longer) (listed-more c more it now new start (take i order) n k so_far.listed item (none_before order i n k once at));
-      closes = still-closes I c now new n k wrote so_far.closes;
-      written = subst (λ (es : List (Name × ItemKind)). WritesItems I c start es new) (sym longer) (writes-one-more I c start now new (take i order) n k so_far.written wrote);
+      closes = still-closes I ws c now new n k wrote so_far.closes;
+      written = subst (λ (es : List (Name × ItemKind)). WritesItems I ws c start es new) (sym longer) (writes-one-more I ws c start now new (take i order) n k so_far.written wrote);
     })
 
 pub all-of : {A : Type 0} (es : List A) (i : ℕ) → i ≡ length es → take i es ≡ es
 all-of {A} es i is = ap (λ (k : ℕ). take k es) is ∙ take-length es
 
 -- all of them
-pub record AtEnd (I : Scope → InterfaceId → List Decl → Type 0) (c : Collection) (it : Interface) (start now : Scope) (order : List (Name × ItemKind)) : Type 0 where
+pub record AtEnd (I : Scope → InterfaceId → List Decl → Type 0) (ws : Worlds) (c : Collection) (it : Interface) (start now : Scope) (order : List (Name × ItemKind)) : Type 0 where
   pub listed : HasListed c it start now order
-  pub written : WritesItems I c start order now
+  pub written : WritesItems I ws c start order now
 
-pub at-end : (I : Scope → InterfaceId → List Decl → Type 0) (c : Collection) (it : Interface) (start now : Scope) (order : List (Name × ItemKind)) (i : ℕ) → i ≡ length order → SoFar I c it start now order i → AtEnd I c it start now order
-at-end I c it start now order i is so_far = record {
+pub at-end : (I : Scope → InterfaceId → List Decl → Type 0) (ws : Worlds) (c : Collection) (it : Interface) (start now : Scope) (order : List (Name × ItemKind)) (i : ℕ) → i ≡ length order → SoFar I ws c it start now order i → AtEnd I ws c it start now order
+at-end I ws c it start now order i is so_far = record {
   listed = subst (λ (es : List (Name × ItemKind)). HasListed c it start now es) (all-of order i is) so_far.listed;
-  written = subst (λ (es : List (Name × ItemKind)). WritesItems I c start es now) (all-of order i is) so_far.written;
+  written = subst (λ (es : List (Name × ItemKind)). WritesItems I ws c start es now) (all-of order i is) so_far.written;
 }
 
 split-at : {A : Type 0} (es : List A) (i : ℕ) (e : A) → slice_get es i ≡ Some e → (rest : List A) × (es ≡ take i es ++ e ∷ rest)
@@ -240,8 +254,8 @@ split-at {A} [] i e at = let none_some : None ≡ Some e = at in cc
 split-at {A} (x ∷ es) zero e at = let both : Some x ≡ Some e = at in let same : x ≡ e = cc in (es, ap (λ (y : A). y ∷ es) same)
 split-at {A} (x ∷ es) (suc i) e at = let r = split-at es i e at in (r.0, ap (λ (ys : List A). x ∷ ys) r.1)
 
-pub stops-at : (I : Scope → InterfaceId → List Decl → Type 0) (R : Scope → InterfaceId → EncodeFault → Type 0) (c : Collection) (it : Interface) (start now : Scope) (order : List (Name × ItemKind)) (i : ℕ) (n : Name) (k : ItemKind) (e : EncodeFault) → slice_get order i ≡ Some (n, k) → SoFar I c it start now order i → IsItemRefused {A = Unit {0}} I R c n k now (Err e) → IsStopped I R c start order e
-stops-at I R c it start now order i n k e at so_far refused = let r = split-at order i (n, k) at in record {
+pub stops-at : (I : Scope → InterfaceId → List Decl → Type 0) (R : Scope → InterfaceId → EncodeFault → Type 0) (ws : Worlds) (c : Collection) (it : Interface) (start now : Scope) (order : List (Name × ItemKind)) (i : ℕ) (n : Name) (k : ItemKind) (e : EncodeFault) → slice_get order i ≡ Some (n, k) → SoFar I ws c it start now order i → IsItemRefused {A = Unit {0}} I R ws c n k now (Err e) → IsStopped I R ws c start order e
+stops-at I R ws c it start now order i n k e at so_far refused = let r = split-at order i (n, k) at in record {
   before = take i order;
   name = n;
   item = k;
@@ -256,11 +270,11 @@ pub written-content : (x y : Encodable) (ds : List Decl) → y ≡ x → y ≡ I
 written-content x y ds same is = sym same ∙ is
 
 -- the whole
-pub says-interface : (c : Collection) (P : InterfaceId → Bool) → IsWellFormed c → OpensOver → HoldsInterface → ClosesInstance → ListsInAnyOrder → (i : InterfaceId) (it : Interface) (around start s : Scope) (ds : List Decl) (order : List (Name × ItemKind)) → item_at c.interfaces i.0 ≡ Some it → are_plain P it.exports ≡ true → IsOpened c i around start → ((n : Name) → find_name order n ≡ find_name it.exports n) → HasListed c it start s order → s.content ≡ Instance ds → CanClose s.content → SaysInterface c around i ds
-says-interface c P wf over holds closes any i it around start s ds order at plain begun same had is imports m ms o os g =
+pub says-interface : (ws : Worlds) (c : Collection) (P : InterfaceId → Bool) → IsWellFormed c → OpensOver → HoldsInterface → ClosesInstance → ListsInAnyOrder → (i : InterfaceId) (it : Interface) (around start s : Scope) (ds : List Decl) (order : List (Name × ItemKind)) → item_at c.interfaces i.0 ≡ Some it → are_plain ws P it.exports ≡ true → IsOpened c i around start → ((n : Name) → find_name order n ≡ find_name it.exports n) → HasListed c it start s order → s.content ≡ Instance ds → CanClose s.content → SaysInterface c around i ds
+says-interface ws c P wf over holds closes any i it around start s ds order at plain begun same had is imports m ms o os g =
     let out : Open = opened around o in
     let inner : Open = record (opening (has_own c it)) { memo = recorded_type s } in
-    let first = starts-good c over P i it around start plain begun m ms o os g in
+    let first = starts-good ws c over P i it around start plain begun m ms o os g in
     let h = subst (λ (x : Encodable). Good c (inside_interface c it m ∷ m ∷ ms) (record inner { content = content_of x } ∷ out ∷ os) × AreListed c (inside_interface c it m) exported order ((env (record inner { content = content_of x }) (env out (envs os) ∷ envs os)).exports)) is (had (m ∷ ms) (out ∷ os) first) in
     let items : Name → Tree = (env (declaring ds inner) (env out (envs os) ∷ envs os)).exports in
     let all : AreListed c (inside_interface c it m) exported it.exports items = any c (inside_interface c it m) exported order it.exports items h.1 (λ n. sym (same n)) in

@@ -9,6 +9,7 @@ use Rattle.wac_shapes.specs.declared.component.ItemKind.{ItemKind}
 use Rattle.wac_shapes.specs.declared.component.ItemKind.TheVariants as kind
 use Rattle.wac_primitives.specs.declared.component.PrimitiveType.{PrimitiveType}
 use Rattle.wac_shapes.specs.declared.component.ResourceId.{ResourceId}
+use Rattle.wac_shapes.specs.declared.component.WorldId.{WorldId}
 use Rattle.wac_shapes.specs.declared.component.ValueType.{ValueType}
 use Rattle.wac_shapes.specs.declared.component.ValueType.TheVariants as val
 use Rattle.wac_shapes.specs.declared.component.«Type».TheVariants as ty
@@ -28,7 +29,9 @@ use Rattle.wac_scopes.specs.Contents.{and_type, and_export, count, ContentFits}
 use Rattle.wac_stacks.specs.Laws.{StaysOnward}
 use Rattle.wac_scopes.specs.Scoped.{type_index, value_index, named_at, by_index, in_use, HasToo, AddsPrimitive, ListsValue, WritesUnlessTooLarge, FitsUnlessTooLarge, listing}
 use Rattle.wac_listing.specs.Made.{interface_of, itself}
+use Rattle.wac_encode.specs.declared.worlds.Worlds.{Worlds}
 use Rattle.wac_encode.specs.Written.{PartOf, WritesFor, HasHandle, IsHandle, IsByRecord, IsRefused, IsOfFunc, AddsHeldFunc, IsFuncAt, IsFuncRefused}
+use Rattle.wac_encode.specs.Worlds.{IsWorldTypeAt, IsWorldTypeRefused}
 use Rattle.wac_encode.specs.Listing.{NeededBy, own_types, one_if_primitive, IsListedAt, IsDescribed, IsItemDescribed, SameRecords, IsNamedOnce, NamesValue, WritesItem, PrimitiveDoesNotFit, IsItemRefused}
 use Rattle.wac_encode.specs.Items.{nothing_inside, none_refused}
 use Rattle.wac_encode.specs.Levels.{described_by}
@@ -53,8 +56,8 @@ primitive-behind c old now v p k is adds same = subst (λ (w : ValueType). Write
 pub primitive-described : (c : Collection) (old now : Scope) (v : ValueType) (p : PrimitiveType) (k : ℕ) → value_resolved c v ≡ val.Primitive p → AddsPrimitive old now p k → now ≡ record old { content = and_type old.content (value_def (primitive_def p)) } → k ≡ count (space sort.«Type») old.content → IsDescribed c old now (kind.TypeItem (ty.Value v)) (e.Equal k)
 primitive-described c old now v p k is adds same index = subst (λ (w : ValueType). IsListedAt old now w k) (sym is) (adds, ap (λ (s : Scope). s.content) same, index)
 
-pub primitive-wrote : (c : Collection) (old now new : Scope) (n : Name) (v : ValueType) (p : PrimitiveType) (k : ℕ) → value_resolved c v ≡ val.Primitive p → AddsPrimitive old now p k → now ≡ record old { content = and_type old.content (value_def (primitive_def p)) } → k ≡ count (space sort.«Type») old.content → new ≡ record now { content = and_export now.content n (e.Equal k) } → WritesItem nothing_inside c old new n (kind.TypeItem (ty.Value v))
-primitive-wrote c old now new n v p k is adds same index lists = record {
+pub primitive-wrote : (ws : Worlds) (c : Collection) (old now new : Scope) (n : Name) (v : ValueType) (p : PrimitiveType) (k : ℕ) → value_resolved c v ≡ val.Primitive p → AddsPrimitive old now p k → now ≡ record old { content = and_type old.content (value_def (primitive_def p)) } → k ≡ count (space sort.«Type») old.content → new ≡ record now { content = and_export now.content n (e.Equal k) } → WritesItem nothing_inside ws c old new n (kind.TypeItem (ty.Value v))
+primitive-wrote ws c old now new n v p k is adds same index lists = record {
   now = now;
   behind = primitive-behind c old now v p k is adds same;
   description = e.Equal k;
@@ -69,8 +72,8 @@ definition-behind c old now v d is w = subst (λ (u : ValueType). WritesFor c (o
 pub definition-described : (c : Collection) (old now : Scope) (v : ValueType) (d : DefinedTypeId) (k : ℕ) → value_resolved c v ≡ val.Defined d → value_index now d ≡ Some k → IsDescribed c old now (kind.TypeItem (ty.Value v)) (e.Equal k)
 definition-described c old now v d k is at = subst (λ (w : ValueType). IsListedAt old now w k) (sym is) at
 
-pub second-wrote : (c : Collection) → StaysOnward → (old new : Scope) (n : Name) (v : ValueType) (d : DefinedTypeId) (k : ℕ) → value_resolved c v ≡ val.Defined d → value_index old d ≡ Some k → new ≡ record old { content = and_export old.content n (e.Equal k) } → WritesItem nothing_inside c old new n (kind.TypeItem (ty.Value v))
-second-wrote c stays old new n v d k is at lists = record {
+pub second-wrote : (ws : Worlds) (c : Collection) → StaysOnward → (old new : Scope) (n : Name) (v : ValueType) (d : DefinedTypeId) (k : ℕ) → value_resolved c v ≡ val.Defined d → value_index old d ≡ Some k → new ≡ record old { content = and_export old.content n (e.Equal k) } → WritesItem nothing_inside ws c old new n (kind.TypeItem (ty.Value v))
+second-wrote ws c stays old new n v d k is at lists = record {
   now = old;
   behind = definition-behind c old old v d is (writes-none c stays (PartOf c (value_resolved c v)) old old (as-it-was old));
   description = e.Equal k;
@@ -86,8 +89,8 @@ still-described c stays s v d k is at = (writes-none c stays (PartOf c (value_re
 same-index : (s : Scope) (d : DefinedTypeId) (k i : ℕ) → value_index s d ≡ Some k → value_index s d ≡ Some i → k ≡ i
 same-index s d k i one two = let both : Some k ≡ Some i = sym one ∙ two in cc
 
-pub first-wrote : (c : Collection) (old now new : Scope) (n : Name) (v : ValueType) (d : DefinedTypeId) (k j : ℕ) → value_resolved c v ≡ val.Defined d → value_index old d ≡ None → WritesFor c 0 (PartOf c (value_resolved c v)) old now → value_index now d ≡ Some k → new.content ≡ and_export now.content n (e.Equal k) → j ≡ count (space sort.«Type») now.content → HasToo now (ty.Value (val.Defined d)) j new → named_at new d ≡ Some j → ListsValue now new n d k j → WritesItem nothing_inside c old new n (kind.TypeItem (ty.Value v))
-first-wrote c old now new n v d k j is none w at appended own too name lists = record {
+pub first-wrote : (ws : Worlds) (c : Collection) (old now new : Scope) (n : Name) (v : ValueType) (d : DefinedTypeId) (k j : ℕ) → value_resolved c v ≡ val.Defined d → value_index old d ≡ None → WritesFor c 0 (PartOf c (value_resolved c v)) old now → value_index now d ≡ Some k → new.content ≡ and_export now.content n (e.Equal k) → j ≡ count (space sort.«Type») now.content → HasToo now (ty.Value (val.Defined d)) j new → named_at new d ≡ Some j → ListsValue now new n d k j → WritesItem nothing_inside ws c old new n (kind.TypeItem (ty.Value v))
+first-wrote ws c old now new n v d k j is none w at appended own too name lists = record {
   now = now;
   behind = definition-behind c old now v d is w;
   description = e.Equal k;
@@ -96,8 +99,8 @@ first-wrote c old now new n v d k j is none w at appended own too name lists = r
   named = subst (λ (u : ValueType). NamesValue old now new n u) (sym is) (subst (λ (o : Option ℕ). IsNamedOnce o now new n d) (sym none) (j, own, too, name, λ i also. subst (λ (i' : ℕ). ListsValue now new n d i' j) (same-index now d k i at also) lists));
 }
 
-pub function-wrote : (c : Collection) (old now new : Scope) (n : Name) (f : FuncTypeId) (k : ℕ) → WritesFor c 0 (IsOfFunc c f) old now → AddsHeldFunc c old now f k → IsFuncAt c f old now k → new ≡ record now { content = and_export now.content n (e.Func k) } → WritesItem nothing_inside c old new n (kind.Func f)
-function-wrote c old now new n f k w adds there lists = record {
+pub function-wrote : (ws : Worlds) (c : Collection) (old now new : Scope) (n : Name) (f : FuncTypeId) (k : ℕ) → WritesFor c 0 (IsOfFunc c f) old now → AddsHeldFunc c old now f k → IsFuncAt c f old now k → new ≡ record now { content = and_export now.content n (e.Func k) } → WritesItem nothing_inside ws c old new n (kind.Func f)
+function-wrote ws c old now new n f k w adds there lists = record {
   now = now;
   behind = w;
   description = e.Func k;
@@ -106,8 +109,8 @@ function-wrote c old now new n f k w adds there lists = record {
   named = same-records now new n (e.Func k) lists;
 }
 
-pub function-type-wrote : (c : Collection) (old now new : Scope) (n : Name) (f : FuncTypeId) (k : ℕ) → WritesFor c 0 (IsOfFunc c f) old now → AddsHeldFunc c old now f k → IsFuncAt c f old now k → new ≡ record now { content = and_export now.content n (e.Equal k) } → WritesItem nothing_inside c old new n (kind.TypeItem (ty.Func f))
-function-type-wrote c old now new n f k w adds there lists = record {
+pub function-type-wrote : (ws : Worlds) (c : Collection) (old now new : Scope) (n : Name) (f : FuncTypeId) (k : ℕ) → WritesFor c 0 (IsOfFunc c f) old now → AddsHeldFunc c old now f k → IsFuncAt c f old now k → new ≡ record now { content = and_export now.content n (e.Equal k) } → WritesItem nothing_inside ws c old new n (kind.TypeItem (ty.Func f))
+function-type-wrote ws c old now new n f k w adds there lists = record {
   now = now;
   behind = w;
   description = e.Equal k;
@@ -116,58 +119,73 @@ function-type-wrote c old now new n f k w adds there lists = record {
   named = same-records now new n (e.Equal k) lists;
 }
 
+pub world-type-wrote : (ws : Worlds) (c : Collection) (old now new : Scope) (n : Name) (w : WorldId) (k : ℕ) → WritesFor c 0 (NeededBy c (kind.TypeItem (ty.World w))) old now → IsWorldTypeAt ws old now w k → new ≡ record now { content = and_export now.content n (e.Equal k) } → WritesItem nothing_inside ws c old new n (kind.TypeItem (ty.World w))
+world-type-wrote ws c old now new n w k behind there lists = record {
+  now = now;
+  behind = behind;
+  description = e.Equal k;
+  described = there;
+  appended = declared-so now new n (e.Equal k) lists;
+  named = same-records now new n (e.Equal k) lists;
+}
+
 -- refusals
 
-pub primitive-refused : (A B : Type 0) (c : Collection) → StaysOnward → (old : Scope) (n : Name) (v : ValueType) (p : PrimitiveType) (f : EncodeFault) → value_resolved c v ≡ val.Primitive p → WritesUnlessTooLarge {A = A} (Err f) (ContentFits (and_type old.content (value_def (primitive_def p)))) → IsItemRefused {A = B} nothing_inside none_refused c n (kind.TypeItem (ty.Value v)) old (Err f)
-primitive-refused A B c stays old n v p (fault.Write g) is h = absurd h
-primitive-refused A B c stays old n v p fault.TooLarge is h = record {
+pub primitive-refused : (A B : Type 0) (ws : Worlds) (c : Collection) → StaysOnward → (old : Scope) (n : Name) (v : ValueType) (p : PrimitiveType) (f : EncodeFault) → value_resolved c v ≡ val.Primitive p → WritesUnlessTooLarge {A = A} (Err f) (ContentFits (and_type old.content (value_def (primitive_def p)))) → IsItemRefused {A = B} nothing_inside none_refused ws c n (kind.TypeItem (ty.Value v)) old (Err f)
+primitive-refused A B ws c stays old n v p (fault.Write g) is h = absurd h
+primitive-refused A B ws c stays old n v p fault.TooLarge is h = record {
   scope = old;
   types = 0;
   behind = writes-none c stays (NeededBy c (kind.TypeItem (ty.Value v))) old old (as-it-was old);
   large = inl (inr (subst (λ (w : ValueType). PrimitiveDoesNotFit w old) (sym is) h));
 }
-primitive-refused A B c stays old n v p fault.OutOfMemory is h = tt
+primitive-refused A B ws c stays old n v p fault.OutOfMemory is h = tt
 
 -- where the item does not fit
-pub export-refused : (A B : Type 0) (c : Collection) (old now : Scope) (n : Name) (k : ItemKind) (types : ℕ) (d : Description) (f : EncodeFault) → WritesFor c types (NeededBy c k) old now → IsItemDescribed nothing_inside c old now k d → FitsUnlessTooLarge {A = A} (Err f) (ContentFits (and_export now.content n d)) → IsItemRefused {A = B} nothing_inside none_refused c n k old (Err f)
-export-refused A B c old now n k types d (fault.Write g) w described h = absurd h
-export-refused A B c old now n k types d fault.TooLarge w described h = record {
+pub export-refused : (A B : Type 0) (ws : Worlds) (c : Collection) (old now : Scope) (n : Name) (k : ItemKind) (types : ℕ) (d : Description) (f : EncodeFault) → WritesFor c types (NeededBy c k) old now → IsItemDescribed nothing_inside ws c old now k d → FitsUnlessTooLarge {A = A} (Err f) (ContentFits (and_export now.content n d)) → IsItemRefused {A = B} nothing_inside none_refused ws c n k old (Err f)
+export-refused A B ws c old now n k types d (fault.Write g) w described h = absurd h
+export-refused A B ws c old now n k types d fault.TooLarge w described h = record {
   scope = now;
   types = types;
   behind = w;
   large = inr (d, described, h);
 }
-export-refused A B c old now n k types d fault.OutOfMemory w described h = tt
+export-refused A B ws c old now n k types d fault.OutOfMemory w described h = tt
 
-pub value-item-refused : (A B : Type 0) (c : Collection) (old now : Scope) (n : Name) (v : ValueType) (f : EncodeFault) → WritesFor c 0 (PartOf c (value_resolved c v)) old now → IsRefused {A = A} c (PartOf c (value_resolved c v)) now (Err f) → IsItemRefused {A = B} nothing_inside none_refused c n (kind.TypeItem (ty.Value v)) old (Err f)
-value-item-refused A B c old now n v (fault.Write g) w h = h
-value-item-refused A B c old now n v fault.TooLarge w h = record { scope = now; types = 0; behind = w; large = inl (inl h) }
-value-item-refused A B c old now n v fault.OutOfMemory w h = tt
+pub value-item-refused : (A B : Type 0) (ws : Worlds) (c : Collection) (old now : Scope) (n : Name) (v : ValueType) (f : EncodeFault) → WritesFor c 0 (PartOf c (value_resolved c v)) old now → IsRefused {A = A} c (PartOf c (value_resolved c v)) now (Err f) → IsItemRefused {A = B} nothing_inside none_refused ws c n (kind.TypeItem (ty.Value v)) old (Err f)
+value-item-refused A B ws c old now n v (fault.Write g) w h = h
+value-item-refused A B ws c old now n v fault.TooLarge w h = record { scope = now; types = 0; behind = w; large = inl (inl h) }
+value-item-refused A B ws c old now n v fault.OutOfMemory w h = tt
 
-pub function-item-refused : (A B : Type 0) (c : Collection) (old now : Scope) (n : Name) (g : FuncTypeId) (f : EncodeFault) → WritesFor c 0 (IsOfFunc c g) old now → IsFuncRefused {A = A} c g now (Err f) → IsItemRefused {A = B} nothing_inside none_refused c n (kind.Func g) old (Err f)
-function-item-refused A B c old now n g (fault.Write h) w refused = refused
-function-item-refused A B c old now n g fault.TooLarge w refused = record { scope = now; types = 0; behind = w; large = inl refused }
-function-item-refused A B c old now n g fault.OutOfMemory w refused = tt
+pub function-item-refused : (A B : Type 0) (ws : Worlds) (c : Collection) (old now : Scope) (n : Name) (g : FuncTypeId) (f : EncodeFault) → WritesFor c 0 (IsOfFunc c g) old now → IsFuncRefused {A = A} c g now (Err f) → IsItemRefused {A = B} nothing_inside none_refused ws c n (kind.Func g) old (Err f)
+function-item-refused A B ws c old now n g (fault.Write h) w refused = refused
+function-item-refused A B ws c old now n g fault.TooLarge w refused = record { scope = now; types = 0; behind = w; large = inl refused }
+function-item-refused A B ws c old now n g fault.OutOfMemory w refused = tt
 
-pub function-type-refused : (A B : Type 0) (c : Collection) (old now : Scope) (n : Name) (g : FuncTypeId) (f : EncodeFault) → WritesFor c 0 (IsOfFunc c g) old now → IsFuncRefused {A = A} c g now (Err f) → IsItemRefused {A = B} nothing_inside none_refused c n (kind.TypeItem (ty.Func g)) old (Err f)
-function-type-refused A B c old now n g (fault.Write h) w refused = refused
-function-type-refused A B c old now n g fault.TooLarge w refused = record { scope = now; types = 0; behind = w; large = inl refused }
-function-type-refused A B c old now n g fault.OutOfMemory w refused = tt
+pub function-type-refused : (A B : Type 0) (ws : Worlds) (c : Collection) (old now : Scope) (n : Name) (g : FuncTypeId) (f : EncodeFault) → WritesFor c 0 (IsOfFunc c g) old now → IsFuncRefused {A = A} c g now (Err f) → IsItemRefused {A = B} nothing_inside none_refused ws c n (kind.TypeItem (ty.Func g)) old (Err f)
+function-type-refused A B ws c old now n g (fault.Write h) w refused = refused
+function-type-refused A B ws c old now n g fault.TooLarge w refused = record { scope = now; types = 0; behind = w; large = inl refused }
+function-type-refused A B ws c old now n g fault.OutOfMemory w refused = tt
+
+pub world-type-refused : (A B : Type 0) (ws : Worlds) (c : Collection) → StaysOnward → (old : Scope) (n : Name) (w : WorldId) (f : EncodeFault) → IsWorldTypeRefused {A = A} ws w old (Err f) → IsItemRefused {A = B} nothing_inside none_refused ws c n (kind.TypeItem (ty.World w)) old (Err f)
+world-type-refused A B ws c stays old n w (fault.Write g) h = absurd h
+world-type-refused A B ws c stays old n w fault.TooLarge h = record { scope = old; types = 0; behind = writes-none c stays (NeededBy c (kind.TypeItem (ty.World w))) old old (as-it-was old); large = inl h }
+world-type-refused A B ws c stays old n w fault.OutOfMemory h = tt
 
 -- an item whose interface's instance type is written already
 
-pub interface-described : (c : Collection) (s : Scope) (x : ItemKind) (i : InterfaceId) (k : ℕ) → interface_of x ≡ Some i → type_index s (ty.Interface i) ≡ Some k → IsItemDescribed nothing_inside c s s x (described_by x k)
-interface-described c s x i k of at = one-described x i of nothing_inside c s s k (interface-at-there nothing_inside c s i k at)
+pub interface-described : (ws : Worlds) (c : Collection) (s : Scope) (x : ItemKind) (i : InterfaceId) (k : ℕ) → interface_of x ≡ Some i → type_index s (ty.Interface i) ≡ Some k → IsItemDescribed nothing_inside ws c s s x (described_by x k)
+interface-described ws c s x i k of at = one-described x i of nothing_inside ws c s s k (interface-at-there nothing_inside c s i k at)
 
 pub interface-behind : (c : Collection) → StaysOnward → (s : Scope) (x : ItemKind) (i : InterfaceId) → interface_of x ≡ Some i → WritesFor c 0 (NeededBy c x) s s
 interface-behind c stays s x i of = one-needed x i of c 0 s s (writes-none c stays (NeededBy c (kind.Instance i)) s s (as-it-was s))
 
-pub interface-wrote : (c : Collection) → StaysOnward → (old new : Scope) (n : Name) (x : ItemKind) (i : InterfaceId) (k : ℕ) → interface_of x ≡ Some i → type_index old (ty.Interface i) ≡ Some k → new ≡ record old { content = and_export old.content n (described_by x k) } → WritesItem nothing_inside c old new n x
-interface-wrote c stays old new n x i k of at lists = record {
+pub interface-wrote : (ws : Worlds) (c : Collection) → StaysOnward → (old new : Scope) (n : Name) (x : ItemKind) (i : InterfaceId) (k : ℕ) → interface_of x ≡ Some i → type_index old (ty.Interface i) ≡ Some k → new ≡ record old { content = and_export old.content n (described_by x k) } → WritesItem nothing_inside ws c old new n x
+interface-wrote ws c stays old new n x i k of at lists = record {
   now = old;
   behind = one-behind x i of c old old (writes-none c stays (NeededBy c (kind.Instance i)) old old (as-it-was old));
   description = described_by x k;
-  described = interface-described c old x i k of at;
+  described = interface-described ws c old x i k of at;
   appended = declared-so old new n (described_by x k) lists;
   named = one-named x i of c old old new n (same-records old new n (described_by x k) lists);
 }

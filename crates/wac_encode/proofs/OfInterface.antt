@@ -13,6 +13,7 @@ use Rattle.wac_scopes.specs.declared.fault.EncodeFault.{EncodeFault}
 use Rattle.wac_scopes.specs.declared.fault.EncodeFault.TheVariants as fault
 use Rattle.wac_scopes.specs.declared.fault.WriteFault.{WriteFault}
 use Rattle.wac_scopes.specs.declared.scope.Scope.{Scope}
+use Rattle.wac_encode.specs.declared.worlds.Worlds.{Worlds}
 use Rattle.wac_encode.specs.Written.{WritesFor}
 use Rattle.wac_encode.specs.Listing.{is_plain, AliasesFor, NeededBy, own_types, IsInstanceTypeAt, IsItemDescribed, SameRecords, NamesItem, InsideDoesNotFit, ItemTypeDoesNotFit, IsFaultIn}
 use Rattle.wac_encode.specs.Instances.{AddsHeldInterface}
@@ -22,8 +23,8 @@ use Rattle.wac_encode.proofs.Listed.{instance-listed, interface-type-listed}
 
 module _ (k : ItemKind) (i : InterfaceId) (of : interface_of k ≡ Some i) where
   -- it is plain where the interface is
-  pub one-plain : (P : InterfaceId → Bool) → is_plain P k ≡ P i
-  one-plain P = by-interface (λ (x : ItemKind). is_plain P x ≡ P i) k i of refl refl
+  pub one-plain : (ws : Worlds) (P : InterfaceId → Bool) → is_plain ws P k ≡ P i
+  one-plain ws P = by-interface (λ (x : ItemKind). is_plain ws P x ≡ P i) k i of refl refl
 
   -- it needs what the interface needs, and no type of its own
   pub one-needed : (c : Collection) (n : ℕ) (old now : Scope) → WritesFor c n (NeededBy c (kind.Instance i)) old now → WritesFor c n (NeededBy c k) old now
@@ -32,8 +33,8 @@ module _ (k : ItemKind) (i : InterfaceId) (of : interface_of k ≡ Some i) where
   pub one-behind : (c : Collection) (old now : Scope) → WritesFor c 0 (NeededBy c (kind.Instance i)) old now → WritesFor c (own_types c k) (NeededBy c k) old now
   one-behind c old now w = by-interface (λ (x : ItemKind). WritesFor c (own_types c x) (NeededBy c x) old now) k i of w w
 
-  pub one-described : (I : Scope → InterfaceId → List Decl → Type 0) (c : Collection) (old now : Scope) (j : ℕ) → IsInstanceTypeAt I c old now i j → IsItemDescribed I c old now k (described_by k j)
-  one-described I c old now j h = by-interface (λ (x : ItemKind). IsItemDescribed I c old now x (described_by x j)) k i of h h
+  pub one-described : (I : Scope → InterfaceId → List Decl → Type 0) (ws : Worlds) (c : Collection) (old now : Scope) (j : ℕ) → IsInstanceTypeAt I c old now i j → IsItemDescribed I ws c old now k (described_by k j)
+  one-described I ws c old now j h = by-interface (λ (x : ItemKind). IsItemDescribed I ws c old now x (described_by x j)) k i of h h
 
   pub one-named : (c : Collection) (old now new : Scope) (n : Name) → SameRecords now new → NamesItem c old now new n k
   one-named c old now new n h = by-interface (NamesItem c old now new n) k i of h h
@@ -46,5 +47,5 @@ module _ (k : ItemKind) (i : InterfaceId) (of : interface_of k ≡ Some i) where
   pub one-fault : (R : Scope → InterfaceId → EncodeFault → Type 0) (c : Collection) (s : Scope) (f : WriteFault) → (t : Scope) × AliasesFor c i s t × R t i (fault.Write f) → IsFaultIn R c s k f
   one-fault R c s f h = by-interface (λ (x : ItemKind). IsFaultIn R c s x f) k i of h h
 
-  pub one-large : (I : Scope → InterfaceId → List Decl → Type 0) (R : Scope → InterfaceId → EncodeFault → Type 0) (c : Collection) (s : Scope) → InsideDoesNotFit I R c i s → ItemTypeDoesNotFit I R c k s
-  one-large I R c s h = by-interface (λ (x : ItemKind). ItemTypeDoesNotFit I R c x s) k i of h h
+  pub one-large : (I : Scope → InterfaceId → List Decl → Type 0) (R : Scope → InterfaceId → EncodeFault → Type 0) (ws : Worlds) (c : Collection) (s : Scope) → InsideDoesNotFit I R c i s → ItemTypeDoesNotFit I R ws c k s
+  one-large I R ws c s h = by-interface (λ (x : ItemKind). ItemTypeDoesNotFit I R ws c x s) k i of h h

@@ -18,6 +18,7 @@ use Rattle.wac_binary.specs.Items.{Decl}
 use Rattle.wac_scopes.specs.declared.scope.Listed.{Listed}
 use Rattle.wac_scopes.specs.declared.scope.Scope.{Scope}
 use Rattle.wac_scopes.specs.Scoped.{value_index, named_at, listed_at, HasToo}
+use Rattle.wac_encode.specs.declared.worlds.Worlds.{Worlds}
 use Rattle.wac_encode.specs.declared.level.Level.{Level}
 use Rattle.wac_planning.specs.declared.plan.Place.{Place}
 use Rattle.wac_encode.specs.Written.{WritesFor, name_after}
@@ -119,8 +120,8 @@ item-also M c old now new n (kind.Value x) h = same-also M c (kind.Value x) now 
 -- a level
 
 -- an item of its interface is listed
-pub placed-item : (Inside : Scope → InterfaceId → List Decl → Type 0) (c : Collection) (ps : List Place) (l m : Level) (n : Name) (k : ItemKind) → m.place ≡ l.place → m.interface ≡ l.interface → (p : ℕ) → slice_get (interface_exports c l.interface) p ≡ Some (n, k) → WritesItem Inside c l.scope m.scope n k → IsAtPlace c ps l → IsAtPlace c ps m
-placed-item Inside c ps l m n k place_ same p at wrote x = record {
+pub placed-item : (Inside : Scope → InterfaceId → List Decl → Type 0) (ws : Worlds) (c : Collection) (ps : List Place) (l m : Level) (n : Name) (k : ItemKind) → m.place ≡ l.place → m.interface ≡ l.interface → (p : ℕ) → slice_get (interface_exports c l.interface) p ≡ Some (n, k) → WritesItem Inside ws c l.scope m.scope n k → IsAtPlace c ps l → IsAtPlace c ps m
+placed-item Inside ws c ps l m n k place_ same p at wrote x = record {
   place = x.place;
   at = ap (slice_get ps) place_ ∙ x.at;
   is = x.is ∙ sym same;

@@ -1,5 +1,5 @@
 -- An interface and those inside, of which instances are listed, or which are listed as type items.
-use Rattle.std.specs.Prelude.{ℕ, zero, suc, ◌≡◌, Bool, true, List, [], ◌∷◌, Some, slice_get}
+use Rattle.std.specs.Prelude.{ℕ, zero, suc, ◌≡◌, Bool, true, List, [], ◌∷◌, None, Some, slice_get}
 use Rattle.wac_primitives.specs.Name.{Name, option_case}
 use Rattle.wac_shapes.specs.Named.{NoNameTwice}
 use Rattle.wac_shapes.specs.declared.component.Interface.{Interface}
@@ -11,6 +11,7 @@ use Rattle.wac_collection.specs.Collection.{Collection, HasInterface, holds_type
 use Rattle.wac_listing.specs.Made.{interface_of}
 use Rattle.wac_reach.specs.Found.{with_all}
 use Rattle.wac_reach.specs.Reach.{IsIn}
+use Rattle.wac_encode.specs.declared.worlds.Worlds.{Worlds}
 use Rattle.wac_encode.specs.Listing.{is_plain, are_plain}
 
 -- an interface is so many levels inside another, where one that is a level less lists an instance of it, or it as a type item; at none it is that itself
@@ -27,17 +28,21 @@ pub record AreInside (c : Collection) (i : InterfaceId) (ts : List AnyType) : Ty
   pub all : (j : InterfaceId) → IsInside c i j → IsIn (ty.Interface j) ts
   pub once : (j : InterfaceId) → IsIn (ty.Interface j) ts → NoNameTwice (interface_exports c j)
 
--- whether an item is of a sort that is written, or that no instance type can list, whatever is inside its interface
-abbrev pub is_plain_alone : ItemKind → Bool
-is_plain_alone k = is_plain (λ i. true) k
+-- no item is an instance or a type item of an interface
+abbrev pub HasNoneInside : List (Name × ItemKind) → Type 0
+HasNoneInside es = (k : ℕ) (e : Name × ItemKind) → slice_get es k ≡ Some e → interface_of e.1 ≡ None
 
-abbrev pub are_plain_alone : List (Name × ItemKind) → Bool
-are_plain_alone es = are_plain (λ i. true) es
+-- whether an item is of a sort that is written, or that no instance type can list, whatever is inside its interface
+abbrev pub is_plain_alone : Worlds → ItemKind → Bool
+is_plain_alone ws k = is_plain ws (λ i. true) k
+
+abbrev pub are_plain_alone : Worlds → List (Name × ItemKind) → Bool
+are_plain_alone ws es = are_plain ws (λ i. true) es
 
 -- and whether all items of an interface are
-abbrev pub lists_plain_alone : Collection → AnyType → Bool
-lists_plain_alone c (ty.Interface i) = are_plain_alone (interface_exports c i)
-lists_plain_alone c t = true
+abbrev pub lists_plain_alone : Worlds → Collection → AnyType → Bool
+lists_plain_alone ws c (ty.Interface i) = are_plain_alone ws (interface_exports c i)
+lists_plain_alone ws c t = true
 
 -- the interface of an item too, and those of items, each once
 abbrev pub and_inside : List AnyType → ItemKind → List AnyType

@@ -19,6 +19,7 @@ use Rattle.wac_stacks.specs.Good.{IsHeld, Good}
 use Rattle.wac_stacks.specs.Laws.{Adds}
 use Rattle.wac_scopes.specs.Scoped.{type_index, opened, listing}
 use Rattle.wac_planning.specs.Listed.{listed_definition}
+use Rattle.wac_encode.specs.declared.worlds.Worlds.{Worlds}
 use Rattle.wac_encode.specs.Listing.{AliasesFor, WritesInterface, IsInstanceTypeAt, InsideDoesNotFit, IsInterfaceRefused}
 
 -- index k is the held interface's, in each stack that was good with the scope as the innermost; and that stack goes onward
@@ -27,8 +28,8 @@ AddsHeldInterface c old new i k = (m : Bindings) (ms : List Bindings) (o : Open)
     → (t : Tree) × IsHeld c m (ty.Interface i) t × IsInstance t × Adds c (m ∷ ms) (opened old o ∷ os) (opened new o ∷ os) k t
 
 -- index j is that of the interface's instance type: the recorded one, and nothing is written; else it was written last
-abbrev pub IsInterfaceAt : Collection → Scope → Scope → InterfaceId → ℕ → Type 0
-IsInterfaceAt c old now i j = IsInstanceTypeAt (WritesInterface c) c old now i j
+abbrev pub IsInterfaceAt : Worlds → Collection → Scope → Scope → InterfaceId → ℕ → Type 0
+IsInterfaceAt ws c old now i j = IsInstanceTypeAt (WritesInterface ws c) c old now i j
 
 -- the definitions that items list, each with its name, the last first
 abbrev pub listed_definitions : Collection → List (Name × ItemKind) → List (DefinedTypeId × Name)
@@ -36,19 +37,19 @@ listed_definitions c [] = []
 listed_definitions c (e ∷ es) = listed_definitions c es ++ option_case (listed_definition c e.1) [] (λ d. (d, e.0) ∷ [])
 
 -- an interface is refused over a scope
-abbrev pub RefusesInterface : Collection → Scope → InterfaceId → EncodeFault → Type 0
-RefusesInterface c s i f = IsInterfaceRefused {A = Unit {0}} c s i (Err f)
+abbrev pub RefusesInterface : Worlds → Collection → Scope → InterfaceId → EncodeFault → Type 0
+RefusesInterface ws c s i f = IsInterfaceRefused {A = Unit {0}} ws c s i (Err f)
 
 -- what does not fit of an interface where the scope is this: an alias, an item, or the instance type
-abbrev pub InterfaceDoesNotFit : Collection → InterfaceId → Scope → Type 0
-InterfaceDoesNotFit c i s = InsideDoesNotFit (WritesInterface c) (RefusesInterface c) c i s
+abbrev pub InterfaceDoesNotFit : Worlds → Collection → InterfaceId → Scope → Type 0
+InterfaceDoesNotFit ws c i s = InsideDoesNotFit (WritesInterface ws c) (RefusesInterface ws c) c i s
 
 -- what stands where the interface is not written: behind some of its aliases, its fault, or something does not fit
-abbrev pub IsInstanceRefused : {A : Type 0} → Collection → InterfaceId → Scope → Result A EncodeFault → Type 0
-IsInstanceRefused c i old (Ok x) = Unit {0}
-IsInstanceRefused c i old (Err (fault.Write f)) = (s : Scope) × AliasesFor c i old s × RefusesInterface c s i (fault.Write f)
-IsInstanceRefused c i old (Err fault.TooLarge) = (s : Scope) × AliasesFor c i old s × InterfaceDoesNotFit c i s
-IsInstanceRefused c i old (Err fault.OutOfMemory) = Unit {0}
+abbrev pub IsInstanceRefused : {A : Type 0} → Worlds → Collection → InterfaceId → Scope → Result A EncodeFault → Type 0
+IsInstanceRefused ws c i old (Ok x) = Unit {0}
+IsInstanceRefused ws c i old (Err (fault.Write f)) = (s : Scope) × AliasesFor c i old s × RefusesInterface ws c s i (fault.Write f)
+IsInstanceRefused ws c i old (Err fault.TooLarge) = (s : Scope) × AliasesFor c i old s × InterfaceDoesNotFit ws c i s
+IsInstanceRefused ws c i old (Err fault.OutOfMemory) = Unit {0}
 
 -- a component type in which nothing is written and nothing recorded; so nothing has a name in it
 pub record IsBare (s : Scope) : Type 0 where

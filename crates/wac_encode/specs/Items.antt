@@ -18,6 +18,7 @@ use Rattle.wac_stacks.specs.Scopes.{Open, Stack, env, envs, opening}
 use Rattle.wac_stacks.specs.Good.{Good, top}
 use Rattle.wac_stacks.specs.Listed.{IsItem, IsNewName, Lists, AreListed, has_own}
 use Rattle.wac_scopes.specs.Scoped.{opened}
+use Rattle.wac_encode.specs.declared.worlds.Worlds.{Worlds}
 use Rattle.wac_encode.specs.Listing.{is_plain}
 
 -- good stacks in which nothing has the item's name list it
@@ -39,8 +40,8 @@ abbrev pub none_refused : Scope → InterfaceId → EncodeFault → Type 0
 none_refused s i e = ⊥
 
 -- an item can be listed, as far as it goes without what is inside of instances
-abbrev pub CanList : Collection → ItemKind → Type 0
-CanList c k = (holds_type c (kind_type k) ≡ true) × (is_plain (λ i. true) k ≡ true)
+abbrev pub CanList : Worlds → Collection → ItemKind → Type 0
+CanList ws c k = (holds_type c (kind_type k) ≡ true) × (is_plain ws (λ i. true) k ≡ true)
 
 -- the scope lists these items of the interface, over each stack that was good with what it was at the start as the innermost
 abbrev pub HasListed : Collection → Interface → Scope → Scope → List (Name × ItemKind) → Type 0

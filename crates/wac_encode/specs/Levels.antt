@@ -19,6 +19,7 @@ use Rattle.wac_scopes.specs.declared.scope.Scope.{Scope}
 use Rattle.wac_scopes.specs.Contents.{and_type, and_export, count, ContentFits}
 use Rattle.wac_scopes.specs.Scoped.{type_index, HasToo, AddsInstance, ListsInstanceOf, ListsType}
 use Rattle.wac_listing.specs.Made.{interface_of}
+use Rattle.wac_encode.specs.declared.worlds.Worlds.{Worlds}
 use Rattle.wac_encode.specs.declared.level.Level.{Level}
 use Rattle.wac_encode.specs.declared.level.Next.{Next}
 use Rattle.wac_encode.specs.declared.level.Next.TheVariants as step
@@ -26,10 +27,10 @@ use Rattle.wac_encode.specs.Listing.{lists_plain_to, IsOrder, AliasesFor, AllAli
 use Rattle.wac_encode.specs.Items.{CanClose, HasListed}
 
 -- what stands after some of the items of an interface
-pub record SoFar (Inside : Scope → InterfaceId → List Decl → Type 0) (c : Collection) (it : Interface) (start now : Scope) (order : List (Name × ItemKind)) (i : ℕ) : Type 0 where
+pub record SoFar (Inside : Scope → InterfaceId → List Decl → Type 0) (ws : Worlds) (c : Collection) (it : Interface) (start now : Scope) (order : List (Name × ItemKind)) (i : ℕ) : Type 0 where
   pub listed : HasListed c it start now (take i order)
   pub closes : CanClose now.content
-  pub written : WritesItems Inside c start (take i order) now
+  pub written : WritesItems Inside ws c start (take i order) now
 
 -- a level that was opened for an interface over a scope
 pub record IsBegun (c : Collection) (around : Scope) (i : InterfaceId) (l : Level) : Type 0 where
@@ -42,9 +43,9 @@ pub record IsBegun (c : Collection) (around : Scope) (i : InterfaceId) (l : Leve
   pub opened_ : IsOpened c i around l.scope
 
 -- a level for an interface over a scope, which holds interfaces in interfaces to this depth; its items before the next were listed when its scope was now
-pub record IsLevel (d : ℕ) (c : Collection) (around : Scope) (i : InterfaceId) (l : Level) (now : Scope) : Type 0 where
+pub record IsLevel (d : ℕ) (ws : Worlds) (c : Collection) (around : Scope) (i : InterfaceId) (l : Level) (now : Scope) : Type 0 where
   pub is : l.interface ≡ i
-  pub plain : lists_plain_to (suc d) c i ≡ true
+  pub plain : lists_plain_to (suc d) ws c i ≡ true
   pub before : IsBefore c (suc d) (ty.Interface i)
   pub interface : Interface
   pub found : item_at c.interfaces i.0 ≡ Some interface
@@ -52,12 +53,12 @@ pub record IsLevel (d : ℕ) (c : Collection) (around : Scope) (i : InterfaceId)
   pub ordered : IsOrder c interface.exports (named_pairs l.order.items)
   pub start : Scope
   pub opened_ : IsOpened c i around start
-  pub so_far : SoFar (WritesInterfaceTo d c) c interface start now (named_pairs l.order.items) l.next
+  pub so_far : SoFar (WritesInterfaceTo d ws c) ws c interface start now (named_pairs l.order.items) l.next
 
 -- it waits for the instance type of an interface inside, behind the aliases of that
-pub record IsWaiting (d : ℕ) (c : Collection) (around : Scope) (i : InterfaceId) (l : Level) (j : InterfaceId) : Type 0 where
+pub record IsWaiting (d : ℕ) (ws : Worlds) (c : Collection) (around : Scope) (i : InterfaceId) (l : Level) (j : InterfaceId) : Type 0 where
   pub now : Scope
-  pub level : IsLevel d c around i l now
+  pub level : IsLevel d ws c around i l now
   pub name : Name
   pub item : ItemKind
   pub here : slice_get (named_pairs l.order.items) l.next ≡ Some (name, item)
@@ -67,10 +68,10 @@ pub record IsWaiting (d : ℕ) (c : Collection) (around : Scope) (i : InterfaceI
   pub all : AllAliased c j now l.scope
 
 -- levels that wait, each for the next, and behind them the one that is written
-abbrev pub IsChain : ℕ → Collection → Scope → InterfaceId → List Level → Level → Type 0
-IsChain zero c around i ls l = ⊥
-IsChain (suc d) c around i [] l = IsLevel d c around i l l.scope
-IsChain (suc d) c around i (k ∷ ks) l = (j : InterfaceId) × IsWaiting d c around i k j × IsChain d c k.scope j ks l
+abbrev pub IsChain : ℕ → Worlds → Collection → Scope → InterfaceId → List Level → Level → Type 0
+IsChain zero ws c around i ls l = ⊥
+IsChain (suc d) ws c around i [] l = IsLevel d ws c around i l l.scope
+IsChain (suc d) ws c around i (k ∷ ks) l = (j : InterfaceId) × IsWaiting d ws c around i k j × IsChain d ws c k.scope j ks l
 
 -- what is next at a level
 abbrev pub IsNextOf : Level → Next → Type 0

@@ -1,5 +1,6 @@
 pub mod Written
 pub mod Tasks
+pub mod Worlds
 pub mod Listing
 pub mod Items
 pub mod Instances

@@ -36,6 +36,8 @@ use Rattle.wac_stacks.specs.Laws.{Adds}
 use Rattle.wac_scopes.specs.Scoped.{type_index, value_index, named_at, listed_at, and_listed, listing, opened, HasToo, AddsPrimitive, ListsValue}
 use Rattle.wac_listing.specs.Made.{OneItemIsMadeOf}
 use Rattle.wac_listing.specs.Order.{AreOrdered}
+use Rattle.wac_encode.specs.declared.worlds.Worlds.{Worlds}
+use Rattle.wac_encode.specs.Worlds.{is_written, IsOfWorld, IsWorldTypeAt, WorldDoesNotFit}
 use Rattle.wac_encode.specs.Written.{OfValue, PartOf, WritesFor, HasHandle, DoesNotFit, IsOfFunc, AddsHeldFunc, IsFuncAt, FuncDoesNotFit}
 
 -- closed, these declarations are the held interface, in each stack that is good with the scope around as the innermost, and that stack goes onward
@@ -44,27 +46,29 @@ SaysInterface c around i ds = (m : Bindings) (ms : List Bindings) (o : Open) (os
     → (t : Tree) × IsHeld c m (ty.Interface i) t × IsInstance t
     × Adds c (m ∷ ms) (opened around o ∷ os) (with_def (instance_def (decls ds)) (opened around o) ∷ os) (next_type (opened around o)) t
 
--- whether an item is of a sort that is written so far, or that no instance type can list; of instances and of type items of interfaces this tells of which
-abbrev pub is_plain : (InterfaceId → Bool) → ItemKind → Bool
-is_plain inside (kind.TypeItem (ty.Value v)) = true
-is_plain inside (kind.TypeItem (ty.Func f)) = true
-is_plain inside (kind.TypeItem (ty.Module m)) = true
-is_plain inside (kind.TypeItem (ty.Interface i)) = inside i
-is_plain inside (kind.TypeItem t) = false
-is_plain inside (kind.Instance i) = inside i
-is_plain inside k = true
+-- whether an item is of a sort that is written so far, or that no instance type can list; of instances and of type items of interfaces this tells of which,
+-- and of type items of worlds whether the component type is written
+abbrev pub is_plain : Worlds → (InterfaceId → Bool) → ItemKind → Bool
+is_plain ws inside (kind.TypeItem (ty.Value v)) = true
+is_plain ws inside (kind.TypeItem (ty.Func f)) = true
+is_plain ws inside (kind.TypeItem (ty.Module m)) = true
+is_plain ws inside (kind.TypeItem (ty.Interface i)) = inside i
+is_plain ws inside (kind.TypeItem (ty.World w)) = is_written ws w
+is_plain ws inside (kind.TypeItem t) = false
+is_plain ws inside (kind.Instance i) = inside i
+is_plain ws inside k = true
 
-abbrev pub are_plain : (InterfaceId → Bool) → List (Name × ItemKind) → Bool
-are_plain inside es = list_all (λ e. is_plain inside e.1) es
+abbrev pub are_plain : Worlds → (InterfaceId → Bool) → List (Name × ItemKind) → Bool
+are_plain ws inside es = list_all (λ e. is_plain ws inside e.1) es
 
 -- whether all items of an interface are, and those of the interfaces of instances and type items among them, to this depth of interfaces in interfaces
-abbrev pub lists_plain_to : ℕ → Collection → InterfaceId → Bool
-lists_plain_to zero c i = false
-lists_plain_to (suc d) c i = option_case (item_at c.interfaces i.0) true (λ it. are_plain (lists_plain_to d c) it.exports)
+abbrev pub lists_plain_to : ℕ → Worlds → Collection → InterfaceId → Bool
+lists_plain_to zero ws c i = false
+lists_plain_to (suc d) ws c i = option_case (item_at c.interfaces i.0) true (λ it. are_plain ws (lists_plain_to d ws c) it.exports)
 
 -- and to any: an interface lists those added before it alone, so that none are deeper than the collection is large
-abbrev pub lists_plain : Collection → InterfaceId → Bool
-lists_plain c i = lists_plain_to (size c) c i
+abbrev pub lists_plain : Worlds → Collection → InterfaceId → Bool
+lists_plain ws c i = lists_plain_to (size c) ws c i
 
 -- whether an item is a type item
 abbrev pub is_type : ItemKind → Bool
@@ -128,6 +132,7 @@ abbrev pub NeededBy : Collection → ItemKind → AnyType → Type 0
 NeededBy c (kind.TypeItem (ty.Value v)) = PartOf c (value_resolved c v)
 NeededBy c (kind.TypeItem (ty.Func f)) = IsOfFunc c f
 NeededBy c (kind.TypeItem (ty.Interface i)) = IsOfInterface c i
+NeededBy c (kind.TypeItem (ty.World w)) = IsOfWorld w
 NeededBy c (kind.Func f) = IsOfFunc c f
 NeededBy c (kind.Instance i) = IsOfInterface c i
 NeededBy c k = λ a. ⊥
@@ -175,11 +180,12 @@ IsInstanceTypeFrom None Inside c old now i j = EndsWithInstanceType Inside c old
 abbrev pub IsInstanceTypeAt : (Scope → InterfaceId → List Decl → Type 0) → Collection → Scope → Scope → InterfaceId → ℕ → Type 0
 IsInstanceTypeAt Inside c old now i j = IsInstanceTypeFrom (type_index old (ty.Interface i)) Inside c old now i j
 
--- and of an instance or a type item of an interface, by an index of that one's instance type
-abbrev pub IsItemDescribed : (Scope → InterfaceId → List Decl → Type 0) → Collection → Scope → Scope → ItemKind → Description → Type 0
-IsItemDescribed Inside c old now (kind.Instance i) (e.Instance j) = IsInstanceTypeAt Inside c old now i j
-IsItemDescribed Inside c old now (kind.TypeItem (ty.Interface i)) (e.Equal j) = IsInstanceTypeAt Inside c old now i j
-IsItemDescribed Inside c old now k d = IsDescribed c old now k d
+-- and of an instance or a type item of an interface, by an index of that one's instance type, and of a type item of a world, by one of its component type
+abbrev pub IsItemDescribed : (Scope → InterfaceId → List Decl → Type 0) → Worlds → Collection → Scope → Scope → ItemKind → Description → Type 0
+IsItemDescribed Inside ws c old now (kind.Instance i) (e.Instance j) = IsInstanceTypeAt Inside c old now i j
+IsItemDescribed Inside ws c old now (kind.TypeItem (ty.Interface i)) (e.Equal j) = IsInstanceTypeAt Inside c old now i j
+IsItemDescribed Inside ws c old now (kind.TypeItem (ty.World w)) (e.Equal j) = IsWorldTypeAt ws old now w j
+IsItemDescribed Inside ws c old now k d = IsDescribed c old now k d
 
 -- the same is recorded, and listed, and has a name
 pub record SameRecords (old new : Scope) : Type 0 where
@@ -201,18 +207,18 @@ NamesItem c old now new n (kind.TypeItem (ty.Value v)) = NamesValue old now new 
 NamesItem c old now new n k = SameRecords now new
 
 -- From old to new, an item is listed: what it is made of is written first, once, where it is not written yet.
-pub record WritesItem (Inside : Scope → InterfaceId → List Decl → Type 0) (c : Collection) (old new : Scope) (n : Name) (k : ItemKind) : Type 0 where
+pub record WritesItem (Inside : Scope → InterfaceId → List Decl → Type 0) (ws : Worlds) (c : Collection) (old new : Scope) (n : Name) (k : ItemKind) : Type 0 where
   pub now : Scope
   pub behind : WritesFor c (own_types c k) (NeededBy c k) old now
   pub description : Description
-  pub described : IsItemDescribed Inside c old now k description
+  pub described : IsItemDescribed Inside ws c old now k description
   pub appended : new.content ≡ and_export now.content n description
   pub named : NamesItem c old now new n k
 
 -- items, one after the other
-abbrev pub WritesItems : (Scope → InterfaceId → List Decl → Type 0) → Collection → Scope → List (Name × ItemKind) → Scope → Type 0
-WritesItems Inside c old [] new = new ≡ old
-WritesItems Inside c old (e ∷ es) new = (now : Scope) × WritesItem Inside c old now e.0 e.1 × WritesItems Inside c now es new
+abbrev pub WritesItems : (Scope → InterfaceId → List Decl → Type 0) → Worlds → Collection → Scope → List (Name × ItemKind) → Scope → Type 0
+WritesItems Inside ws c old [] new = new ≡ old
+WritesItems Inside ws c old (e ∷ es) new = (now : Scope) × WritesItem Inside ws c old now e.0 e.1 × WritesItems Inside ws c now es new
 
 -- what has a name around is listed there
 abbrev pub around_at : Option ℕ → Option Listed
@@ -228,7 +234,7 @@ pub record IsOpened (c : Collection) (i : InterfaceId) (around s : Scope) : Type
   pub only : (d : DefinedTypeId) (l : Listed) → listed_at s d ≡ Some l → around_at (named_at around d) ≡ Some l
 
 -- the declarations list exactly the items of the interface, in order
-pub record WritesListed (Inside : Scope → InterfaceId → List Decl → Type 0) (c : Collection) (around : Scope) (i : InterfaceId) (ds : List Decl) : Type 0 where
+pub record WritesListed (Inside : Scope → InterfaceId → List Decl → Type 0) (ws : Worlds) (c : Collection) (around : Scope) (i : InterfaceId) (ds : List Decl) : Type 0 where
   pub interface : Interface
   pub found : item_at c.interfaces i.0 ≡ Some interface
   pub order : List (Name × ItemKind)
@@ -236,26 +242,26 @@ pub record WritesListed (Inside : Scope → InterfaceId → List Decl → Type 0
   pub start : Scope
   pub opened_ : IsOpened c i around start
   pub scope : Scope
-  pub written : WritesItems Inside c start order scope
+  pub written : WritesItems Inside ws c start order scope
   pub is : scope.content ≡ Instance ds
 
 -- and those of interfaces inside the same, to this depth of interfaces in interfaces
-abbrev pub WritesInterfaceTo : ℕ → Collection → Scope → InterfaceId → List Decl → Type 0
-WritesInterfaceTo zero c around i ds = ⊥
-WritesInterfaceTo (suc d) c around i ds = WritesListed (WritesInterfaceTo d c) c around i ds
+abbrev pub WritesInterfaceTo : ℕ → Worlds → Collection → Scope → InterfaceId → List Decl → Type 0
+WritesInterfaceTo zero ws c around i ds = ⊥
+WritesInterfaceTo (suc d) ws c around i ds = WritesListed (WritesInterfaceTo d ws c) ws c around i ds
 
 -- to some depth
-abbrev pub WritesInterface : Collection → Scope → InterfaceId → List Decl → Type 0
-WritesInterface c around i ds = (d : ℕ) × WritesInterfaceTo d c around i ds
+abbrev pub WritesInterface : Worlds → Collection → Scope → InterfaceId → List Decl → Type 0
+WritesInterface ws c around i ds = (d : ℕ) × WritesInterfaceTo d ws c around i ds
 
 -- and so where there are declarations
 abbrev pub SaysIfThere : Collection → Scope → InterfaceId → Option (List Decl) → Type 0
 SaysIfThere c around i None = Unit {0}
 SaysIfThere c around i (Some ds) = SaysInterface c around i ds
 
-abbrev pub WritesIfThere : Collection → Scope → InterfaceId → Option (List Decl) → Type 0
-WritesIfThere c around i None = Unit {0}
-WritesIfThere c around i (Some ds) = WritesInterface c around i ds
+abbrev pub WritesIfThere : Worlds → Collection → Scope → InterfaceId → Option (List Decl) → Type 0
+WritesIfThere ws c around i None = Unit {0}
+WritesIfThere ws c around i (Some ds) = WritesInterface ws c around i ds
 
 -- which of an item's types does not fit behind what is written
 abbrev pub PrimitiveDoesNotFit : ValueType → Scope → Type 0
@@ -276,28 +282,31 @@ InstanceDoesNotFit Inside i s = (ds : List Decl) × Inside s i ds × (ContentFit
 abbrev pub InsideDoesNotFit : (Scope → InterfaceId → List Decl → Type 0) → (Scope → InterfaceId → EncodeFault → Type 0) → Collection → InterfaceId → Scope → Type 0
 InsideDoesNotFit Inside Refused c i s = AliasDoesNotFit c i s ⊎ (Refused s i fault.TooLarge ⊎ InstanceDoesNotFit Inside i s)
 
-abbrev pub ItemTypeDoesNotFit : (Scope → InterfaceId → List Decl → Type 0) → (Scope → InterfaceId → EncodeFault → Type 0) → Collection → ItemKind → Scope → Type 0
-ItemTypeDoesNotFit Inside Refused c (kind.Instance i) s = InsideDoesNotFit Inside Refused c i s
-ItemTypeDoesNotFit Inside Refused c (kind.TypeItem (ty.Interface i)) s = InsideDoesNotFit Inside Refused c i s
-ItemTypeDoesNotFit Inside Refused c k s = TypeDoesNotFit c k s
+abbrev pub ItemTypeDoesNotFit : (Scope → InterfaceId → List Decl → Type 0) → (Scope → InterfaceId → EncodeFault → Type 0) → Worlds → Collection → ItemKind → Scope → Type 0
+ItemTypeDoesNotFit Inside Refused ws c (kind.Instance i) s = InsideDoesNotFit Inside Refused c i s
+ItemTypeDoesNotFit Inside Refused ws c (kind.TypeItem (ty.Interface i)) s = InsideDoesNotFit Inside Refused c i s
+ItemTypeDoesNotFit Inside Refused ws c (kind.TypeItem (ty.World w)) s = WorldDoesNotFit ws w s
+ItemTypeDoesNotFit Inside Refused ws c k s = TypeDoesNotFit c k s
 
 -- the item itself does not
-abbrev pub ExportDoesNotFit : (Scope → InterfaceId → List Decl → Type 0) → Collection → Name → ItemKind → Scope → Scope → Type 0
-ExportDoesNotFit Inside c n k old s = (d : Description) × IsItemDescribed Inside c old s k d × (ContentFits (and_export s.content n d) → ⊥)
+abbrev pub ExportDoesNotFit : (Scope → InterfaceId → List Decl → Type 0) → Worlds → Collection → Name → ItemKind → Scope → Scope → Type 0
+ExportDoesNotFit Inside ws c n k old s = (d : Description) × IsItemDescribed Inside ws c old s k d × (ContentFits (and_export s.content n d) → ⊥)
 
 -- behind some of what it is made of
-pub record ItemDoesNotFit (Inside : Scope → InterfaceId → List Decl → Type 0) (Refused : Scope → InterfaceId → EncodeFault → Type 0) (c : Collection) (n : Name) (k : ItemKind) (old : Scope) : Type 0 where
+pub record ItemDoesNotFit (Inside : Scope → InterfaceId → List Decl → Type 0) (Refused : Scope → InterfaceId → EncodeFault → Type 0) (ws : Worlds) (c : Collection) (n : Name) (k : ItemKind) (old : Scope) : Type 0 where
   pub scope : Scope
   pub types : ℕ
   pub behind : WritesFor c types (NeededBy c k) old scope
-  pub large : ItemTypeDoesNotFit Inside Refused c k scope ⊎ ExportDoesNotFit Inside c n k old scope
+  pub large : ItemTypeDoesNotFit Inside Refused ws c k scope ⊎ ExportDoesNotFit Inside ws c n k old scope
 
--- which fault stands at an item: a handle, whose resource nothing binds; a core module type; what an instance type cannot list
+-- which fault stands at an item: a handle, whose resource nothing binds; a core module type; what an instance type cannot list; none at a type item of a
+-- world, whose component type is written
 abbrev pub IsItemFault : Collection → ItemKind → WriteFault → Type 0
 IsItemFault c (kind.TypeItem (ty.Value v)) f = (f ≡ write.UnboundResource) × HasHandle (PartOf c (value_resolved c v))
 IsItemFault c (kind.TypeItem (ty.Func g)) f = (f ≡ write.UnboundResource) × HasHandle (IsOfFunc c g)
 IsItemFault c (kind.Func g) f = (f ≡ write.UnboundResource) × HasHandle (IsOfFunc c g)
 IsItemFault c (kind.TypeItem (ty.Module m)) f = f ≡ write.ModuleAsType
+IsItemFault c (kind.TypeItem (ty.World w)) f = ⊥
 IsItemFault c k f = f ≡ write.NestedItem
 
 -- of an instance or a type item of an interface, that of the first item of the interface that has one, behind some of the interface's aliases
@@ -307,40 +316,40 @@ IsFaultIn Refused c old (kind.TypeItem (ty.Interface i)) f = (s : Scope) × Alia
 IsFaultIn Refused c old k f = IsItemFault c k f
 
 -- what stands where an item is refused in a scope
-abbrev pub IsItemRefused : {A : Type 0} → (Scope → InterfaceId → List Decl → Type 0) → (Scope → InterfaceId → EncodeFault → Type 0) → Collection → Name → ItemKind → Scope → Result A EncodeFault → Type 0
-IsItemRefused Inside Refused c n k s (Ok x) = Unit {0}
-IsItemRefused Inside Refused c n k s (Err (fault.Write f)) = IsFaultIn Refused c s k f
-IsItemRefused Inside Refused c n k s (Err fault.TooLarge) = ItemDoesNotFit Inside Refused c n k s
-IsItemRefused Inside Refused c n k s (Err fault.OutOfMemory) = Unit {0}
+abbrev pub IsItemRefused : {A : Type 0} → (Scope → InterfaceId → List Decl → Type 0) → (Scope → InterfaceId → EncodeFault → Type 0) → Worlds → Collection → Name → ItemKind → Scope → Result A EncodeFault → Type 0
+IsItemRefused Inside Refused ws c n k s (Ok x) = Unit {0}
+IsItemRefused Inside Refused ws c n k s (Err (fault.Write f)) = IsFaultIn Refused c s k f
+IsItemRefused Inside Refused ws c n k s (Err fault.TooLarge) = ItemDoesNotFit Inside Refused ws c n k s
+IsItemRefused Inside Refused ws c n k s (Err fault.OutOfMemory) = Unit {0}
 
 -- an item is refused behind those before it
-pub record IsStopped (Inside : Scope → InterfaceId → List Decl → Type 0) (Refused : Scope → InterfaceId → EncodeFault → Type 0) (c : Collection) (start : Scope) (order : List (Name × ItemKind)) (e : EncodeFault) : Type 0 where
+pub record IsStopped (Inside : Scope → InterfaceId → List Decl → Type 0) (Refused : Scope → InterfaceId → EncodeFault → Type 0) (ws : Worlds) (c : Collection) (start : Scope) (order : List (Name × ItemKind)) (e : EncodeFault) : Type 0 where
   pub before : List (Name × ItemKind)
   pub name : Name
   pub item : ItemKind
   pub after : List (Name × ItemKind)
   pub split : order ≡ before ++ (name, item) ∷ after
   pub scope : Scope
-  pub written : WritesItems Inside c start before scope
-  pub refused : IsItemRefused {A = Unit {0}} Inside Refused c name item scope (Err e)
+  pub written : WritesItems Inside ws c start before scope
+  pub refused : IsItemRefused {A = Unit {0}} Inside Refused ws c name item scope (Err e)
 
 -- what stands where an interface is refused: the first of its items, in order, that is
-pub record HasRefusedItem (Inside : Scope → InterfaceId → List Decl → Type 0) (Refused : Scope → InterfaceId → EncodeFault → Type 0) (c : Collection) (around : Scope) (i : InterfaceId) (e : EncodeFault) : Type 0 where
+pub record HasRefusedItem (Inside : Scope → InterfaceId → List Decl → Type 0) (Refused : Scope → InterfaceId → EncodeFault → Type 0) (ws : Worlds) (c : Collection) (around : Scope) (i : InterfaceId) (e : EncodeFault) : Type 0 where
   pub interface : Interface
   pub found : item_at c.interfaces i.0 ≡ Some interface
   pub order : List (Name × ItemKind)
   pub ordered : IsOrder c interface.exports order
   pub start : Scope
   pub opened_ : IsOpened c i around start
-  pub stopped : IsStopped Inside Refused c start order e
+  pub stopped : IsStopped Inside Refused ws c start order e
 
 -- and so of interfaces inside, to this depth
-abbrev pub IsRefusedTo : ℕ → Collection → Scope → InterfaceId → EncodeFault → Type 0
-IsRefusedTo zero c around i e = ⊥
-IsRefusedTo (suc d) c around i e = HasRefusedItem (WritesInterfaceTo d c) (IsRefusedTo d c) c around i e
+abbrev pub IsRefusedTo : ℕ → Worlds → Collection → Scope → InterfaceId → EncodeFault → Type 0
+IsRefusedTo zero ws c around i e = ⊥
+IsRefusedTo (suc d) ws c around i e = HasRefusedItem (WritesInterfaceTo d ws c) (IsRefusedTo d ws c) ws c around i e
 
 -- to some depth; or memory was refused
-abbrev pub IsInterfaceRefused : {A : Type 0} → Collection → Scope → InterfaceId → Result A EncodeFault → Type 0
-IsInterfaceRefused c around i (Ok x) = Unit {0}
-IsInterfaceRefused c around i (Err fault.OutOfMemory) = Unit {0}
-IsInterfaceRefused c around i (Err e) = (d : ℕ) × IsRefusedTo d c around i e
+abbrev pub IsInterfaceRefused : {A : Type 0} → Worlds → Collection → Scope → InterfaceId → Result A EncodeFault → Type 0
+IsInterfaceRefused ws c around i (Ok x) = Unit {0}
+IsInterfaceRefused ws c around i (Err fault.OutOfMemory) = Unit {0}
+IsInterfaceRefused ws c around i (Err e) = (d : ℕ) × IsRefusedTo d ws c around i e

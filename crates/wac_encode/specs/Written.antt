@@ -101,11 +101,12 @@ abbrev pub missing_below : (ℕ → Option ℕ) → ℕ → ℕ
 missing_below at zero = 0
 missing_below at (suc n) = one_if_none (at n) + missing_below at n
 
--- how many definitions, function types and interfaces of the collection are not recorded
+-- how many definitions, function types, interfaces and worlds of the collection are not recorded
 abbrev pub unwritten : Collection → Scope → ℕ
 unwritten c s = missing_below (λ n. type_index s (ty.Value (val.Defined (record { 0 = n })))) (length c.defined)
     + missing_below (λ n. type_index s (ty.Func (record { 0 = n }))) (length c.funcs)
     + missing_below (λ n. type_index s (ty.Interface (record { 0 = n }))) (length c.interfaces)
+    + missing_below (λ n. type_index s (ty.World (record { 0 = n }))) (length c.worlds)
 
 -- what is said of value types, as said of types
 abbrev pub OfValue : (ValueType → Type 0) → AnyType → Type 0

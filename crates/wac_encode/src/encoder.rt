@@ -17,6 +17,7 @@ ghost use Rattle.wac_encode.specs.Tasks.{IsReady, Did, WritesOne, AllKnown, Valu
 ghost use Rattle.wac_shapes.specs.declared.component.DefinedType.{DefinedType as AnyDefined};
 
 use crate::task::Task;
+use crate::worlds::Worlds;
 use std::alloc::{AllocError, Global};
 use wac_binary::{ComponentValType, DefinedType};
 use wac_collection::{
@@ -30,14 +31,17 @@ use wac_scopes::{EncodeFault, Scope, WriteFault, alias_law, step_law, still_law}
 pub struct TypeEncoder<'a> {
     /// The collection.
     pub(crate) types: &'a Types,
+    /// The component types of worlds, where type items of these are listed.
+    pub(crate) worlds: &'a Worlds,
 }
 
 impl<'a> TypeEncoder<'a> {
-    /// A writer of this collection's types.
-    pub fn new(types: &'a Types) -> TypeEncoder<'a>
-        ensures { result.types.now ≡ types.now }
+    /// A writer of this collection's types, with the component types of worlds that its interfaces list.
+    pub fn new(types: &'a Types, worlds: &'a Worlds) -> TypeEncoder<'a>
+        ensures types { result.types.now ≡ types.now }
+        ensures worlds { result.worlds.now ≡ worlds.now }
     {
-        TypeEncoder { types }
+        TypeEncoder { types, worlds }
     }
 
     /// The value type in use that says a held one whose end is primitive or written.

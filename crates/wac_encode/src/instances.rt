@@ -4,6 +4,7 @@ ghost use Rattle.std.specs.Prelude.{◌≡◌, true, IfOk};
 ghost use Rattle.wac_shapes.specs.declared.component.ItemKind.TheVariants as kind;
 ghost use Rattle.wac_collection.specs.Collection.{HasInterface};
 ghost use Rattle.wac_encode.specs.Written.{WritesFor};
+ghost use Rattle.wac_encode.specs.Worlds.{SayWorlds};
 ghost use Rattle.wac_encode.specs.Listing.{NeededBy, lists_plain};
 ghost use Rattle.wac_encode.specs.Instances.{AddsHeldInterface, IsInterfaceAt, IsInstanceRefused, listed_definitions};
 
@@ -21,11 +22,12 @@ impl<'a> TypeEncoder<'a> {
     /// does not fit and `OutOfMemory` where memory was refused. Then some of the aliases may stand.
     pub fn instance(&self, scope: &mut Scope, interface: InterfaceId) -> Result<u32, EncodeFault>
         requires held { HasInterface self.now.types.now interface }
-        requires plain { lists_plain self.now.types.now interface ≡ true }
+        requires say { SayWorlds self.now.types.now self.now.worlds.now }
+        requires plain { lists_plain self.now.worlds.now self.now.types.now interface ≡ true }
         ensures written { WritesFor self.now.types.now 0 (NeededBy self.now.types.now (kind.Instance interface)) scope.old scope.new }
         ensures adds { IfOk result (AddsHeldInterface self.now.types.now scope.old scope.new interface) }
-        ensures recorded { IfOk result (IsInterfaceAt self.now.types.now scope.old scope.new interface) }
-        ensures fault { IsInstanceRefused self.now.types.now interface scope.old result }
+        ensures recorded { IfOk result (IsInterfaceAt self.now.worlds.now self.now.types.now scope.old scope.new interface) }
+        ensures fault { IsInstanceRefused self.now.worlds.now self.now.types.now interface scope.old result }
     {
         step_law();
         still_law();

@@ -9,13 +9,14 @@ ghost use Rattle.wac_shapes.specs.declared.component.ItemKind.TheVariants as kin
 ghost use Rattle.wac_shapes.specs.declared.component.ValueType.TheVariants as val;
 ghost use Rattle.wac_shapes.specs.declared.component.«Type».TheVariants as ty;
 ghost use Rattle.wac_shapes.specs.declared.component.Interface.{Interface as AnInterface};
-ghost use Rattle.wac_collection.specs.Collection.{HasFunc, HasInterface, holds_value, item_at};
+ghost use Rattle.wac_collection.specs.Collection.{HasFunc, HasInterface, HasWorld, holds_value, item_at};
 ghost use Rattle.wac_collection.specs.Aliases.{value_resolved};
 ghost use Rattle.wac_scopes.specs.declared.encodable.Encodable.TheVariants.{Instance};
 ghost use Rattle.wac_listing.specs.Made.{interface_of};
 ghost use Rattle.wac_scopes.specs.Contents.{ContentFits, IsOpenType, and_export};
 ghost use Rattle.wac_scopes.specs.Scoped.{WritesUnlessTooLarge, type_index, value_index};
 ghost use Rattle.wac_encode.specs.Listing.{is_type, is_other_type, IsOrder, WritesItem, IsItemRefused};
+ghost use Rattle.wac_encode.specs.Worlds.{is_written, SayWorlds};
 ghost use Rattle.wac_encode.specs.Items.{ListsHeld, CanClose, CanList, nothing_inside, none_refused};
 ghost use Rattle.wac_encode.specs.Levels.{ListsBy, described_by};
 
@@ -24,6 +25,7 @@ use std::alloc::{AllocError, Global};
 use wac_builder::{ComponentValType, InstanceType};
 use wac_collection::{
     DefinedTypeId, FuncTypeId, InterfaceId, ItemKind, Named, PrimitiveType, Type, ValueType,
+    WorldId,
 };
 use wac_listing::type_order;
 use wac_scopes::{Encodable, EncodeFault, Scope, WriteFault, alias_law, step_law, still_law};
@@ -40,8 +42,8 @@ impl<'a> TypeEncoder<'a> {
         requires end { value_resolved self.now.types.now value ≡ val.Primitive primitive }
         requires open { IsOpenType scope.old.content }
         ensures listed { OnOk result (ListsHeld self.now.types.now scope.old scope.new name.now (kind.TypeItem (ty.Value value))) }
-        ensures wrote { OnOk result (WritesItem nothing_inside self.now.types.now scope.old scope.new name.now (kind.TypeItem (ty.Value value))) }
-        ensures fault { IsItemRefused nothing_inside none_refused self.now.types.now name.now (kind.TypeItem (ty.Value value)) scope.old result }
+        ensures wrote { OnOk result (WritesItem nothing_inside self.now.worlds.now self.now.types.now scope.old scope.new name.now (kind.TypeItem (ty.Value value))) }
+        ensures fault { IsItemRefused nothing_inside none_refused self.now.worlds.now self.now.types.now name.now (kind.TypeItem (ty.Value value)) scope.old result }
     {
         self.types.law();
         alias_law();
@@ -64,8 +66,8 @@ impl<'a> TypeEncoder<'a> {
         requires written { value_index scope.old id ≡ Some index }
         requires open { IsOpenType scope.old.content }
         ensures listed { OnOk result (ListsHeld self.now.types.now scope.old scope.new name.now (kind.TypeItem (ty.Value value))) }
-        ensures wrote { OnOk result (WritesItem nothing_inside self.now.types.now scope.old scope.new name.now (kind.TypeItem (ty.Value value))) }
-        ensures fault { IsItemRefused nothing_inside none_refused self.now.types.now name.now (kind.TypeItem (ty.Value value)) scope.old result }
+        ensures wrote { OnOk result (WritesItem nothing_inside self.now.worlds.now self.now.types.now scope.old scope.new name.now (kind.TypeItem (ty.Value value))) }
+        ensures fault { IsItemRefused nothing_inside none_refused self.now.worlds.now self.now.types.now name.now (kind.TypeItem (ty.Value value)) scope.old result }
     {
         self.types.law();
         alias_law();
@@ -88,8 +90,8 @@ impl<'a> TypeEncoder<'a> {
         requires unwritten { value_index scope.old id ≡ None }
         requires open { IsOpenType scope.old.content }
         ensures listed { OnOk result (ListsHeld self.now.types.now scope.old scope.new name.now (kind.TypeItem (ty.Value value))) }
-        ensures wrote { OnOk result (WritesItem nothing_inside self.now.types.now scope.old scope.new name.now (kind.TypeItem (ty.Value value))) }
-        ensures fault { IsItemRefused nothing_inside none_refused self.now.types.now name.now (kind.TypeItem (ty.Value value)) scope.old result }
+        ensures wrote { OnOk result (WritesItem nothing_inside self.now.worlds.now self.now.types.now scope.old scope.new name.now (kind.TypeItem (ty.Value value))) }
+        ensures fault { IsItemRefused nothing_inside none_refused self.now.worlds.now self.now.types.now name.now (kind.TypeItem (ty.Value value)) scope.old result }
     {
         self.types.law();
         alias_law();
@@ -106,8 +108,8 @@ impl<'a> TypeEncoder<'a> {
         requires held { holds_value self.now.types.now value ≡ true }
         requires open { IsOpenType scope.old.content }
         ensures listed { OnOk result (ListsHeld self.now.types.now scope.old scope.new name.now (kind.TypeItem (ty.Value value))) }
-        ensures wrote { OnOk result (WritesItem nothing_inside self.now.types.now scope.old scope.new name.now (kind.TypeItem (ty.Value value))) }
-        ensures fault { IsItemRefused nothing_inside none_refused self.now.types.now name.now (kind.TypeItem (ty.Value value)) scope.old result }
+        ensures wrote { OnOk result (WritesItem nothing_inside self.now.worlds.now self.now.types.now scope.old scope.new name.now (kind.TypeItem (ty.Value value))) }
+        ensures fault { IsItemRefused nothing_inside none_refused self.now.worlds.now self.now.types.now name.now (kind.TypeItem (ty.Value value)) scope.old result }
     {
         let end = self.types.resolve_value_type(value);
         match end {
@@ -129,8 +131,8 @@ impl<'a> TypeEncoder<'a> {
         requires held { HasFunc self.now.types.now func }
         requires open { IsOpenType scope.old.content }
         ensures listed { OnOk result (ListsHeld self.now.types.now scope.old scope.new name.now (kind.Func func)) }
-        ensures wrote { OnOk result (WritesItem nothing_inside self.now.types.now scope.old scope.new name.now (kind.Func func)) }
-        ensures fault { IsItemRefused nothing_inside none_refused self.now.types.now name.now (kind.Func func) scope.old result }
+        ensures wrote { OnOk result (WritesItem nothing_inside self.now.worlds.now self.now.types.now scope.old scope.new name.now (kind.Func func)) }
+        ensures fault { IsItemRefused nothing_inside none_refused self.now.worlds.now self.now.types.now name.now (kind.Func func) scope.old result }
     {
         let index = self.func(scope, func)?;
         scope.export_func(name, index)?;
@@ -147,10 +149,31 @@ impl<'a> TypeEncoder<'a> {
         requires held { HasFunc self.now.types.now func }
         requires open { IsOpenType scope.old.content }
         ensures listed { OnOk result (ListsHeld self.now.types.now scope.old scope.new name.now (kind.TypeItem (ty.Func func))) }
-        ensures wrote { OnOk result (WritesItem nothing_inside self.now.types.now scope.old scope.new name.now (kind.TypeItem (ty.Func func))) }
-        ensures fault { IsItemRefused nothing_inside none_refused self.now.types.now name.now (kind.TypeItem (ty.Func func)) scope.old result }
+        ensures wrote { OnOk result (WritesItem nothing_inside self.now.worlds.now self.now.types.now scope.old scope.new name.now (kind.TypeItem (ty.Func func))) }
+        ensures fault { IsItemRefused nothing_inside none_refused self.now.worlds.now self.now.types.now name.now (kind.TypeItem (ty.Func func)) scope.old result }
     {
         let index = self.func(scope, func)?;
+        scope.export_type(name, index)?;
+        Ok(())
+    }
+
+    /// Writes the component type of a world, and lists it as a type item. It is still written by the index that it has.
+    fn world_type_item(
+        &self,
+        scope: &mut Scope,
+        name: &str,
+        world: WorldId,
+    ) -> Result<(), EncodeFault>
+        requires held { HasWorld self.now.types.now world }
+        requires ahead { is_written self.now.worlds.now world ≡ true }
+        requires say { SayWorlds self.now.types.now self.now.worlds.now }
+        requires open { IsOpenType scope.old.content }
+        ensures listed { OnOk result (ListsHeld self.now.types.now scope.old scope.new name.now (kind.TypeItem (ty.World world))) }
+        ensures wrote { OnOk result (WritesItem nothing_inside self.now.worlds.now self.now.types.now scope.old scope.new name.now (kind.TypeItem (ty.World world))) }
+        ensures fault { IsItemRefused nothing_inside none_refused self.now.worlds.now self.now.types.now name.now (kind.TypeItem (ty.World world)) scope.old result }
+    {
+        still_law();
+        let index = self.world(scope, world)?;
         scope.export_type(name, index)?;
         Ok(())
     }
@@ -167,8 +190,8 @@ impl<'a> TypeEncoder<'a> {
         requires written { IsSome (type_index scope.old (ty.Interface interface)) }
         requires open { IsOpenType scope.old.content }
         ensures listed { OnOk result (ListsHeld self.now.types.now scope.old scope.new name.now item) }
-        ensures wrote { OnOk result (WritesItem nothing_inside self.now.types.now scope.old scope.new name.now item) }
-        ensures fault { IsItemRefused nothing_inside none_refused self.now.types.now name.now item scope.old result }
+        ensures wrote { OnOk result (WritesItem nothing_inside self.now.worlds.now self.now.types.now scope.old scope.new name.now item) }
+        ensures fault { IsItemRefused nothing_inside none_refused self.now.worlds.now self.now.types.now name.now item scope.old result }
     {
         still_law();
         let Some(index) = scope.interface(interface) else {
@@ -185,16 +208,18 @@ impl<'a> TypeEncoder<'a> {
         name: &str,
         item: ItemKind,
     ) -> Result<(), EncodeFault>
-        requires held { CanList self.now.types.now item }
+        requires held { CanList self.now.worlds.now self.now.types.now item }
+        requires say { SayWorlds self.now.types.now self.now.worlds.now }
         requires inside { (i : AnId) → interface_of item ≡ Some i → IsSome (type_index scope.old (ty.Interface i)) }
         requires open { IsOpenType scope.old.content }
         ensures listed { OnOk result (ListsHeld self.now.types.now scope.old scope.new name.now item) }
-        ensures wrote { OnOk result (WritesItem nothing_inside self.now.types.now scope.old scope.new name.now item) }
-        ensures fault { IsItemRefused nothing_inside none_refused self.now.types.now name.now item scope.old result }
+        ensures wrote { OnOk result (WritesItem nothing_inside self.now.worlds.now self.now.types.now scope.old scope.new name.now item) }
+        ensures fault { IsItemRefused nothing_inside none_refused self.now.worlds.now self.now.types.now name.now item scope.old result }
     {
         match item {
             ItemKind::TypeItem(Type::Value(value)) => self.type_item(scope, name, value),
             ItemKind::TypeItem(Type::Func(func)) => self.func_type_item(scope, name, func),
+            ItemKind::TypeItem(Type::World(world)) => self.world_type_item(scope, name, world),
             ItemKind::Func(func) => self.func_item(scope, name, func),
             ItemKind::TypeItem(Type::Interface(interface)) | ItemKind::Instance(interface) => {
                 self.interface_item(scope, name, item, interface)

@@ -10,5 +10,7 @@ mod nesting;
 mod opening;
 mod sorts;
 mod task;
+mod worlds;
 
 pub use encoder::TypeEncoder;
+pub use worlds::Worlds;

@@ -15,6 +15,7 @@ ghost use Rattle.wac_scopes.specs.declared.encodable.Encodable.TheVariants.{Inst
 ghost use Rattle.wac_scopes.specs.Contents.{IsOpenType};
 ghost use Rattle.wac_scopes.specs.Scoped.{listed_at, type_index};
 ghost use Rattle.wac_encode.specs.Items.{ListsHeld, CanClose, CanList, nothing_inside, none_refused};
+ghost use Rattle.wac_encode.specs.Worlds.{SayWorlds};
 ghost use Rattle.wac_encode.specs.Listing.{WritesItem, IsItemRefused, AliasesFor, AllAliased, IsAliasRefused, SaysInterface, SaysIfThere, WritesInterface, WritesIfThere, lists_plain, IsInterfaceRefused};
 ghost use Rattle.wac_planning.specs.Plans.{IsOneOf, Takes, HasName, ArePlanned, places_of};
 ghost use Rattle.wac_encode.specs.Plans.{IsAtPlace};
@@ -133,13 +134,14 @@ impl<'a> TypeEncoder<'a> {
     /// Lists the next item of a level, behind what it is made of.
     fn put_item(&self, level: &mut Level<'a>, name: &str, item: ItemKind) -> Result<(), EncodeFault>
         requires here { slice_get (named_pairs level.old.order.items) level.old.next ≡ Some (name.now, item) }
-        requires held { CanList self.now.types.now item }
+        requires held { CanList self.now.worlds.now self.now.types.now item }
+        requires say { SayWorlds self.now.types.now self.now.worlds.now }
         requires inside { (i : AnInterface) → interface_that item ≡ Some i → IsSome (type_index level.old.scope (ty.Interface i)) }
         requires open { IsOpenType level.old.scope.content }
         ensures kept { OnOk result (level.new ≡ record level.old { scope = level.new.scope; next = level.old.next + 1 }) }
         ensures listed { OnOk result (ListsHeld self.now.types.now level.old.scope level.new.scope name.now item) }
-        ensures wrote { OnOk result (WritesItem nothing_inside self.now.types.now level.old.scope level.new.scope name.now item) }
-        ensures fault { IsItemRefused nothing_inside none_refused self.now.types.now name.now item level.old.scope result }
+        ensures wrote { OnOk result (WritesItem nothing_inside self.now.worlds.now self.now.types.now level.old.scope level.new.scope name.now item) }
+        ensures fault { IsItemRefused nothing_inside none_refused self.now.worlds.now self.now.types.now name.now item level.old.scope result }
     {
         self.item(&mut level.scope, name, item)?;
         level.next += 1;
@@ -153,10 +155,11 @@ impl<'a> TypeEncoder<'a> {
         interface: InterfaceId,
     ) -> Result<InstanceType, EncodeFault>
         requires held { HasInterface self.now.types.now interface }
-        requires plain { lists_plain self.now.types.now interface ≡ true }
+        requires say { SayWorlds self.now.types.now self.now.worlds.now }
+        requires plain { lists_plain self.now.worlds.now self.now.types.now interface ≡ true }
         ensures says { IfOk result (SaysInterface self.now.types.now around.now interface) }
-        ensures written { IfOk result (WritesInterface self.now.types.now around.now interface) }
-        ensures fault { IsInterfaceRefused self.now.types.now around.now interface result }
+        ensures written { IfOk result (WritesInterface self.now.worlds.now self.now.types.now around.now interface) }
+        ensures fault { IsInterfaceRefused self.now.worlds.now self.now.types.now around.now interface result }
     {
         self.types.law();
         closing_law();
@@ -190,10 +193,10 @@ impl<'a> TypeEncoder<'a> {
     /// that mentions none of those left; then type items of function types and of interfaces, then the others, as they are listed. A definition that a type
     /// item lists is written by the first such item's index. What has a name in the scope around is aliased from there, and all else is
     /// defined, each once, just before what mentions it. So is the instance type of an interface of which an instance is listed, or which a
-    /// type item lists, over the scope that it stands in, to any depth.
+    /// type item lists, over the scope that it stands in, to any depth; and the component type of a world that a type item lists.
     ///
-    /// Answers none exactly where an item is of a sort that is not written: a resource, a type item of a world, or an instance or a type
-    /// item of an interface that has such an item; memory may be refused before that is known. Answers `UnboundResource` for an item
+    /// Answers none exactly where an item is of a sort that is not written: a resource, a world whose component type is not written ahead, or
+    /// an instance or a type item of an interface that has such an item; memory may be refused before that is known. Answers `UnboundResource` for an item
     /// that is made of a handle, `ModuleAsType` and `NestedItem` for one that no instance type can list, and `TooLarge` where what is
     /// written next does not fit, the first in order; `OutOfMemory` where memory was refused.
     pub fn interface_type(
@@ -201,12 +204,13 @@ impl<'a> TypeEncoder<'a> {
         around: &Scope,
         interface: InterfaceId,
     ) -> Result<Option<InstanceType>, EncodeFault>
-        requires { HasInterface self.now.types.now interface }
-        ensures none { result ≡ Answers None → lists_plain self.now.types.now interface ≡ false }
-        ensures not_plain { lists_plain self.now.types.now interface ≡ false → (result ≡ Answers None) ⊎ (result ≡ Refused OutOfMemory) }
+        requires held { HasInterface self.now.types.now interface }
+        requires say { SayWorlds self.now.types.now self.now.worlds.now }
+        ensures none { result ≡ Answers None → lists_plain self.now.worlds.now self.now.types.now interface ≡ false }
+        ensures not_plain { lists_plain self.now.worlds.now self.now.types.now interface ≡ false → (result ≡ Answers None) ⊎ (result ≡ Refused OutOfMemory) }
         ensures says { IfOk result (SaysIfThere self.now.types.now around.now interface) }
-        ensures written { IfOk result (WritesIfThere self.now.types.now around.now interface) }
-        ensures fault { IsInterfaceRefused self.now.types.now around.now interface result }
+        ensures written { IfOk result (WritesIfThere self.now.worlds.now self.now.types.now around.now interface) }
+        ensures fault { IsInterfaceRefused self.now.worlds.now self.now.types.now around.now interface result }
     {
         if !self.lists_plain(interface)? {
             return Ok(None);

@@ -1,13 +1,15 @@
 //! Which interfaces are written, and those inside of them.
 
 ghost use Rattle.std.specs.Prelude.{◌≡◌, ◌∷◌, [], IfOk, OnOk};
+ghost use Rattle.std.specs.Bool.{OnTrue};
 ghost use Rattle.wac_shapes.specs.declared.component.«Type».TheVariants as ty;
 ghost use Rattle.wac_collection.specs.Collection.{HasInterface};
 ghost use Rattle.wac_encode.specs.Listing.{lists_plain};
 ghost use Rattle.wac_reach.specs.Found.{with_all};
-ghost use Rattle.wac_encode.specs.Inside.{AreInside, is_plain_alone, are_plain_alone, lists_plain_alone, and_inside, with_inside, IsHeldInterface, PutsInside};
+ghost use Rattle.wac_encode.specs.Inside.{AreInside, HasNoneInside, is_plain_alone, are_plain_alone, lists_plain_alone, and_inside, with_inside, IsHeldInterface, PutsInside};
 
 use crate::encoder::TypeEncoder;
+use crate::worlds::Worlds;
 use indexmap::IndexSet;
 use std::alloc::AllocError;
 use wac_collection::{InterfaceId, ItemKind, Named, Type};
@@ -53,9 +55,12 @@ impl<'a> TypeEncoder<'a> {
     /// Answers `AllocError` where memory ran out.
     pub fn lists_plain(&self, interface: InterfaceId) -> Result<bool, AllocError>
         requires { HasInterface self.now.types.now interface }
-        ensures { IfOk result (λ plain. plain ≡ lists_plain self.now.types.now interface) }
+        ensures { IfOk result (λ plain. plain ≡ lists_plain self.now.worlds.now self.now.types.now interface) }
     {
         self.types.law();
+        if self.is_flat(interface) {
+            return Ok(self.lists_plain_alone(Type::Interface(interface)));
+        }
         let inside = self.interfaces_inside(interface)?;
         let shown = inside.as_slice();
         for i in 0..shown.len() {
@@ -66,16 +71,40 @@ impl<'a> TypeEncoder<'a> {
         Ok(true)
     }
 
+    /// Whether an interface lists no item of another, so that it is the only one inside.
+    fn is_flat(&self, interface: InterfaceId) -> bool
+        requires { HasInterface self.now.types.now interface }
+        ensures { OnTrue result (AreInside self.now.types.now interface (ty.Interface interface ∷ [])) }
+    {
+        self.types.law();
+        let items = &self.types[interface].exports;
+        items.law();
+        has_none_inside(items)
+    }
+
     /// Whether all items of a held interface are of sorts that are written, whatever is inside their interfaces.
     fn lists_plain_alone(&self, ty: Type) -> bool
         requires { IsHeldInterface self.now.types.now ty }
-        ensures { result ≡ lists_plain_alone self.now.types.now ty }
+        ensures { result ≡ lists_plain_alone self.now.worlds.now self.now.types.now ty }
     {
         let Type::Interface(interface) = ty else {
             unreachable!()
         };
-        are_plain(&self.types[interface].exports)
+        are_plain(self.worlds, &self.types[interface].exports)
     }
+}
+
+/// Whether no item is an instance or a type item of an interface.
+fn has_none_inside(items: &Named<ItemKind>) -> bool
+    ensures { OnTrue result (HasNoneInside items.now) }
+{
+    for i in 0..items.len() {
+        let (_, item) = items.entry_at(i);
+        if interface_of(*item).is_some() {
+            return false;
+        }
+    }
+    true
 }
 
 /// Puts the interface of an item, where it has one.
@@ -107,12 +136,13 @@ fn put_items(items: &Named<ItemKind>, found: &mut IndexSet<Type>) -> Result<(), 
 }
 
 /// Whether an item is of a sort that is written, or that no instance type can list, whatever is inside its interface.
-fn is_plain(item: ItemKind) -> bool
-    ensures { result ≡ is_plain_alone item }
+fn is_plain(worlds: &Worlds, item: ItemKind) -> bool
+    ensures { result ≡ is_plain_alone worlds.now item }
 {
     match item {
         ItemKind::TypeItem(Type::Value(_) | Type::Func(_) | Type::Interface(_) | Type::Module(_)) =>
             { true }
+        ItemKind::TypeItem(Type::World(world)) => worlds.is_written(world),
         ItemKind::TypeItem(_) => false,
         ItemKind::Func(_)
         | ItemKind::Instance(_)
@@ -123,12 +153,12 @@ fn is_plain(item: ItemKind) -> bool
 }
 
 /// Whether all items are.
-fn are_plain(items: &Named<ItemKind>) -> bool
-    ensures { result ≡ are_plain_alone items.now }
+fn are_plain(worlds: &Worlds, items: &Named<ItemKind>) -> bool
+    ensures { result ≡ are_plain_alone worlds.now items.now }
 {
     for i in 0..items.len() {
         let (_, item) = items.entry_at(i);
-        if !is_plain(*item) {
+        if !is_plain(worlds, *item) {
             return false;
         }
     }

@@ -32,6 +32,7 @@ use Rattle.wac_stacks.specs.Good.{At, GoodScope, nothing_bound}
 use Rattle.wac_stacks.proofs.StepLaws.{is-its-tree}
 use Rattle.wac_scopes.specs.Contents.{content_of, and_type, and_export, count}
 use Rattle.wac_scopes.specs.Scoped.{listed_at, recorded_type, place, opened, type_index, value_index, listing, by_index, HasToo}
+use Rattle.wac_encode.specs.declared.worlds.Worlds.{Worlds}
 use Rattle.wac_encode.specs.Written.{NewType, defined, aliased, with_types, missing_below, unwritten, IsWrittenAt, IsWrittenAs, IsFuncFrom, IsFuncByRecord, EndsWithFunc}
 use Rattle.wac_encode.specs.Listing.{around_at, IsOrder, IsDescribed, IsNamedOnce, WritesItem, WritesItems, WritesListed, WritesInterfaceTo, WritesInterface}
 use Rattle.wac_encode_examples.proofs.Apart.{no_flag, no_entry, one_entry, two_numbers}
@@ -41,7 +42,7 @@ use Rattle.wac_encode_examples.specs.EnumInterface.{the_enum, the_function, the_
 -- ---- how many types are not recorded
 
 abbrev counted : Option ℕ → Option ℕ → Option ℕ → ℕ
-counted v f i = missing_below (λ n. v) 1 + missing_below (λ n. f) 1 + missing_below (λ n. i) 1
+counted v f i = missing_below (λ n. v) 1 + missing_below (λ n. f) 1 + missing_below (λ n. i) 1 + 0
 
 unwritten_is : (s : Scope) (v f i : Option ℕ) → value_index s the_enum ≡ v → type_index s (ty.Func the_function) ≡ f → type_index s (ty.Interface the_interface) ≡ i → unwritten types s ≡ counted v f i
 unwritten_is s v f i a b c = ap (λ (x : Option ℕ). counted x (type_index s (ty.Func the_function)) (type_index s (ty.Interface the_interface))) a ∙ ap (λ (x : Option ℕ). counted v x (type_index s (ty.Interface the_interface))) b ∙ ap (counted v f) c
@@ -64,8 +65,8 @@ at_next s a k i ys y one there = by_place there.0 there.1 there.2 (ap (λ (zs : 
 
 -- ---- the enum's item
 
-module _ (start named : Scope) (empty : start.content ≡ Instance []) (none : (a : AnyType) → type_index start a ≡ None) (unlisted : listing start (ty.Value (val.Defined the_enum)) ≡ None)
-    (Inside : Scope → InterfaceId → List Decl → Type 0) (w : WritesItem Inside types start named (codes "t") (kind.TypeItem (ty.Value (val.Defined the_enum)))) where
+module _ (ws : Worlds) (start named : Scope) (empty : start.content ≡ Instance []) (none : (a : AnyType) → type_index start a ≡ None) (unlisted : listing start (ty.Value (val.Defined the_enum)) ≡ None)
+    (Inside : Scope → InterfaceId → List Decl → Type 0) (w : WritesItem Inside ws types start named (codes "t") (kind.TypeItem (ty.Value (val.Defined the_enum)))) where
   enum_described : (d : Description) → IsDescribed types start w.now (kind.TypeItem (ty.Value (val.Defined the_enum))) d → (i : ℕ) × (d ≡ e.Equal i) × (value_index w.now the_enum ≡ Some i)
   enum_described (e.Equal i) h = (i, refl, h)
   enum_described d h = absurd h
@@ -171,9 +172,9 @@ last_type (Instance ds) t y c d is = type_of (one_entry (type_decl y) (type_decl
 last_type (Builder its) t y c d is = let never : Builder (its ++ _ ∷ []) ≡ Instance (c ∷ d ∷ type_decl t ∷ []) = is in cc
 last_type (Component ds) t y c d is = cc
 
-module _ (named whole : Scope) (t : TypeDef) (content : named.content ≡ Instance (type_decl t ∷ export_decl (codes "t") (e.Equal 0) ∷ [])) (there : value_index named the_enum ≡ Some 1)
+module _ (ws : Worlds) (named whole : Scope) (t : TypeDef) (content : named.content ≡ Instance (type_decl t ∷ export_decl (codes "t") (e.Equal 0) ∷ [])) (there : value_index named the_enum ≡ Some 1)
     (no_function : type_index named (ty.Func the_function) ≡ None) (no_interface : type_index named (ty.Interface the_interface) ≡ None)
-    (Inside : Scope → InterfaceId → List Decl → Type 0) (w : WritesItem Inside types named whole (codes "f") (kind.Func the_function)) where
+    (Inside : Scope → InterfaceId → List Decl → Type 0) (w : WritesItem Inside ws types named whole (codes "f") (kind.Func the_function)) where
   function_described : (d : Description) → IsDescribed types named w.now (kind.Func the_function) d → (i : ℕ) × (d ≡ e.Func i) × IsFuncFrom (type_index named (ty.Func the_function)) types the_function named w.now i
   function_described (e.Func i) h = (i, refl, h.1)
   function_described d h = absurd h
@@ -240,24 +241,24 @@ so t a = type_decl t ∷ export_decl (codes "t") (e.Equal 0) ∷ type_decl (func
 abbrev pub AreSo : List Decl → Type 0
 AreSo ds = (t : TypeDef) × (a : Bool) × (ds ≡ so t a) × (tree_of t nothing_there [] ≡ enum_of (codes "a" ∷ []))
 
-module _ (start named whole : Scope) (empty : start.content ≡ Instance []) (none : (a : AnyType) → type_index start a ≡ None) (unlisted : (a : AnyType) → listing start a ≡ None)
-    (Inside : Scope → InterfaceId → List Decl → Type 0) (first : WritesItem Inside types start named (codes "t") (kind.TypeItem (ty.Value (val.Defined the_enum)))) (second : WritesItem Inside types named whole (codes "f") (kind.Func the_function)) where
+module _ (ws : Worlds) (start named whole : Scope) (empty : start.content ≡ Instance []) (none : (a : AnyType) → type_index start a ≡ None) (unlisted : (a : AnyType) → listing start a ≡ None)
+    (Inside : Scope → InterfaceId → List Decl → Type 0) (first : WritesItem Inside ws types start named (codes "t") (kind.TypeItem (ty.Value (val.Defined the_enum)))) (second : WritesItem Inside ws types named whole (codes "f") (kind.Func the_function)) where
   enum_unlisted : listing start (ty.Value (val.Defined the_enum)) ≡ None
   enum_unlisted = unlisted (ty.Value (val.Defined the_enum))
 
   both_declared : (t : TypeDef) × (a : Bool) × (whole.content ≡ Instance (so t a)) × (tree_of t nothing_there [] ≡ enum_of (codes "a" ∷ []))
   both_declared =
-      let enum = enum_declared start named empty none enum_unlisted Inside first in
-      let function = function_declared named whole enum.0 enum.1 (enum_there start named empty none enum_unlisted Inside first)
-      (function_still_none start named empty none enum_unlisted Inside first) (interface_still_none start named empty none enum_unlisted Inside first) Inside second in
-      (enum.0, function.0, function.1, enum_meant start named empty none enum_unlisted Inside first unlisted)
+      let enum = enum_declared ws start named empty none enum_unlisted Inside first in
+      let function = function_declared ws named whole enum.0 enum.1 (enum_there ws start named empty none enum_unlisted Inside first)
+      (function_still_none ws start named empty none enum_unlisted Inside first) (interface_still_none ws start named empty none enum_unlisted Inside first) Inside second in
+      (enum.0, function.0, function.1, enum_meant ws start named empty none enum_unlisted Inside first unlisted)
 
-module _ (around : Scope) (nothing : NamesNothing around) (ds : List Decl) (Inside : Scope → InterfaceId → List Decl → Type 0) (h : WritesListed Inside types around the_interface ds) where
+module _ (ws : Worlds) (around : Scope) (nothing : NamesNothing around) (ds : List Decl) (Inside : Scope → InterfaceId → List Decl → Type 0) (h : WritesListed Inside ws types around the_interface ds) where
   in_order : h.order ≡ items
   in_order = no_other_order h.order (subst (λ (it : Interface). IsOrder types it.exports h.order) (sym (one_entry the_interface_type h.interface h.found)) h.ordered)
 
-  one_by_one : WritesItems Inside types h.start items h.scope
-  one_by_one = subst (λ (es : List (Name × ItemKind)). WritesItems Inside types h.start es h.scope) in_order h.written
+  one_by_one : WritesItems Inside ws types h.start items h.scope
+  one_by_one = subst (λ (es : List (Name × ItemKind)). WritesItems Inside ws types h.start es h.scope) in_order h.written
 
   unlisted_in_it : (a : AnyType) → listing h.start a ≡ None
   unlisted_in_it (ty.Value (val.Defined d)) = by_place (listed_at h.start d) refl where
@@ -267,7 +268,7 @@ module _ (around : Scope) (nothing : NamesNothing around) (ds : List Decl) (Insi
   unlisted_in_it a = refl
 
   declared : (t : TypeDef) × (a : Bool) × (one_by_one.2.0.content ≡ Instance (so t a)) × (tree_of t nothing_there [] ≡ enum_of (codes "a" ∷ []))
-  declared = both_declared h.start one_by_one.0 one_by_one.2.0 h.opened_.content h.opened_.types unlisted_in_it Inside one_by_one.1 one_by_one.2.1
+  declared = both_declared ws h.start one_by_one.0 one_by_one.2.0 h.opened_.content h.opened_.types unlisted_in_it Inside one_by_one.1 one_by_one.2.1
 
   listed_so : AreSo ds
   listed_so = (declared.0, declared.1, ap declarations_in same, declared.3) where
@@ -279,11 +280,11 @@ module _ (around : Scope) (nothing : NamesNothing around) (ds : List Decl) (Insi
     same = sym h.is ∙ ap (λ (s : Scope). s.content) one_by_one.2.2 ∙ declared.2
 
 -- to whatever depth
-pub only_so : (around : Scope) → NamesNothing around → (ds : List Decl) → WritesInterface types around the_interface ds → AreSo ds
-only_so around nothing ds (depth, h) = by_depth depth h where
-  by_depth : (d : ℕ) → WritesInterfaceTo d types around the_interface ds → AreSo ds
+pub only_so : (ws : Worlds) (around : Scope) → NamesNothing around → (ds : List Decl) → WritesInterface ws types around the_interface ds → AreSo ds
+only_so ws around nothing ds (depth, h) = by_depth depth h where
+  by_depth : (d : ℕ) → WritesInterfaceTo d ws types around the_interface ds → AreSo ds
   by_depth zero h = absurd h
-  by_depth (suc d) h = listed_so around nothing ds (WritesInterfaceTo d types) h
+  by_depth (suc d) h = listed_so ws around nothing ds (WritesInterfaceTo d ws types) h
 
 -- ---- what is refused
 
@@ -303,36 +304,36 @@ first_letter t = 0
 abbrev nth : ℕ → List Decl → Decl
 nth i ds = option_case (slice_get ds i) (export_decl [] e.Fresh) (λ d. d)
 
-module _ (around : Scope) (nothing : NamesNothing around) where
+module _ (ws : Worlds) (around : Scope) (nothing : NamesNothing around) where
   -- the function before the enum
-  pub no_function_before_enum : WritesInterface types around the_interface (type_decl (value_def written_enum) ∷ type_decl (function_of (Index 0)) ∷ export_decl (codes "f") (e.Func 1) ∷ export_decl (codes "t") (e.Equal 0) ∷ []) → ⊥
-  no_function_before_enum h = let these = only_so around nothing _ h in no_flag (sym (ap (λ (ds : List Decl). is_export (nth 1 ds)) these.2))
+  pub no_function_before_enum : WritesInterface ws types around the_interface (type_decl (value_def written_enum) ∷ type_decl (function_of (Index 0)) ∷ export_decl (codes "f") (e.Func 1) ∷ export_decl (codes "t") (e.Equal 0) ∷ []) → ⊥
+  no_function_before_enum h = let these = only_so ws around nothing _ h in no_flag (sym (ap (λ (ds : List Decl). is_export (nth 1 ds)) these.2))
 
   -- the enum written twice
-  pub no_enum_twice : WritesInterface types around the_interface (type_decl (value_def written_enum) ∷ export_decl (codes "t") (e.Equal 0) ∷ type_decl (value_def written_enum) ∷ type_decl (function_of (Index 2)) ∷ export_decl (codes "f") (e.Func 3) ∷ []) → ⊥
-  no_enum_twice h = let these = only_so around nothing _ h in two_numbers 5 4 refl (ap (λ (ds : List Decl). length ds) these.2)
+  pub no_enum_twice : WritesInterface ws types around the_interface (type_decl (value_def written_enum) ∷ export_decl (codes "t") (e.Equal 0) ∷ type_decl (value_def written_enum) ∷ type_decl (function_of (Index 2)) ∷ export_decl (codes "f") (e.Func 3) ∷ []) → ⊥
+  no_enum_twice h = let these = only_so ws around nothing _ h in two_numbers 5 4 refl (ap (λ (ds : List Decl). length ds) these.2)
 
   -- the function missing
-  pub no_function_missing : WritesInterface types around the_interface (type_decl (value_def written_enum) ∷ export_decl (codes "t") (e.Equal 0) ∷ []) → ⊥
-  no_function_missing h = let these = only_so around nothing _ h in two_numbers 2 4 refl (ap (λ (ds : List Decl). length ds) these.2)
+  pub no_function_missing : WritesInterface ws types around the_interface (type_decl (value_def written_enum) ∷ export_decl (codes "t") (e.Equal 0) ∷ []) → ⊥
+  no_function_missing h = let these = only_so ws around nothing _ h in two_numbers 2 4 refl (ap (λ (ds : List Decl). length ds) these.2)
 
   -- a parameter of another type
-  pub no_other_parameter : WritesInterface types around the_interface (type_decl (value_def written_enum) ∷ export_decl (codes "t") (e.Equal 0) ∷ type_decl (function_of (Primitive primitive.String)) ∷ export_decl (codes "f") (e.Func 2) ∷ []) → ⊥
-  no_other_parameter h = let these = only_so around nothing _ h in no_flag (ap (λ (ds : List Decl). is_primitive (nth 2 ds)) these.2) where
+  pub no_other_parameter : WritesInterface ws types around the_interface (type_decl (value_def written_enum) ∷ export_decl (codes "t") (e.Equal 0) ∷ type_decl (function_of (Primitive primitive.String)) ∷ export_decl (codes "f") (e.Func 2) ∷ []) → ⊥
+  no_other_parameter h = let these = only_so ws around nothing _ h in no_flag (ap (λ (ds : List Decl). is_primitive (nth 2 ds)) these.2) where
     is_primitive : Decl → Bool
     is_primitive (type_decl (func_def a ((n, Primitive p) ∷ xs) r)) = true
     is_primitive d = false
 
   -- the function over the enum's index without its name
-  pub no_index_without_name : WritesInterface types around the_interface (type_decl (value_def written_enum) ∷ export_decl (codes "t") (e.Equal 0) ∷ type_decl (function_of (Index 0)) ∷ export_decl (codes "f") (e.Func 2) ∷ []) → ⊥
-  no_index_without_name h = let these = only_so around nothing _ h in two_numbers 0 1 refl (ap (λ (ds : List Decl). parameter_in (type_in (nth 2 ds))) these.2) where
+  pub no_index_without_name : WritesInterface ws types around the_interface (type_decl (value_def written_enum) ∷ export_decl (codes "t") (e.Equal 0) ∷ type_decl (function_of (Index 0)) ∷ export_decl (codes "f") (e.Func 2) ∷ []) → ⊥
+  no_index_without_name h = let these = only_so ws around nothing _ h in two_numbers 0 1 refl (ap (λ (ds : List Decl). parameter_in (type_in (nth 2 ds))) these.2) where
     parameter_in : TypeDef → ℕ
     parameter_in (func_def a ((n, Index i) ∷ xs) r) = i
     parameter_in t = 2
 
   -- another enum
-  pub no_other_enum : WritesInterface types around the_interface (type_decl (value_def (enum_def (codes "b" ∷ []))) ∷ export_decl (codes "t") (e.Equal 0) ∷ type_decl (function_of (Index 1)) ∷ export_decl (codes "f") (e.Func 2) ∷ []) → ⊥
+  pub no_other_enum : WritesInterface ws types around the_interface (type_decl (value_def (enum_def (codes "b" ∷ []))) ∷ export_decl (codes "t") (e.Equal 0) ∷ type_decl (function_of (Index 1)) ∷ export_decl (codes "f") (e.Func 2) ∷ []) → ⊥
   no_other_enum h =
-      let these = only_so around nothing _ h in
+      let these = only_so ws around nothing _ h in
       let same : enum_of (codes "b" ∷ []) ≡ enum_of (codes "a" ∷ []) = ap (λ (ds : List Decl). tree_of (type_in (nth 0 ds)) nothing_there []) these.2 ∙ these.3 in
       two_numbers 98 97 refl (ap first_letter same)

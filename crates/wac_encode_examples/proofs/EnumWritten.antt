@@ -19,6 +19,7 @@ use Rattle.wac_scopes.proofs.ScopedLaws.{adds-value, adds-func, lists-value, the
 use Rattle.wac_stacks.specs.Laws.{DefinesValue, DefinesFunc, Follows, IsRecorded, StaysOnward}
 use Rattle.wac_stacks.specs.Listed.{ListsEqual}
 use Rattle.wac_listing.specs.Made.{itself, listed}
+use Rattle.wac_encode.specs.declared.worlds.Worlds.{Worlds}
 use Rattle.wac_encode.specs.Written.{WritesFor, PartOf, IsOfFunc, AddsHeldFunc, IsFuncByRecord}
 use Rattle.wac_encode.specs.Listing.{around_at, IsOfItems, WritesItem, WritesInterfaceTo, WritesInterface}
 use Rattle.wac_encode.specs.Items.{nothing_inside}
@@ -54,7 +55,7 @@ types_are_well_formed =
 pub enum_is_of_items : IsOfItems types the_interface (ty.Value (val.Defined the_enum))
 enum_is_of_items = (enum_item.1, listed 0 enum_item refl, (0, val.Defined the_enum, refl, itself))
 
-module _ (follows : Follows) (stays : StaysOnward) (defines_value : DefinesValue) (defines_func : DefinesFunc) (recorded : IsRecorded) (lists_equal : ListsEqual)
+module _ (ws : Worlds) (follows : Follows) (stays : StaysOnward) (defines_value : DefinesValue) (defines_func : DefinesFunc) (recorded : IsRecorded) (lists_equal : ListsEqual)
     (around opened_ defined named typed whole : Scope) (w : Steps around opened_ defined named typed whole) where
   -- what is written at each step
 
@@ -87,8 +88,8 @@ module _ (follows : Follows) (stays : StaysOnward) (defines_value : DefinesValue
       (adds-value opened_ defined the_enum written_enum 0 defines_value (types_in opened_.content (Instance []) w.is_opened.content) w.has_enum w.records_enum)
       w.records_enum w.unnamed w.has_enum (types_in opened_.content (Instance []) w.is_opened.content))
 
-  enum_item_written : WritesItem nothing_inside types opened_ named (codes "t") (kind.TypeItem (ty.Value (val.Defined the_enum)))
-  enum_item_written = first-wrote types opened_ defined named (codes "t") (val.Defined the_enum) the_enum 0 1 refl (w.is_opened.types (ty.Value (val.Defined the_enum))) enum_written
+  enum_item_written : WritesItem nothing_inside ws types opened_ named (codes "t") (kind.TypeItem (ty.Value (val.Defined the_enum)))
+  enum_item_written = first-wrote ws types opened_ defined named (codes "t") (val.Defined the_enum) the_enum 0 1 refl (w.is_opened.types (ty.Value (val.Defined the_enum))) enum_written
       (recorded-there (ty.Value (val.Defined the_enum)) 0 opened_ defined w.records_enum) w.has_item one_type w.records_item w.by_name (lists-value defined named (codes "t") the_enum 0 1 lists_equal in_type one_type w.has_item w.records_item)
 
   -- the function
@@ -112,12 +113,12 @@ module _ (follows : Follows) (stays : StaysOnward) (defines_value : DefinesValue
   by_record : IsFuncByRecord types named the_function_type (function_of (Index 1))
   by_record = (((refl, ap by_index by_item), tt), tt)
 
-  function_item_written : WritesItem nothing_inside types named whole (codes "f") (kind.Func the_function)
-  function_item_written = function-wrote types named typed whole (codes "f") the_function 2 function_written function_held
+  function_item_written : WritesItem nothing_inside ws types named whole (codes "f") (kind.Func the_function)
+  function_item_written = function-wrote ws types named typed whole (codes "f") the_function 2 function_written function_held
       (ends-with types the_function the_function_type (function_of (Index 1)) 2 named typed refl no_function w.has_type w.records_type by_record) w.has_function
 
   -- the interface
-  pub interface_written : WritesInterface types around the_interface declarations
+  pub interface_written : WritesInterface ws types around the_interface declarations
   interface_written = (
     1,
     record {
@@ -129,7 +130,7 @@ module _ (follows : Follows) (stays : StaysOnward) (defines_value : DefinesValue
       opened_ = w.is_opened;
       scope = whole;
       written =
-          let inside = wrote-inside (WritesInterfaceTo 0 types) types in
+          let inside = wrote-inside (WritesInterfaceTo 0 ws types) ws types in
           (named, inside opened_ named (codes "t") enum_item.1 enum_item_written, (whole, inside named whole (codes "f") (kind.Func the_function) function_item_written, refl));
       is = whole_content;
     },

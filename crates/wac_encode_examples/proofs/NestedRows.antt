@@ -12,6 +12,7 @@ use Rattle.wac_binary.specs.declared.sorts.Description.TheVariants as e
 use Rattle.wac_scopes.specs.declared.scope.Scope.{Scope}
 use Rattle.wac_scopes.specs.Scoped.{type_index}
 use Rattle.wac_listing.specs.Made.{interface_of}
+use Rattle.wac_encode.specs.declared.worlds.Worlds.{Worlds}
 use Rattle.wac_encode.specs.Inside.{IsInside, IsInsideBy}
 use Rattle.wac_encode.specs.Listing.{IsInstanceTypeFrom, IsItemDescribed, lists_plain}
 use Rattle.wac_encode_examples.proofs.Apart.{no_entry, one_entry, two_numbers}
@@ -43,18 +44,18 @@ nested = record types {
 }
 
 -- an interface with an instance is written, and is not where what is inside is of a sort that is not
-pub instance_is_plain : lists_plain nested (interface 1) ≡ true
-instance_is_plain = refl
+pub instance_is_plain : (ws : Worlds) → lists_plain ws nested (interface 1) ≡ true
+instance_is_plain ws = refl
 
-pub resource_inside_is_not : lists_plain nested (interface 3) ≡ false
-resource_inside_is_not = refl
+pub resource_inside_is_not : (ws : Worlds) → lists_plain ws nested (interface 3) ≡ false
+resource_inside_is_not ws = refl
 
 -- and so is one with a type item of an interface
-pub type_item_is_plain : lists_plain nested (interface 4) ≡ true
-type_item_is_plain = refl
+pub type_item_is_plain : (ws : Worlds) → lists_plain ws nested (interface 4) ≡ true
+type_item_is_plain ws = refl
 
-pub resource_in_a_type_item_is_not : lists_plain nested (interface 5) ≡ false
-resource_in_a_type_item_is_not = refl
+pub resource_in_a_type_item_is_not : (ws : Worlds) → lists_plain ws nested (interface 5) ≡ false
+resource_in_a_type_item_is_not ws = refl
 
 -- the interface of the instance is inside, and that of the type item
 pub its_interface_is_inside : IsInside nested (interface 1) (interface 0)
@@ -87,20 +88,20 @@ resource_is_not_inside (d, h) = by_number (no_other_is_inside d (interface 2) h)
   by_number (inr is) = two_numbers 2 0 refl (ap (λ (i : InterfaceId). i.0) is)
 
 -- where the type of the interface inside is recorded at index 0, an instance of it is described by that index, and nothing is written
-module _ (Inside : Scope → InterfaceId → List Decl → Type 0) (old : Scope) (recorded : type_index old (ty.Interface (interface 0)) ≡ Some 0) where
-  pub described_by_its_type : IsItemDescribed Inside nested old old (kind.Instance (interface 0)) (e.Instance 0)
+module _ (ws : Worlds) (Inside : Scope → InterfaceId → List Decl → Type 0) (old : Scope) (recorded : type_index old (ty.Interface (interface 0)) ≡ Some 0) where
+  pub described_by_its_type : IsItemDescribed Inside ws nested old old (kind.Instance (interface 0)) (e.Instance 0)
   described_by_its_type = subst (λ (o : Option ℕ). IsInstanceTypeFrom o Inside nested old old (interface 0) 0) (sym recorded) (refl, refl)
 
   -- by no other, and not as a type
-  pub by_no_other_type : (now : Scope) → IsItemDescribed Inside nested old now (kind.Instance (interface 0)) (e.Instance 1) → ⊥
+  pub by_no_other_type : (now : Scope) → IsItemDescribed Inside ws nested old now (kind.Instance (interface 0)) (e.Instance 1) → ⊥
   by_no_other_type now h = two_numbers 1 0 refl (subst (λ (o : Option ℕ). IsInstanceTypeFrom o Inside nested old now (interface 0) 1) recorded h).0
 
-  pub not_as_a_type : (now : Scope) → IsItemDescribed Inside nested old now (kind.Instance (interface 0)) (e.Equal 0) → ⊥
+  pub not_as_a_type : (now : Scope) → IsItemDescribed Inside ws nested old now (kind.Instance (interface 0)) (e.Equal 0) → ⊥
   not_as_a_type now h = h
 
   -- and a type item of it as equal to that
-  pub equal_to_its_type : IsItemDescribed Inside nested old old (kind.TypeItem (ty.Interface (interface 0))) (e.Equal 0)
+  pub equal_to_its_type : IsItemDescribed Inside ws nested old old (kind.TypeItem (ty.Interface (interface 0))) (e.Equal 0)
   equal_to_its_type = subst (λ (o : Option ℕ). IsInstanceTypeFrom o Inside nested old old (interface 0) 0) (sym recorded) (refl, refl)
 
-  pub not_as_an_instance : (now : Scope) → IsItemDescribed Inside nested old now (kind.TypeItem (ty.Interface (interface 0))) (e.Instance 0) → ⊥
+  pub not_as_an_instance : (now : Scope) → IsItemDescribed Inside ws nested old now (kind.TypeItem (ty.Interface (interface 0))) (e.Instance 0) → ⊥
   not_as_an_instance now h = h

@@ -23,6 +23,7 @@ use Rattle.wac_scopes.specs.declared.encodable.Encodable.TheVariants.{Instance}
 use Rattle.wac_scopes.specs.declared.scope.Scope.{Scope}
 use Rattle.wac_scopes.specs.Contents.{and_type, and_export, count}
 use Rattle.wac_scopes.specs.Scoped.{type_index, value_index, listed_at, by_index}
+use Rattle.wac_encode.specs.declared.worlds.Worlds.{Worlds}
 use Rattle.wac_encode.specs.Written.{NewType, defined, aliased, as_decl, with_types, IsTypeByRecord, IsWrittenAs, IsWrittenAt, PartOfOne, WritesFor}
 use Rattle.wac_encode.specs.Listing.{IsDescribed, WritesItem}
 use Rattle.wac_encode_examples.proofs.Apart.{no_flag, no_entry, one_entry, two_numbers}
@@ -76,8 +77,8 @@ module _ (named : Scope) (by_name : value_index named the_enum ≡ Some 1) where
   by_no_other : (i : ℕ) → IsTypeByRecord list_types named list_type (value_def (list_def (Index i))) → 1 ≡ i
   by_no_other i h = ap index_in (one_entry (Index 1) (Index i) (sym (ap by_index by_name) ∙ h))
 
-module _ (named whole : Scope) (content : named.content ≡ Instance enum_named) (by_name : value_index named the_enum ≡ Some 1) (none : value_index named the_list ≡ None) (unlisted : listed_at named the_list ≡ None)
-    (Inside : Scope → InterfaceId → List Decl → Type 0) (w : WritesItem Inside list_types named whole (codes "l") (kind.TypeItem (ty.Value (val.Defined the_list)))) where
+module _ (ws : Worlds) (named whole : Scope) (content : named.content ≡ Instance enum_named) (by_name : value_index named the_enum ≡ Some 1) (none : value_index named the_list ≡ None) (unlisted : listed_at named the_list ≡ None)
+    (Inside : Scope → InterfaceId → List Decl → Type 0) (w : WritesItem Inside ws list_types named whole (codes "l") (kind.TypeItem (ty.Value (val.Defined the_list)))) where
   recorded : (i : ℕ) × (value_index w.now the_list ≡ Some i)
   recorded = described w.description w.described where
     described : (d : Description) → IsDescribed list_types named w.now (kind.TypeItem (ty.Value (val.Defined the_list))) d → (i : ℕ) × (value_index w.now the_list ≡ Some i)
@@ -148,8 +149,8 @@ last_index (Instance (a ∷ b ∷ c ∷ export_decl n (e.Equal i) ∷ ds)) = i
 last_index x = 7
 
 -- it is not described by the first one's index
-pub no_index_of_the_first : (Inside : Scope → InterfaceId → List Decl → Type 0) (old new : Scope) → old.content ≡ Instance first_item → WritesItem Inside empty old new (codes "u") byte_item → new.content ≡ Instance (first_item ++ second_item 0) → ⊥
-no_index_of_the_first Inside old new content w is = by_description w.description w.described refl where
+pub no_index_of_the_first : (ws : Worlds) (Inside : Scope → InterfaceId → List Decl → Type 0) (old new : Scope) → old.content ≡ Instance first_item → WritesItem Inside ws empty old new (codes "u") byte_item → new.content ≡ Instance (first_item ++ second_item 0) → ⊥
+no_index_of_the_first ws Inside old new content w is = by_description w.description w.described refl where
   by_description : (d : Description) → IsDescribed empty old w.now byte_item d → w.description ≡ d → ⊥
   by_description (e.Equal i) h same =
       let index : i ≡ 2 = h.2 ∙ ap (count (space sort.«Type»)) content in

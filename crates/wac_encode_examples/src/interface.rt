@@ -6,6 +6,7 @@ ghost use Rattle.wac_binary.specs.Items.{instance_def, decls, type_item};
 ghost use Rattle.wac_scopes.specs.declared.encodable.Encodable.TheVariants.{Builder};
 ghost use Rattle.wac_scopes.specs.declared.scope.Scope.{Scope as AScope};
 ghost use Rattle.wac_scopes.specs.Scoped.{HasToo};
+ghost use Rattle.wac_encode.specs.declared.worlds.Worlds.{Worlds as AnyWorlds};
 ghost use Rattle.wac_encode.specs.Listing.{AliasesFor, AllAliased, WritesInterface};
 ghost use Rattle.wac_encode.specs.Instances.{IsInterfaceAt};
 ghost use Rattle.wac_encode_examples.specs.EnumInterface.{types, the_interface, declarations, Steps};
@@ -15,8 +16,8 @@ use wac_stacks::{listing_law, step_law, still_law};
 
 /// After these steps, its declarations are written; and closed in an empty root, they are at its index 0.
 pub fn interface_rows()
-    ensures written { (around opened_ defined named typed whole : AScope) → Steps around opened_ defined named typed whole → WritesInterface types around the_interface declarations }
-    ensures placed { (root opened_ defined named typed whole now : AScope) → IsEmptyRoot root → Steps root opened_ defined named typed whole → now.content ≡ Builder (type_item (instance_def (decls declarations)) ∷ []) → HasToo root (ty.Interface the_interface) 0 now → IsInterfaceAt types root now the_interface 0 }
+    ensures written { (ws : AnyWorlds) (around opened_ defined named typed whole : AScope) → Steps around opened_ defined named typed whole → WritesInterface ws types around the_interface declarations }
+    ensures placed { (ws : AnyWorlds) (root opened_ defined named typed whole now : AScope) → IsEmptyRoot root → Steps root opened_ defined named typed whole → now.content ≡ Builder (type_item (instance_def (decls declarations)) ∷ []) → HasToo root (ty.Interface the_interface) 0 now → IsInterfaceAt ws types root now the_interface 0 }
 {
     step_law();
     listing_law();

@@ -1,1 +1,2 @@
 pub mod StillOpen
+pub mod Saying

@@ -9,6 +9,7 @@ use crate::rows::{Item, Items, Row, component};
 use std::process::Abort;
 use wac_builder::ComponentBuilder;
 use wac_collection::Types;
+use wac_encode::Worlds;
 use wac_root::RootEncoder;
 use wac_scopes::{Encodable, EncodeFault, Scope, rooted_law};
 use wac_shapes::{ItemKind, PrimitiveType, Type};
@@ -60,7 +61,8 @@ fn define(
 {
     let ty = kind.ty();
     assert!(rt; types.contains(ty));
-    let encoder = RootEncoder::new(types);
+    let worlds = Worlds::new(types.allocator());
+    let encoder = RootEncoder::new(types, &worlds);
     let definable = encoder.is_definable(ty).expect(rt, "an answer");
     assert!(rt; definable);
     encoder.definition(root, name, ty)?;
@@ -130,5 +132,6 @@ fn an_interface_without_id_is_not_definable(rt: HostRuntime) {
     let items = Items::new(&rt, rt.alloc(), UNNAMED);
     let unnamed = Type::Interface(items.interface(&rt, 1));
     assert!(rt; items.types.contains(unnamed));
-    assert!(rt; RootEncoder::new(&items.types).is_definable(unnamed) == Ok(false));
+    let worlds = Worlds::new(rt.alloc());
+    assert!(rt; RootEncoder::new(&items.types, &worlds).is_definable(unnamed) == Ok(false));
 }

@@ -10,6 +10,7 @@ use std::alloc::Global;
 use std::process::Abort;
 use wac_builder::ComponentBuilder;
 use wac_collection::Types;
+use wac_encode::Worlds;
 use wac_root::RootEncoder;
 use wac_scopes::{Encodable, EncodeFault, Scope, WriteFault};
 use wac_shapes::{ItemKind, PrimitiveType};
@@ -152,7 +153,8 @@ fn import(
     ensures { OnOk result (IsRoot root.new.content) }
 {
     assert!(rt; types.contains(item.ty()));
-    let index = RootEncoder::new(types).import(root, name, item)?;
+    let worlds = Worlds::new(types.allocator());
+    let index = RootEncoder::new(types, &worlds).import(root, name, item)?;
     Ok(index.is_some())
 }
 
@@ -332,6 +334,7 @@ fn refuses_what_cannot_be_imported(rt: HostRuntime) {
     let value = items.kind(&rt, 1);
     assert!(rt; items.types.contains(value.ty()));
     let mut root = Scope::new(alloc, Encodable::Builder(ComponentBuilder::new(alloc)));
-    let refused = RootEncoder::new(&items.types).import(&mut root, "v", value);
+    let worlds = Worlds::new(alloc);
+    let refused = RootEncoder::new(&items.types, &worlds).import(&mut root, "v", value);
     assert!(rt; refused == Err(EncodeFault::Write(WriteFault::ValueItem)));
 }

@@ -8,11 +8,12 @@ use crate::rows::Row::{
 };
 use crate::rows::{Items, Row, assert_row};
 use std::process::Abort;
-use wac_builder::{ComponentBuilder, Description};
+use wac_builder::{ComponentBuilder, Description, InstanceType};
 use wac_collection::Types;
 use wac_encode::TypeEncoder;
 use wac_scopes::{Encodable, EncodeFault, Scope, WriteFault};
 use wac_shapes::{InterfaceId, PrimitiveType, Type};
+use wac_worlds::worlds_inside;
 
 const NAMED: &[u8] = &[
     0x00, 0x61, 0x73, 0x6d, 0x0d, 0x00, 0x01, 0x00, // the preamble
@@ -76,14 +77,25 @@ fn scope(types: &Types) -> Scope {
     Scope::new(alloc, Encodable::Builder(ComponentBuilder::new(alloc)))
 }
 
+// The instance type of an interface, with the worlds inside written ahead.
+fn instance_type(
+    types: &Types,
+    around: &Scope,
+    interface: InterfaceId,
+) -> Result<Option<InstanceType>, EncodeFault>
+    requires { HasInterface types.now interface }
+{
+    let worlds = worlds_inside(types, &[Type::Interface(interface)])?;
+    TypeEncoder::new(types, &worlds).interface_type(around, interface)
+}
+
 /// The bytes of a component that imports an interface of these items.
 pub fn imported(rt: &impl Abort, types: &Types, interface: InterfaceId) -> Vec<u8>
     requires { HasInterface types.now interface }
 {
     let mut builder = ComponentBuilder::new(types.allocator());
     let around = scope(types);
-    let written = TypeEncoder::new(types).interface_type(&around, interface);
-    if let Some(written) = written.expect(rt, "an instance type") {
+    if let Some(written) = instance_type(types, &around, interface).expect(rt, "an instance type") {
         let index = builder.instance_type(&written).expect(rt, "an index");
         let imported = builder.import("n:p/i", Description::Instance(index));
         imported.expect(rt, "an import");
@@ -200,7 +212,7 @@ fn refusal(rt: &impl Abort, types: &Types, interface: InterfaceId) -> Option<Enc
     requires { HasInterface types.now interface }
 {
     let around = scope(types);
-    match TypeEncoder::new(types).interface_type(&around, interface) {
+    match instance_type(types, &around, interface) {
         Ok(Some(_)) => panic!(rt; "it is written"),
         Ok(None) => None,
         Err(fault) => Some(fault),

@@ -90,6 +90,19 @@ const TYPE_ITEM_AROUND: &[u8] = &[
     0x0a, 0x0a, 0x01, 0x00, 0x05, 0x6e, 0x3a, 0x70, 0x2f, 0x69, 0x05, 0x00, // the import
 ];
 
+const WORLD_ITEMS: &[u8] = &[
+    0x00, 0x61, 0x73, 0x6d, 0x0d, 0x00, 0x01, 0x00, // the preamble
+    0x07, 0x2b, 0x01, 0x42, 0x05, // an instance type of five declarations
+    0x01, 0x6d, 0x01, 0x01, 0x61, // the enum
+    0x04, 0x00, 0x01, 0x74, 0x03, 0x00, 0x00, // a type item that equals it
+    0x01, 0x41, 0x02, // a component type of two declarations inside
+    0x01, 0x40, 0x00, 0x01, 0x00, // a function type
+    0x03, 0x00, 0x01, 0x66, 0x01, 0x00, // a function that is imported
+    0x04, 0x00, 0x01, 0x77, 0x03, 0x00, 0x02, // a type item that equals it
+    0x04, 0x00, 0x01, 0x76, 0x03, 0x00, 0x02, // another
+    0x0a, 0x0a, 0x01, 0x00, 0x05, 0x6e, 0x3a, 0x70, 0x2f, 0x69, 0x05, 0x00, // the import
+];
+
 const NESTED: &[Written] = &[
     Written {
         name: "an interface inside takes an enumeration that the outer one lists from there, by the name that it has",
@@ -146,6 +159,18 @@ const NESTED: &[Written] = &[
         ],
         place: 3,
         want: BOTH_ITEMS,
+    },
+    Written {
+        name: "a type item of a world equals its component type, which is written before it, once for two, and behind the type items of value types",
+        rows: &[
+            Enumeration("a"),
+            Func(&[], None),
+            Component(None, &[("f", 1)], &[]),
+            TypeOf(2),
+            Instance(Some("n:p/i"), &[("w", 3), ("t", 0), ("v", 3)]),
+        ],
+        place: 4,
+        want: WORLD_ITEMS,
     },
     Written {
         name: "the interface of a type item takes an enumeration that the outer one lists from there, by the name that it has",
@@ -211,7 +236,7 @@ fn writes_five_thousand_levels(rt: HostRuntime) {
     assert!(rt; body == want.as_slice());
 }
 
-// A resource is not written inside yet, nor is a type item of a world.
+// A resource is not written inside yet, nor is a type item of a world that has one.
 const REFUSED: &[Refused] = &[
     (
         &[
@@ -234,11 +259,12 @@ const REFUSED: &[Refused] = &[
     ),
     (
         &[
-            Component(None, &[], &[]),
-            TypeOf(0),
-            Instance(None, &[("w", 1)]),
+            Resource,
+            Component(None, &[], &[("r", 0)]),
+            TypeOf(1),
+            Instance(None, &[("w", 2)]),
         ],
-        2,
+        3,
         None,
     ),
 ];

@@ -7,7 +7,7 @@ use crate::rows::{Items, component};
 use std::alloc::Global;
 use std::process::Abort;
 use wac_builder::{ComponentBuilder, EntityType, MemoryType, ModuleType, Sort};
-use wac_encode::TypeEncoder;
+use wac_encode::{TypeEncoder, Worlds};
 use wac_root::RootEncoder;
 use wac_scopes::{Encodable, EncodeFault, Scope};
 use wac_shapes::{DefinedTypeId, Type};
@@ -50,7 +50,8 @@ fn write(rt: &impl Abort, items: &Items, root: &mut Scope, place: usize) -> Resu
 {
     let value = items.value(rt, place);
     assert!(rt; items.types.contains(Type::Value(value)));
-    TypeEncoder::new(&items.types).value_type(root, value)?;
+    let worlds = Worlds::new(items.types.allocator());
+    TypeEncoder::new(&items.types, &worlds).value_type(root, value)?;
     Ok(())
 }
 
@@ -79,7 +80,8 @@ fn import_func(
 {
     let f = items.func(rt, place);
     assert!(rt; items.types.contains(Type::Func(f)));
-    RootEncoder::new(&items.types).import_func(root, name, f)
+    let worlds = Worlds::new(items.types.allocator());
+    RootEncoder::new(&items.types, &worlds).import_func(root, name, f)
 }
 
 // The root's component has these bytes.

@@ -41,7 +41,7 @@ pub enum Row {
     Instance(Option<&'static str>, &'static [Item]),
     /// A component of a world of this id, which imports and exports these.
     Component(Option<&'static str>, &'static [Item], &'static [Item]),
-    /// The type of a function or of an instance.
+    /// The type of a function, of an instance or of a component.
     TypeOf(usize),
     /// A value of a type.
     Value(usize),

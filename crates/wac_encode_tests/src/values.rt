@@ -8,7 +8,7 @@ use crate::rows::{Items, Row, assert_row};
 use std::alloc::Global;
 use std::process::Abort;
 use wac_builder::{ComponentBuilder, ComponentValType, Description, InstanceType};
-use wac_encode::TypeEncoder;
+use wac_encode::{TypeEncoder, Worlds};
 use wac_scopes::{Encodable, EncodeFault, Scope, WriteFault};
 use wac_shapes::{DefinedTypeId, PrimitiveType, Type, ValueType};
 
@@ -110,7 +110,8 @@ fn writes_value(
 {
     let value = items.value(rt, place);
     assert!(rt; items.types.contains(Type::Value(value)));
-    TypeEncoder::new(&items.types).value_type(scope, value) == want
+    let worlds = Worlds::new(items.types.allocator());
+    TypeEncoder::new(&items.types, &worlds).value_type(scope, value) == want
 }
 
 fn writes_func(
@@ -125,7 +126,8 @@ fn writes_func(
 {
     let f = items.func(rt, place);
     assert!(rt; items.types.contains(Type::Func(f)));
-    TypeEncoder::new(&items.types).func(scope, f) == want
+    let worlds = Worlds::new(items.types.allocator());
+    TypeEncoder::new(&items.types, &worlds).func(scope, f) == want
 }
 
 fn names(scope: &mut Scope, name: &str, id: DefinedTypeId, index: u32) -> Result<u32, EncodeFault>

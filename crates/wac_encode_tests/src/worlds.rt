@@ -15,7 +15,7 @@ use wac_collection::Types;
 use wac_components::ComponentEncoder;
 use wac_scopes::{Encodable, EncodeFault, Scope, WriteFault, rooted_law};
 use wac_shapes::{Type, WorldId};
-use wac_worlds::WorldEncoder;
+use wac_worlds::{WorldEncoder, worlds_inside};
 
 const NOTHING: &[u8] = &[
     0x00, 0x61, 0x73, 0x6d, 0x0d, 0x00, 0x01, 0x00, // the preamble
@@ -101,6 +101,30 @@ const IN_ORDER: &[u8] = &[
     0x04, 0x00, 0x01, 0x6b, 0x03, 0x00, 0x09, // `k` is exported
 ];
 
+const WORLD_TYPE: &[u8] = &[
+    0x00, 0x61, 0x73, 0x6d, 0x0d, 0x00, 0x01, 0x00, // the preamble
+    0x07, 0x3d, 0x01, 0x41, 0x05, // a component type of five declarations
+    0x01, 0x42, 0x02, // an instance type of two declarations
+    0x01, 0x41, 0x02, // a component type of two declarations inside
+    0x01, 0x40, 0x00, 0x01, 0x00, // a function type
+    0x03, 0x00, 0x01, 0x66, 0x01, 0x00, // `f` is imported
+    0x04, 0x00, 0x01, 0x77, 0x03, 0x00, 0x00, // `w` equals it
+    0x03, 0x00, 0x01, 0x69, 0x05, 0x00, // `i` is imported
+    0x01, 0x41, 0x02, // the component type again, in this scope
+    0x01, 0x40, 0x00, 0x01, 0x00, 0x03, 0x00, 0x01, 0x66, 0x01, 0x00, // of the same
+    0x03, 0x00, 0x01, 0x77, 0x03, 0x00, 0x01, // `w` is imported
+    0x04, 0x00, 0x01, 0x78, 0x03, 0x00, 0x01, // `x` is exported, of the same component type
+];
+
+const WORLDS_IN_WORLDS: &[u8] = &[
+    0x00, 0x61, 0x73, 0x6d, 0x0d, 0x00, 0x01, 0x00, // the preamble
+    0x07, 0x17, 0x01, 0x41, 0x02, // a component type of two declarations
+    0x01, 0x41, 0x02, // a component type of two declarations inside
+    0x01, 0x41, 0x00, // an empty one in it
+    0x03, 0x00, 0x01, 0x77, 0x03, 0x00, 0x00, // `w` is imported, and equals it
+    0x04, 0x00, 0x01, 0x76, 0x03, 0x00, 0x00, // `v` is exported, and equals the outer one
+];
+
 const IMPORTED: &[u8] = &[
     0x00, 0x61, 0x73, 0x6d, 0x0d, 0x00, 0x01, 0x00, // the preamble
     0x07, 0x0e, 0x01, 0x41, 0x02, // a component type of two declarations
@@ -141,7 +165,8 @@ const REFUSED: Result<bool, EncodeFault> = Err(EncodeFault::Write(WriteFault::Ne
 fn write(types: &Types, root: &mut Scope, world: WorldId) -> Result<bool, EncodeFault>
     requires { HasWorld types.now world }
 {
-    match WorldEncoder::new(types).world_type(world)? {
+    let worlds = worlds_inside(types, &[Type::World(world)])?;
+    match WorldEncoder::new(types, &worlds).world_type(world)? {
         Some(ty) => Ok(root.define_component(&ty).is_ok()),
         None => Ok(false),
     }
@@ -153,7 +178,8 @@ fn import(types: &Types, root: &mut Scope, world: WorldId) -> Result<bool, Encod
     requires root { IsRoot root.old.content }
     ensures { IsRoot root.new.content }
 {
-    let index = ComponentEncoder::new(types).import_component(root, "c", world)?;
+    let worlds = worlds_inside(types, &[Type::World(world)])?;
+    let index = ComponentEncoder::new(types, &worlds).import_component(root, "c", world)?;
     Ok(index.is_some())
 }
 
@@ -162,7 +188,8 @@ fn import_type(types: &Types, root: &mut Scope, world: WorldId) -> Result<bool, 
     requires held { HasWorld types.now world }
     requires root { IsRoot root.old.content }
 {
-    let index = ComponentEncoder::new(types).import_world_type(root, "t", world)?;
+    let worlds = worlds_inside(types, &[Type::World(world)])?;
+    let index = ComponentEncoder::new(types, &worlds).import_world_type(root, "t", world)?;
     Ok(index.is_some())
 }
 
@@ -171,7 +198,8 @@ fn define(types: &Types, root: &mut Scope, world: WorldId) -> Result<bool, Encod
     requires held { HasWorld types.now world }
     requires right { IsRightRoot types.now root.old }
 {
-    let encoder = ComponentEncoder::new(types);
+    let worlds = worlds_inside(types, &[Type::World(world)])?;
+    let encoder = ComponentEncoder::new(types, &worlds);
     if !encoder.is_definable(world)? {
         return Ok(false);
     }
@@ -279,6 +307,47 @@ const WORLDS: &[WorldRow] = &[
         way: Typed,
         answer: Ok(true),
         want: INTERFACE_TYPE,
+    },
+    WorldRow {
+        name: "a type item of a world equals the component type that is written once for both sides, and so one of an interface that lists such",
+        rows: &[
+            Func(&[], None),
+            Component(None, &[("f", 0)], &[]),
+            TypeOf(1),
+            Instance(None, &[("w", 2)]),
+            Component(None, &[("i", 3), ("w", 2)], &[("x", 2)]),
+        ],
+        place: 4,
+        way: Typed,
+        answer: Ok(true),
+        want: WORLD_TYPE,
+    },
+    WorldRow {
+        name: "a world inside a world inside a world is written in each",
+        rows: &[
+            Component(None, &[], &[]),
+            TypeOf(0),
+            Component(None, &[("w", 1)], &[]),
+            TypeOf(2),
+            Component(None, &[], &[("v", 3)]),
+        ],
+        place: 4,
+        way: Typed,
+        answer: Ok(true),
+        want: WORLDS_IN_WORLDS,
+    },
+    WorldRow {
+        name: "a type item of a world with a resource is not written yet",
+        rows: &[
+            Resource,
+            Component(None, &[("r", 0)], &[]),
+            TypeOf(1),
+            Component(None, &[], &[("w", 2)]),
+        ],
+        place: 3,
+        way: Typed,
+        answer: Ok(false),
+        want: NOTHING,
     },
     WorldRow {
         name: "a type item of an interface with a resource is not written yet",

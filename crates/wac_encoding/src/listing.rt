@@ -19,7 +19,7 @@ ghost use Rattle.wac_binary.specs.declared.sorts.Sort.TheVariants as sort;
 
 use std::alloc::AllocError;
 use wac_binary::kept_law;
-use wac_encode::TypeEncoder;
+use wac_encode::{TypeEncoder, Worlds};
 use wac_merge::laws::{class_laws, order_law};
 use wac_places::ImportPlaces;
 use wac_reading::GraphReader;
@@ -86,7 +86,8 @@ fn list_instance(
     let (_, index) = imports.place_of(name);
     let held = &types[interface];
     held.exports.law();
-    let definitions = TypeEncoder::new(types).listed_definitions(&held.exports)?;
+    let worlds = Worlds::new(types.allocator());
+    let definitions = TypeEncoder::new(types, &worlds).listed_definitions(&held.exports)?;
     root.list_definitions(index, definitions)?;
     Ok(())
 }

@@ -41,7 +41,8 @@ abbrev used_type : Name × UsedType
 used_type = (codes "t", record { interface = record { 0 = 0 }; name = None })
 
 -- a resource; a list of bytes; and interfaces: with an id, without, with a use, with an instance, with a function of a handle, with an instance of that
--- one, with an instance that has an instance, with a type item of the first, with one of that with a function of a handle
+-- one, with an instance that has an instance, with a type item of the first, with one of that with a function of a handle, with
+-- a type item of a world, with one of a world with a function of a handle
 abbrev types : Collection
 types = record {
   resources = record { item = record { name = codes "r"; alias = None }; before = 0 } ∷ [];
@@ -57,7 +58,9 @@ types = record {
       ∷ interface_of (Some (codes "a:b/h")) [] ((codes "i", kind.Instance (record { 0 = 4 })) ∷ [])
       ∷ interface_of (Some (codes "a:b/k")) [] ((codes "j", kind.Instance (record { 0 = 3 })) ∷ [])
       ∷ interface_of (Some (codes "a:b/l")) [] ((codes "i", kind.TypeItem (ty.Interface (record { 0 = 0 }))) ∷ [])
-      ∷ interface_of (Some (codes "a:b/m")) [] ((codes "i", kind.TypeItem (ty.Interface (record { 0 = 4 }))) ∷ []) ∷ [];
+      ∷ interface_of (Some (codes "a:b/m")) [] ((codes "i", kind.TypeItem (ty.Interface (record { 0 = 4 }))) ∷ [])
+      ∷ interface_of (Some (codes "a:b/n")) [] ((codes "w", kind.TypeItem (ty.World (record { 0 = 0 }))) ∷ [])
+      ∷ interface_of (Some (codes "a:b/o")) [] ((codes "w", kind.TypeItem (ty.World (record { 0 = 1 }))) ∷ []) ∷ [];
   worlds =
       world_of ((codes "f", plain_function) ∷ []) ((codes "i", kind.Instance (record { 0 = 0 })) ∷ [])
       ∷ world_of [] ((codes "f", of_handle) ∷ [])
@@ -179,6 +182,18 @@ pub handle_in_a_type_item_is_not : IsImportableKind types (instance_of 8) → �
 unfolding type_tree
 handle_in_a_type_item_is_not h = (h (codes "i") (codes "f")).0 0
 
+-- and one that lists the type of a world
+pub instance_with_a_world_is_imported : IsImportableKind types (instance_of 9)
+unfolding type_tree
+instance_with_a_world_is_imported n = by_name (same_name n (codes "w")) where
+  by_name : (b : Bool) → IsPlainWhereThere {L = Name} (if b then kind_tree types (world_at 0) else absent)
+  by_name true = (one_function, one_instance)
+  by_name false = tt
+
+pub handle_in_a_world_is_not : IsImportableKind types (instance_of 10) → ⊥
+unfolding type_tree
+handle_in_a_world_is_not h = ((h (codes "w")).1 (codes "f")).0 0
+
 pub handle_inside_is_not : IsImportableKind types (instance_of 4) → ⊥
 unfolding type_tree
 handle_inside_is_not h = (h (codes "f")).0 0
@@ -263,6 +278,22 @@ interface_with_a_type_item_is_defined = record {
 } where
   only : (k : ℕ) (e : Name × ItemKind) → slice_get ((codes "i", interface_at 0) ∷ []) k ≡ Some e → (d : ℕ) × IsPlainTo d types e.1
   only zero e is = (1, subst (λ x. IsPlainTo 1 types x.1) (given_back (codes "i", interface_at 0) e is) (plain_function_to 0))
+  only (suc k) e is = absurd (none-some e is)
+
+pub interface_with_a_world_is_defined : IsDefinableKind types (interface_at 9)
+interface_with_a_world_is_defined = record {
+  interface = record { id = Some (codes "a:b/n"); uses = []; exports = (codes "w", world_at 0) ∷ [] };
+  found = refl;
+  id = refl;
+  uses = refl;
+  plain = only;
+} where
+  outs : (k : ℕ) (e : Name × ItemKind) → slice_get ((codes "i", instance_of 0) ∷ []) k ≡ Some e → IsPlainTo 1 types e.1
+  outs zero e is = subst (λ x. IsPlainTo 1 types x.1) (given_back (codes "i", instance_of 0) e is) (plain_function_to 0)
+  outs (suc k) e is = absurd (none-some e is)
+
+  only : (k : ℕ) (e : Name × ItemKind) → slice_get ((codes "w", world_at 0) ∷ []) k ≡ Some e → (d : ℕ) × IsPlainTo d types e.1
+  only zero e is = (2, subst (λ x. IsPlainTo 2 types x.1) (given_back (codes "w", world_at 0) e is) (plain_function_to 1, outs))
   only (suc k) e is = absurd (none-some e is)
 
 pub no_id_is_not : IsDefinableKind types (interface_at 1) → ⊥

@@ -2,7 +2,7 @@
 use crate::parts::{assert_displayed, define, encode};
 use crate::tables::Row::{
     Alias, Bool, Component, Enumeration, Func, Instance, List, Optional, Own, Pair, Record,
-    Resource,
+    Resource, TypeOf,
 };
 use crate::tables::Step::{
     Define, Export, Exported, Import, Instantiate, Kept, Nodes, Register, Remove, Undefined,
@@ -183,6 +183,23 @@ pub const DEFINED: &[Case] = &[
             "0b0701000164030000",
         ]),
     },
+    // So is the component type of a world of which a type is listed.
+    Case {
+        rows: &[
+            Func(&[], None),
+            Component(None, &[("f", 0)], &[]),
+            TypeOf(1),
+            Instance(Some("n:p/i"), &[("w", 2)]),
+        ],
+        steps: &[Define("d", 3)],
+        want: Parts(&[
+            "0725014102", // a component type of two declarations
+            "014202", // the interface's instance type
+            "014102014000010003000166010004000177030000", // the component type inside, and the type item that equals it
+            "0400056e3a702f690500", // the instance
+            "0b0701000164030000",
+        ]),
+    },
     // With a handle inside it is not written yet.
     Case {
         rows: &[
@@ -204,6 +221,23 @@ pub const DEFINED: &[Case] = &[
         steps: &[Define("t", 1)],
         want: Parts(&[
             "0723014102014103014000010003000166010004000372756e01000400056e3a702f770400",
+            "0b0701000174030000",
+        ]),
+    },
+    // A type of another world that it imports stands behind that one's component type, which is written inside.
+    Case {
+        rows: &[
+            Func(&[], None),
+            Component(None, &[("f", 0)], &[]),
+            TypeOf(1),
+            Component(Some("n:p/w"), &[("t", 2)], &[]),
+        ],
+        steps: &[Define("t", 3)],
+        want: Parts(&[
+            "0725014102", // a component type of two declarations
+            "014102", // that of the world
+            "014102014000010003000166010003000174030000", // the one inside, and the type item that equals it
+            "0400056e3a702f770400", // the component
             "0b0701000174030000",
         ]),
     },

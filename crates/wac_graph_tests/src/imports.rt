@@ -1,12 +1,21 @@
 // Types that import nodes ask for.
-use crate::tables::Case;
 use crate::tables::Row::{
     Bool, Byte, Component, Doubled, Enumeration, Func, Instance, Own, Resource, TypeOf,
 };
 use crate::tables::Step::Import;
 use crate::tables::Want::{Length, Parts, Text};
+use crate::tables::{Case, Row};
 
 const NOT_YET: &str = "the graph holds something that is not written yet";
+
+// A world that imports a function, an interface that lists its type twice, and a world that imports and exports it.
+const TWO_ITEMS: &[Row] = &[
+    Func(&[], None),
+    Component(None, &[("f", 0)], &[]),
+    TypeOf(1),
+    Instance(None, &[("v", 2), ("w", 2)]),
+    Component(None, &[("v", 2)], &[("w", 2)]),
+];
 
 /// Imports of types, and what is written of them.
 pub const IMPORTS: &[Case] = &[
@@ -135,15 +144,39 @@ pub const IMPORTS: &[Case] = &[
         steps: &[Import("o", 3)],
         want: Text(NOT_YET),
     },
-    // Nor is a type item of a world there.
+    // Nor in a world that it does.
     Case {
         rows: &[
-            Component(None, &[], &[]),
-            TypeOf(0),
-            Instance(None, &[("w", 1)]),
+            Resource,
+            Component(None, &[], &[("r", 0)]),
+            TypeOf(1),
+            Instance(None, &[("w", 2)]),
         ],
-        steps: &[Import("o", 2)],
+        steps: &[Import("o", 3)],
         want: Text(NOT_YET),
+    },
+    // Two type items of one world, in an instance and in the world of a component: its component type is written once in each.
+    Case {
+        rows: TWO_ITEMS,
+        steps: &[Import("o", 3)],
+        want: Parts(&[
+            "071f014203", // an instance type of three declarations
+            "0141020140000100030001660100", // the component type
+            "04000176030000", // `v` equals it
+            "04000177030000", // `w` does
+            "0a060100016f0500",
+        ]),
+    },
+    Case {
+        rows: TWO_ITEMS,
+        steps: &[Import("o", 4)],
+        want: Parts(&[
+            "071f014103", // a component type of three declarations
+            "0141020140000100030001660100", // the one inside
+            "03000176030000", // `v` equals it
+            "04000177030000", // `w` does
+            "0a060100016f0400",
+        ]),
     },
     // Nor is a function type that takes a handle, as a type item.
     Case {

@@ -20,6 +20,7 @@ use Rattle.wac_scopes.specs.declared.scope.Scope.{Scope}
 use Rattle.wac_scopes.specs.Contents.{items_of}
 use Rattle.wac_scopes.specs.Rooted.{IsTypeItem}
 use Rattle.wac_scopes.specs.Scoped.{value_index, listing}
+use Rattle.wac_encode.specs.declared.worlds.Worlds.{Worlds}
 use Rattle.wac_root.specs.Importing.{IsImportedOnce, NamesImportedValue}
 use Rattle.wac_root.specs.Defining.{defined_thing, NamesDefinition, WritesDefinition, WritesOnce, IsDefinitionFault}
 use Rattle.wac_root.specs.Defining.{IsDefinable as IsWritable}
@@ -28,6 +29,7 @@ use Rattle.wac_meaning.specs.Importable.{IsDefinableKind}
 use Rattle.wac_meaning.specs.Writing.{IsTypeAlone}
 use Rattle.wac_importing.specs.Defined.{definition_thing, DefinesType}
 use Rattle.wac_importing.specs.Looked.{IsOfValues}
+use Rattle.wac_importing.specs.Written.{IsAhead}
 use Rattle.wac_importing.proofs.Handles.{value_needs_none, func_needs_none}
 use Rattle.wac_importing.proofs.Interfaces.{interface_writable, interface_no_fault, interface_tree_is}
 use Rattle.wac_importing.proofs.Items.{type_not_definable, values_free}
@@ -57,8 +59,8 @@ definition_named c old now new (ty.Resource r) k h a = h.listed a
 definition_named c old now new (ty.World w) k h a = h.listed a
 definition_named c old now new (ty.Module m) k h a = h.listed a
 
-pub still_listed : (c : Collection) (t : AnyType) (n : Name) (old new : Scope) (k : ℕ) → WritesOnce c t n old new k → (a : AnyType) → listing new a ≡ listing old a
-still_listed c t n old new k w a = definition_named c old w.now new t k w.named a ∙ w.behind.listed a
+pub still_listed : (ws : Worlds) (c : Collection) (t : AnyType) (n : Name) (old new : Scope) (k : ℕ) → WritesOnce ws c t n old new k → (a : AnyType) → listing new a ≡ listing old a
+still_listed ws c t n old new k w a = definition_named c old w.now new t k w.named a ∙ w.behind.listed a
 
 module _ (c : Collection) (wf : IsWellFormed c) where
   -- one that is no world is a value type, a function type or an interface
@@ -70,24 +72,24 @@ module _ (c : Collection) (wf : IsWellFormed c) where
   by_sort P by interface (ty.World w) other held so = absurd (other w refl)
   by_sort P by interface (ty.Module m) other held so = absurd (type_not_definable c wf (ty.Module m) held (λ h. h) (λ i e. cc) (λ w e. cc) so)
 
-  values_writable : (a : AnyType) → IsOfValues a → IsWritable c a
-  values_writable (ty.Value v) of = tt
-  values_writable (ty.Func f) of = tt
-  values_writable a of = absurd of
+  values_writable : (ws : Worlds) (a : AnyType) → IsOfValues a → IsWritable ws c a
+  values_writable ws (ty.Value v) of = tt
+  values_writable ws (ty.Func f) of = tt
+  values_writable ws a of = absurd of
 
-  pub is_writable : (a : AnyType) → ((w : WorldId) → a ≡ ty.World w → ⊥) → holds_type c a ≡ true → IsDefinableKind c (kind.TypeItem a) → IsWritable c a
-  is_writable = by_sort (IsWritable c) values_writable (interface_writable c wf)
+  pub is_writable : (ws : Worlds) (a : AnyType) → IsAhead c ws (kind.TypeItem a) → ((w : WorldId) → a ≡ ty.World w → ⊥) → holds_type c a ≡ true → IsDefinableKind c (kind.TypeItem a) → IsWritable ws c a
+  is_writable ws a ahead other held so = by_sort (λ a. IsAhead c ws (kind.TypeItem a) → IsWritable ws c a) (λ a of ahead. values_writable ws a of) (λ i so ahead. interface_writable c wf i ws (ahead (ty.Interface i) refl) so) a other held so ahead
 
-  abbrev HasNoFault : AnyType → Type 0
-  HasNoFault a = holds_type c a ≡ true → IsDefinableKind c (kind.TypeItem a) → (f : WriteFault) → IsDefinitionFault c a f → ⊥
+  abbrev HasNoFault : Worlds → AnyType → Type 0
+  HasNoFault ws a = holds_type c a ≡ true → IsDefinableKind c (kind.TypeItem a) → (f : WriteFault) → IsDefinitionFault ws c a f → ⊥
 
-  values_no_fault : (a : AnyType) → IsOfValues a → HasNoFault a
-  values_no_fault (ty.Value v) of held so f h = value_needs_none c wf v held (values_free c (ty.Value v) tt so) h.1
-  values_no_fault (ty.Func g) of held so f h = func_needs_none c wf g held (values_free c (ty.Func g) tt so) h.1
-  values_no_fault a of held so f h = absurd of
+  values_no_fault : (ws : Worlds) (a : AnyType) → IsOfValues a → HasNoFault ws a
+  values_no_fault ws (ty.Value v) of held so f h = value_needs_none c wf v held (values_free c (ty.Value v) tt so) h.1
+  values_no_fault ws (ty.Func g) of held so f h = func_needs_none c wf g held (values_free c (ty.Func g) tt so) h.1
+  values_no_fault ws a of held so f h = absurd of
 
-  pub no_fault : (a : AnyType) → ((w : WorldId) → a ≡ ty.World w → ⊥) → holds_type c a ≡ true → IsDefinableKind c (kind.TypeItem a) → (f : WriteFault) → IsDefinitionFault c a f → ⊥
-  no_fault a other held so = by_sort HasNoFault values_no_fault (λ i is held so. interface_no_fault c wf i so) a other held so held so
+  pub no_fault : (ws : Worlds) (a : AnyType) → ((w : WorldId) → a ≡ ty.World w → ⊥) → holds_type c a ≡ true → IsDefinableKind c (kind.TypeItem a) → (f : WriteFault) → IsDefinitionFault ws c a f → ⊥
+  no_fault ws a other held so = by_sort (HasNoFault ws) (values_no_fault ws) (λ i is held so. interface_no_fault c wf i ws so) a other held so held so
 
   module _ (n : Name) (old new : Scope) (k : ℕ) where
     abbrev Defines : AnyType → Type 0

@@ -20,6 +20,9 @@ use Rattle.wac_root.specs.Defining.{IsDefinable as IsWritable}
 use Rattle.wac_nodes.specs.Entries.{under_id}
 use Rattle.wac_meaning.specs.Definition.{definition_tree, uses_of, reached_to, reached, as_imports, listed, cut_imports}
 use Rattle.wac_meaning.specs.Importable.{IsPlainTo, IsDefinableKind}
+use Rattle.wac_encode.specs.declared.worlds.Worlds.{Worlds}
+use Rattle.wac_worlds.specs.Nested.{AllWritten}
+use Rattle.wac_worlds.proofs.TypesInside.{inside-holder}
 use Rattle.wac_importing.specs.Looked.{ArePlainInside}
 use Rattle.wac_importing.proofs.Items.{exports_are}
 use Rattle.wac_importing.proofs.Nested.{to_inside, inside_to}
@@ -30,26 +33,26 @@ the_id None h = let both : false ≡ true = h in cc
 the_id (Some id) h = (id, refl)
 
 module _ (c : Collection) (wf : IsWellFormed c) (i : InterfaceId) where
-  pub lists_plain_items : IsDefinableKind c (kind.TypeItem (ty.Interface i)) → ArePlainInside c i
-  lists_plain_items so = to_inside c i (subst (λ (es : List (Name × ItemKind)). (k : ℕ) (e : Name × ItemKind) → slice_get es k ≡ Some e → (d : ℕ) × IsPlainTo d c e.1) (sym (exports_are c i so.interface so.found)) so.plain)
+  pub lists_plain_items : IsDefinableKind c (kind.TypeItem (ty.Interface i)) → ArePlainInside c (ty.Interface i)
+  lists_plain_items so = to_inside c (ty.Interface i) (subst (λ (es : List (Name × ItemKind)). (k : ℕ) (e : Name × ItemKind) → slice_get es k ≡ Some e → (d : ℕ) × IsPlainTo d c e.1) (sym (exports_are c i so.interface so.found)) so.plain)
 
-  pub plain_to_some : (it : Interface) → item_at c.interfaces i.0 ≡ Some it → ArePlainInside c i → (k : ℕ) (e : Name × ItemKind) → slice_get it.exports k ≡ Some e → (d : ℕ) × IsPlainTo d c e.1
-  plain_to_some it at all k e here = inside_to c wf i all (is_held c wf i it at) k e (ap (λ (es : List (Name × ItemKind)). slice_get es k) (exports_are c i it at) ∙ here)
+  pub plain_to_some : (it : Interface) → item_at c.interfaces i.0 ≡ Some it → ArePlainInside c (ty.Interface i) → (k : ℕ) (e : Name × ItemKind) → slice_get it.exports k ≡ Some e → (d : ℕ) × IsPlainTo d c e.1
+  plain_to_some it at all k e here = inside_to c wf (ty.Interface i) all (inside-holder c (kind.Instance i) (ty.Interface i) refl (is_held c wf i it at)) k e (ap (λ (es : List (Name × ItemKind)). slice_get es k) (exports_are c i it at) ∙ here)
 
   none_long : {A : Type 0} (xs : List A) → length xs ≤ 0 → xs ≡ []
   none_long [] few = refl
   none_long (x ∷ xs) few = absurd (omega (arith, few))
 
-  pub definable : (it : Interface) → item_at c.interfaces i.0 ≡ Some it → IsSome it.id → length it.uses ≤ 0 → ArePlainInside c i → IsDefinableKind c (kind.TypeItem (ty.Interface i))
+  pub definable : (it : Interface) → item_at c.interfaces i.0 ≡ Some it → IsSome it.id → length it.uses ≤ 0 → ArePlainInside c (ty.Interface i) → IsDefinableKind c (kind.TypeItem (ty.Interface i))
   definable it at id few all = record { interface = it; found = at; id = id; uses = none_long it.uses few; plain = plain_to_some it at all }
 
-  pub interface_writable : IsDefinableKind c (kind.TypeItem (ty.Interface i)) → IsWritable c (ty.Interface i)
-  interface_writable so =
+  pub interface_writable : (ws : Worlds) → AllWritten c (ty.Interface i ∷ []) ws → IsDefinableKind c (kind.TypeItem (ty.Interface i)) → IsWritable ws c (ty.Interface i)
+  interface_writable ws written so =
       let (id, named) = the_id so.interface.id so.id in
-      ((id, (so.interface, so.found, named)), lists c wf i (is_held c wf i so.interface so.found) (lists_plain_items so))
+      ((id, (so.interface, so.found, named)), lists c wf ws i (is_held c wf i so.interface so.found) (lists_plain_items so) written)
 
-  pub interface_no_fault : IsDefinableKind c (kind.TypeItem (ty.Interface i)) → (f : WriteFault) → IsDefinitionFault c (ty.Interface i) f → ⊥
-  interface_no_fault so f h = instance_fault c wf i (lists_plain_items so) h.0 f h.2.0 h.2.1
+  pub interface_no_fault : (ws : Worlds) → IsDefinableKind c (kind.TypeItem (ty.Interface i)) → (f : WriteFault) → IsDefinitionFault ws c (ty.Interface i) f → ⊥
+  interface_no_fault ws so f h = instance_fault c wf ws i (lists_plain_items so) h.0 f h.2.0 h.2.1
 
 -- what is written
 

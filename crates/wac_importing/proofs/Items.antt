@@ -125,6 +125,14 @@ component_importable c wf w x held at ins outs = subst (λ t. IsImportable (comp
 pub world_type_importable : (c : Collection) → IsWellFormed c → (w : WorldId) (x : World) → holds_type c (ty.World w) ≡ true → item_at c.worlds w.0 ≡ Some x → ArePlain c x.imports → ArePlain c x.exports → IsImportableKind c (kind.TypeItem (ty.World w))
 world_type_importable c wf w x held at ins outs = subst (λ t. IsImportable (type_equal t)) (sym (world_is c wf w x held at)) (all_there c x.imports ins, all_there c x.exports outs)
 
+pub world_plain : (c : Collection) → IsWellFormed c → (w : WorldId) (x : World) → holds_type c (ty.World w) ≡ true → item_at c.worlds w.0 ≡ Some x → ArePlain c x.imports → ArePlain c x.exports → IsPlainItem (kind_tree c (kind.TypeItem (ty.World w)))
+world_plain c wf w x held at ins outs = subst (λ t. IsPlainItem (type_equal t)) (sym (world_is c wf w x held at)) (all_there c x.imports ins, all_there c x.exports outs)
+
+pub plain_world : (c : Collection) → IsWellFormed c → (w : WorldId) (x : World) → holds_type c (ty.World w) ≡ true → item_at c.worlds w.0 ≡ Some x → NoNameTwice x.imports → NoNameTwice x.exports → IsPlainItem (kind_tree c (kind.TypeItem (ty.World w))) → ArePlain c x.imports × ArePlain c x.exports
+plain_world c wf w x held at once twice h =
+    let so = subst (λ t. IsPlainItem (type_equal t)) (world_is c wf w x held at) h in
+    (there_all c x.imports once so.0, there_all c x.exports twice so.1)
+
 pub importable_component : (c : Collection) → IsWellFormed c → (w : WorldId) (x : World) → holds_type c (ty.World w) ≡ true → item_at c.worlds w.0 ≡ Some x → NoNameTwice x.imports → NoNameTwice x.exports → IsImportableKind c (kind.Component w) → ArePlain c x.imports × ArePlain c x.exports
 importable_component c wf w x held at once twice h =
     let so = subst (λ t. IsImportable (component_item t)) (world_is c wf w x held at) h in
@@ -146,7 +154,7 @@ module_importable c wf m held = subst (λ (t : TypeTree Name). IsImportable (mod
 pub plain_importable : {L : Type 0} (t : TypeTree L) → IsPlainItem (type_equal t) → IsImportable (type_equal t)
 plain_importable absent h = absurd h
 plain_importable (instance items) h = h
-plain_importable (component imports exports) h = absurd h
+plain_importable (component imports exports) h = h
 plain_importable t h = h
 
 pub func_importable : (c : Collection) → IsWellFormed c → (f : FuncTypeId) → holds_type c (ty.Func f) ≡ true → HasNoHandle (type_tree c (ty.Func f)) → IsImportableKind c (kind.TypeItem (ty.Func f))
@@ -170,7 +178,7 @@ not_of_values (ty.Value v) value func of = value v refl
 not_of_values (ty.Func f) value func of = func f refl
 not_of_values a value func of = of
 
--- a type item of another sort is not, interfaces aside
+-- a type item of another sort is not, interfaces and worlds aside
 abbrev TypePlain : TypeTree Name → Type 0
 TypePlain t = IsPlainItem (type_equal t)
 
@@ -189,13 +197,13 @@ module _ (P : TypeTree Name → Type 0) (nothing : P absent → ⊥) where
   held_none g none None h = nothing h
   held_none g none (Some x) h = none x.item h
 
-pub type_not_plain : (c : Collection) → IsWellFormed c → (a : AnyType) → holds_type c a ≡ true → (IsOfValues a → ⊥) → ((i : InterfaceId) → a ≡ ty.Interface i → ⊥) → IsPlainItem (kind_tree c (kind.TypeItem a)) → ⊥
-type_not_plain c wf (ty.Value v) held other apart h = other tt
-type_not_plain c wf (ty.Resource r) held other apart h = named_none TypePlain (λ h. h) (λ n h. h) (resource_names c (resolved c r)) (subst TypePlain (type_step c wf (ty.Resource r) held) h)
-type_not_plain c wf (ty.Func f) held other apart h = other tt
-type_not_plain c wf (ty.Interface i) held other apart h = apart i refl
-type_not_plain c wf (ty.World w) held other apart h = held_none TypePlain (λ h. h) _ (λ x h. h) (slice_get c.worlds w.0) (subst TypePlain (type_step c wf (ty.World w) held) h)
-type_not_plain c wf (ty.Module m) held other apart h = held_none TypePlain (λ h. h) _ (λ x h. h) (slice_get c.modules m.0) (subst TypePlain (type_step c wf (ty.Module m) held) h)
+pub type_not_plain : (c : Collection) → IsWellFormed c → (a : AnyType) → holds_type c a ≡ true → (IsOfValues a → ⊥) → ((i : InterfaceId) → a ≡ ty.Interface i → ⊥) → ((w : WorldId) → a ≡ ty.World w → ⊥) → IsPlainItem (kind_tree c (kind.TypeItem a)) → ⊥
+type_not_plain c wf (ty.Value v) held other apart away h = other tt
+type_not_plain c wf (ty.Resource r) held other apart away h = named_none TypePlain (λ h. h) (λ n h. h) (resource_names c (resolved c r)) (subst TypePlain (type_step c wf (ty.Resource r) held) h)
+type_not_plain c wf (ty.Func f) held other apart away h = other tt
+type_not_plain c wf (ty.Interface i) held other apart away h = apart i refl
+type_not_plain c wf (ty.World w) held other apart away h = away w refl
+type_not_plain c wf (ty.Module m) held other apart away h = held_none TypePlain (λ h. h) _ (λ x h. h) (slice_get c.modules m.0) (subst TypePlain (type_step c wf (ty.Module m) held) h)
 
 -- nor is one of another sort imported so far, interfaces and worlds aside
 pub type_not_importable : (c : Collection) → IsWellFormed c → (a : AnyType) → holds_type c a ≡ true → (IsOfValues a → ⊥) → ((i : InterfaceId) → a ≡ ty.Interface i → ⊥) → ((w : WorldId) → a ≡ ty.World w → ⊥) → IsImportableKind c (kind.TypeItem a) → ⊥
@@ -222,6 +230,7 @@ value_there c wf v held free = free_reached c wf v held (reached_none c wf (ty.V
 there_plain_type : {L : Type 0} (t : TypeTree L) → IsDefinable (type_equal t) → IsPlainItem (type_equal t)
 there_plain_type absent h = absurd h
 there_plain_type (instance items) h = absurd h
+there_plain_type (component imports exports) h = absurd h
 there_plain_type t h = h
 
 pub value_plain : (c : Collection) → IsWellFormed c → (a : AnyType) (v : ValueType) → a ≡ ty.Value v → holds_type c a ≡ true → HasNoHandle (type_tree c a) → IsPlainItem (kind_tree c (kind.TypeItem a))
@@ -250,6 +259,7 @@ values_plain c wf a of held free = absurd of
 plain_free : {L : Type 0} (t : TypeTree L) → IsPlain t → IsPlainItem (type_equal t) → HasNoHandle t
 plain_free absent p h = absurd h
 plain_free (instance items) p h = absurd p
+plain_free (component imports exports) p h = absurd p
 plain_free t p h = h
 
 pub plain_value : (c : Collection) (a : AnyType) → IsOfValues a → IsPlainItem (kind_tree c (kind.TypeItem a)) → HasNoHandle (type_tree c a)

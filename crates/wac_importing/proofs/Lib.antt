@@ -12,4 +12,6 @@ pub mod ModuleImports
 pub mod Interfaces
 pub mod Defining
 pub mod Worlds
+pub mod Ahead
+pub mod Beside
 pub mod WorldTrees

@@ -37,6 +37,7 @@ use Rattle.wac_stacks.specs.Scopes.{Open, root, ContentHasMeaning, opening}
 use Rattle.wac_stacks.specs.Good.{Good}
 use Rattle.wac_stacks.specs.Inside.{StartsRoot}
 use Rattle.wac_scopes.specs.Scoped.{opened, place, recorded_type, type_index, listing, IsNewInRoot, root_of}
+use Rattle.wac_encode.specs.declared.worlds.Worlds.{Worlds}
 use Rattle.wac_encode.specs.Written.{NewType, defined, aliased, as_item, with_types}
 use Rattle.wac_root.specs.Importing.{ImportsHeld, WritesImport, IsImportedAs}
 use Rattle.wac_meaning.specs.Means.{sort_of_kind}
@@ -121,13 +122,13 @@ length_from : (m : Merged) (p : ℕ) (es : List Entry) → length (imports_from 
 length_from m p [] = refl
 length_from m p (e ∷ es) = ap suc (length_from m (suc p) es)
 
-sort_is : (c : Collection) (old now : Scope) (item : ItemKind) (d : Description) → IsImportedAs c old now item d → described_sort d ≡ sort_of_kind item
-sort_is c old now (kind.Instance i) (e.Instance j) h = refl
-sort_is c old now (kind.TypeItem (ty.Value v)) (e.Equal i) h = refl
-sort_is c old now (kind.TypeItem (ty.Func f)) (e.Equal i) h = refl
-sort_is c old now (kind.TypeItem (ty.Interface j)) (e.Equal i) h = refl
-sort_is c old now (kind.Func f) (e.Func i) h = refl
-sort_is c old now item d h = absurd h
+sort_is : (ws : Worlds) (c : Collection) (old now : Scope) (item : ItemKind) (d : Description) → IsImportedAs ws c old now item d → described_sort d ≡ sort_of_kind item
+sort_is ws c old now (kind.Instance i) (e.Instance j) h = refl
+sort_is ws c old now (kind.TypeItem (ty.Value v)) (e.Equal i) h = refl
+sort_is ws c old now (kind.TypeItem (ty.Func f)) (e.Equal i) h = refl
+sort_is ws c old now (kind.TypeItem (ty.Interface j)) (e.Equal i) h = refl
+sort_is ws c old now (kind.Func f) (e.Func i) h = refl
+sort_is ws c old now item d h = absurd h
 
 -- what is written of one: types, and the import behind them
 record Brings (old new : Scope) (n : Name) (item : ItemKind) (k : ℕ) : Type 0 where
@@ -148,15 +149,15 @@ written_items (Builder items) mid new types n d is a b = (b ∙ ap (λ x. and_im
 written_items (Instance ds) mid new types n d is a b = absurd is
 written_items (Component ds) mid new types n d is a b = absurd is
 
-by_types : (c : Collection) (old new : Scope) (n : Name) (item : ItemKind) (k : ℕ) → IsRoot old.content → WritesImport c old new n item k → Brings old new n item k
-by_types c old new n item k is_root w =
+by_types : (ws : Worlds) (c : Collection) (old new : Scope) (n : Name) (item : ItemKind) (k : ℕ) → IsRoot old.content → WritesImport ws c old new n item k → Brings old new n item k
+by_types ws c old new n item k is_root w =
     let (content, index) = written_items old.content w.now.content new.content w.behind.types n w.description is_root w.behind.appended w.appended in
     record {
       more = map as_item w.behind.types;
       quiet = all_types w.behind.types;
       description = w.description;
       content = content;
-      place = (λ j. (sort_is c old w.now item w.description w.described j, (sym index ∙ sym w.index) j));
+      place = (λ j. (sort_is ws c old w.now item w.description w.described j, (sym index ∙ sym w.index) j));
     }
 
 module_items : (old new : Encodable) (x : ModuleType) (n : Name) (i : ℕ) → IsRoot old → new ≡ and_module_import old x n i → new ≡ Builder ((items_of old ++ core_type (declarations_of x) ∷ []) ++ import_item n (e.CoreModule i) ∷ [])
@@ -180,8 +181,8 @@ world_index k (Builder items) ds is = refl
 world_index k (Instance xs) ds is = absurd is
 world_index k (Component xs) ds is = absurd is
 
-by_world : (c : Collection) (old new : Scope) (n : Name) (item : ItemKind) (described : ℕ → Description) (w : WorldId) (k : ℕ) → IsRoot old.content → described_sort (described (next_index old.content)) ≡ sort_of_kind item → ImportsWorld c old new n described w k → Brings old new n item k
-by_world c old new n item described w k is_root sorted x = record {
+by_world : (ws : Worlds) (c : Collection) (old new : Scope) (n : Name) (item : ItemKind) (described : ℕ → Description) (w : WorldId) (k : ℕ) → IsRoot old.content → described_sort (described (next_index old.content)) ≡ sort_of_kind item → ImportsWorld ws c old new n described w k → Brings old new n item k
+by_world ws c old new n item described w k is_root sorted x = record {
   more = type_item (component_def (decls x.declarations)) ∷ [];
   quiet = (tt, tt);
   description = described (next_index old.content);
@@ -189,29 +190,29 @@ by_world c old new n item described w k is_root sorted x = record {
   place = (λ j. (sorted j, (world_index (space (described_sort (described (next_index old.content)))) old.content x.declarations is_root ∙ sym x.index) j));
 }
 
-brings : (c : Collection) (old new : Scope) (n : Name) (item : ItemKind) (k : ℕ) → IsRoot old.content → WritesOne c old new n item k → Brings old new n item k
-brings c old new n (kind.Module id) k is_root w = record {
+brings : (ws : Worlds) (c : Collection) (old new : Scope) (n : Name) (item : ItemKind) (k : ℕ) → IsRoot old.content → WritesOne ws c old new n item k → Brings old new n item k
+brings ws c old new n (kind.Module id) k is_root w = record {
   more = core_type (declarations_of w.held) ∷ [];
   quiet = (tt, tt);
   description = e.CoreModule w.type;
   content = module_items old.content new.content w.held n w.type is_root w.appended;
   place = (λ j. (sort.CoreModule, (module_index old.content w.held is_root ∙ sym w.index) j));
 }
-brings c old new n (kind.TypeItem (ty.Value v)) k is_root w = by_types c old new n (kind.TypeItem (ty.Value v)) k is_root w
-brings c old new n (kind.TypeItem (ty.Resource r)) k is_root w = by_types c old new n (kind.TypeItem (ty.Resource r)) k is_root w
-brings c old new n (kind.TypeItem (ty.Func f)) k is_root w = by_types c old new n (kind.TypeItem (ty.Func f)) k is_root w
-brings c old new n (kind.TypeItem (ty.Interface i)) k is_root w = by_types c old new n (kind.TypeItem (ty.Interface i)) k is_root w
-brings c old new n (kind.TypeItem (ty.World v)) k is_root w = by_world c old new n (kind.TypeItem (ty.World v)) e.Equal v k is_root refl w
-brings c old new n (kind.TypeItem (ty.Module m)) k is_root w = by_types c old new n (kind.TypeItem (ty.Module m)) k is_root w
-brings c old new n (kind.Func f) k is_root w = by_types c old new n (kind.Func f) k is_root w
-brings c old new n (kind.Instance i) k is_root w = by_types c old new n (kind.Instance i) k is_root w
-brings c old new n (kind.Component v) k is_root w = by_world c old new n (kind.Component v) e.Component v k is_root refl w
-brings c old new n (kind.Value v) k is_root w = by_types c old new n (kind.Value v) k is_root w
+brings ws c old new n (kind.TypeItem (ty.Value v)) k is_root w = by_types ws c old new n (kind.TypeItem (ty.Value v)) k is_root w
+brings ws c old new n (kind.TypeItem (ty.Resource r)) k is_root w = by_types ws c old new n (kind.TypeItem (ty.Resource r)) k is_root w
+brings ws c old new n (kind.TypeItem (ty.Func f)) k is_root w = by_types ws c old new n (kind.TypeItem (ty.Func f)) k is_root w
+brings ws c old new n (kind.TypeItem (ty.Interface i)) k is_root w = by_types ws c old new n (kind.TypeItem (ty.Interface i)) k is_root w
+brings ws c old new n (kind.TypeItem (ty.World v)) k is_root w = by_world ws c old new n (kind.TypeItem (ty.World v)) e.Equal v k is_root refl w
+brings ws c old new n (kind.TypeItem (ty.Module m)) k is_root w = by_types ws c old new n (kind.TypeItem (ty.Module m)) k is_root w
+brings ws c old new n (kind.Func f) k is_root w = by_types ws c old new n (kind.Func f) k is_root w
+brings ws c old new n (kind.Instance i) k is_root w = by_types ws c old new n (kind.Instance i) k is_root w
+brings ws c old new n (kind.Component v) k is_root w = by_world ws c old new n (kind.Component v) e.Component v k is_root refl w
+brings ws c old new n (kind.Value v) k is_root w = by_types ws c old new n (kind.Value v) k is_root w
 
-pub one_more : Laws → (m : Merged) (es : List (Name × ItemKind)) → m.imports ≡ import_entries es → NoNameTwice es → (i : ℕ) (x : Name × ItemKind) → slice_get es i ≡ Some x
-    → (old new : Scope) (places : Places) (k : ℕ) → IsBegun m i old places → ImportsHeld m.types old new x.0 x.1 k → WritesOne m.types old new x.0 x.1 k → IsRoot new.content
+pub one_more : (ws : Worlds) → Laws → (m : Merged) (es : List (Name × ItemKind)) → m.imports ≡ import_entries es → NoNameTwice es → (i : ℕ) (x : Name × ItemKind) → slice_get es i ≡ Some x
+    → (old new : Scope) (places : Places) (k : ℕ) → IsBegun m i old places → ImportsHeld m.types old new x.0 x.1 k → WritesOne ws m.types old new x.0 x.1 k → IsRoot new.content
     → IsBegun m (i + 1) new (places ++ (sort_of_kind x.1, k) ∷ [])
-one_more laws m es are once i x at old new places k b imports w is_root =
+one_more ws laws m es are once i x at old new places k b imports w is_root =
     let entry : Entry = record { name = x.0; kind = x.1 } in
     let there : slice_get m.imports i ≡ Some entry = ap (λ (xs : List Entry). slice_get xs i) are ∙ entry_there es i x at in
     let before : List (Name × Tree) = imports_from m 0 (take i m.imports) in
@@ -223,7 +224,7 @@ one_more laws m es are once i x at old new places k b imports w is_root =
     let listed : (root_of new).imports ≡ before ++ (x.0, merged_item m i entry) ∷ [] =
     r.listed ∙ ap (λ (is : List (Name × Tree)). is ++ (x.0, held_item m.types (bindings m) imported (position (length (root_of old).imports) ∷ []) x.1) ∷ []) b.begins.imports_are
     ∙ ap (λ p. before ++ (x.0, held_item m.types (bindings m) imported (position p ∷ []) x.1) ∷ []) counted in
-    let one = brings m.types old new x.0 x.1 k b.is_root w in
+    let one = brings ws m.types old new x.0 x.1 k b.is_root w in
     let d : Description = one.description in
     let content = one.content in
     let items : List Item = items_of old.content in

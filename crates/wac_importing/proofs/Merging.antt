@@ -1,5 +1,5 @@
 -- A merge's imports as entries and as listed items, and what is answered of them.
-use Rattle.std.proofs.Common.{◌≡◌, ℕ, zero, suc, true, List, [], ◌∷◌, ap, ◌∙◌, sym, subst, Some, Result, Ok, Err}
+use Rattle.std.proofs.Common.{◌≡◌, ℕ, zero, suc, true, List, [], ◌∷◌, ap, ◌∙◌, sym, subst, Some, inl, Result, Ok, Err}
 use Rattle.std.specs.Prelude.{slice_get}
 use Rattle.std.specs.Result.{IfErr, IsErrAnd}
 use Rattle.wac_primitives.specs.Name.{Name}
@@ -13,8 +13,10 @@ use Rattle.wac_binary.specs.declared.fault.BinaryFault.{BinaryFault}
 use Rattle.wac_binary.specs.declared.fault.BinaryFault.TheVariants.{TooLarge, OutOfMemory}
 use Rattle.wac_scopes.specs.declared.scope.Scope.{Scope}
 use Rattle.wac_meaning.specs.Beginning.{Places}
+use Rattle.wac_encode.specs.declared.worlds.Worlds.{Worlds}
+use Rattle.wac_worlds.specs.Nested.{AreWorlds}
 use Rattle.wac_importing.specs.Looked.{AreImportable, HasNotYet}
-use Rattle.wac_importing.specs.Written.{AllImportable, HasUnimportable, IsTooLarge, AreRefused, IsNotWritten, merge_of}
+use Rattle.wac_importing.specs.Written.{IsAhead, AllImportable, HasUnimportable, IsTooLarge, AreRefused, IsNotWritten, merge_of}
 use Rattle.wac_importing.proofs.Nested.{lists_importable}
 use Rattle.wac_importing.proofs.Loop.{IsBegun, entry_there}
 
@@ -24,18 +26,21 @@ err_of P (Ok a) e h p = tt
 err_of P (Err y) e h p = subst P (sym h) p
 
 -- where one import is refused
-pub too_large : (m : Merged) (es : List (Name × ItemKind)) → m.imports ≡ import_entries es → (i : ℕ) (x : Name × ItemKind) → slice_get es i ≡ Some x → (s : Scope) (places : Places) → IsBegun m i s places
-    → (f : BinaryFault) → IsNotWritten m.types s x.0 x.1 f → IsTooLarge m f
-too_large m es are i x at s places b TooLarge h = record {
+pub too_large : (ws : Worlds) (m : Merged) (es : List (Name × ItemKind)) → AreWorlds m.types ws → m.imports ≡ import_entries es → (i : ℕ) (x : Name × ItemKind) → IsAhead m.types ws x.1 → slice_get es i ≡ Some x → (s : Scope) (places : Places) → IsBegun m i s places
+    → (f : BinaryFault) → IsNotWritten ws m.types s x.0 x.1 f → IsTooLarge m f
+too_large ws m es worlds are i x ahead at s places b TooLarge h = inl (record {
   p = i;
   entry = record { name = x.0; kind = x.1 };
   there = ap (λ (xs : List Entry). slice_get xs i) are ∙ entry_there es i x at;
   scope = s;
   places = places;
   begins = b.begins;
+  worlds = ws;
+  are = worlds;
+  ahead = ahead;
   large = h;
-}
-too_large m es are i x at s places b OutOfMemory h = tt
+})
+too_large ws m es worlds are i x ahead at s places b OutOfMemory h = tt
 
 pub refused_so : (m : Merged) → AllImportable m → (f : BinaryFault) → IsTooLarge m f → AreRefused m f
 refused_so m all TooLarge h = (all, h)

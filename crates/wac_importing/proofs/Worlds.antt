@@ -10,15 +10,17 @@ use Rattle.wac_shapes.specs.declared.component.World.{World}
 use Rattle.wac_shapes.specs.declared.component.WorldId.{WorldId}
 use Rattle.wac_shapes.specs.declared.component.«Type».TheVariants as ty
 use Rattle.std.proofs.lemmas.Option.{slice_get_within}
-use Rattle.wac_collection.specs.Collection.{Collection, IsWellFormed, holds_type, item_at}
+use Rattle.wac_collection.specs.Collection.{Collection, IsWellFormed, holds_type, item_at, world_imports, world_exports}
 use Rattle.wac_subtyping.proofs.Unfolding.{held_item}
 use Rattle.wac_meaning.specs.Importable.{UsesNothing, IsPlainTo, IsDefinableItem, IsDefinableKind}
 use Rattle.wac_components.specs.Definitions.{IsDefinableWorld}
 use Rattle.wac_importing.specs.Looked.{HasPlainItems, UseNothing}
 use Rattle.wac_importing.proofs.Items.{imports_are, world_exports_are}
-use Rattle.wac_importing.proofs.Nested.{deep_to, to_deep}
+use Rattle.wac_importing.proofs.Nested.{inside_to, to_inside, in_left, in_right, of_both}
 use Rattle.wac_importing.proofs.Refusing.{world_written}
-use Rattle.wac_worlds.proofs.Whole.{held-imports, held-exports}
+use Rattle.wac_encode.specs.declared.worlds.Worlds.{Worlds}
+use Rattle.wac_worlds.specs.Nested.{listed_in, IsHolder, AllWritten}
+use Rattle.wac_worlds.proofs.TypesInside.{inside-holder}
 
 -- a world that is there is held
 pub world_is_held : (c : Collection) → IsWellFormed c → (w : WorldId) (x : World) → item_at c.worlds w.0 ≡ Some x → holds_type c (ty.World w) ≡ true
@@ -54,29 +56,38 @@ item : (c : Collection) (k : ItemKind) → UsesNothing c k → (d : ℕ) × IsPl
 item c k nothing plain = (nothing, plain.0, plain.1)
 
 module _ (c : Collection) (wf : IsWellFormed c) (w : WorldId) where
+  holder : (x : World) → item_at c.worlds w.0 ≡ Some x → IsHolder c (ty.World w)
+  holder x at = inside-holder c (kind.TypeItem (ty.World w)) (ty.World w) refl (world_is_held c wf w x at)
+
+  -- an import and an export among what the world lists
+  here_left : (x : World) → item_at c.worlds w.0 ≡ Some x → (k : ℕ) (e : Name × ItemKind) → slice_get x.imports k ≡ Some e → (p : ℕ) × (slice_get (listed_in c (ty.World w)) p ≡ Some e)
+  here_left x at k e here = (k, in_left (world_imports c w) (world_exports c w) k e (ap (λ (es : List (Name × ItemKind)). slice_get es k) (imports_are c w x at) ∙ here))
+
+  here_right : (x : World) → item_at c.worlds w.0 ≡ Some x → (k : ℕ) (e : Name × ItemKind) → slice_get x.exports k ≡ Some e → (p : ℕ) × (slice_get (listed_in c (ty.World w)) p ≡ Some e)
+  here_right x at k e here = in_right (world_imports c w) (world_exports c w) k e (ap (λ (es : List (Name × ItemKind)). slice_get es k) (world_exports_are c w x at) ∙ here)
+
   pub definable_world : (x : World) → item_at c.worlds w.0 ≡ Some x → IsSome x.id → length x.uses ≤ 0 → UseNothing c x.imports → UseNothing c x.exports → HasPlainItems c w → IsDefinableKind c (kind.TypeItem (ty.World w))
   definable_world x at id few ins outs all = record {
     world = x;
     found = at;
     id = id;
     uses = none_long x.uses few;
-    imports = λ k e here. item c e.1 (ins k e here) (deep_to c wf e.1 (held-imports c wf w x at k e here) (all.0 k e (ap (λ (es : List (Name × ItemKind)). slice_get es k) (imports_are c w x at) ∙ here)));
-    exports = λ k e here. item c e.1 (outs k e here) (deep_to c wf e.1 (held-exports c wf w x at k e here) (all.1 k e (ap (λ (es : List (Name × ItemKind)). slice_get es k) (world_exports_are c w x at) ∙ here)));
+    imports = λ k e here. item c e.1 (ins k e here) (inside_to c wf (ty.World w) all (holder x at) (here_left x at k e here).0 e (here_left x at k e here).1);
+    exports = λ k e here. item c e.1 (outs k e here) (inside_to c wf (ty.World w) all (holder x at) (here_right x at k e here).0 e (here_right x at k e here).1);
   }
 
   pub plain_items : IsDefinableKind c (kind.TypeItem (ty.World w)) → HasPlainItems c w
-  plain_items so = (
-    (λ k e here. let h = so.imports k e (ap (λ (es : List (Name × ItemKind)). slice_get es k) (sym (imports_are c w so.world so.found)) ∙ here) in to_deep c h.1 e.1 h.2),
-    (λ k e here. let h = so.exports k e (ap (λ (es : List (Name × ItemKind)). slice_get es k) (sym (world_exports_are c w so.world so.found)) ∙ here) in to_deep c h.1 e.1 h.2),
-  )
+  plain_items so = to_inside c (ty.World w) (of_both (λ e. (d : ℕ) × IsPlainTo d c e.1) (world_imports c w) (world_exports c w)
+      (λ k e here. let h = so.imports k e (ap (λ (es : List (Name × ItemKind)). slice_get es k) (sym (imports_are c w so.world so.found)) ∙ here) in (h.1, h.2))
+      (λ k e here. let h = so.exports k e (ap (λ (es : List (Name × ItemKind)). slice_get es k) (sym (world_exports_are c w so.world so.found)) ∙ here) in (h.1, h.2)))
 
   -- and it is one that is written
   named : (o : Option Name) → IsSome o → (id : Name) × (o ≡ Some id)
   named None h = cc
   named (Some id) h = (id, refl)
 
-  pub world_definable : holds_type c (ty.World w) ≡ true → IsDefinableKind c (kind.TypeItem (ty.World w)) → IsDefinableWorld c w
-  world_definable held so = let (id, is) = named so.world.id so.id in ((id, (so.world, so.found, is)), world_written c wf w held (plain_items so))
+  pub world_definable : (ws : Worlds) → AllWritten c (ty.World w ∷ []) ws → holds_type c (ty.World w) ≡ true → IsDefinableKind c (kind.TypeItem (ty.World w)) → IsDefinableWorld ws c w
+  world_definable ws written held so = let (id, is) = named so.world.id so.id in ((id, (so.world, so.found, is)), world_written c wf ws w held (plain_items so) written)
 
   -- of a world that is held
   same_world : (x : World) → item_at c.worlds w.0 ≡ Some x → (so : IsDefinableKind c (kind.TypeItem (ty.World w))) → so.world ≡ x

@@ -17,6 +17,7 @@ use Rattle.wac_scopes.specs.declared.fault.EncodeFault.{EncodeFault}
 use Rattle.wac_scopes.specs.declared.fault.EncodeFault.TheVariants as fault
 use Rattle.wac_scopes.specs.declared.scope.Scope.{Scope}
 use Rattle.wac_scopes.specs.Contents.{and_core_module, and_import, count, ContentFits}
+use Rattle.wac_encode.specs.declared.worlds.Worlds.{Worlds}
 use Rattle.wac_root.specs.Importing.{WritesImport, ImportedDoesNotFit}
 use Rattle.wac_components.specs.Imports.{ImportsWorld, WorldDoesNotFit}
 
@@ -49,15 +50,15 @@ IsModuleNotImported c n id s (Err (fault.Write f)) = ⊥
 IsModuleNotImported c n id s (Err fault.TooLarge) = ModuleDoesNotFit c n id s
 IsModuleNotImported c n id s (Err fault.OutOfMemory) = Unit {0}
 
--- what is written of an import, and which does not fit
-abbrev pub WritesOne : Collection → Scope → Scope → Name → ItemKind → ℕ → Type 0
-WritesOne c old new n (kind.Module id) k = WritesModule c old new n id k
-WritesOne c old new n (kind.Component w) k = ImportsWorld c old new n e.Component w k
-WritesOne c old new n (kind.TypeItem (ty.World w)) k = ImportsWorld c old new n e.Equal w k
-WritesOne c old new n item k = WritesImport c old new n item k
+-- what is written of an import, with the worlds inside as they are written ahead, and which does not fit
+abbrev pub WritesOne : Worlds → Collection → Scope → Scope → Name → ItemKind → ℕ → Type 0
+WritesOne ws c old new n (kind.Module id) k = WritesModule c old new n id k
+WritesOne ws c old new n (kind.Component w) k = ImportsWorld ws c old new n e.Component w k
+WritesOne ws c old new n (kind.TypeItem (ty.World w)) k = ImportsWorld ws c old new n e.Equal w k
+WritesOne ws c old new n item k = WritesImport ws c old new n item k
 
-abbrev pub OneDoesNotFit : Collection → Name → ItemKind → Scope → Type 0
-OneDoesNotFit c n (kind.Module id) s = ModuleDoesNotFit c n id s
-OneDoesNotFit c n (kind.Component w) s = WorldDoesNotFit c n e.Component w s
-OneDoesNotFit c n (kind.TypeItem (ty.World w)) s = WorldDoesNotFit c n e.Equal w s
-OneDoesNotFit c n item s = ImportedDoesNotFit c n item s
+abbrev pub OneDoesNotFit : Worlds → Collection → Name → ItemKind → Scope → Type 0
+OneDoesNotFit ws c n (kind.Module id) s = ModuleDoesNotFit c n id s
+OneDoesNotFit ws c n (kind.Component w) s = WorldDoesNotFit ws c n e.Component w s
+OneDoesNotFit ws c n (kind.TypeItem (ty.World w)) s = WorldDoesNotFit ws c n e.Equal w s
+OneDoesNotFit ws c n item s = ImportedDoesNotFit ws c n item s

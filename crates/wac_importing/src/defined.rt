@@ -10,13 +10,17 @@ ghost use Rattle.wac_meaning.specs.Importable.{IsDefinableKind};
 ghost use Rattle.wac_scopes.specs.Contents.{items_of};
 ghost use Rattle.wac_scopes.specs.Rooted.{IsRightRoot};
 ghost use Rattle.wac_scopes.specs.Scoped.{listing};
+ghost use Rattle.wac_worlds.specs.Nested.{AreWorlds};
 ghost use Rattle.wac_importing.specs.Defined.{definition_thing, DefinesType};
+ghost use Rattle.wac_importing.specs.Written.{IsAhead};
 
 use wac_binary::BinaryFault;
 use wac_collection::{Type, Types, WorldId};
 use wac_components::ComponentEncoder;
+use wac_encode::Worlds;
 use wac_root::RootEncoder;
 use wac_scopes::{EncodeFault, Scope};
+use wac_worlds::worlds_inside;
 
 /// Writes a definition of a held type behind what stands in the root: the types that it is made of, as far as none of them is recorded
 /// there, and the export by this name, whose type index it answers. A value type that an instance lists is aliased from it, and not written.
@@ -56,7 +60,8 @@ fn write_world(
     ensures listed { OnOk result ((a : AnyType) → listing root.new a ≡ listing root.old a) }
 {
     types.law();
-    match ComponentEncoder::new(types).define_world(root, name, world) {
+    let worlds = worlds_of(types, Type::World(world))?;
+    match ComponentEncoder::new(types, &worlds).define_world(root, name, world) {
         Ok(index) => Ok(index),
         Err(EncodeFault::Write(_)) => unreachable!(),
         Err(EncodeFault::TooLarge) => Err(BinaryFault::TooLarge),
@@ -75,10 +80,30 @@ fn write_type(types: &Types, root: &mut Scope, name: &str, ty: Type) -> Result<u
     ensures listed { OnOk result ((a : AnyType) → listing root.new a ≡ listing root.old a) }
 {
     types.law();
-    match RootEncoder::new(types).definition(root, name, ty) {
+    let worlds = worlds_of(types, ty)?;
+    match RootEncoder::new(types, &worlds).definition(root, name, ty) {
         Ok(index) => Ok(index),
         Err(EncodeFault::Write(_)) => unreachable!(),
         Err(EncodeFault::TooLarge) => Err(BinaryFault::TooLarge),
         Err(EncodeFault::OutOfMemory) => Err(BinaryFault::OutOfMemory),
+    }
+}
+
+/// Writes ahead the component types of the worlds inside a held type that is defined so far: there are none but in an interface or a world.
+fn worlds_of(types: &Types, ty: Type) -> Result<Worlds, BinaryFault>
+    requires held { holds_type types.now ty ≡ true }
+    requires definable { IsDefinableKind types.now (kind.TypeItem ty) }
+    ensures are { IfOk result (AreWorlds types.now) }
+    ensures ahead { IfOk result (λ worlds. IsAhead types.now worlds (kind.TypeItem ty)) }
+{
+    types.law();
+    match ty {
+        Type::Interface(_) | Type::World(_) => match worlds_inside(types, &[ty]) {
+            Ok(worlds) => Ok(worlds),
+            Err(EncodeFault::Write(_)) => unreachable!(),
+            Err(EncodeFault::TooLarge) => Err(BinaryFault::TooLarge),
+            Err(EncodeFault::OutOfMemory) => Err(BinaryFault::OutOfMemory),
+        },
+        _ => Ok(Worlds::new(types.allocator())),
     }
 }

@@ -8,15 +8,16 @@ ghost use Rattle.wac_shapes.specs.declared.component.«Type».TheVariants as ty;
 ghost use Rattle.wac_collection.specs.Collection.{HasInterface, HasWorld, holds_type};
 ghost use Rattle.wac_subtyping.specs.Subtype.{type_tree, kind_tree};
 ghost use Rattle.wac_shapes.specs.declared.component.«Type».{«Type» as AnyType};
-ghost use Rattle.wac_encode.specs.Inside.{IsHeldInterface};
+ghost use Rattle.wac_worlds.specs.Nested.{IsHolder};
 ghost use Rattle.wac_meaning.specs.Importable.{HasNoHandle, IsPlainItem, IsImportableKind, UsesNothing, IsDefinableKind};
-ghost use Rattle.wac_importing.specs.Looked.{IsOfValues, HasNoResource, IsPlainAlone, ArePlainAlone, ListsPlainAlone, ListPlainAlone, ArePlain, AreFree, IsPlainDeep, ArePlainDeep, HasPlainItems, UseNothing, ListsPlain, AreImportable, HasNotYet};
+ghost use Rattle.wac_importing.specs.Written.{holder_of as holder_that};
+ghost use Rattle.wac_importing.specs.Looked.{IsOfValues, HasNoResource, IsPlainAlone, ArePlainAlone, ListsPlainAlone, ListPlainAlone, ListsOther, ArePlainInside, HavePlainItems, IsHeldBy, AreFree, UseNothing, ListsPlain, AreImportable, HasNotYet};
 
+use crate::holders::{holder_of, holders_of};
 use std::alloc::AllocError;
 use wac_collection::{InterfaceId, ItemKind, Named, Type, Types, WorldId};
-use wac_encode::TypeEncoder;
-use wac_listing::interface_of;
 use wac_reach::Reached;
+use wac_worlds::types_inside;
 
 /// Whether a held value type or function type is made of no handle. What types reach that were looked at before is known to be free of
 /// them, and is not looked at again; where the answer is yes, so is what this one reaches.
@@ -56,8 +57,8 @@ fn type_at(types: &[Type], index: usize) -> Type
     types[index]
 }
 
-/// Whether a type item of a held type is one of a value type or a function type that is made of no handle, or one of an interface, whatever is
-/// inside.
+/// Whether a type item of a held type is one of a value type or a function type that is made of no handle, or one of an interface or a world,
+/// whatever is inside.
 fn is_plain_type(types: &Types, looked: &mut Reached, ty: Type) -> Result<bool, AllocError>
     requires held { holds_type types.now ty ≡ true }
     requires free { AreFree types.now looked.old }
@@ -68,13 +69,13 @@ fn is_plain_type(types: &Types, looked: &mut Reached, ty: Type) -> Result<bool, 
     types.law();
     match ty {
         Type::Value(_) | Type::Func(_) => has_no_handle(types, looked, ty),
-        Type::Interface(_) => Ok(true),
+        Type::Interface(_) | Type::World(_) => Ok(true),
         _ => Ok(false),
     }
 }
 
 /// Whether a held item is a function or a type item of a value type or a function type, and made of no handle, or an instance or a type item
-/// of an interface, whatever is inside.
+/// of an interface, or a type item of a world, whatever is inside.
 fn is_plain(types: &Types, looked: &mut Reached, item: ItemKind) -> Result<bool, AllocError>
     requires held { holds_type types.now (kind_type item) ≡ true }
     requires free { AreFree types.now looked.old }
@@ -111,31 +112,52 @@ fn are_plain(
     Ok(true)
 }
 
-/// Whether a held interface lists plain items alone, whatever is inside their interfaces.
+/// Whether a held world lists plain items alone on both sides, whatever is inside these.
+fn lists_plain_sides(
+    types: &Types,
+    looked: &mut Reached,
+    world: WorldId,
+) -> Result<bool, AllocError>
+    requires held { HasWorld types.now world }
+    requires free { AreFree types.now looked.old }
+    ensures plain { result ≡ Answers true → ListsPlainAlone types.now (ty.World world) }
+    ensures not { result ≡ Answers false → ListsPlainAlone types.now (ty.World world) → ⊥ }
+    ensures free { result ≡ Answers true → AreFree types.now looked.new }
+{
+    types.law();
+    let held = &types[world];
+    if !are_plain(types, looked, &held.imports)? {
+        return Ok(false);
+    }
+    are_plain(types, looked, &held.exports)
+}
+
+/// Whether a held interface or a held world lists plain items alone, whatever is inside these.
 fn lists_plain_alone(types: &Types, looked: &mut Reached, ty: Type) -> Result<bool, AllocError>
-    requires held { IsHeldInterface types.now ty }
+    requires held { IsHolder types.now ty }
     requires free { AreFree types.now looked.old }
     ensures plain { result ≡ Answers true → ListsPlainAlone types.now ty }
     ensures not { result ≡ Answers false → ListsPlainAlone types.now ty → ⊥ }
     ensures free { result ≡ Answers true → AreFree types.now looked.new }
 {
     types.law();
-    let Type::Interface(interface) = ty else {
-        unreachable!()
-    };
-    are_plain(types, looked, &types[interface].exports)
+    match ty {
+        Type::Interface(interface) => are_plain(types, looked, &types[interface].exports),
+        Type::World(world) => lists_plain_sides(types, looked, world),
+        _ => unreachable!(),
+    }
 }
 
-/// Whether all of these interfaces do.
+/// Whether all of these interfaces and worlds do.
 fn list_plain_alone(
     types: &Types,
     looked: &mut Reached,
     inside: &[Type],
 ) -> Result<bool, AllocError>
-    requires held { (i : ℕ) (t : AnyType) → slice_get inside.now i ≡ Some t → IsHeldInterface types.now t }
+    requires held { (i : ℕ) (t : AnyType) → slice_get inside.now i ≡ Some t → IsHolder types.now t }
     requires free { AreFree types.now looked.old }
     ensures plain { result ≡ Answers true → ListPlainAlone types.now inside.now }
-    ensures not { result ≡ Answers false → ListPlainAlone types.now inside.now → ⊥ }
+    ensures not { result ≡ Answers false → ListsOther types.now inside.now }
     ensures free { result ≡ Answers true → AreFree types.now looked.new }
 {
     for i in 0..inside.len() {
@@ -146,78 +168,19 @@ fn list_plain_alone(
     Ok(true)
 }
 
-/// Whether a held interface and all inside it list plain items alone, so that an instance of it and its type are imported so far.
-fn has_plain_items(
-    types: &Types,
-    looked: &mut Reached,
-    interface: InterfaceId,
-) -> Result<bool, AllocError>
-    requires held { holds_type types.now (ty.Interface interface) ≡ true }
+/// Whether a held interface or a held world and all inside it list plain items alone, so that an instance of an interface, a component of a
+/// world, and their types are imported so far.
+fn has_plain_items(types: &Types, looked: &mut Reached, ty: Type) -> Result<bool, AllocError>
+    requires held { IsHolder types.now ty }
     requires free { AreFree types.now looked.old }
-    ensures plain { result ≡ Answers true → ListsPlain types.now (kind.Instance interface) }
-    ensures not { result ≡ Answers false → ListsPlain types.now (kind.Instance interface) → ⊥ }
-    ensures not_instance { result ≡ Answers false → IsImportableKind types.now (kind.Instance interface) → ⊥ }
-    ensures not_type { result ≡ Answers false → IsImportableKind types.now (kind.TypeItem (ty.Interface interface)) → ⊥ }
+    ensures plain { result ≡ Answers true → ArePlainInside types.now ty }
+    ensures not { result ≡ Answers false → ArePlainInside types.now ty → ⊥ }
+    ensures not_item { result ≡ Answers false → (k : AnyItem) → IsHeldBy ty k → IsImportableKind types.now k → ⊥ }
     ensures free { result ≡ Answers true → AreFree types.now looked.new }
 {
     types.law();
-    let inside = TypeEncoder::new(types).interfaces_inside(interface)?;
+    let inside = types_inside(types, &[ty])?;
     list_plain_alone(types, looked, inside.as_slice())
-}
-
-/// Whether a held item is plain, to any depth.
-fn is_plain_deep(types: &Types, looked: &mut Reached, item: ItemKind) -> Result<bool, AllocError>
-    requires held { holds_type types.now (kind_type item) ≡ true }
-    requires free { AreFree types.now looked.old }
-    ensures plain { result ≡ Answers true → IsPlainDeep types.now item }
-    ensures not { result ≡ Answers false → IsPlainItem (kind_tree types.now item) → ⊥ }
-    ensures free { result ≡ Answers true → AreFree types.now looked.new }
-{
-    match interface_of(item) {
-        Some(id) => has_plain_items(types, looked, id),
-        None => is_plain(types, looked, item),
-    }
-}
-
-/// Whether all items are.
-fn are_plain_deep(
-    types: &Types,
-    looked: &mut Reached,
-    items: &Named<ItemKind>,
-) -> Result<bool, AllocError>
-    requires held { (i : ℕ) (e : List ℕ × AnyItem) → slice_get items.now i ≡ Some e → holds_type types.now (kind_type e.1) ≡ true }
-    requires free { AreFree types.now looked.old }
-    ensures plain { result ≡ Answers true → ArePlainDeep types.now items.now }
-    ensures not { result ≡ Answers false → ArePlain types.now items.now → ⊥ }
-    ensures free { result ≡ Answers true → AreFree types.now looked.new }
-{
-    for i in 0..items.len() {
-        let (_, item) = items.entry_at(i);
-        if !is_plain_deep(types, looked, *item)? {
-            return Ok(false);
-        }
-    }
-    Ok(true)
-}
-
-/// Whether a held world lists plain items alone, to any depth, so that a component of it and its type are imported so far.
-fn has_plain_sides(types: &Types, looked: &mut Reached, world: WorldId) -> Result<bool, AllocError>
-    requires held { holds_type types.now (ty.World world) ≡ true }
-    requires free { AreFree types.now looked.old }
-    ensures plain { result ≡ Answers true → HasPlainItems types.now world }
-    ensures not { result ≡ Answers false → HasPlainItems types.now world → ⊥ }
-    ensures not_component { result ≡ Answers false → IsImportableKind types.now (kind.Component world) → ⊥ }
-    ensures not_type { result ≡ Answers false → IsImportableKind types.now (kind.TypeItem (ty.World world)) → ⊥ }
-    ensures free { result ≡ Answers true → AreFree types.now looked.new }
-{
-    types.law();
-    let held = &types[world];
-    held.imports.law();
-    held.exports.law();
-    if !are_plain_deep(types, looked, &held.imports)? {
-        return Ok(false);
-    }
-    are_plain_deep(types, looked, &held.exports)
 }
 
 /// Whether a held type as an item lists plain ones: a value type or a function type that is made of no handle, or an interface or a world
@@ -232,8 +195,7 @@ fn is_importable_type(types: &Types, looked: &mut Reached, ty: Type) -> Result<b
     types.law();
     match ty {
         Type::Value(_) | Type::Func(_) => has_no_handle(types, looked, ty),
-        Type::Interface(interface) => has_plain_items(types, looked, interface),
-        Type::World(world) => has_plain_sides(types, looked, world),
+        Type::Interface(_) | Type::World(_) => has_plain_items(types, looked, ty),
         _ => Ok(false),
     }
 }
@@ -249,9 +211,9 @@ fn lists_plain(types: &Types, looked: &mut Reached, item: ItemKind) -> Result<bo
 {
     types.law();
     match item {
-        ItemKind::Instance(id) => has_plain_items(types, looked, id),
+        ItemKind::Instance(id) => has_plain_items(types, looked, Type::Interface(id)),
         ItemKind::TypeItem(ty) => is_importable_type(types, looked, ty),
-        ItemKind::Component(world) => has_plain_sides(types, looked, world),
+        ItemKind::Component(world) => has_plain_items(types, looked, Type::World(world)),
         ItemKind::Module(_) => Ok(true),
         ItemKind::Func(func) => has_no_handle(types, looked, Type::Func(func)),
         _ => Ok(false),
@@ -291,7 +253,7 @@ fn is_definable_interface(
     if held.id.is_none() || held.uses.len() > 0 {
         return Ok(false);
     }
-    has_plain_items(types, looked, interface)
+    has_plain_items(types, looked, Type::Interface(interface))
 }
 
 /// Whether no item is an instance of an interface that uses another.
@@ -345,7 +307,7 @@ fn is_definable_world(
     if !use_nothing(types, &item.exports) {
         return Ok(false);
     }
-    has_plain_sides(types, looked, world)
+    has_plain_items(types, looked, Type::World(world))
 }
 
 /// Whether a held type is a value type or a function type, made of no handle, or an interface or a world that is defined so far.
@@ -383,6 +345,39 @@ pub fn is_definable(types: &Types, looked: &mut Reached, item: ItemKind) -> Resu
     }
 }
 
+/// Whether the interfaces and worlds of held items, and all inside these, list plain items alone. Each is looked at once.
+fn have_plain_items(
+    types: &Types,
+    looked: &mut Reached,
+    items: &Named<ItemKind>,
+) -> Result<bool, AllocError>
+    requires held { (i : ℕ) (e : List ℕ × AnyItem) → slice_get items.now i ≡ Some e → holds_type types.now (kind_type e.1) ≡ true }
+    requires free { AreFree types.now looked.old }
+    ensures plain { result ≡ Answers true → HavePlainItems types.now items.now }
+    ensures not { result ≡ Answers false → HasNotYet types.now items.now }
+    ensures free { result ≡ Answers true → AreFree types.now looked.new }
+{
+    types.law();
+    let holders = holders_of(types.allocator(), items)?;
+    let inside = types_inside(types, holders.as_slice())?;
+    list_plain_alone(types, looked, inside.as_slice())
+}
+
+/// Whether a held item is imported so far, where the interface or the world that it has lists plain items alone.
+fn is_plain_beside(types: &Types, looked: &mut Reached, item: ItemKind) -> Result<bool, AllocError>
+    requires held { holds_type types.now (kind_type item) ≡ true }
+    requires inside { (t : AnyType) → holder_that item ≡ Some t → ArePlainInside types.now t }
+    requires free { AreFree types.now looked.old }
+    ensures plain { result ≡ Answers true → ListsPlain types.now item }
+    ensures not { result ≡ Answers false → IsImportableKind types.now item → ⊥ }
+    ensures free { result ≡ Answers true → AreFree types.now looked.new }
+{
+    match holder_of(item) {
+        Some(_) => Ok(true),
+        None => lists_plain(types, looked, item),
+    }
+}
+
 /// Whether all held items are imported so far. What they reach together is looked at once.
 pub(crate) fn are_importable(types: &Types, items: &Named<ItemKind>) -> Result<bool, AllocError>
     requires { (i : ℕ) (e : List ℕ × AnyItem) → slice_get items.now i ≡ Some e → holds_type types.now (kind_type e.1) ≡ true }
@@ -390,9 +385,12 @@ pub(crate) fn are_importable(types: &Types, items: &Named<ItemKind>) -> Result<b
     ensures not { result ≡ Answers false → HasNotYet types.now items.now }
 {
     let mut looked = Reached::new(types.allocator());
+    if !have_plain_items(types, &mut looked, items)? {
+        return Ok(false);
+    }
     for i in 0..items.len() {
         let (_, item) = items.entry_at(i);
-        if !lists_plain(types, &mut looked, *item)? {
+        if !is_plain_beside(types, &mut looked, *item)? {
             return Ok(false);
         }
     }

@@ -5,6 +5,7 @@
 #![tactic(auto)]
 
 mod defined;
+mod holders;
 mod importable;
 mod modules;
 mod written;

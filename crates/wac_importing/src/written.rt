@@ -16,19 +16,23 @@ ghost use Rattle.wac_root.specs.Importing.{ImportsHeld};
 ghost use Rattle.wac_meaning.specs.Beginning.{Begins};
 ghost use Rattle.wac_meaning.specs.Means.{sort_of_kind};
 ghost use Rattle.wac_meaning.specs.MergedImports.{merged_imports, AreOfSorts};
-ghost use Rattle.wac_importing.specs.Written.{AllImportable, HasUnimportable, AreRefused, merge_of, IsTooLarge, IsNotWritten};
+ghost use Rattle.wac_worlds.specs.Nested.{AreWorlds, AllWritten};
+ghost use Rattle.wac_importing.specs.Written.{holders_of as holders_that, IsAhead, AllImportable, HasUnimportable, AreRefused, merge_of, IsTooLarge, IsNotWritten};
 ghost use Rattle.wac_importing.specs.Looked.{HasPlainItems, ListsPlain, AreImportable};
 ghost use Rattle.wac_importing.specs.Modules.{WritesOne};
 
+use crate::holders::holders_of;
 use crate::importable::are_importable;
 use crate::modules::import_module;
 use std::alloc::Global;
 use wac_builder::{BinaryFault, ComponentBuilder, Sort};
 use wac_collection::{ItemKind, Named, Type, Types, WorldId};
 use wac_components::ComponentEncoder;
+use wac_encode::Worlds;
 use wac_merge::TypeAggregator;
 use wac_root::RootEncoder;
 use wac_scopes::{Encodable, EncodeFault, Scope, root_law};
+use wac_worlds::worlds_inside;
 
 /// The imports of a merge as they are written: a component that has them and the types that they are made of, and of each import, in
 /// order, the sort and its index of that sort.
@@ -45,8 +49,8 @@ pub struct WrittenImports {
 ///
 /// Answers none exactly where an import is not importable so far: it is no core module, no function, no type item of a value type, a
 /// function type, an interface or a world, and no instance or component, or one of an interface or a world that lists other items than
-/// functions, type items of value types and function types and instances of such, or it is made of a handle; memory may be refused before
-/// that is known. Answers `TooLarge` where an import does not fit behind those before it; `OutOfMemory` where memory was refused.
+/// functions, type items of value types and function types, instances of such, and type items of interfaces and worlds of such, or it is
+/// made of a handle; memory may be refused before that is known. Answers `TooLarge` where an import does not fit behind those before it; `OutOfMemory` where memory was refused.
 pub fn write_imports(
     alloc: Global,
     merge: &TypeAggregator,
@@ -85,11 +89,12 @@ fn write_all(
     imports.law();
     wac_binary::law();
     root_law();
+    let worlds = write_worlds(types, imports)?;
     let mut root = Scope::new(alloc, Encodable::Builder(ComponentBuilder::new(alloc)));
     let mut places = Vec::new(alloc);
     for i in 0..imports.len() {
         let (name, item) = imports.entry_at(i);
-        let index = write_one(alloc, types, &mut root, name, *item)?;
+        let index = write_one(alloc, types, &worlds, &mut root, name, *item)?;
         places.push((sort_of(*item), index))?;
     }
     Ok(WrittenImports {
@@ -98,21 +103,42 @@ fn write_all(
     })
 }
 
+/// Writes ahead the component types of the worlds inside imports that all are imported so far, each once.
+fn write_worlds(types: &Types, imports: &Named<ItemKind>) -> Result<Worlds, BinaryFault>
+    requires held { (i : ℕ) (e : List ℕ × AnyItem) → slice_get imports.now i ≡ Some e → holds_type types.now (kind_type e.1) ≡ true }
+    requires importable { AreImportable types.now imports.now }
+    ensures are { IfOk result (AreWorlds types.now) }
+    ensures all { IfOk result (AllWritten types.now (holders_that imports.now)) }
+    ensures fault { IfErr result (IsTooLarge (merge_of types.now imports.now)) }
+{
+    types.law();
+    let holders = holders_of(types.allocator(), imports)?;
+    match worlds_inside(types, holders.as_slice()) {
+        Ok(worlds) => Ok(worlds),
+        Err(EncodeFault::Write(_)) => unreachable!(),
+        Err(EncodeFault::TooLarge) => Err(BinaryFault::TooLarge),
+        Err(EncodeFault::OutOfMemory) => Err(BinaryFault::OutOfMemory),
+    }
+}
+
 /// Writes an import that is imported so far, and answers its index.
 fn write_one(
     alloc: Global,
     types: &Types,
+    worlds: &Worlds,
     root: &mut Scope,
     name: &str,
     item: ItemKind,
 ) -> Result<u32, BinaryFault>
     requires held { holds_type types.now (kind_type item) ≡ true }
     requires ordered { IsWellFormed types.now }
+    requires are { AreWorlds types.now worlds.now }
+    requires ahead { IsAhead types.now worlds.now item }
     requires importable { ListsPlain types.now item }
     requires root { IsRoot root.old.content }
     ensures imports { IfOk result (ImportsHeld types.now root.old root.new name.now item) }
-    ensures written { IfOk result (WritesOne types.now root.old root.new name.now item) }
-    ensures fault { IfErr result (IsNotWritten types.now root.old name.now item) }
+    ensures written { IfOk result (WritesOne worlds.now types.now root.old root.new name.now item) }
+    ensures fault { IfErr result (IsNotWritten worlds.now types.now root.old name.now item) }
     ensures root { IsRoot root.new.content }
 {
     match item {
@@ -122,29 +148,34 @@ fn write_one(
             Err(EncodeFault::TooLarge) => Err(BinaryFault::TooLarge),
             Err(EncodeFault::OutOfMemory) => Err(BinaryFault::OutOfMemory),
         },
-        ItemKind::Component(world) => write_component(types, root, name, world),
-        ItemKind::TypeItem(Type::World(world)) => write_world_type(types, root, name, world),
-        _ => write_item(types, root, name, item),
+        ItemKind::Component(world) => write_component(types, worlds, root, name, world),
+        ItemKind::TypeItem(Type::World(world)) => write_world_type(
+            types, worlds, root, name, world,
+        ),
+        _ => write_item(types, worlds, root, name, item),
     }
 }
 
 /// Writes an import of a component of a held world that is imported so far, and answers its index.
 fn write_component(
     types: &Types,
+    worlds: &Worlds,
     root: &mut Scope,
     name: &str,
     world: WorldId,
 ) -> Result<u32, BinaryFault>
     requires held { holds_type types.now (ty.World world) ≡ true }
     requires ordered { IsWellFormed types.now }
+    requires are { AreWorlds types.now worlds.now }
+    requires ahead { IsAhead types.now worlds.now (kind.Component world) }
     requires plain { HasPlainItems types.now world }
     requires root { IsRoot root.old.content }
     ensures imports { IfOk result (ImportsHeld types.now root.old root.new name.now (kind.Component world)) }
-    ensures written { IfOk result (WritesOne types.now root.old root.new name.now (kind.Component world)) }
-    ensures fault { IfErr result (IsNotWritten types.now root.old name.now (kind.Component world)) }
+    ensures written { IfOk result (WritesOne worlds.now types.now root.old root.new name.now (kind.Component world)) }
+    ensures fault { IfErr result (IsNotWritten worlds.now types.now root.old name.now (kind.Component world)) }
     ensures root { IsRoot root.new.content }
 {
-    match ComponentEncoder::new(types).import_component(root, name, world) {
+    match ComponentEncoder::new(types, worlds).import_component(root, name, world) {
         Ok(Some(index)) => Ok(index),
         Ok(None) => unreachable!(),
         Err(EncodeFault::Write(_)) => unreachable!(),
@@ -156,20 +187,23 @@ fn write_component(
 /// Writes a type item of a held world that is imported so far, and answers its index.
 fn write_world_type(
     types: &Types,
+    worlds: &Worlds,
     root: &mut Scope,
     name: &str,
     world: WorldId,
 ) -> Result<u32, BinaryFault>
     requires held { holds_type types.now (ty.World world) ≡ true }
     requires ordered { IsWellFormed types.now }
+    requires are { AreWorlds types.now worlds.now }
+    requires ahead { IsAhead types.now worlds.now (kind.TypeItem (ty.World world)) }
     requires plain { HasPlainItems types.now world }
     requires root { IsRoot root.old.content }
     ensures imports { IfOk result (ImportsHeld types.now root.old root.new name.now (kind.TypeItem (ty.World world))) }
-    ensures written { IfOk result (WritesOne types.now root.old root.new name.now (kind.TypeItem (ty.World world))) }
-    ensures fault { IfErr result (IsNotWritten types.now root.old name.now (kind.TypeItem (ty.World world))) }
+    ensures written { IfOk result (WritesOne worlds.now types.now root.old root.new name.now (kind.TypeItem (ty.World world))) }
+    ensures fault { IfErr result (IsNotWritten worlds.now types.now root.old name.now (kind.TypeItem (ty.World world))) }
     ensures root { IsRoot root.new.content }
 {
-    match ComponentEncoder::new(types).import_world_type(root, name, world) {
+    match ComponentEncoder::new(types, worlds).import_world_type(root, name, world) {
         Ok(Some(index)) => Ok(index),
         Ok(None) => unreachable!(),
         Err(EncodeFault::Write(_)) => unreachable!(),
@@ -181,23 +215,26 @@ fn write_world_type(
 /// Writes an import that is imported so far and no core module, component or type item of a world, and answers its index.
 fn write_item(
     types: &Types,
+    worlds: &Worlds,
     root: &mut Scope,
     name: &str,
     item: ItemKind,
 ) -> Result<u32, BinaryFault>
     requires held { holds_type types.now (kind_type item) ≡ true }
     requires ordered { IsWellFormed types.now }
+    requires are { AreWorlds types.now worlds.now }
+    requires ahead { IsAhead types.now worlds.now item }
     requires importable { ListsPlain types.now item }
     requires other { (id : AnyModule) → item ≡ kind.Module id → ⊥ }
     requires no_component { (w : AnyWorld) → item ≡ kind.Component w → ⊥ }
     requires no_world { (w : AnyWorld) → item ≡ kind.TypeItem (ty.World w) → ⊥ }
     requires root { IsRoot root.old.content }
     ensures imports { IfOk result (ImportsHeld types.now root.old root.new name.now item) }
-    ensures written { IfOk result (WritesOne types.now root.old root.new name.now item) }
-    ensures fault { IfErr result (IsNotWritten types.now root.old name.now item) }
+    ensures written { IfOk result (WritesOne worlds.now types.now root.old root.new name.now item) }
+    ensures fault { IfErr result (IsNotWritten worlds.now types.now root.old name.now item) }
     ensures root { IsRoot root.new.content }
 {
-    let encoder = RootEncoder::new(types);
+    let encoder = RootEncoder::new(types, worlds);
     match encoder.import(root, name, item) {
         Ok(Some(index)) => Ok(index),
         Ok(None) => unreachable!(),

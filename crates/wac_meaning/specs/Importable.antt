@@ -9,7 +9,7 @@ use Rattle.wac_shapes.specs.declared.component.World.{World}
 use Rattle.wac_shapes.specs.declared.component.WorldId.{WorldId}
 use Rattle.wac_shapes.specs.declared.component.«Type».TheVariants as ty
 use Rattle.wac_primitives.specs.Tree.{TypeTree, absent, resource, primitive, record_of, variant_of, list_of, fixed_list_of, tuple_of, flags_of, enum_of, option_of, result_of, stream_of, future_of, function, instance, component, module_of, type_equal, function_item, instance_item, component_item, module_item}
-use Rattle.wac_collection.specs.Collection.{Collection, interface_exports, item_at}
+use Rattle.wac_collection.specs.Collection.{Collection, interface_exports, world_imports, world_exports, item_at}
 use Rattle.wac_subtyping.specs.Subtype.{kind_tree}
 use Rattle.wac_meaning.specs.Definition.{uses_of}
 
@@ -32,12 +32,13 @@ HasNoHandle (function is_async names params result) = ((i : ℕ) → HasNoHandle
 HasNoHandle _ = ⊥
 
 -- where there is an item, it is plain: a function, or a type item of a value type or a function type, without a resource in it, or an instance of plain
--- items or a type item of such, to any depth
+-- items, or a type item of such or of a component of such, to any depth
 abbrev pub IsPlainWhereThere : {L : Type 0} → TypeTree L → Type 0
 IsPlainWhereThere absent = Unit {0}
 IsPlainWhereThere (function_item t) = HasNoHandle t
 IsPlainWhereThere (type_equal absent) = ⊥
 IsPlainWhereThere (type_equal (instance items)) = (n : Name) → IsPlainWhereThere (items n)
+IsPlainWhereThere (type_equal (component imports exports)) = ((n : Name) → IsPlainWhereThere (imports n)) × ((n : Name) → IsPlainWhereThere (exports n))
 IsPlainWhereThere (type_equal t) = HasNoHandle t
 IsPlainWhereThere (instance_item (instance items)) = (n : Name) → IsPlainWhereThere (items n)
 IsPlainWhereThere _ = ⊥
@@ -52,9 +53,8 @@ abbrev pub HasPlainSides : {L : Type 0} → TypeTree L → Type 0
 HasPlainSides (component imports exports) = ((n : Name) → IsPlainWhereThere (imports n)) × ((n : Name) → IsPlainWhereThere (exports n))
 HasPlainSides _ = ⊥
 
--- an item that is imported so far: a plain one, a component of such or its type, or a core module
+-- an item that is imported so far: a plain one, a component of such, or a core module
 abbrev pub IsImportable : {L : Type 0} → TypeTree L → Type 0
-IsImportable (type_equal (component imports exports)) = HasPlainSides (component imports exports)
 IsImportable (component_item t) = HasPlainSides t
 IsImportable (module_item (module_of imports exports)) = Unit {0}
 IsImportable t = IsPlainItem t
@@ -69,12 +69,14 @@ IsDefinable (type_equal absent) = ⊥
 IsDefinable (type_equal t) = HasNoHandle t
 IsDefinable _ = ⊥
 
--- an item as it is held is plain, also behind another of its name, where interfaces are in one another to this depth
+-- an item as it is held is plain, also behind another of its name, where interfaces and worlds are in one another to this depth
 abbrev pub IsPlainTo : ℕ → Collection → ItemKind → Type 0
 IsPlainTo zero c (kind.Instance i) = ⊥
 IsPlainTo zero c (kind.TypeItem (ty.Interface i)) = ⊥
+IsPlainTo zero c (kind.TypeItem (ty.World w)) = ⊥
 IsPlainTo (suc d) c (kind.Instance i) = (k : ℕ) (e : Name × ItemKind) → slice_get (interface_exports c i) k ≡ Some e → IsPlainTo d c e.1
 IsPlainTo (suc d) c (kind.TypeItem (ty.Interface i)) = (k : ℕ) (e : Name × ItemKind) → slice_get (interface_exports c i) k ≡ Some e → IsPlainTo d c e.1
+IsPlainTo (suc d) c (kind.TypeItem (ty.World w)) = ((k : ℕ) (e : Name × ItemKind) → slice_get (world_imports c w) k ≡ Some e → IsPlainTo d c e.1) × ((k : ℕ) (e : Name × ItemKind) → slice_get (world_exports c w) k ≡ Some e → IsPlainTo d c e.1)
 IsPlainTo d c k = IsPlainItem (kind_tree c k)
 
 -- an interface that is defined so far: it has an id, it uses nothing, and each of its items is plain, to some depth

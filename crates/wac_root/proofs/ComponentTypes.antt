@@ -29,6 +29,7 @@ use Rattle.wac_stacks.specs.Laws.{Adds, IsItsTree, StaysOnward}
 use Rattle.wac_stacks.specs.Listed.{declaring, OpensWorld, ClosesComponent}
 use Rattle.wac_scopes.specs.Rooted.{unbound, IsRightRoot}
 use Rattle.wac_scopes.specs.Scoped.{type_index, recorded_type, opened, AddsInstance, AddsComponent, ListsInstanceOf, WritesUnlessTooLarge, FitsUnlessTooLarge, listing, place}
+use Rattle.wac_encode.specs.declared.worlds.Worlds.{Worlds}
 use Rattle.wac_encode.specs.Written.{GoesOn, WritesFor}
 use Rattle.wac_encode.specs.Listing.{lists_plain, SaysInterface, IsInterfaceRefused}
 use Rattle.wac_encode.specs.Instances.{IsBare}
@@ -52,8 +53,8 @@ same-id c i id h = ap (λ (o : Option Interface). option_case o [] of_interface)
     of_interface : Interface → List (Name × Tree)
     of_interface it = of_id it.id
 
-pub interface-definable : (c : Collection) (t : AnyType) (i : InterfaceId) (it : Interface) → t ≡ ty.Interface i → item_at c.interfaces i.0 ≡ Some it → is_some it.id ≡ true → lists_plain c i ≡ true → IsDefinable c t
-interface-definable c t i it is found some plain = subst (IsDefinable c) (sym is) (by_id it.id refl some, plain)
+pub interface-definable : (ws : Worlds) (c : Collection) (t : AnyType) (i : InterfaceId) (it : Interface) → t ≡ ty.Interface i → item_at c.interfaces i.0 ≡ Some it → is_some it.id ≡ true → lists_plain ws c i ≡ true → IsDefinable ws c t
+interface-definable ws c t i it is found some plain = subst (IsDefinable ws c) (sym is) (by_id it.id refl some, plain)
   where
     by_id : (o : Option Name) → it.id ≡ o → is_some o ≡ true → (id : Name) × HasId c i id
     by_id None none some = let both : false ≡ true = some in cc
@@ -99,8 +100,8 @@ under-id-is id ds k start mid new empty typed index listed =
     listed ∙ ap (λ (x : Encodable). and_export x id (e.Instance k)) (typed ∙ ap (λ (x : Encodable). and_type x (instance_def (decls ds))) empty)
     ∙ ap (λ (n : ℕ). Component (type_decl (instance_def (decls ds)) ∷ export_decl id (e.Instance n) ∷ [])) (index ∙ ap (count (space sort.«Type»)) empty)
 
-pub writes-component : (c : Collection) (i : InterfaceId) (id : Name) (ds es : List Decl) (k : ℕ) (start mid new : Encodable) → HasId c i id → WritesAlone c i ds → start ≡ Component [] → mid ≡ and_type start (instance_def (decls ds)) → k ≡ count (space sort.«Type») start → new ≡ and_export mid id (e.Instance k) → new ≡ Component es → WritesComponent c i es
-writes-component c i id ds es k start mid new named written empty typed index listed is = record {
+pub writes-component : (ws : Worlds) (c : Collection) (i : InterfaceId) (id : Name) (ds es : List Decl) (k : ℕ) (start mid new : Encodable) → HasId c i id → WritesAlone ws c i ds → start ≡ Component [] → mid ≡ and_type start (instance_def (decls ds)) → k ≡ count (space sort.«Type») start → new ≡ and_export mid id (e.Instance k) → new ≡ Component es → WritesComponent ws c i es
+writes-component ws c i id ds es k start mid new named written empty typed index listed is = record {
   id = id;
   named = named;
   declarations = ds;
@@ -110,32 +111,32 @@ writes-component c i id ds es k start mid new named written empty typed index li
 
 -- refusals
 
-pub interface-refused : (A B : Type 0) (c : Collection) (i : InterfaceId) (around : Scope) (f : EncodeFault) → IsBare around → IsInterfaceRefused {A = A} c around i (Err f) → IsComponentRefused {A = B} c i (Err f)
-interface-refused A B c i around (fault.Write g) bare h = (around, bare, h)
-interface-refused A B c i around fault.TooLarge bare h = inl (around, bare, h)
-interface-refused A B c i around fault.OutOfMemory bare h = tt
+pub interface-refused : (A B : Type 0) (ws : Worlds) (c : Collection) (i : InterfaceId) (around : Scope) (f : EncodeFault) → IsBare around → IsInterfaceRefused {A = A} ws c around i (Err f) → IsComponentRefused {A = B} ws c i (Err f)
+interface-refused A B ws c i around (fault.Write g) bare h = (around, bare, h)
+interface-refused A B ws c i around fault.TooLarge bare h = inl (around, bare, h)
+interface-refused A B ws c i around fault.OutOfMemory bare h = tt
 
-pub type-too-large : (A B : Type 0) (c : Collection) (i : InterfaceId) (id : Name) (ds : List Decl) (start : Encodable) (f : EncodeFault) → HasId c i id → WritesAlone c i ds → start ≡ Component [] → FitsUnlessTooLarge {A = A} (Err f) (ContentFits (and_type start (instance_def (decls ds)))) → IsComponentRefused {A = B} c i (Err f)
-type-too-large A B c i id ds start (fault.Write g) named written empty h = absurd h
-type-too-large A B c i id ds start fault.TooLarge named written empty h = inr (record {
+pub type-too-large : (A B : Type 0) (ws : Worlds) (c : Collection) (i : InterfaceId) (id : Name) (ds : List Decl) (start : Encodable) (f : EncodeFault) → HasId c i id → WritesAlone ws c i ds → start ≡ Component [] → FitsUnlessTooLarge {A = A} (Err f) (ContentFits (and_type start (instance_def (decls ds)))) → IsComponentRefused {A = B} ws c i (Err f)
+type-too-large A B ws c i id ds start (fault.Write g) named written empty h = absurd h
+type-too-large A B ws c i id ds start fault.TooLarge named written empty h = inr (record {
   id = id;
   named = named;
   declarations = ds;
   written = written;
   large = inl (subst (λ (x : Encodable). ContentFits (and_type x (instance_def (decls ds))) → ⊥) empty h);
 })
-type-too-large A B c i id ds start fault.OutOfMemory named written empty h = tt
+type-too-large A B ws c i id ds start fault.OutOfMemory named written empty h = tt
 
-pub listing-too-large : (A B : Type 0) (c : Collection) (i : InterfaceId) (id : Name) (ds : List Decl) (k : ℕ) (start mid : Encodable) (f : EncodeFault) → HasId c i id → WritesAlone c i ds → start ≡ Component [] → mid ≡ and_type start (instance_def (decls ds)) → k ≡ count (space sort.«Type») start → WritesUnlessTooLarge {A = A} (Err f) (ContentFits (and_export mid id (e.Instance k))) → IsComponentRefused {A = B} c i (Err f)
-listing-too-large A B c i id ds k start mid (fault.Write g) named written empty typed index h = absurd h
-listing-too-large A B c i id ds k start mid fault.TooLarge named written empty typed index h = inr (record {
+pub listing-too-large : (A B : Type 0) (ws : Worlds) (c : Collection) (i : InterfaceId) (id : Name) (ds : List Decl) (k : ℕ) (start mid : Encodable) (f : EncodeFault) → HasId c i id → WritesAlone ws c i ds → start ≡ Component [] → mid ≡ and_type start (instance_def (decls ds)) → k ≡ count (space sort.«Type») start → WritesUnlessTooLarge {A = A} (Err f) (ContentFits (and_export mid id (e.Instance k))) → IsComponentRefused {A = B} ws c i (Err f)
+listing-too-large A B ws c i id ds k start mid (fault.Write g) named written empty typed index h = absurd h
+listing-too-large A B ws c i id ds k start mid fault.TooLarge named written empty typed index h = inr (record {
   id = id;
   named = named;
   declarations = ds;
   written = written;
   large = inr (subst (λ (x : Encodable). ContentFits x → ⊥) (under-id-is id ds k start mid (and_export mid id (e.Instance k)) empty typed index refl) h);
 })
-listing-too-large A B c i id ds k start mid fault.OutOfMemory named written empty typed index h = tt
+listing-too-large A B ws c i id ds k start mid fault.OutOfMemory named written empty typed index h = tt
 
 -- the component type in the root
 
@@ -145,8 +146,8 @@ component-behind c old now i ds k says adds same = writes-type c (MadeFor c (ty.
     goes : GoesOn c old now
     goes m ms o os g = (adds c (m ∷ ms) o os (component_tree c i) (says m ms (opened old o) os g)).0
 
-pub ends-with-component : (c : Collection) (old now : Scope) (i : InterfaceId) (ds : List Decl) (k : ℕ) → WritesComponent c i ds → now ≡ record old { content = and_type old.content (component_def (decls ds)) } → k ≡ count (space sort.«Type») old.content → EndsWithComponent c old now i k
-ends-with-component c old now i ds k written same index = record { declarations = ds; written = written; appended = same; index = index }
+pub ends-with-component : (ws : Worlds) (c : Collection) (old now : Scope) (i : InterfaceId) (ds : List Decl) (k : ℕ) → WritesComponent ws c i ds → now ≡ record old { content = and_type old.content (component_def (decls ds)) } → k ≡ count (space sort.«Type») old.content → EndsWithComponent ws c old now i k
+ends-with-component ws c old now i ds k written same index = record { declarations = ds; written = written; appended = same; index = index }
 
 pub interface-defined : StandsBehind → (c : Collection) (old now new : Scope) (n : Name) (i : InterfaceId) (ds : List Decl) (j k : ℕ) → IsRightRoot c old → SaysComponent c i ds → AddsComponent old now ds j → now ≡ record old { content = and_type old.content (component_def (decls ds)) } → j ≡ count (space sort.«Type») old.content → new ≡ record now { content = Builder (items_of now.content ++ export_item n sort.«Type» j ∷ []) } → k ≡ count (space sort.«Type») now.content → WritesDefinition c (ty.Interface i) n old new k
 interface-defined behind c old now new n i ds j k r says adds same index exports answer =
@@ -156,8 +157,8 @@ interface-defined behind c old now new n i ds j k r says adds same index exports
     (λ good means. stands-last behind c old now (component_def (decls ds)) j (component_tree c i) r same index means (at-root now j (component_tree c i) is_root (adds c (nothing_bound ∷ []) unbound [] (component_tree c i) (says nothing_bound [] (opened old unbound) [] good)).1))
     (content-is now new (Builder (items_of now.content ++ export_item n sort.«Type» j ∷ [])) exports) answer
 
-pub interface-once : (c : Collection) (old now new : Scope) (n : Name) (i : InterfaceId) (j k : ℕ) → WritesFor c 1 (MadeFor c (ty.Interface i)) old now → EndsWithComponent c old now i j → new ≡ record now { content = Builder (items_of now.content ++ export_item n sort.«Type» j ∷ []) } → WritesOnce c (ty.Interface i) n old new k
-interface-once c old now new n i j k w ends exports = record {
+pub interface-once : (ws : Worlds) (c : Collection) (old now new : Scope) (n : Name) (i : InterfaceId) (j k : ℕ) → WritesFor c 1 (MadeFor c (ty.Interface i)) old now → EndsWithComponent ws c old now i j → new ≡ record now { content = Builder (items_of now.content ++ export_item n sort.«Type» j ∷ []) } → WritesOnce ws c (ty.Interface i) n old new k
+interface-once ws c old now new n i j k w ends exports = record {
   now = now;
   behind = w;
   index = j;
@@ -176,12 +177,12 @@ types-for c t types old now new w same = (types, subst (λ (s : Scope). WritesFo
 
 -- and its refusals
 
-pub component-not-defined : (A B : Type 0) (c : Collection) → StaysOnward → (old : Scope) (n : Name) (i : InterfaceId) (f : EncodeFault) → IsComponentRefused {A = A} c i (Err f) → IsDefinitionRefused {A = B} c (ty.Interface i) n old (Err f)
-component-not-defined A B c stays old n i (fault.Write g) h = h
-component-not-defined A B c stays old n i fault.TooLarge h = record { scope = old; types = 0; behind = writes-none c stays (MadeFor c (ty.Interface i)) old old (as-it-was old); large = inl (inl h) }
-component-not-defined A B c stays old n i fault.OutOfMemory h = tt
+pub component-not-defined : (A B : Type 0) (ws : Worlds) (c : Collection) → StaysOnward → (old : Scope) (n : Name) (i : InterfaceId) (f : EncodeFault) → IsComponentRefused {A = A} ws c i (Err f) → IsDefinitionRefused {A = B} ws c (ty.Interface i) n old (Err f)
+component-not-defined A B ws c stays old n i (fault.Write g) h = h
+component-not-defined A B ws c stays old n i fault.TooLarge h = record { scope = old; types = 0; behind = writes-none c stays (MadeFor c (ty.Interface i)) old old (as-it-was old); large = inl (inl h) }
+component-not-defined A B ws c stays old n i fault.OutOfMemory h = tt
 
-pub component-too-large : (A B : Type 0) (c : Collection) → StaysOnward → (old : Scope) (n : Name) (i : InterfaceId) (ds : List Decl) (f : EncodeFault) → WritesComponent c i ds → WritesUnlessTooLarge {A = A} (Err f) (ContentFits (and_type old.content (component_def (decls ds)))) → IsDefinitionRefused {A = B} c (ty.Interface i) n old (Err f)
-component-too-large A B c stays old n i ds (fault.Write g) written h = absurd h
-component-too-large A B c stays old n i ds fault.TooLarge written h = record { scope = old; types = 0; behind = writes-none c stays (MadeFor c (ty.Interface i)) old old (as-it-was old); large = inl (inr (ds, written, h)) }
-component-too-large A B c stays old n i ds fault.OutOfMemory written h = tt
+pub component-too-large : (A B : Type 0) (ws : Worlds) (c : Collection) → StaysOnward → (old : Scope) (n : Name) (i : InterfaceId) (ds : List Decl) (f : EncodeFault) → WritesComponent ws c i ds → WritesUnlessTooLarge {A = A} (Err f) (ContentFits (and_type old.content (component_def (decls ds)))) → IsDefinitionRefused {A = B} ws c (ty.Interface i) n old (Err f)
+component-too-large A B ws c stays old n i ds (fault.Write g) written h = absurd h
+component-too-large A B ws c stays old n i ds fault.TooLarge written h = record { scope = old; types = 0; behind = writes-none c stays (MadeFor c (ty.Interface i)) old old (as-it-was old); large = inl (inr (ds, written, h)) }
+component-too-large A B ws c stays old n i ds fault.OutOfMemory written h = tt

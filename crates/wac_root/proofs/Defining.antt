@@ -38,6 +38,7 @@ use Rattle.wac_scopes.proofs.Rooted.{content-of-root}
 use Rattle.wac_stacks.proofs.Values.{primitive-held}
 use Rattle.wac_scopes.specs.declared.scope.Listed.{Listed}
 use Rattle.wac_scopes.specs.declared.scope.Listed.TheVariants.{ByInstance, Around}
+use Rattle.wac_encode.specs.declared.worlds.Worlds.{Worlds}
 use Rattle.wac_encode.specs.Written.{PartOf, WritesFor, with_types, IsOfFunc, AddsHeldFunc, IsFuncFrom, IsFuncAt, IsRefused, IsFuncRefused, NewType, defined as as_defined, aliased, as_item, IsWrittenAs, IsListedThere}
 use Rattle.wac_encode.specs.Listing.{NeededBy, own_types, SameRecords, PrimitiveDoesNotFit}
 use Rattle.wac_root.specs.Importing.{IsImportedOnce, NamesImportedValue}
@@ -222,8 +223,8 @@ primitive-defined behind end tree c wf old now new n v p i k r is index adds sam
     ∙ ap (λ (u : ValueType). thing_listed (listing old (ty.Value u)) (root_of old) (held_tree c nothing_bound (ty.Value v))) (sym is))
     (content-is now new (Builder (items_of now.content ++ export_item n sort.«Type» i ∷ [])) exports) answer
 
-pub primitive-once : (c : Collection) (old now new : Scope) (n : Name) (v : ValueType) (p : PrimitiveType) (i k : ℕ) → value_resolved c v ≡ val.Primitive p → i ≡ count (space sort.«Type») old.content → AddsPrimitive old now p i → now ≡ record old { content = and_type old.content (value_def (primitive_def p)) } → new ≡ record now { content = Builder (items_of now.content ++ export_item n sort.«Type» i ∷ []) } → WritesOnce c (ty.Value v) n old new k
-primitive-once c old now new n v p i k is index adds same exports = record {
+pub primitive-once : (ws : Worlds) (c : Collection) (old now new : Scope) (n : Name) (v : ValueType) (p : PrimitiveType) (i k : ℕ) → value_resolved c v ≡ val.Primitive p → i ≡ count (space sort.«Type») old.content → AddsPrimitive old now p i → now ≡ record old { content = and_type old.content (value_def (primitive_def p)) } → new ≡ record now { content = Builder (items_of now.content ++ export_item n sort.«Type» i ∷ []) } → WritesOnce ws c (ty.Value v) n old new k
+primitive-once ws c old now new n v p i k is index adds same exports = record {
   now = now;
   behind = primitive-behind c old now v p i is adds same;
   index = i;
@@ -240,8 +241,8 @@ second-defined stays end tree c wf old new n v d i k r is at exports answer =
     (λ good means. stands-recorded end tree c wf old v d i is r at means)
     (content-is old new (Builder (items_of old.content ++ export_item n sort.«Type» i ∷ [])) exports) answer
 
-pub second-once : (c : Collection) → StaysOnward → (old new : Scope) (n : Name) (v : ValueType) (d : DefinedTypeId) (i k : ℕ) → value_resolved c v ≡ val.Defined d → value_index old d ≡ Some i → new ≡ record old { content = Builder (items_of old.content ++ export_item n sort.«Type» i ∷ []) } → WritesOnce c (ty.Value v) n old new k
-second-once c stays old new n v d i k is at exports = record {
+pub second-once : (ws : Worlds) (c : Collection) → StaysOnward → (old new : Scope) (n : Name) (v : ValueType) (d : DefinedTypeId) (i k : ℕ) → value_resolved c v ≡ val.Defined d → value_index old d ≡ Some i → new ≡ record old { content = Builder (items_of old.content ++ export_item n sort.«Type» i ∷ []) } → WritesOnce ws c (ty.Value v) n old new k
+second-once ws c stays old new n v d i k is at exports = record {
   now = old;
   behind = definition-behind c old old v d is (writes-none c stays (PartOf c (value_resolved c v)) old old (as-it-was old));
   index = i;
@@ -262,8 +263,8 @@ first-defined stays before behind end tree c wf old now new n v d i k r is w at 
     ∙ listed-after behind c old now (map as_item w.types) r (items-added c 0 (PartOf c (value_resolved c v)) old now r w) (ty.Value (value_resolved c v)) (held_tree c nothing_bound (ty.Value v)) (w.listed (ty.Value (value_resolved c v))))
     appended answer
 
-pub first-once : (c : Collection) (old now new : Scope) (n : Name) (v : ValueType) (d : DefinedTypeId) (i k : ℕ) → value_resolved c v ≡ val.Defined d → value_index old d ≡ None → WritesFor c 0 (PartOf c (value_resolved c v)) old now → value_index now d ≡ Some i → new.content ≡ Builder (items_of now.content ++ export_item n sort.«Type» i ∷ []) → HasToo now (ty.Value (val.Defined d)) k new → named_at new d ≡ Some k → WritesOnce c (ty.Value v) n old new k
-first-once c old now new n v d i k is none w at appended too name = record {
+pub first-once : (ws : Worlds) (c : Collection) (old now new : Scope) (n : Name) (v : ValueType) (d : DefinedTypeId) (i k : ℕ) → value_resolved c v ≡ val.Defined d → value_index old d ≡ None → WritesFor c 0 (PartOf c (value_resolved c v)) old now → value_index now d ≡ Some i → new.content ≡ Builder (items_of now.content ++ export_item n sort.«Type» i ∷ []) → HasToo now (ty.Value (val.Defined d)) k new → named_at new d ≡ Some k → WritesOnce ws c (ty.Value v) n old new k
+first-once ws c old now new n v d i k is none w at appended too name = record {
   now = now;
   behind = definition-behind c old now v d is w;
   index = i;
@@ -288,8 +289,8 @@ function-defined stays before behind tree c old now new n f i k r w at exports a
     (λ good means. function-stands stays before behind tree c old now f i r w at means)
     (content-is now new (Builder (items_of now.content ++ export_item n sort.«Type» i ∷ [])) exports) answer
 
-pub function-once : (c : Collection) (old now new : Scope) (n : Name) (f : FuncTypeId) (i k : ℕ) → WritesFor c 0 (IsOfFunc c f) old now → AddsHeldFunc c old now f i → IsFuncAt c f old now i → new ≡ record now { content = Builder (items_of now.content ++ export_item n sort.«Type» i ∷ []) } → WritesOnce c (ty.Func f) n old new k
-function-once c old now new n f i k w adds at exports = record {
+pub function-once : (ws : Worlds) (c : Collection) (old now new : Scope) (n : Name) (f : FuncTypeId) (i k : ℕ) → WritesFor c 0 (IsOfFunc c f) old now → AddsHeldFunc c old now f i → IsFuncAt c f old now i → new ≡ record now { content = Builder (items_of now.content ++ export_item n sort.«Type» i ∷ []) } → WritesOnce ws c (ty.Func f) n old new k
+function-once ws c old now new n f i k w adds at exports = record {
   now = now;
   behind = w;
   index = i;
@@ -300,31 +301,31 @@ function-once c old now new n f i k w adds at exports = record {
 
 -- refusals
 
-pub primitive-not-defined : (A B : Type 0) (c : Collection) → StaysOnward → (old : Scope) (n : Name) (v : ValueType) (p : PrimitiveType) (f : EncodeFault) → value_resolved c v ≡ val.Primitive p → WritesUnlessTooLarge {A = A} (Err f) (ContentFits (and_type old.content (value_def (primitive_def p)))) → IsDefinitionRefused {A = B} c (ty.Value v) n old (Err f)
-primitive-not-defined A B c stays old n v p (fault.Write g) is h = absurd h
-primitive-not-defined A B c stays old n v p fault.TooLarge is h = record {
+pub primitive-not-defined : (A B : Type 0) (ws : Worlds) (c : Collection) → StaysOnward → (old : Scope) (n : Name) (v : ValueType) (p : PrimitiveType) (f : EncodeFault) → value_resolved c v ≡ val.Primitive p → WritesUnlessTooLarge {A = A} (Err f) (ContentFits (and_type old.content (value_def (primitive_def p)))) → IsDefinitionRefused {A = B} ws c (ty.Value v) n old (Err f)
+primitive-not-defined A B ws c stays old n v p (fault.Write g) is h = absurd h
+primitive-not-defined A B ws c stays old n v p fault.TooLarge is h = record {
   scope = old;
   types = 0;
   behind = writes-none c stays (NeededBy c (item_of_type (ty.Value v))) old old (as-it-was old);
   large = inl (inr (subst (λ (w : ValueType). PrimitiveDoesNotFit w old) (sym is) h));
 }
-primitive-not-defined A B c stays old n v p fault.OutOfMemory is h = tt
+primitive-not-defined A B ws c stays old n v p fault.OutOfMemory is h = tt
 
-pub value-not-defined : (A B : Type 0) (c : Collection) (old now : Scope) (n : Name) (v : ValueType) (f : EncodeFault) → WritesFor c 0 (PartOf c (value_resolved c v)) old now → IsRefused {A = A} c (PartOf c (value_resolved c v)) now (Err f) → IsDefinitionRefused {A = B} c (ty.Value v) n old (Err f)
-value-not-defined A B c old now n v (fault.Write g) w h = h
-value-not-defined A B c old now n v fault.TooLarge w h = record { scope = now; types = 0; behind = w; large = inl (inl h) }
-value-not-defined A B c old now n v fault.OutOfMemory w h = tt
+pub value-not-defined : (A B : Type 0) (ws : Worlds) (c : Collection) (old now : Scope) (n : Name) (v : ValueType) (f : EncodeFault) → WritesFor c 0 (PartOf c (value_resolved c v)) old now → IsRefused {A = A} c (PartOf c (value_resolved c v)) now (Err f) → IsDefinitionRefused {A = B} ws c (ty.Value v) n old (Err f)
+value-not-defined A B ws c old now n v (fault.Write g) w h = h
+value-not-defined A B ws c old now n v fault.TooLarge w h = record { scope = now; types = 0; behind = w; large = inl (inl h) }
+value-not-defined A B ws c old now n v fault.OutOfMemory w h = tt
 
-pub function-not-defined : (A B : Type 0) (c : Collection) (old now : Scope) (n : Name) (g : FuncTypeId) (f : EncodeFault) → WritesFor c 0 (IsOfFunc c g) old now → IsFuncRefused {A = A} c g now (Err f) → IsDefinitionRefused {A = B} c (ty.Func g) n old (Err f)
-function-not-defined A B c old now n g (fault.Write h) w refused = refused
-function-not-defined A B c old now n g fault.TooLarge w refused = record { scope = now; types = 0; behind = w; large = inl refused }
-function-not-defined A B c old now n g fault.OutOfMemory w refused = tt
+pub function-not-defined : (A B : Type 0) (ws : Worlds) (c : Collection) (old now : Scope) (n : Name) (g : FuncTypeId) (f : EncodeFault) → WritesFor c 0 (IsOfFunc c g) old now → IsFuncRefused {A = A} c g now (Err f) → IsDefinitionRefused {A = B} ws c (ty.Func g) n old (Err f)
+function-not-defined A B ws c old now n g (fault.Write h) w refused = refused
+function-not-defined A B ws c old now n g fault.TooLarge w refused = record { scope = now; types = 0; behind = w; large = inl refused }
+function-not-defined A B ws c old now n g fault.OutOfMemory w refused = tt
 
 -- where the export does not fit
-pub name-too-large : (A B : Type 0) (c : Collection) (t : AnyType) (old now : Scope) (n : Name) (types i : ℕ) (f : EncodeFault) → WritesFor c types (MadeFor c t) old now → IsDefinedAt c old now t i → FitsUnlessTooLarge {A = A} (Err f) (Fits (items_of now.content ++ export_item n sort.«Type» i ∷ [])) → IsDefinitionRefused {A = B} c t n old (Err f)
-name-too-large A B c t old now n types i (fault.Write g) w defined h = absurd h
-name-too-large A B c t old now n types i fault.TooLarge w defined h = record { scope = now; types = types; behind = w; large = inr (i, defined, h) }
-name-too-large A B c t old now n types i fault.OutOfMemory w defined h = tt
+pub name-too-large : (A B : Type 0) (ws : Worlds) (c : Collection) (t : AnyType) (old now : Scope) (n : Name) (types i : ℕ) (f : EncodeFault) → WritesFor c types (MadeFor c t) old now → IsDefinedAt ws c old now t i → FitsUnlessTooLarge {A = A} (Err f) (Fits (items_of now.content ++ export_item n sort.«Type» i ∷ [])) → IsDefinitionRefused {A = B} ws c t n old (Err f)
+name-too-large A B ws c t old now n types i (fault.Write g) w defined h = absurd h
+name-too-large A B ws c t old now n types i fault.TooLarge w defined h = record { scope = now; types = types; behind = w; large = inr (i, defined, h) }
+name-too-large A B ws c t old now n types i fault.OutOfMemory w defined h = tt
 
 pub as-fault : (A : Type 0) (f : BinaryFault) (fits : Type 0) → TooLargeUnless {T = A} (Err f) fits → FitsUnlessTooLarge {A = A} (Err (encode_fault f)) fits
 as-fault A binary.TooLarge fits h = h

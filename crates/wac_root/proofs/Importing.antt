@@ -1,4 +1,5 @@
 -- Items of held kinds are imported into the root.
+use Rattle.wac_encode.specs.declared.worlds.Worlds.{Worlds}
 use Rattle.wac_encode.proofs.Aliasing.{exports-listed}
 use Rattle.wac_stacks.specs.Instances.{ExportsEnd}
 use Rattle.std.specs.Prelude.{ℕ, suc, ◌+◌, ◌≡◌, List, [], ◌∷◌, ◌++◌, length, map, Option, Some, None, Err, true, slice_get}
@@ -143,10 +144,10 @@ root-imported (Builder items) n d h = tt
 root-imported (Instance ds) n d h = absurd h
 root-imported (Component ds) n d h = absurd h
 
-pub instance-imported : ListsOneMore → ExportsEnd → (c : Collection) → IsWellFormed c → Follows → IsItsTree → (old now new : Scope) (n : Name) (i : InterfaceId) (it : Interface) (j k : ℕ) (es : List (DefinedTypeId × Name)) → item_at c.interfaces i.0 ≡ Some it → lists_plain c i ≡ true → NoNameTwice it.exports → es ≡ listed_definitions c it.exports → IsRoot now.content → WritesFor c 0 (NeededBy c (kind.Instance i)) old now → AddsHeldInterface c old now i j → new.content ≡ and_import now.content n (e.Instance j) → RootImportsListing now new n j es k → ImportsHeld c old new n (kind.Instance i) k
-instance-imported law ends c wf follows tree old now new n i it j k es found plain once listed is_root w adds is imports m ms o os g free =
+pub instance-imported : ListsOneMore → ExportsEnd → (ws : Worlds) (c : Collection) → IsWellFormed c → Follows → IsItsTree → (old now new : Scope) (n : Name) (i : InterfaceId) (it : Interface) (j k : ℕ) (es : List (DefinedTypeId × Name)) → item_at c.interfaces i.0 ≡ Some it → lists_plain ws c i ≡ true → NoNameTwice it.exports → es ≡ listed_definitions c it.exports → IsRoot now.content → WritesFor c 0 (NeededBy c (kind.Instance i)) old now → AddsHeldInterface c old now i j → new.content ≡ and_import now.content n (e.Instance j) → RootImportsListing now new n j es k → ImportsHeld c old new n (kind.Instance i) k
+instance-imported law ends ws c wf follows tree old now new n i it j k es found plain once listed is_root w adds is imports m ms o os g free =
     let a = adds m ms o os g in
-    let r = imports c m ms o os a.0 a.3.0.0 (still-new law old now n w.types w.appended free) a.2 a.3.1 (λ p x at. exports-listed ends c wf m i it (imported_at a.0 (items_of now.content)) found plain once a.1 p x (subst (λ (ds : List (DefinedTypeId × Name)). slice_get ds p ≡ Some x) listed at)) in
+    let r = imports c m ms o os a.0 a.3.0.0 (still-new law old now n w.types w.appended free) a.2 a.3.1 (λ p x at. exports-listed ends ws c wf m i it (imported_at a.0 (items_of now.content)) found plain once a.1 p x (subst (λ (ds : List (DefinedTypeId × Name)). slice_get ds p ≡ Some x) listed at)) in
     let held : held_tree c m (ty.Interface i) ≡ a.0 = tree c m (ty.Interface i) a.0 a.1 in
     let new_root : IsRoot new.content = subst IsRoot (sym is) (root-imported now.content n (e.Instance j) is_root) in
     let bound : Bound = record { type = held_tree c m (ty.Interface i); side = imported; path = next_place old } in
@@ -163,8 +164,8 @@ same-records old new n d is = record { types = λ k. ap (λ (s : Scope). type_in
 imported-so : (old new : Scope) (n : Name) (d : Description) → new ≡ record old { content = and_import old.content n d } → new.content ≡ and_import old.content n d
 imported-so old new n d is = ap (λ (s : Scope). s.content) is
 
-pub primitive-written : (c : Collection) (old now new : Scope) (n : Name) (v : ValueType) (p : PrimitiveType) (k j : ℕ) → value_resolved c v ≡ val.Primitive p → k ≡ count (space sort.«Type») old.content → AddsPrimitive old now p k → now ≡ record old { content = and_type old.content (value_def (primitive_def p)) } → new ≡ record now { content = and_import now.content n (e.Equal k) } → j ≡ count (space sort.«Type») now.content → WritesImport c old new n (kind.TypeItem (ty.Value v)) j
-primitive-written c old now new n v p k j is at adds same imports index = record {
+pub primitive-written : (ws : Worlds) (c : Collection) (old now new : Scope) (n : Name) (v : ValueType) (p : PrimitiveType) (k j : ℕ) → value_resolved c v ≡ val.Primitive p → k ≡ count (space sort.«Type») old.content → AddsPrimitive old now p k → now ≡ record old { content = and_type old.content (value_def (primitive_def p)) } → new ≡ record now { content = and_import now.content n (e.Equal k) } → j ≡ count (space sort.«Type») now.content → WritesImport ws c old new n (kind.TypeItem (ty.Value v)) j
+primitive-written ws c old now new n v p k j is at adds same imports index = record {
   now = now;
   behind = primitive-behind c old now v p k is adds same;
   description = e.Equal k;
@@ -174,8 +175,8 @@ primitive-written c old now new n v p k j is at adds same imports index = record
   named = subst (λ (w : ValueType). NamesImportedValue old now new w j) (sym is) (same-records now new n (e.Equal k) imports);
 }
 
-pub second-written : (c : Collection) → StaysOnward → (old new : Scope) (n : Name) (v : ValueType) (d : DefinedTypeId) (k j : ℕ) → value_resolved c v ≡ val.Defined d → value_index old d ≡ Some k → new ≡ record old { content = and_import old.content n (e.Equal k) } → j ≡ count (space sort.«Type») old.content → WritesImport c old new n (kind.TypeItem (ty.Value v)) j
-second-written c stays old new n v d k j is at imports index = record {
+pub second-written : (ws : Worlds) (c : Collection) → StaysOnward → (old new : Scope) (n : Name) (v : ValueType) (d : DefinedTypeId) (k j : ℕ) → value_resolved c v ≡ val.Defined d → value_index old d ≡ Some k → new ≡ record old { content = and_import old.content n (e.Equal k) } → j ≡ count (space sort.«Type») old.content → WritesImport ws c old new n (kind.TypeItem (ty.Value v)) j
+second-written ws c stays old new n v d k j is at imports index = record {
   now = old;
   behind = definition-behind c old old v d is (writes-none c stays (PartOf c (value_resolved c v)) old old (as-it-was old));
   description = e.Equal k;
@@ -185,8 +186,8 @@ second-written c stays old new n v d k j is at imports index = record {
   named = subst (λ (w : ValueType). NamesImportedValue old old new w j) (sym is) (subst (λ (o : Option ℕ). IsImportedOnce o old new d j) (sym at) (same-records old new n (e.Equal k) imports));
 }
 
-pub first-written : (c : Collection) (old now new : Scope) (n : Name) (v : ValueType) (d : DefinedTypeId) (k j : ℕ) → value_resolved c v ≡ val.Defined d → value_index old d ≡ None → WritesFor c 0 (PartOf c (value_resolved c v)) old now → value_index now d ≡ Some k → new.content ≡ and_import now.content n (e.Equal k) → HasToo now (ty.Value (val.Defined d)) j new → named_at new d ≡ Some j → j ≡ count (space sort.«Type») now.content → WritesImport c old new n (kind.TypeItem (ty.Value v)) j
-first-written c old now new n v d k j is none w at appended too name index = record {
+pub first-written : (ws : Worlds) (c : Collection) (old now new : Scope) (n : Name) (v : ValueType) (d : DefinedTypeId) (k j : ℕ) → value_resolved c v ≡ val.Defined d → value_index old d ≡ None → WritesFor c 0 (PartOf c (value_resolved c v)) old now → value_index now d ≡ Some k → new.content ≡ and_import now.content n (e.Equal k) → HasToo now (ty.Value (val.Defined d)) j new → named_at new d ≡ Some j → j ≡ count (space sort.«Type») now.content → WritesImport ws c old new n (kind.TypeItem (ty.Value v)) j
+first-written ws c old now new n v d k j is none w at appended too name index = record {
   now = now;
   behind = definition-behind c old now v d is w;
   description = e.Equal k;
@@ -196,8 +197,8 @@ first-written c old now new n v d k j is none w at appended too name index = rec
   named = subst (λ (u : ValueType). NamesImportedValue old now new u j) (sym is) (subst (λ (o : Option ℕ). IsImportedOnce o now new d j) (sym none) (too, name));
 }
 
-pub function-written : (c : Collection) (old now new : Scope) (n : Name) (f : FuncTypeId) (k j : ℕ) → WritesFor c 0 (IsOfFunc c f) old now → AddsHeldFunc c old now f k → IsFuncAt c f old now k → new ≡ record now { content = and_import now.content n (e.Func k) } → j ≡ count (space sort.Func) now.content → WritesImport c old new n (kind.Func f) j
-function-written c old now new n f k j w adds there imports index = record {
+pub function-written : (ws : Worlds) (c : Collection) (old now new : Scope) (n : Name) (f : FuncTypeId) (k j : ℕ) → WritesFor c 0 (IsOfFunc c f) old now → AddsHeldFunc c old now f k → IsFuncAt c f old now k → new ≡ record now { content = and_import now.content n (e.Func k) } → j ≡ count (space sort.Func) now.content → WritesImport ws c old new n (kind.Func f) j
+function-written ws c old now new n f k j w adds there imports index = record {
   now = now;
   behind = w;
   description = e.Func k;
@@ -207,8 +208,8 @@ function-written c old now new n f k j w adds there imports index = record {
   named = same-records now new n (e.Func k) imports;
 }
 
-pub function-type-written : (c : Collection) (old now new : Scope) (n : Name) (f : FuncTypeId) (k j : ℕ) → WritesFor c 0 (IsOfFunc c f) old now → AddsHeldFunc c old now f k → IsFuncAt c f old now k → new ≡ record now { content = and_import now.content n (e.Equal k) } → j ≡ count (space sort.«Type») now.content → WritesImport c old new n (kind.TypeItem (ty.Func f)) j
-function-type-written c old now new n f k j w adds there imports index = record {
+pub function-type-written : (ws : Worlds) (c : Collection) (old now new : Scope) (n : Name) (f : FuncTypeId) (k j : ℕ) → WritesFor c 0 (IsOfFunc c f) old now → AddsHeldFunc c old now f k → IsFuncAt c f old now k → new ≡ record now { content = and_import now.content n (e.Equal k) } → j ≡ count (space sort.«Type») now.content → WritesImport ws c old new n (kind.TypeItem (ty.Func f)) j
+function-type-written ws c old now new n f k j w adds there imports index = record {
   now = now;
   behind = w;
   description = e.Equal k;
@@ -218,8 +219,8 @@ function-type-written c old now new n f k j w adds there imports index = record 
   named = same-records now new n (e.Equal k) imports;
 }
 
-pub interface-type-written : (c : Collection) (old now new : Scope) (n : Name) (i : InterfaceId) (k j : ℕ) → WritesFor c 0 (NeededBy c (kind.Instance i)) old now → IsInterfaceAt c old now i k → new ≡ record now { content = and_import now.content n (e.Equal k) } → j ≡ count (space sort.«Type») now.content → WritesImport c old new n (kind.TypeItem (ty.Interface i)) j
-interface-type-written c old now new n i k j w there imports index = record {
+pub interface-type-written : (ws : Worlds) (c : Collection) (old now new : Scope) (n : Name) (i : InterfaceId) (k j : ℕ) → WritesFor c 0 (NeededBy c (kind.Instance i)) old now → IsInterfaceAt ws c old now i k → new ≡ record now { content = and_import now.content n (e.Equal k) } → j ≡ count (space sort.«Type») now.content → WritesImport ws c old new n (kind.TypeItem (ty.Interface i)) j
+interface-type-written ws c old now new n i k j w there imports index = record {
   now = now;
   behind = w;
   description = e.Equal k;
@@ -229,8 +230,8 @@ interface-type-written c old now new n i k j w there imports index = record {
   named = same-records now new n (e.Equal k) imports;
 }
 
-pub instance-written : (c : Collection) (old now new : Scope) (n : Name) (i : InterfaceId) (it : Interface) (k j : ℕ) (es : List (DefinedTypeId × Name)) → item_at c.interfaces i.0 ≡ Some it → es ≡ listed_definitions c it.exports → WritesFor c 0 (NeededBy c (kind.Instance i)) old now → IsInterfaceAt c old now i k → new.content ≡ and_import now.content n (e.Instance k) → AlsoLists now j es new → j ≡ count (space sort.Instance) now.content → WritesImport c old new n (kind.Instance i) j
-instance-written c old now new n i it k j es found listed w there imports lists index = record {
+pub instance-written : (ws : Worlds) (c : Collection) (old now new : Scope) (n : Name) (i : InterfaceId) (it : Interface) (k j : ℕ) (es : List (DefinedTypeId × Name)) → item_at c.interfaces i.0 ≡ Some it → es ≡ listed_definitions c it.exports → WritesFor c 0 (NeededBy c (kind.Instance i)) old now → IsInterfaceAt ws c old now i k → new.content ≡ and_import now.content n (e.Instance k) → AlsoLists now j es new → j ≡ count (space sort.Instance) now.content → WritesImport ws c old new n (kind.Instance i) j
+instance-written ws c old now new n i it k j es found listed w there imports lists index = record {
   now = now;
   behind = w;
   description = e.Instance k;
@@ -245,8 +246,8 @@ instance-written c old now new n i it k j es found listed w there imports lists 
 pub root-still : (c : Collection) (item : ItemKind) (old new : Scope) → WritesTypesOf c item old new → IsRoot old.content → IsRoot new.content
 root-still c item old new w is_root = still-root old.content new.content w.1.types w.1.appended is_root
 
-pub root-written : (c : Collection) (old new : Scope) (n : Name) (item : ItemKind) (k : ℕ) → WritesImport c old new n item k → IsRoot old.content → IsRoot new.content
-root-written c old new n item k w is_root = subst IsRoot (sym w.appended) (root-imported w.now.content n w.description (still-root old.content w.now.content w.behind.types w.behind.appended is_root))
+pub root-written : (ws : Worlds) (c : Collection) (old new : Scope) (n : Name) (item : ItemKind) (k : ℕ) → WritesImport ws c old new n item k → IsRoot old.content → IsRoot new.content
+root-written ws c old new n item k w is_root = subst IsRoot (sym w.appended) (root-imported w.now.content n w.description (still-root old.content w.now.content w.behind.types w.behind.appended is_root))
 
 -- what is written where one is refused
 
@@ -264,46 +265,46 @@ first-at-most c follows stays old now new v w same = (0, writes-no-more c follow
 
 -- refusals
 
-pub primitive-not-imported : (A B : Type 0) (c : Collection) → StaysOnward → (old : Scope) (n : Name) (v : ValueType) (p : PrimitiveType) (f : EncodeFault) → value_resolved c v ≡ val.Primitive p → WritesUnlessTooLarge {A = A} (Err f) (ContentFits (and_type old.content (value_def (primitive_def p)))) → IsItemNotImported {A = B} c n (kind.TypeItem (ty.Value v)) old (Err f)
-primitive-not-imported A B c stays old n v p (fault.Write g) is h = absurd h
-primitive-not-imported A B c stays old n v p fault.TooLarge is h = record {
+pub primitive-not-imported : (A B : Type 0) (ws : Worlds) (c : Collection) → StaysOnward → (old : Scope) (n : Name) (v : ValueType) (p : PrimitiveType) (f : EncodeFault) → value_resolved c v ≡ val.Primitive p → WritesUnlessTooLarge {A = A} (Err f) (ContentFits (and_type old.content (value_def (primitive_def p)))) → IsItemNotImported {A = B} ws c n (kind.TypeItem (ty.Value v)) old (Err f)
+primitive-not-imported A B ws c stays old n v p (fault.Write g) is h = absurd h
+primitive-not-imported A B ws c stays old n v p fault.TooLarge is h = record {
   scope = old;
   types = 0;
   behind = writes-none c stays (NeededBy c (kind.TypeItem (ty.Value v))) old old (as-it-was old);
   large = inl (inr (subst (λ (w : ValueType). PrimitiveDoesNotFit w old) (sym is) h));
 }
-primitive-not-imported A B c stays old n v p fault.OutOfMemory is h = tt
+primitive-not-imported A B ws c stays old n v p fault.OutOfMemory is h = tt
 
-pub value-not-imported : (A B : Type 0) (c : Collection) (old now : Scope) (n : Name) (v : ValueType) (f : EncodeFault) → WritesFor c 0 (PartOf c (value_resolved c v)) old now → IsRefused {A = A} c (PartOf c (value_resolved c v)) now (Err f) → IsItemNotImported {A = B} c n (kind.TypeItem (ty.Value v)) old (Err f)
-value-not-imported A B c old now n v (fault.Write g) w h = h
-value-not-imported A B c old now n v fault.TooLarge w h = record { scope = now; types = 0; behind = w; large = inl (inl h) }
-value-not-imported A B c old now n v fault.OutOfMemory w h = tt
+pub value-not-imported : (A B : Type 0) (ws : Worlds) (c : Collection) (old now : Scope) (n : Name) (v : ValueType) (f : EncodeFault) → WritesFor c 0 (PartOf c (value_resolved c v)) old now → IsRefused {A = A} c (PartOf c (value_resolved c v)) now (Err f) → IsItemNotImported {A = B} ws c n (kind.TypeItem (ty.Value v)) old (Err f)
+value-not-imported A B ws c old now n v (fault.Write g) w h = h
+value-not-imported A B ws c old now n v fault.TooLarge w h = record { scope = now; types = 0; behind = w; large = inl (inl h) }
+value-not-imported A B ws c old now n v fault.OutOfMemory w h = tt
 
-pub function-not-imported : (A B : Type 0) (c : Collection) (old now : Scope) (n : Name) (g : FuncTypeId) (f : EncodeFault) → WritesFor c 0 (IsOfFunc c g) old now → IsFuncRefused {A = A} c g now (Err f) → IsItemNotImported {A = B} c n (kind.Func g) old (Err f)
-function-not-imported A B c old now n g (fault.Write h) w refused = refused
-function-not-imported A B c old now n g fault.TooLarge w refused = record { scope = now; types = 0; behind = w; large = inl refused }
-function-not-imported A B c old now n g fault.OutOfMemory w refused = tt
+pub function-not-imported : (A B : Type 0) (ws : Worlds) (c : Collection) (old now : Scope) (n : Name) (g : FuncTypeId) (f : EncodeFault) → WritesFor c 0 (IsOfFunc c g) old now → IsFuncRefused {A = A} c g now (Err f) → IsItemNotImported {A = B} ws c n (kind.Func g) old (Err f)
+function-not-imported A B ws c old now n g (fault.Write h) w refused = refused
+function-not-imported A B ws c old now n g fault.TooLarge w refused = record { scope = now; types = 0; behind = w; large = inl refused }
+function-not-imported A B ws c old now n g fault.OutOfMemory w refused = tt
 
-pub instance-not-imported : (A B : Type 0) (c : Collection) (old : Scope) (n : Name) (i : InterfaceId) (f : EncodeFault) → IsInstanceRefused {A = A} c i old (Err f) → IsItemNotImported {A = B} c n (kind.Instance i) old (Err f)
-instance-not-imported A B c old n i (fault.Write g) h = (h.0, h.2)
-instance-not-imported A B c old n i fault.TooLarge h = record { scope = h.0; types = 0; behind = aliases-for c i old h.0 h.1; large = inl h.2 }
-instance-not-imported A B c old n i fault.OutOfMemory h = tt
+pub instance-not-imported : (A B : Type 0) (ws : Worlds) (c : Collection) (old : Scope) (n : Name) (i : InterfaceId) (f : EncodeFault) → IsInstanceRefused {A = A} ws c i old (Err f) → IsItemNotImported {A = B} ws c n (kind.Instance i) old (Err f)
+instance-not-imported A B ws c old n i (fault.Write g) h = (h.0, h.2)
+instance-not-imported A B ws c old n i fault.TooLarge h = record { scope = h.0; types = 0; behind = aliases-for c i old h.0 h.1; large = inl h.2 }
+instance-not-imported A B ws c old n i fault.OutOfMemory h = tt
 
-pub function-type-not-imported : (A B : Type 0) (c : Collection) (old now : Scope) (n : Name) (g : FuncTypeId) (f : EncodeFault) → WritesFor c 0 (IsOfFunc c g) old now → IsFuncRefused {A = A} c g now (Err f) → IsItemNotImported {A = B} c n (kind.TypeItem (ty.Func g)) old (Err f)
-function-type-not-imported A B c old now n g (fault.Write h) w refused = refused
-function-type-not-imported A B c old now n g fault.TooLarge w refused = record { scope = now; types = 0; behind = w; large = inl refused }
-function-type-not-imported A B c old now n g fault.OutOfMemory w refused = tt
+pub function-type-not-imported : (A B : Type 0) (ws : Worlds) (c : Collection) (old now : Scope) (n : Name) (g : FuncTypeId) (f : EncodeFault) → WritesFor c 0 (IsOfFunc c g) old now → IsFuncRefused {A = A} c g now (Err f) → IsItemNotImported {A = B} ws c n (kind.TypeItem (ty.Func g)) old (Err f)
+function-type-not-imported A B ws c old now n g (fault.Write h) w refused = refused
+function-type-not-imported A B ws c old now n g fault.TooLarge w refused = record { scope = now; types = 0; behind = w; large = inl refused }
+function-type-not-imported A B ws c old now n g fault.OutOfMemory w refused = tt
 
-pub interface-type-not-imported : (A B : Type 0) (c : Collection) → StaysOnward → (old : Scope) (n : Name) (i : InterfaceId) (f : EncodeFault) → IsInstanceRefused {A = A} c i old (Err f) → IsItemNotImported {A = B} c n (kind.TypeItem (ty.Interface i)) old (Err f)
-interface-type-not-imported A B c stays old n i (fault.Write g) h = (h.0, h.2)
-interface-type-not-imported A B c stays old n i fault.TooLarge h = record { scope = h.0; types = 0; behind = aliases-for c i old h.0 h.1; large = inl h.2 }
-interface-type-not-imported A B c stays old n i fault.OutOfMemory h = tt
+pub interface-type-not-imported : (A B : Type 0) (ws : Worlds) (c : Collection) → StaysOnward → (old : Scope) (n : Name) (i : InterfaceId) (f : EncodeFault) → IsInstanceRefused {A = A} ws c i old (Err f) → IsItemNotImported {A = B} ws c n (kind.TypeItem (ty.Interface i)) old (Err f)
+interface-type-not-imported A B ws c stays old n i (fault.Write g) h = (h.0, h.2)
+interface-type-not-imported A B ws c stays old n i fault.TooLarge h = record { scope = h.0; types = 0; behind = aliases-for c i old h.0 h.1; large = inl h.2 }
+interface-type-not-imported A B ws c stays old n i fault.OutOfMemory h = tt
 
 -- where the import does not fit
-pub import-too-large : (A B : Type 0) (c : Collection) (old now : Scope) (n : Name) (item : ItemKind) (types : ℕ) (d : Description) (f : EncodeFault) → WritesFor c types (NeededBy c item) old now → IsImportedAs c old now item d → FitsUnlessTooLarge {A = A} (Err f) (ContentFits (and_import now.content n d)) → IsItemNotImported {A = B} c n item old (Err f)
-import-too-large A B c old now n item types d (fault.Write g) w described h = absurd h
-import-too-large A B c old now n item types d fault.TooLarge w described h = record { scope = now; types = types; behind = w; large = inr (d, described, h) }
-import-too-large A B c old now n item types d fault.OutOfMemory w described h = tt
+pub import-too-large : (A B : Type 0) (ws : Worlds) (c : Collection) (old now : Scope) (n : Name) (item : ItemKind) (types : ℕ) (d : Description) (f : EncodeFault) → WritesFor c types (NeededBy c item) old now → IsImportedAs ws c old now item d → FitsUnlessTooLarge {A = A} (Err f) (ContentFits (and_import now.content n d)) → IsItemNotImported {A = B} ws c n item old (Err f)
+import-too-large A B ws c old now n item types d (fault.Write g) w described h = absurd h
+import-too-large A B ws c old now n item types d fault.TooLarge w described h = record { scope = now; types = types; behind = w; large = inr (d, described, h) }
+import-too-large A B ws c old now n item types d fault.OutOfMemory w described h = tt
 
 -- one after another
 

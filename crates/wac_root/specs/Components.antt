@@ -23,6 +23,7 @@ use Rattle.wac_scopes.specs.Contents.{and_type, count, ContentFits}
 use Rattle.wac_stacks.specs.Scopes.{Open, Stack, next_type, with_def}
 use Rattle.wac_stacks.specs.Good.{Good, nothing_bound}
 use Rattle.wac_stacks.specs.Laws.{Adds}
+use Rattle.wac_encode.specs.declared.worlds.Worlds.{Worlds}
 use Rattle.wac_encode.specs.Listing.{WritesInterface, IsInterfaceRefused}
 use Rattle.wac_encode.specs.Instances.{IsBare}
 
@@ -51,48 +52,48 @@ SaysComponent c i ds = (m : Bindings) (ms : List Bindings) (o : Open) (os : Stac
     → Adds c (m ∷ ms) (o ∷ os) (with_def (component_def (decls ds)) o ∷ os) (next_type o) (component_tree c i)
 
 -- the declarations of the interface where nothing around has a name, and where they are refused
-abbrev pub WritesAlone : Collection → InterfaceId → List Decl → Type 0
-WritesAlone c i ds = (around : Scope) × IsBare around × WritesInterface c around i ds
+abbrev pub WritesAlone : Worlds → Collection → InterfaceId → List Decl → Type 0
+WritesAlone ws c i ds = (around : Scope) × IsBare around × WritesInterface ws c around i ds
 
-abbrev pub IsRefusedAlone : {A : Type 0} → Collection → InterfaceId → Result A EncodeFault → Type 0
-IsRefusedAlone c i r = (around : Scope) × IsBare around × IsInterfaceRefused c around i r
+abbrev pub IsRefusedAlone : {A : Type 0} → Worlds → Collection → InterfaceId → Result A EncodeFault → Type 0
+IsRefusedAlone ws c i r = (around : Scope) × IsBare around × IsInterfaceRefused ws c around i r
 
 -- the instance type, and the export of an instance of it under this id
 abbrev pub under_id : Name → List Decl → List Decl
 under_id id ds = type_decl (instance_def (decls ds)) ∷ export_decl id (e.Instance 0) ∷ []
 
 -- the declarations are those of the interface under its id
-pub record WritesComponent (c : Collection) (i : InterfaceId) (ds : List Decl) : Type 0 where
+pub record WritesComponent (ws : Worlds) (c : Collection) (i : InterfaceId) (ds : List Decl) : Type 0 where
   pub id : Name
   pub named : HasId c i id
   pub declarations : List Decl
-  pub written : WritesAlone c i declarations
+  pub written : WritesAlone ws c i declarations
   pub is : ds ≡ under_id id declarations
 
 -- the instance type does not fit into the component type, or its export does not
-pub record DeclarationDoesNotFit (c : Collection) (i : InterfaceId) : Type 0 where
+pub record DeclarationDoesNotFit (ws : Worlds) (c : Collection) (i : InterfaceId) : Type 0 where
   pub id : Name
   pub named : HasId c i id
   pub declarations : List Decl
-  pub written : WritesAlone c i declarations
+  pub written : WritesAlone ws c i declarations
   pub large : (DeclarationsFit (type_decl (instance_def (decls declarations)) ∷ []) → ⊥) ⊎ (DeclarationsFit (under_id id declarations) → ⊥)
 
 -- what stands where the component type is refused: what stands where the interface is, or a declaration does not fit
-abbrev pub IsComponentRefused : {A : Type 0} → Collection → InterfaceId → Result A EncodeFault → Type 0
-IsComponentRefused c i (Err fault.TooLarge) = IsRefusedAlone {A = Unit {0}} c i (Err fault.TooLarge) ⊎ DeclarationDoesNotFit c i
-IsComponentRefused c i (Err (fault.Write f)) = IsRefusedAlone {A = Unit {0}} c i (Err (fault.Write f))
-IsComponentRefused c i r = Unit {0}
+abbrev pub IsComponentRefused : {A : Type 0} → Worlds → Collection → InterfaceId → Result A EncodeFault → Type 0
+IsComponentRefused ws c i (Err fault.TooLarge) = IsRefusedAlone {A = Unit {0}} ws c i (Err fault.TooLarge) ⊎ DeclarationDoesNotFit ws c i
+IsComponentRefused ws c i (Err (fault.Write f)) = IsRefusedAlone {A = Unit {0}} ws c i (Err (fault.Write f))
+IsComponentRefused ws c i r = Unit {0}
 
 -- index k is the component type that was written last, that of the interface
-pub record EndsWithComponent (c : Collection) (old now : Scope) (i : InterfaceId) (k : ℕ) : Type 0 where
+pub record EndsWithComponent (ws : Worlds) (c : Collection) (old now : Scope) (i : InterfaceId) (k : ℕ) : Type 0 where
   pub declarations : List Decl
-  pub written : WritesComponent c i declarations
+  pub written : WritesComponent ws c i declarations
   pub appended : now ≡ record old { content = and_type old.content (component_def (decls declarations)) }
   pub index : k ≡ count (space sort.«Type») old.content
 
 -- behind what is written, the component type does not fit
-abbrev pub ComponentDoesNotFit : Collection → InterfaceId → Scope → Type 0
-ComponentDoesNotFit c i s = (ds : List Decl) × WritesComponent c i ds × (ContentFits (and_type s.content (component_def (decls ds))) → ⊥)
+abbrev pub ComponentDoesNotFit : Worlds → Collection → InterfaceId → Scope → Type 0
+ComponentDoesNotFit ws c i s = (ds : List Decl) × WritesComponent ws c i ds × (ContentFits (and_type s.content (component_def (decls ds))) → ⊥)
 
 -- what is written is a component type
 abbrev pub IsComponent : Encodable → Type 0

@@ -26,17 +26,18 @@ use Rattle.wac_scopes.specs.Contents.{items_of}
 use Rattle.wac_scopes.specs.Rooted.{thing_listed, IsTypeItem}
 use Rattle.wac_scopes.specs.Scoped.{listing, root_of}
 use Rattle.wac_stacks.specs.Good.{nothing_bound}
+use Rattle.wac_encode.specs.declared.worlds.Worlds.{Worlds}
 use Rattle.wac_encode.specs.Written.{WritesFor, HasHandle, AddsHeldFunc, IsFuncAt}
 use Rattle.wac_encode.specs.Listing.{lists_plain, NeededBy, own_types, IsListedAt, SameRecords, TypeDoesNotFit}
 use Rattle.wac_root.specs.Importing.{NamesImportedValue}
 use Rattle.wac_root.specs.Components.{HasId, component_tree, world_component_tree, IsRefusedAlone, IsComponentRefused, EndsWithComponent, ComponentDoesNotFit}
 
 -- whether a type is one that is defined so far: an interface has an id, and its items are of sorts that are written
-abbrev pub IsDefinable : Collection → AnyType → Type 0
-IsDefinable c (ty.Value v) = Unit {0}
-IsDefinable c (ty.Func f) = Unit {0}
-IsDefinable c (ty.Interface i) = ((id : Name) × HasId c i id) × (lists_plain c i ≡ true)
-IsDefinable c t = ⊥
+abbrev pub IsDefinable : Worlds → Collection → AnyType → Type 0
+IsDefinable ws c (ty.Value v) = Unit {0}
+IsDefinable ws c (ty.Func f) = Unit {0}
+IsDefinable ws c (ty.Interface i) = ((id : Name) × HasId c i id) × (lists_plain ws c i ≡ true)
+IsDefinable ws c t = ⊥
 
 -- the tree of what is defined: of an interface or a world the component type that exports it under its id
 abbrev pub defined_tree : Collection → AnyType → Tree
@@ -82,11 +83,11 @@ abbrev pub WritesTypesFor : Collection → AnyType → Scope → Scope → Type 
 WritesTypesFor c t old new = (types : ℕ) × WritesFor c types (MadeFor c t) old new
 
 -- the type index of what is defined, where its types were written since old: an interface's component type was written last
-abbrev pub IsDefinedAt : Collection → Scope → Scope → AnyType → ℕ → Type 0
-IsDefinedAt c old now (ty.Value v) i = IsListedAt old now (value_resolved c v) i
-IsDefinedAt c old now (ty.Func f) i = AddsHeldFunc c old now f i × IsFuncAt c f old now i
-IsDefinedAt c old now (ty.Interface i) k = EndsWithComponent c old now i k
-IsDefinedAt c old now t i = ⊥
+abbrev pub IsDefinedAt : Worlds → Collection → Scope → Scope → AnyType → ℕ → Type 0
+IsDefinedAt ws c old now (ty.Value v) i = IsListedAt old now (value_resolved c v) i
+IsDefinedAt ws c old now (ty.Func f) i = AddsHeldFunc c old now f i × IsFuncAt c f old now i
+IsDefinedAt ws c old now (ty.Interface i) k = EndsWithComponent ws c old now i k
+IsDefinedAt ws c old now t i = ⊥
 
 -- a definition that was not recorded before is recorded at the export's own index
 abbrev pub NamesDefinition : Collection → Scope → Scope → Scope → AnyType → ℕ → Type 0
@@ -95,38 +96,38 @@ NamesDefinition c old now new t k = SameRecords now new
 
 -- From old to new, a type is defined at index k: what it is made of is written first, once, where it is not written yet; and a definition
 -- that was not recorded before is recorded at the export's own index.
-pub record WritesOnce (c : Collection) (t : AnyType) (n : Name) (old new : Scope) (k : ℕ) : Type 0 where
+pub record WritesOnce (ws : Worlds) (c : Collection) (t : AnyType) (n : Name) (old new : Scope) (k : ℕ) : Type 0 where
   pub now : Scope
   pub behind : WritesFor c (types_before c t) (MadeFor c t) old now
   pub index : ℕ
-  pub defined : IsDefinedAt c old now t index
+  pub defined : IsDefinedAt ws c old now t index
   pub appended : new.content ≡ Builder (items_of now.content ++ export_item n sort.«Type» index ∷ [])
   pub named : NamesDefinition c old now new t k
 
 -- the export does not fit behind what is written
-abbrev pub NameDoesNotFit : Collection → AnyType → Name → Scope → Scope → Type 0
-NameDoesNotFit c t n old s = (i : ℕ) × IsDefinedAt c old s t i × (Fits (items_of s.content ++ export_item n sort.«Type» i ∷ []) → ⊥)
+abbrev pub NameDoesNotFit : Worlds → Collection → AnyType → Name → Scope → Scope → Type 0
+NameDoesNotFit ws c t n old s = (i : ℕ) × IsDefinedAt ws c old s t i × (Fits (items_of s.content ++ export_item n sort.«Type» i ∷ []) → ⊥)
 
 -- which of its types does not
-abbrev pub DefinedTypeDoesNotFit : Collection → AnyType → Scope → Type 0
-DefinedTypeDoesNotFit c (ty.Interface i) s = IsComponentRefused {A = Unit {0}} c i (Err fault.TooLarge) ⊎ ComponentDoesNotFit c i s
-DefinedTypeDoesNotFit c t s = TypeDoesNotFit c (item_of_type t) s
+abbrev pub DefinedTypeDoesNotFit : Worlds → Collection → AnyType → Scope → Type 0
+DefinedTypeDoesNotFit ws c (ty.Interface i) s = IsComponentRefused {A = Unit {0}} ws c i (Err fault.TooLarge) ⊎ ComponentDoesNotFit ws c i s
+DefinedTypeDoesNotFit ws c t s = TypeDoesNotFit c (item_of_type t) s
 
 -- behind some of what the type is made of, something does not fit
-pub record DefinitionDoesNotFit (c : Collection) (t : AnyType) (n : Name) (old : Scope) : Type 0 where
+pub record DefinitionDoesNotFit (ws : Worlds) (c : Collection) (t : AnyType) (n : Name) (old : Scope) : Type 0 where
   pub scope : Scope
   pub types : ℕ
   pub behind : WritesFor c types (MadeFor c t) old scope
-  pub large : DefinedTypeDoesNotFit c t scope ⊎ NameDoesNotFit c t n old scope
+  pub large : DefinedTypeDoesNotFit ws c t scope ⊎ NameDoesNotFit ws c t n old scope
 
 -- which fault stands at a definition: a handle, whose resource nothing binds; the fault of the interface's first item that has one
-abbrev pub IsDefinitionFault : Collection → AnyType → WriteFault → Type 0
-IsDefinitionFault c (ty.Interface i) f = IsRefusedAlone {A = Unit {0}} c i (Err (fault.Write f))
-IsDefinitionFault c t f = (f ≡ write.UnboundResource) × HasHandle (MadeFor c t)
+abbrev pub IsDefinitionFault : Worlds → Collection → AnyType → WriteFault → Type 0
+IsDefinitionFault ws c (ty.Interface i) f = IsRefusedAlone {A = Unit {0}} ws c i (Err (fault.Write f))
+IsDefinitionFault ws c t f = (f ≡ write.UnboundResource) × HasHandle (MadeFor c t)
 
 -- what stands where a definition is refused: such a fault, or what does not fit
-abbrev pub IsDefinitionRefused : {A : Type 0} → Collection → AnyType → Name → Scope → Result A EncodeFault → Type 0
-IsDefinitionRefused c t n s (Ok x) = Unit {0}
-IsDefinitionRefused c t n s (Err (fault.Write f)) = IsDefinitionFault c t f
-IsDefinitionRefused c t n s (Err fault.TooLarge) = DefinitionDoesNotFit c t n s
-IsDefinitionRefused c t n s (Err fault.OutOfMemory) = Unit {0}
+abbrev pub IsDefinitionRefused : {A : Type 0} → Worlds → Collection → AnyType → Name → Scope → Result A EncodeFault → Type 0
+IsDefinitionRefused ws c t n s (Ok x) = Unit {0}
+IsDefinitionRefused ws c t n s (Err (fault.Write f)) = IsDefinitionFault ws c t f
+IsDefinitionRefused ws c t n s (Err fault.TooLarge) = DefinitionDoesNotFit ws c t n s
+IsDefinitionRefused ws c t n s (Err fault.OutOfMemory) = Unit {0}

@@ -26,6 +26,7 @@ use Rattle.wac_scopes.specs.Contents.{and_import, count, ContentFits}
 use Rattle.wac_stacks.specs.Scopes.{Open, Stack}
 use Rattle.wac_stacks.specs.Good.{At, IsHeld, Good}
 use Rattle.wac_scopes.specs.Scoped.{value_index, named_at, HasToo, AlsoLists, opened, root_of, IsNewInRoot, RootImports}
+use Rattle.wac_encode.specs.declared.worlds.Worlds.{Worlds}
 use Rattle.wac_encode.specs.Written.{PartOf, WritesFor, HasHandle, IsOfFunc, AddsHeldFunc, IsFuncAt, IsFuncRefused}
 use Rattle.wac_encode.specs.Listing.{lists_plain, NeededBy, own_types, IsDescribed, SameRecords, TypeDoesNotFit, IsInterfaceRefused}
 use Rattle.wac_encode.specs.Instances.{IsInterfaceAt, listed_definitions, InterfaceDoesNotFit}
@@ -50,17 +51,17 @@ IsImportRefused c f n s r = IsFuncRefused c f s r
 
 -- whether an item is of a sort that the root imports so far, or that it cannot import: not yet are type items of resources and worlds,
 -- interfaces with an item that is not written yet, be it as instances or as type items, components and core modules
-abbrev pub is_importable : Collection → ItemKind → Bool
-is_importable c (kind.TypeItem (ty.Value v)) = true
-is_importable c (kind.TypeItem (ty.Func f)) = true
-is_importable c (kind.TypeItem (ty.Interface i)) = lists_plain c i
-is_importable c (kind.TypeItem (ty.Module m)) = true
-is_importable c (kind.TypeItem t) = false
-is_importable c (kind.Func f) = true
-is_importable c (kind.Instance i) = lists_plain c i
-is_importable c (kind.Component w) = false
-is_importable c (kind.Module m) = false
-is_importable c (kind.Value v) = true
+abbrev pub is_importable : Worlds → Collection → ItemKind → Bool
+is_importable ws c (kind.TypeItem (ty.Value v)) = true
+is_importable ws c (kind.TypeItem (ty.Func f)) = true
+is_importable ws c (kind.TypeItem (ty.Interface i)) = lists_plain ws c i
+is_importable ws c (kind.TypeItem (ty.Module m)) = true
+is_importable ws c (kind.TypeItem t) = false
+is_importable ws c (kind.Func f) = true
+is_importable ws c (kind.Instance i) = lists_plain ws c i
+is_importable ws c (kind.Component w) = false
+is_importable ws c (kind.Module m) = false
+is_importable ws c (kind.Value v) = true
 
 -- the sort of an import
 abbrev pub import_sort : ItemKind → Sort
@@ -86,11 +87,11 @@ ImportsHeld c old new n item k = (m : Bindings) (ms : List Bindings) (o : Open) 
     → RootImports c (m ∷ ms) old new o os (import_sort item) k n (held_item c m imported (next_place old) item) × IsBoundTo c m new (next_place old) item k
 
 -- what an import is described by, where its types were written since old
-abbrev pub IsImportedAs : Collection → Scope → Scope → ItemKind → Description → Type 0
-IsImportedAs c old now (kind.Instance i) (e.Instance j) = IsInterfaceAt c old now i j
-IsImportedAs c old now (kind.TypeItem (ty.Interface i)) (e.Equal j) = IsInterfaceAt c old now i j
-IsImportedAs c old now (kind.TypeItem (ty.Func f)) (e.Equal j) = AddsHeldFunc c old now f j × IsFuncAt c f old now j
-IsImportedAs c old now item d = IsDescribed c old now item d
+abbrev pub IsImportedAs : Worlds → Collection → Scope → Scope → ItemKind → Description → Type 0
+IsImportedAs ws c old now (kind.Instance i) (e.Instance j) = IsInterfaceAt ws c old now i j
+IsImportedAs ws c old now (kind.TypeItem (ty.Interface i)) (e.Equal j) = IsInterfaceAt ws c old now i j
+IsImportedAs ws c old now (kind.TypeItem (ty.Func f)) (e.Equal j) = AddsHeldFunc c old now f j × IsFuncAt c f old now j
+IsImportedAs ws c old now item d = IsDescribed c old now item d
 
 -- a definition that was not written before is recorded at the import's own index, and so written by its name from then on
 abbrev pub IsImportedOnce : Option ℕ → Scope → Scope → DefinedTypeId → ℕ → Type 0
@@ -108,11 +109,11 @@ NamesImport c old now new (kind.Instance i) k = AlsoLists now k (listed_definiti
 NamesImport c old now new item k = SameRecords now new
 
 -- From old to new, an item is imported, at index k: what it is made of is written first, once, where it is not written yet.
-pub record WritesImport (c : Collection) (old new : Scope) (n : Name) (item : ItemKind) (k : ℕ) : Type 0 where
+pub record WritesImport (ws : Worlds) (c : Collection) (old new : Scope) (n : Name) (item : ItemKind) (k : ℕ) : Type 0 where
   pub now : Scope
   pub behind : WritesFor c (own_types c item) (NeededBy c item) old now
   pub description : Description
-  pub described : IsImportedAs c old now item description
+  pub described : IsImportedAs ws c old now item description
   pub appended : new.content ≡ and_import now.content n description
   pub index : k ≡ count (space (described_sort description)) now.content
   pub named : NamesImport c old now new item k
@@ -121,49 +122,49 @@ pub record WritesImport (c : Collection) (old new : Scope) (n : Name) (item : It
 abbrev pub WritesTypesOf : Collection → ItemKind → Scope → Scope → Type 0
 WritesTypesOf c item old new = (types : ℕ) × WritesFor c types (NeededBy c item) old new
 
-abbrev pub ImportedTypeDoesNotFit : Collection → ItemKind → Scope → Type 0
-ImportedTypeDoesNotFit c (kind.Instance i) s = InterfaceDoesNotFit c i s
-ImportedTypeDoesNotFit c (kind.TypeItem (ty.Interface i)) s = InterfaceDoesNotFit c i s
-ImportedTypeDoesNotFit c (kind.TypeItem (ty.Func f)) s = TypeDoesNotFit c (kind.Func f) s
-ImportedTypeDoesNotFit c item s = TypeDoesNotFit c item s
+abbrev pub ImportedTypeDoesNotFit : Worlds → Collection → ItemKind → Scope → Type 0
+ImportedTypeDoesNotFit ws c (kind.Instance i) s = InterfaceDoesNotFit ws c i s
+ImportedTypeDoesNotFit ws c (kind.TypeItem (ty.Interface i)) s = InterfaceDoesNotFit ws c i s
+ImportedTypeDoesNotFit ws c (kind.TypeItem (ty.Func f)) s = TypeDoesNotFit c (kind.Func f) s
+ImportedTypeDoesNotFit ws c item s = TypeDoesNotFit c item s
 
 -- the import itself does not
-abbrev pub ImportDoesNotFit : Collection → Name → ItemKind → Scope → Scope → Type 0
-ImportDoesNotFit c n item old s = (d : Description) × IsImportedAs c old s item d × (ContentFits (and_import s.content n d) → ⊥)
+abbrev pub ImportDoesNotFit : Worlds → Collection → Name → ItemKind → Scope → Scope → Type 0
+ImportDoesNotFit ws c n item old s = (d : Description) × IsImportedAs ws c old s item d × (ContentFits (and_import s.content n d) → ⊥)
 
 -- behind some of what it is made of
-pub record ImportedDoesNotFit (c : Collection) (n : Name) (item : ItemKind) (old : Scope) : Type 0 where
+pub record ImportedDoesNotFit (ws : Worlds) (c : Collection) (n : Name) (item : ItemKind) (old : Scope) : Type 0 where
   pub scope : Scope
   pub types : ℕ
   pub behind : WritesFor c types (NeededBy c item) old scope
-  pub large : ImportedTypeDoesNotFit c item scope ⊎ ImportDoesNotFit c n item old scope
+  pub large : ImportedTypeDoesNotFit ws c item scope ⊎ ImportDoesNotFit ws c n item old scope
 
 -- which fault stands at an import: a handle, whose resource nothing binds; a core module type; the fault of the interface's first item that has one; a value
-abbrev pub IsImportFault : Collection → ItemKind → WriteFault → Type 0
-IsImportFault c (kind.TypeItem (ty.Value v)) f = (f ≡ write.UnboundResource) × HasHandle (PartOf c (value_resolved c v))
-IsImportFault c (kind.Func g) f = (f ≡ write.UnboundResource) × HasHandle (IsOfFunc c g)
-IsImportFault c (kind.TypeItem (ty.Func g)) f = (f ≡ write.UnboundResource) × HasHandle (IsOfFunc c g)
-IsImportFault c (kind.TypeItem (ty.Module m)) f = f ≡ write.ModuleAsType
-IsImportFault c (kind.Instance i) f = (s : Scope) × IsInterfaceRefused {A = Unit {0}} c s i (Err (fault.Write f))
-IsImportFault c (kind.TypeItem (ty.Interface i)) f = (s : Scope) × IsInterfaceRefused {A = Unit {0}} c s i (Err (fault.Write f))
-IsImportFault c (kind.Value v) f = f ≡ write.ValueItem
-IsImportFault c item f = ⊥
+abbrev pub IsImportFault : Worlds → Collection → ItemKind → WriteFault → Type 0
+IsImportFault ws c (kind.TypeItem (ty.Value v)) f = (f ≡ write.UnboundResource) × HasHandle (PartOf c (value_resolved c v))
+IsImportFault ws c (kind.Func g) f = (f ≡ write.UnboundResource) × HasHandle (IsOfFunc c g)
+IsImportFault ws c (kind.TypeItem (ty.Func g)) f = (f ≡ write.UnboundResource) × HasHandle (IsOfFunc c g)
+IsImportFault ws c (kind.TypeItem (ty.Module m)) f = f ≡ write.ModuleAsType
+IsImportFault ws c (kind.Instance i) f = (s : Scope) × IsInterfaceRefused {A = Unit {0}} ws c s i (Err (fault.Write f))
+IsImportFault ws c (kind.TypeItem (ty.Interface i)) f = (s : Scope) × IsInterfaceRefused {A = Unit {0}} ws c s i (Err (fault.Write f))
+IsImportFault ws c (kind.Value v) f = f ≡ write.ValueItem
+IsImportFault ws c item f = ⊥
 
 -- what stands where an import is refused in the root
-abbrev pub IsItemNotImported : {A : Type 0} → Collection → Name → ItemKind → Scope → Result A EncodeFault → Type 0
-IsItemNotImported c n item s (Ok x) = Unit {0}
-IsItemNotImported c n item s (Err (fault.Write f)) = IsImportFault c item f
-IsItemNotImported c n item s (Err fault.TooLarge) = ImportedDoesNotFit c n item s
-IsItemNotImported c n item s (Err fault.OutOfMemory) = Unit {0}
+abbrev pub IsItemNotImported : {A : Type 0} → Worlds → Collection → Name → ItemKind → Scope → Result A EncodeFault → Type 0
+IsItemNotImported ws c n item s (Ok x) = Unit {0}
+IsItemNotImported ws c n item s (Err (fault.Write f)) = IsImportFault ws c item f
+IsItemNotImported ws c n item s (Err fault.TooLarge) = ImportedDoesNotFit ws c n item s
+IsItemNotImported ws c n item s (Err fault.OutOfMemory) = Unit {0}
 
 -- the same of an answer that may be none
 abbrev pub ImportsIfThere : Collection → Scope → Scope → Name → ItemKind → Option ℕ → Type 0
 ImportsIfThere c old new n item None = new ≡ old
 ImportsIfThere c old new n item (Some k) = ImportsHeld c old new n item k
 
-abbrev pub WritesImportIfThere : Collection → Scope → Scope → Name → ItemKind → Option ℕ → Type 0
-WritesImportIfThere c old new n item None = new ≡ old
-WritesImportIfThere c old new n item (Some k) = WritesImport c old new n item k
+abbrev pub WritesImportIfThere : Worlds → Collection → Scope → Scope → Name → ItemKind → Option ℕ → Type 0
+WritesImportIfThere ws c old new n item None = new ≡ old
+WritesImportIfThere ws c old new n item (Some k) = WritesImport ws c old new n item k
 
 -- these items as imports, each under its name as it is held at its position, the first at this one
 abbrev pub held_imports : Collection → Bindings → ℕ → List (Name × ItemKind) → List (Name × Tree)

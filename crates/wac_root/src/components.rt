@@ -3,6 +3,7 @@
 ghost use Rattle.std.specs.Prelude.{◌≡◌, true, IfOk};
 ghost use Rattle.wac_collection.specs.Collection.{HasInterface};
 ghost use Rattle.wac_scopes.specs.declared.encodable.Encodable.TheVariants.{Component};
+ghost use Rattle.wac_encode.specs.Worlds.{SayWorlds};
 ghost use Rattle.wac_encode.specs.Listing.{lists_plain};
 ghost use Rattle.wac_root.specs.Components.{HasId, SaysComponent, WritesComponent, IsComponentRefused, IsComponent};
 
@@ -23,11 +24,12 @@ impl<'a> RootEncoder<'a> {
         id: &str,
     ) -> Result<ComponentType, EncodeFault>
         requires held { HasInterface self.now.types.now interface }
-        requires plain { lists_plain self.now.types.now interface ≡ true }
+        requires say { SayWorlds self.now.types.now self.now.worlds.now }
+        requires plain { lists_plain self.now.worlds.now self.now.types.now interface ≡ true }
         requires id { HasId self.now.types.now interface id.now }
         ensures says { IfOk result (SaysComponent self.now.types.now interface) }
-        ensures written { IfOk result (WritesComponent self.now.types.now interface) }
-        ensures fault { IsComponentRefused self.now.types.now interface result }
+        ensures written { IfOk result (WritesComponent self.now.worlds.now self.now.types.now interface) }
+        ensures fault { IsComponentRefused self.now.worlds.now self.now.types.now interface result }
     {
         closing_law();
         step_law();

@@ -7,6 +7,7 @@ ghost use Rattle.wac_collection.specs.Collection.{HasFunc, HasInterface, holds_t
 ghost use Rattle.wac_collection.specs.Aliases.{value_resolved};
 ghost use Rattle.wac_scopes.specs.Scoped.{value_index};
 ghost use Rattle.wac_scopes.specs.Rooted.{IsRightRoot};
+ghost use Rattle.wac_encode.specs.Worlds.{SayWorlds};
 ghost use Rattle.wac_root.specs.Defining.{IsDefinable, WritesDefinition, WritesTypesFor, WritesOnce, IsDefinitionRefused};
 
 use crate::root::RootEncoder;
@@ -27,10 +28,10 @@ impl<'a> RootEncoder<'a> {
         requires end { value_resolved self.now.types.now value ≡ val.Primitive primitive }
         requires right { IsRightRoot self.now.types.now root.old }
         ensures definition { IfOk result (WritesDefinition self.now.types.now (ty.Value value) name.now root.old root.new) }
-        ensures written { IfOk result (WritesOnce self.now.types.now (ty.Value value) name.now root.old root.new) }
+        ensures written { IfOk result (WritesOnce self.now.worlds.now self.now.types.now (ty.Value value) name.now root.old root.new) }
         ensures right { IsRightRoot self.now.types.now root.new }
         ensures refused { OnErr result (WritesTypesFor self.now.types.now (ty.Value value) root.old root.new) }
-        ensures fault { IsDefinitionRefused self.now.types.now (ty.Value value) name.now root.old result }
+        ensures fault { IsDefinitionRefused self.now.worlds.now self.now.types.now (ty.Value value) name.now root.old result }
     {
         self.types.law();
         alias_law();
@@ -55,10 +56,10 @@ impl<'a> RootEncoder<'a> {
         requires written { value_index root.old id ≡ Some index }
         requires right { IsRightRoot self.now.types.now root.old }
         ensures definition { IfOk result (WritesDefinition self.now.types.now (ty.Value value) name.now root.old root.new) }
-        ensures written { IfOk result (WritesOnce self.now.types.now (ty.Value value) name.now root.old root.new) }
+        ensures written { IfOk result (WritesOnce self.now.worlds.now self.now.types.now (ty.Value value) name.now root.old root.new) }
         ensures right { IsRightRoot self.now.types.now root.new }
         ensures refused { OnErr result (WritesTypesFor self.now.types.now (ty.Value value) root.old root.new) }
-        ensures fault { IsDefinitionRefused self.now.types.now (ty.Value value) name.now root.old result }
+        ensures fault { IsDefinitionRefused self.now.worlds.now self.now.types.now (ty.Value value) name.now root.old result }
     {
         self.types.law();
         alias_law();
@@ -82,10 +83,10 @@ impl<'a> RootEncoder<'a> {
         requires unwritten { value_index root.old id ≡ None }
         requires right { IsRightRoot self.now.types.now root.old }
         ensures definition { IfOk result (WritesDefinition self.now.types.now (ty.Value value) name.now root.old root.new) }
-        ensures written { IfOk result (WritesOnce self.now.types.now (ty.Value value) name.now root.old root.new) }
+        ensures written { IfOk result (WritesOnce self.now.worlds.now self.now.types.now (ty.Value value) name.now root.old root.new) }
         ensures right { IsRightRoot self.now.types.now root.new }
         ensures refused { OnErr result (WritesTypesFor self.now.types.now (ty.Value value) root.old root.new) }
-        ensures fault { IsDefinitionRefused self.now.types.now (ty.Value value) name.now root.old result }
+        ensures fault { IsDefinitionRefused self.now.worlds.now self.now.types.now (ty.Value value) name.now root.old result }
     {
         self.types.law();
         alias_law();
@@ -109,10 +110,10 @@ impl<'a> RootEncoder<'a> {
         requires held { holds_value self.now.types.now value ≡ true }
         requires right { IsRightRoot self.now.types.now root.old }
         ensures definition { IfOk result (WritesDefinition self.now.types.now (ty.Value value) name.now root.old root.new) }
-        ensures written { IfOk result (WritesOnce self.now.types.now (ty.Value value) name.now root.old root.new) }
+        ensures written { IfOk result (WritesOnce self.now.worlds.now self.now.types.now (ty.Value value) name.now root.old root.new) }
         ensures right { IsRightRoot self.now.types.now root.new }
         ensures refused { OnErr result (WritesTypesFor self.now.types.now (ty.Value value) root.old root.new) }
-        ensures fault { IsDefinitionRefused self.now.types.now (ty.Value value) name.now root.old result }
+        ensures fault { IsDefinitionRefused self.now.worlds.now self.now.types.now (ty.Value value) name.now root.old result }
     {
         still_law();
         let end = self.types.resolve_value_type(value);
@@ -140,10 +141,10 @@ impl<'a> RootEncoder<'a> {
         requires held { HasFunc self.now.types.now func }
         requires right { IsRightRoot self.now.types.now root.old }
         ensures definition { IfOk result (WritesDefinition self.now.types.now (ty.Func func) name.now root.old root.new) }
-        ensures written { IfOk result (WritesOnce self.now.types.now (ty.Func func) name.now root.old root.new) }
+        ensures written { IfOk result (WritesOnce self.now.worlds.now self.now.types.now (ty.Func func) name.now root.old root.new) }
         ensures right { IsRightRoot self.now.types.now root.new }
         ensures refused { OnErr result (WritesTypesFor self.now.types.now (ty.Func func) root.old root.new) }
-        ensures fault { IsDefinitionRefused self.now.types.now (ty.Func func) name.now root.old result }
+        ensures fault { IsDefinitionRefused self.now.worlds.now self.now.types.now (ty.Func func) name.now root.old result }
     {
         rooted_law();
         step_law();
@@ -161,13 +162,14 @@ impl<'a> RootEncoder<'a> {
         interface: InterfaceId,
     ) -> Result<u32, EncodeFault>
         requires held { HasInterface self.now.types.now interface }
-        requires definable { IsDefinable self.now.types.now (ty.Interface interface) }
+        requires say { SayWorlds self.now.types.now self.now.worlds.now }
+        requires definable { IsDefinable self.now.worlds.now self.now.types.now (ty.Interface interface) }
         requires right { IsRightRoot self.now.types.now root.old }
         ensures definition { IfOk result (WritesDefinition self.now.types.now (ty.Interface interface) name.now root.old root.new) }
-        ensures written { IfOk result (WritesOnce self.now.types.now (ty.Interface interface) name.now root.old root.new) }
+        ensures written { IfOk result (WritesOnce self.now.worlds.now self.now.types.now (ty.Interface interface) name.now root.old root.new) }
         ensures right { IsRightRoot self.now.types.now root.new }
         ensures refused { OnErr result (WritesTypesFor self.now.types.now (ty.Interface interface) root.old root.new) }
-        ensures fault { IsDefinitionRefused self.now.types.now (ty.Interface interface) name.now root.old result }
+        ensures fault { IsDefinitionRefused self.now.worlds.now self.now.types.now (ty.Interface interface) name.now root.old result }
     {
         rooted_law();
         step_law();
@@ -187,8 +189,8 @@ impl<'a> RootEncoder<'a> {
     /// Answers `AllocError` where memory ran out.
     pub fn is_definable(&self, ty: Type) -> Result<bool, AllocError>
         requires { holds_type self.now.types.now ty ≡ true }
-        ensures definable { result ≡ Answers true → IsDefinable self.now.types.now ty }
-        ensures not { result ≡ Answers false → IsDefinable self.now.types.now ty → ⊥ }
+        ensures definable { result ≡ Answers true → IsDefinable self.now.worlds.now self.now.types.now ty }
+        ensures not { result ≡ Answers false → IsDefinable self.now.worlds.now self.now.types.now ty → ⊥ }
     {
         match ty {
             Type::Value(_) | Type::Func(_) => Ok(true),
@@ -212,13 +214,14 @@ impl<'a> RootEncoder<'a> {
     /// each whole.
     pub fn definition(&self, root: &mut Scope, name: &str, ty: Type) -> Result<u32, EncodeFault>
         requires held { holds_type self.now.types.now ty ≡ true }
-        requires definable { IsDefinable self.now.types.now ty }
+        requires say { SayWorlds self.now.types.now self.now.worlds.now }
+        requires definable { IsDefinable self.now.worlds.now self.now.types.now ty }
         requires right { IsRightRoot self.now.types.now root.old }
         ensures definition { IfOk result (WritesDefinition self.now.types.now ty name.now root.old root.new) }
-        ensures written { IfOk result (WritesOnce self.now.types.now ty name.now root.old root.new) }
+        ensures written { IfOk result (WritesOnce self.now.worlds.now self.now.types.now ty name.now root.old root.new) }
         ensures right { IsRightRoot self.now.types.now root.new }
         ensures refused { OnErr result (WritesTypesFor self.now.types.now ty root.old root.new) }
-        ensures fault { IsDefinitionRefused self.now.types.now ty name.now root.old result }
+        ensures fault { IsDefinitionRefused self.now.worlds.now self.now.types.now ty name.now root.old result }
     {
         match ty {
             Type::Value(value) => self.export_value(root, name, value),

@@ -12,6 +12,7 @@ ghost use Rattle.wac_scopes.specs.Contents.{IsRoot};
 ghost use Rattle.wac_scopes.specs.Scoped.{value_index};
 ghost use Rattle.wac_encode.specs.Written.{WritesFor, IsOfFunc};
 ghost use Rattle.wac_root.specs.Importing.{ImportsHeldFunc, EndsWithImport, IsImportRefused};
+ghost use Rattle.wac_encode.specs.Worlds.{SayWorlds};
 ghost use Rattle.wac_encode.specs.Listing.{lists_plain};
 ghost use Rattle.wac_root.specs.Importing.{is_importable as importable, ImportsHeld, WritesImport, WritesTypesOf, IsItemNotImported, ImportsIfThere, WritesImportIfThere, ImportsOneMore};
 
@@ -60,9 +61,9 @@ impl<'a> RootEncoder<'a> {
         requires end { value_resolved self.now.types.now value ≡ val.Primitive primitive }
         requires root { IsRoot root.old.content }
         ensures imports { IfOk result (ImportsHeld self.now.types.now root.old root.new name.now (kind.TypeItem (ty.Value value))) }
-        ensures wrote { IfOk result (WritesImport self.now.types.now root.old root.new name.now (kind.TypeItem (ty.Value value))) }
+        ensures wrote { IfOk result (WritesImport self.now.worlds.now self.now.types.now root.old root.new name.now (kind.TypeItem (ty.Value value))) }
         ensures refused { OnErr result (WritesTypesOf self.now.types.now (kind.TypeItem (ty.Value value)) root.old root.new) }
-        ensures fault { IsItemNotImported self.now.types.now name.now (kind.TypeItem (ty.Value value)) root.old result }
+        ensures fault { IsItemNotImported self.now.worlds.now self.now.types.now name.now (kind.TypeItem (ty.Value value)) root.old result }
     {
         self.types.law();
         alias_law();
@@ -87,9 +88,9 @@ impl<'a> RootEncoder<'a> {
         requires written { value_index root.old id ≡ Some index }
         requires root { IsRoot root.old.content }
         ensures imports { IfOk result (ImportsHeld self.now.types.now root.old root.new name.now (kind.TypeItem (ty.Value value))) }
-        ensures wrote { IfOk result (WritesImport self.now.types.now root.old root.new name.now (kind.TypeItem (ty.Value value))) }
+        ensures wrote { IfOk result (WritesImport self.now.worlds.now self.now.types.now root.old root.new name.now (kind.TypeItem (ty.Value value))) }
         ensures refused { OnErr result (WritesTypesOf self.now.types.now (kind.TypeItem (ty.Value value)) root.old root.new) }
-        ensures fault { IsItemNotImported self.now.types.now name.now (kind.TypeItem (ty.Value value)) root.old result }
+        ensures fault { IsItemNotImported self.now.worlds.now self.now.types.now name.now (kind.TypeItem (ty.Value value)) root.old result }
     {
         self.types.law();
         alias_law();
@@ -112,9 +113,9 @@ impl<'a> RootEncoder<'a> {
         requires unwritten { value_index root.old id ≡ None }
         requires root { IsRoot root.old.content }
         ensures imports { IfOk result (ImportsHeld self.now.types.now root.old root.new name.now (kind.TypeItem (ty.Value value))) }
-        ensures wrote { IfOk result (WritesImport self.now.types.now root.old root.new name.now (kind.TypeItem (ty.Value value))) }
+        ensures wrote { IfOk result (WritesImport self.now.worlds.now self.now.types.now root.old root.new name.now (kind.TypeItem (ty.Value value))) }
         ensures refused { OnErr result (WritesTypesOf self.now.types.now (kind.TypeItem (ty.Value value)) root.old root.new) }
-        ensures fault { IsItemNotImported self.now.types.now name.now (kind.TypeItem (ty.Value value)) root.old result }
+        ensures fault { IsItemNotImported self.now.worlds.now self.now.types.now name.now (kind.TypeItem (ty.Value value)) root.old result }
     {
         self.types.law();
         alias_law();
@@ -138,9 +139,9 @@ impl<'a> RootEncoder<'a> {
         requires held { holds_value self.now.types.now value ≡ true }
         requires root { IsRoot root.old.content }
         ensures imports { IfOk result (ImportsHeld self.now.types.now root.old root.new name.now (kind.TypeItem (ty.Value value))) }
-        ensures wrote { IfOk result (WritesImport self.now.types.now root.old root.new name.now (kind.TypeItem (ty.Value value))) }
+        ensures wrote { IfOk result (WritesImport self.now.worlds.now self.now.types.now root.old root.new name.now (kind.TypeItem (ty.Value value))) }
         ensures refused { OnErr result (WritesTypesOf self.now.types.now (kind.TypeItem (ty.Value value)) root.old root.new) }
-        ensures fault { IsItemNotImported self.now.types.now name.now (kind.TypeItem (ty.Value value)) root.old result }
+        ensures fault { IsItemNotImported self.now.worlds.now self.now.types.now name.now (kind.TypeItem (ty.Value value)) root.old result }
     {
         still_law();
         let end = self.types.resolve_value_type(value);
@@ -168,9 +169,9 @@ impl<'a> RootEncoder<'a> {
         requires held { HasFunc self.now.types.now func }
         requires root { IsRoot root.old.content }
         ensures imports { IfOk result (ImportsHeld self.now.types.now root.old root.new name.now (kind.Func func)) }
-        ensures wrote { IfOk result (WritesImport self.now.types.now root.old root.new name.now (kind.Func func)) }
+        ensures wrote { IfOk result (WritesImport self.now.worlds.now self.now.types.now root.old root.new name.now (kind.Func func)) }
         ensures refused { OnErr result (WritesTypesOf self.now.types.now (kind.Func func) root.old root.new) }
-        ensures fault { IsItemNotImported self.now.types.now name.now (kind.Func func) root.old result }
+        ensures fault { IsItemNotImported self.now.worlds.now self.now.types.now name.now (kind.Func func) root.old result }
     {
         listed_law();
         step_law();
@@ -188,12 +189,13 @@ impl<'a> RootEncoder<'a> {
         interface: InterfaceId,
     ) -> Result<u32, EncodeFault>
         requires held { HasInterface self.now.types.now interface }
-        requires plain { lists_plain self.now.types.now interface ≡ true }
+        requires say { SayWorlds self.now.types.now self.now.worlds.now }
+        requires plain { lists_plain self.now.worlds.now self.now.types.now interface ≡ true }
         requires root { IsRoot root.old.content }
         ensures imports { IfOk result (ImportsHeld self.now.types.now root.old root.new name.now (kind.Instance interface)) }
-        ensures wrote { IfOk result (WritesImport self.now.types.now root.old root.new name.now (kind.Instance interface)) }
+        ensures wrote { IfOk result (WritesImport self.now.worlds.now self.now.types.now root.old root.new name.now (kind.Instance interface)) }
         ensures refused { OnErr result (WritesTypesOf self.now.types.now (kind.Instance interface) root.old root.new) }
-        ensures fault { IsItemNotImported self.now.types.now name.now (kind.Instance interface) root.old result }
+        ensures fault { IsItemNotImported self.now.worlds.now self.now.types.now name.now (kind.Instance interface) root.old result }
     {
         listed_law();
         step_law();
@@ -218,9 +220,9 @@ impl<'a> RootEncoder<'a> {
         requires held { HasFunc self.now.types.now func }
         requires root { IsRoot root.old.content }
         ensures imports { IfOk result (ImportsHeld self.now.types.now root.old root.new name.now (kind.TypeItem (ty.Func func))) }
-        ensures wrote { IfOk result (WritesImport self.now.types.now root.old root.new name.now (kind.TypeItem (ty.Func func))) }
+        ensures wrote { IfOk result (WritesImport self.now.worlds.now self.now.types.now root.old root.new name.now (kind.TypeItem (ty.Func func))) }
         ensures refused { OnErr result (WritesTypesOf self.now.types.now (kind.TypeItem (ty.Func func)) root.old root.new) }
-        ensures fault { IsItemNotImported self.now.types.now name.now (kind.TypeItem (ty.Func func)) root.old result }
+        ensures fault { IsItemNotImported self.now.worlds.now self.now.types.now name.now (kind.TypeItem (ty.Func func)) root.old result }
     {
         listed_law();
         step_law();
@@ -237,12 +239,13 @@ impl<'a> RootEncoder<'a> {
         interface: InterfaceId,
     ) -> Result<u32, EncodeFault>
         requires held { HasInterface self.now.types.now interface }
-        requires plain { lists_plain self.now.types.now interface ≡ true }
+        requires say { SayWorlds self.now.types.now self.now.worlds.now }
+        requires plain { lists_plain self.now.worlds.now self.now.types.now interface ≡ true }
         requires root { IsRoot root.old.content }
         ensures imports { IfOk result (ImportsHeld self.now.types.now root.old root.new name.now (kind.TypeItem (ty.Interface interface))) }
-        ensures wrote { IfOk result (WritesImport self.now.types.now root.old root.new name.now (kind.TypeItem (ty.Interface interface))) }
+        ensures wrote { IfOk result (WritesImport self.now.worlds.now self.now.types.now root.old root.new name.now (kind.TypeItem (ty.Interface interface))) }
         ensures refused { OnErr result (WritesTypesOf self.now.types.now (kind.TypeItem (ty.Interface interface)) root.old root.new) }
-        ensures fault { IsItemNotImported self.now.types.now name.now (kind.TypeItem (ty.Interface interface)) root.old result }
+        ensures fault { IsItemNotImported self.now.worlds.now self.now.types.now name.now (kind.TypeItem (ty.Interface interface)) root.old result }
     {
         listed_law();
         step_law();
@@ -255,7 +258,7 @@ impl<'a> RootEncoder<'a> {
     /// Whether an item is of a sort that the root imports so far, or that it cannot import.
     fn is_importable(&self, item: ItemKind) -> Result<bool, AllocError>
         requires { holds_type self.now.types.now (kind_type item) ≡ true }
-        ensures { IfOk result (λ may. may ≡ importable self.now.types.now item) }
+        ensures { IfOk result (λ may. may ≡ importable self.now.worlds.now self.now.types.now item) }
     {
         match item {
             ItemKind::TypeItem(Type::Value(_) | Type::Func(_) | Type::Module(_)) => Ok(true),
@@ -269,12 +272,13 @@ impl<'a> RootEncoder<'a> {
     /// Imports an item of a sort that the root imports so far, or that it cannot import.
     fn import_item(&self, root: &mut Scope, name: &str, item: ItemKind) -> Result<u32, EncodeFault>
         requires held { holds_type self.now.types.now (kind_type item) ≡ true }
-        requires importable { importable self.now.types.now item ≡ true }
+        requires say { SayWorlds self.now.types.now self.now.worlds.now }
+        requires importable { importable self.now.worlds.now self.now.types.now item ≡ true }
         requires root { IsRoot root.old.content }
         ensures imports { IfOk result (ImportsHeld self.now.types.now root.old root.new name.now item) }
-        ensures wrote { IfOk result (WritesImport self.now.types.now root.old root.new name.now item) }
+        ensures wrote { IfOk result (WritesImport self.now.worlds.now self.now.types.now root.old root.new name.now item) }
         ensures refused { OnErr result (WritesTypesOf self.now.types.now item root.old root.new) }
-        ensures fault { IsItemNotImported self.now.types.now name.now item root.old result }
+        ensures fault { IsItemNotImported self.now.worlds.now self.now.types.now name.now item root.old result }
     {
         still_law();
         match item {
@@ -311,13 +315,14 @@ impl<'a> RootEncoder<'a> {
         item: ItemKind,
     ) -> Result<Option<u32>, EncodeFault>
         requires held { holds_type self.now.types.now (kind_type item) ≡ true }
+        requires say { SayWorlds self.now.types.now self.now.worlds.now }
         requires root { IsRoot root.old.content }
-        ensures none { result ≡ Answers None → importable self.now.types.now item ≡ false }
-        ensures not { importable self.now.types.now item ≡ false → (result ≡ Answers None) ⊎ (result ≡ Refused OutOfMemory) }
+        ensures none { result ≡ Answers None → importable self.now.worlds.now self.now.types.now item ≡ false }
+        ensures not { importable self.now.worlds.now self.now.types.now item ≡ false → (result ≡ Answers None) ⊎ (result ≡ Refused OutOfMemory) }
         ensures imports { IfOk result (ImportsIfThere self.now.types.now root.old root.new name.now item) }
-        ensures written { IfOk result (WritesImportIfThere self.now.types.now root.old root.new name.now item) }
+        ensures written { IfOk result (WritesImportIfThere self.now.worlds.now self.now.types.now root.old root.new name.now item) }
         ensures refused { OnErr result (WritesTypesOf self.now.types.now item root.old root.new) }
-        ensures fault { IsItemNotImported self.now.types.now name.now item root.old result }
+        ensures fault { IsItemNotImported self.now.worlds.now self.now.types.now name.now item root.old result }
         ensures root { IsRoot root.new.content }
     {
         still_law();

@@ -6,6 +6,7 @@ ghost use Rattle.wac_collection.specs.Collection.{HasFunc, HasInterface, holds_v
 ghost use Rattle.wac_collection.specs.Aliases.{value_resolved};
 ghost use Rattle.wac_scopes.specs.declared.fault.EncodeFault.TheVariants.{OutOfMemory};
 ghost use Rattle.wac_encode.specs.Written.{IsByRecord, PartOf, WritesFor, IsRefused, IsOfFunc, AddsHeldFunc, IsFuncAt, IsFuncRefused};
+ghost use Rattle.wac_encode.specs.Worlds.{SayWorlds};
 ghost use Rattle.wac_encode.specs.Listing.{NeededBy, SaysIfThere, WritesIfThere, lists_plain, IsInterfaceRefused};
 ghost use Rattle.wac_encode.specs.Instances.{AddsHeldInterface, IsInterfaceAt, IsInstanceRefused, listed_definitions};
 
@@ -14,7 +15,7 @@ use wac_builder::{ComponentValType, InstanceType};
 use wac_collection::{
     DefinedTypeId, FuncTypeId, InterfaceId, ItemKind, Named, Text, Types, ValueType,
 };
-use wac_encode::TypeEncoder;
+use wac_encode::{TypeEncoder, Worlds};
 use wac_scopes::{EncodeFault, Scope};
 
 /// Writes what the root of a component imports and defines.
@@ -22,14 +23,17 @@ use wac_scopes::{EncodeFault, Scope};
 pub struct RootEncoder<'a> {
     /// The collection.
     pub(crate) types: &'a Types,
+    /// The component types of the worlds that are inside what is imported and defined, which are written ahead.
+    pub(crate) worlds: &'a Worlds,
 }
 
 impl<'a> RootEncoder<'a> {
-    /// A writer of what is held in this collection.
-    pub fn new(types: &'a Types) -> RootEncoder<'a>
-        ensures { result.types.now ≡ types.now }
+    /// A writer of what is held in this collection, with the component types of worlds that are inside, which are written ahead.
+    pub fn new(types: &'a Types, worlds: &'a Worlds) -> RootEncoder<'a>
+        ensures types { result.types.now ≡ types.now }
+        ensures worlds { result.worlds.now ≡ worlds.now }
     {
-        RootEncoder { types }
+        RootEncoder { types, worlds }
     }
 
     /// Writes a held value type, as `TypeEncoder::value_type` does.
@@ -43,7 +47,7 @@ impl<'a> RootEncoder<'a> {
         ensures recorded { IfOk result (IsByRecord self.now.types.now scope.new value) }
         ensures fault { IsRefused self.now.types.now (PartOf self.now.types.now (value_resolved self.now.types.now value)) scope.new result }
     {
-        TypeEncoder::new(self.types).value_type(scope, value)
+        TypeEncoder::new(self.types, self.worlds).value_type(scope, value)
     }
 
     /// Writes a held function type, as `TypeEncoder::func` does.
@@ -54,7 +58,7 @@ impl<'a> RootEncoder<'a> {
         ensures recorded { IfOk result (IsFuncAt self.now.types.now func scope.old scope.new) }
         ensures fault { IsFuncRefused self.now.types.now func scope.new result }
     {
-        TypeEncoder::new(self.types).func(scope, func)
+        TypeEncoder::new(self.types, self.worlds).func(scope, func)
     }
 
     /// Writes a held interface, as `TypeEncoder::interface_type` does.
@@ -63,14 +67,15 @@ impl<'a> RootEncoder<'a> {
         around: &Scope,
         interface: InterfaceId,
     ) -> Result<Option<InstanceType>, EncodeFault>
-        requires { HasInterface self.now.types.now interface }
-        ensures none { result ≡ Answers None → lists_plain self.now.types.now interface ≡ false }
-        ensures not_plain { lists_plain self.now.types.now interface ≡ false → (result ≡ Answers None) ⊎ (result ≡ Refused OutOfMemory) }
+        requires held { HasInterface self.now.types.now interface }
+        requires say { SayWorlds self.now.types.now self.now.worlds.now }
+        ensures none { result ≡ Answers None → lists_plain self.now.worlds.now self.now.types.now interface ≡ false }
+        ensures not_plain { lists_plain self.now.worlds.now self.now.types.now interface ≡ false → (result ≡ Answers None) ⊎ (result ≡ Refused OutOfMemory) }
         ensures says { IfOk result (SaysIfThere self.now.types.now around.now interface) }
-        ensures written { IfOk result (WritesIfThere self.now.types.now around.now interface) }
-        ensures fault { IsInterfaceRefused self.now.types.now around.now interface result }
+        ensures written { IfOk result (WritesIfThere self.now.worlds.now self.now.types.now around.now interface) }
+        ensures fault { IsInterfaceRefused self.now.worlds.now self.now.types.now around.now interface result }
     {
-        TypeEncoder::new(self.types).interface_type(around, interface)
+        TypeEncoder::new(self.types, self.worlds).interface_type(around, interface)
     }
 
     /// Writes a held interface where it is not written yet, as `TypeEncoder::instance` does.
@@ -80,13 +85,14 @@ impl<'a> RootEncoder<'a> {
         interface: InterfaceId,
     ) -> Result<u32, EncodeFault>
         requires held { HasInterface self.now.types.now interface }
-        requires plain { lists_plain self.now.types.now interface ≡ true }
+        requires say { SayWorlds self.now.types.now self.now.worlds.now }
+        requires plain { lists_plain self.now.worlds.now self.now.types.now interface ≡ true }
         ensures written { WritesFor self.now.types.now 0 (NeededBy self.now.types.now (kind.Instance interface)) scope.old scope.new }
         ensures adds { IfOk result (AddsHeldInterface self.now.types.now scope.old scope.new interface) }
-        ensures recorded { IfOk result (IsInterfaceAt self.now.types.now scope.old scope.new interface) }
-        ensures fault { IsInstanceRefused self.now.types.now interface scope.old result }
+        ensures recorded { IfOk result (IsInterfaceAt self.now.worlds.now self.now.types.now scope.old scope.new interface) }
+        ensures fault { IsInstanceRefused self.now.worlds.now self.now.types.now interface scope.old result }
     {
-        TypeEncoder::new(self.types).instance(scope, interface)
+        TypeEncoder::new(self.types, self.worlds).instance(scope, interface)
     }
 
     /// The definitions that items list, as `TypeEncoder::listed_definitions` answers them.
@@ -96,14 +102,14 @@ impl<'a> RootEncoder<'a> {
     ) -> Result<Vec<(DefinedTypeId, Text)>, AllocError>
         ensures { IfOk result (λ ds. ds.items ≡ listed_definitions self.now.types.now items.now) }
     {
-        TypeEncoder::new(self.types).listed_definitions(items)
+        TypeEncoder::new(self.types, self.worlds).listed_definitions(items)
     }
 
     /// Whether all items of an interface are of sorts that are written.
     pub(crate) fn lists_plain(&self, interface: InterfaceId) -> Result<bool, AllocError>
         requires { HasInterface self.now.types.now interface }
-        ensures { IfOk result (λ plain. plain ≡ lists_plain self.now.types.now interface) }
+        ensures { IfOk result (λ plain. plain ≡ lists_plain self.now.worlds.now self.now.types.now interface) }
     {
-        TypeEncoder::new(self.types).lists_plain(interface)
+        TypeEncoder::new(self.types, self.worlds).lists_plain(interface)
     }
 }

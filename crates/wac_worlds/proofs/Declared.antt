@@ -7,20 +7,21 @@ use Rattle.wac_shapes.specs.declared.component.DefinedTypeId.{DefinedTypeId}
 use Rattle.wac_shapes.specs.declared.component.FuncTypeId.{FuncTypeId}
 use Rattle.wac_shapes.specs.declared.component.Interface.{Interface}
 use Rattle.wac_shapes.specs.declared.component.InterfaceId.{InterfaceId}
+use Rattle.wac_shapes.specs.declared.component.WorldId.{WorldId}
 use Rattle.wac_shapes.specs.declared.component.ItemKind.TheVariants as kind
 use Rattle.wac_primitives.specs.declared.component.PrimitiveType.{PrimitiveType}
 use Rattle.wac_shapes.specs.declared.component.ValueType.{ValueType}
 use Rattle.wac_shapes.specs.declared.component.ValueType.TheVariants as val
 use Rattle.wac_shapes.specs.declared.component.«Type».TheVariants as ty
 use Rattle.wac_shapes.specs.declared.component.ItemKind.{ItemKind}
-use Rattle.wac_primitives.specs.Tree.{Side, imported, exported, Tree, primitive, function, instance, type_equal, function_item, instance_item}
+use Rattle.wac_primitives.specs.Tree.{Side, imported, exported, Tree, primitive, function, instance, component, type_equal, function_item, instance_item}
 use Rattle.wac_collection.specs.Collection.{Collection, IsWellFormed, item_at}
 use Rattle.wac_collection.specs.Aliases.{value_resolved}
 use Rattle.wac_collection.specs.Bound.{Bindings}
 use Rattle.wac_binary.specs.declared.sorts.Description.{Description}
 use Rattle.wac_binary.specs.declared.sorts.Description.TheVariants as e
 use Rattle.wac_binary.specs.declared.sorts.Sort.TheVariants as sort
-use Rattle.wac_binary.specs.HasMeaning.{IsType, IsFunction, IsInstance, IsFree}
+use Rattle.wac_binary.specs.HasMeaning.{IsType, IsFunction, IsInstance, IsComponent, IsFree}
 use Rattle.wac_binary.specs.Indexes.{space}
 use Rattle.wac_binary.specs.Items.{TypeDef, value_def, primitive_def}
 use Rattle.wac_binary.specs.Unfold.{Scope as Env, with_item}
@@ -38,7 +39,9 @@ use Rattle.wac_stacks.specs.Listed.{IsNewName, Lists, on_side, other}
 use Rattle.wac_stacks.specs.Instances.{ExportsEnd}
 use Rattle.wac_scopes.specs.Scoped.{type_index, value_index, named_at, opened, HasToo, AddsPrimitive, AlsoLists, WritesUnlessTooLarge, FitsUnlessTooLarge, listing}
 use Rattle.wac_stacks.proofs.Values.{primitive-held}
+use Rattle.wac_encode.specs.declared.worlds.Worlds.{Worlds}
 use Rattle.wac_encode.specs.Written.{GoesOn, PartOf, WritesFor, with_types, IsOfFunc, AddsHeldFunc, IsFuncAt, IsRefused, IsFuncRefused, NewType}
+use Rattle.wac_encode.specs.Worlds.{AddsHeldWorld, IsWorldTypeAt, IsWorldTypeRefused}
 use Rattle.wac_encode.specs.Listing.{NeededBy, SameRecords, PrimitiveDoesNotFit, lists_plain}
 use Rattle.wac_encode.specs.Instances.{AddsHeldInterface, IsInterfaceAt, IsInstanceRefused, listed_definitions}
 use Rattle.wac_worlds.specs.Declaring.{IsDeclaredAs, IsNamedFrom, NamesDefinition, DeclaresItem, IsItemRefused}
@@ -128,11 +131,22 @@ interface-type-declared c side old now new n i k j adds declares m ms o os g fre
     let l = declares c m ms o os r.0 r.3.0.0 (free-after c m ms side old now o os n r.3.0 free) (instance-is-type r.0 r.2) r.3.1 in
     (type_equal r.0, (refl, r.1), declares-after c m ms side old now new o os n (type_equal r.0) r.3.0 l.0)
 
+-- and that of a component
+component-is-type : (t : Tree) → IsComponent t → IsType t
+component-is-type (component imports exports) h = tt
+component-is-type t h = absurd h
+
+pub world-type-declared : (c : Collection) (side : Side) (old now new : Scope) (n : Name) (w : WorldId) (k j : ℕ) → AddsHeldWorld c old now w k → DeclaresType side now new n k j → DeclaresHeld c side old new n (kind.TypeItem (ty.World w))
+world-type-declared c side old now new n w k j adds declares m ms o os g free =
+    let r = adds m ms o os g in
+    let l = declares c m ms o os r.0 r.3.0.0 (free-after c m ms side old now o os n r.3.0 free) (component-is-type r.0 r.2) r.3.1 in
+    (type_equal r.0, (refl, r.1), declares-after c m ms side old now new o os n (type_equal r.0) r.3.0 l.0)
+
 -- an instance
-pub instance-declared : ExportsEnd → (c : Collection) → IsWellFormed c → (side : Side) (old now new : Scope) (n : Name) (i : InterfaceId) (it : Interface) (j k : ℕ) (es : List (DefinedTypeId × Name)) → item_at c.interfaces i.0 ≡ Some it → lists_plain c i ≡ true → NoNameTwice it.exports → es ≡ listed_definitions c it.exports → AddsHeldInterface c old now i j → DeclaresListing side now new n j es k → DeclaresHeld c side old new n (kind.Instance i)
-instance-declared ends c wf side old now new n i it j k es found plain once listed adds declares m ms o os g free =
+pub instance-declared : ExportsEnd → (ws : Worlds) (c : Collection) → IsWellFormed c → (side : Side) (old now new : Scope) (n : Name) (i : InterfaceId) (it : Interface) (j k : ℕ) (es : List (DefinedTypeId × Name)) → item_at c.interfaces i.0 ≡ Some it → lists_plain ws c i ≡ true → NoNameTwice it.exports → es ≡ listed_definitions c it.exports → AddsHeldInterface c old now i j → DeclaresListing side now new n j es k → DeclaresHeld c side old new n (kind.Instance i)
+instance-declared ends ws c wf side old now new n i it j k es found plain once listed adds declares m ms o os g free =
     let a = adds m ms o os g in
-    let l = declares c m ms o os a.0 a.3.0.0 (free-after c m ms side old now o os n a.3.0 free) a.2 a.3.1 (λ p x at. exports-listed ends c wf m i it (declared_at a.0 side n) found plain once a.1 p x (subst (λ (ds : List (DefinedTypeId × Name)). slice_get ds p ≡ Some x) listed at)) in
+    let l = declares c m ms o os a.0 a.3.0.0 (free-after c m ms side old now o os n a.3.0 free) a.2 a.3.1 (λ p x at. exports-listed ends ws c wf m i it (declared_at a.0 side n) found plain once a.1 p x (subst (λ (ds : List (DefinedTypeId × Name)). slice_get ds p ≡ Some x) listed at)) in
     (instance_item a.0, a.1, declares-after c m ms side old now new o os n (instance_item a.0) a.3.0 l.0)
 
 -- the component type stays open
@@ -158,8 +172,8 @@ declared-open (Builder items) side n d h = absurd h
 declared-open (Instance ds) side n d h = absurd h
 declared-open (Component ds) side n d h = tt
 
-pub item-open : (c : Collection) (side : Side) (old new : Scope) (n : Name) (k : ItemKind) → DeclaresItem c side old new n k → IsOpenComponent old.content → IsOpenComponent new.content
-item-open c side old new n k w h = subst IsOpenComponent (sym w.appended) (declared-open w.now.content side n w.description (still-open old.content w.now.content w.behind.types w.behind.appended h))
+pub item-open : (ws : Worlds) (c : Collection) (side : Side) (old new : Scope) (n : Name) (k : ItemKind) → DeclaresItem ws c side old new n k → IsOpenComponent old.content → IsOpenComponent new.content
+item-open ws c side old new n k w h = subst IsOpenComponent (sym w.appended) (declared-open w.now.content side n w.description (still-open old.content w.now.content w.behind.types w.behind.appended h))
 
 -- what is written
 
@@ -169,8 +183,8 @@ same-records side old new n d is = record { types = λ k. ap (λ (s : Scope). ty
 declared-so : (side : Side) (old new : Scope) (n : Name) (d : Description) → new ≡ record old { content = and_declared old.content side n d } → new.content ≡ and_declared old.content side n d
 declared-so side old new n d is = ap (λ (s : Scope). s.content) is
 
-pub primitive-written : (c : Collection) (side : Side) (old now new : Scope) (n : Name) (v : ValueType) (p : PrimitiveType) (k : ℕ) → value_resolved c v ≡ val.Primitive p → k ≡ count (space sort.«Type») old.content → AddsPrimitive old now p k → now ≡ record old { content = and_type old.content (value_def (primitive_def p)) } → new ≡ record now { content = and_declared now.content side n (e.Equal k) } → DeclaresItem c side old new n (kind.TypeItem (ty.Value v))
-primitive-written c side old now new n v p k is index adds same declares = record {
+pub primitive-written : (ws : Worlds) (c : Collection) (side : Side) (old now new : Scope) (n : Name) (v : ValueType) (p : PrimitiveType) (k : ℕ) → value_resolved c v ≡ val.Primitive p → k ≡ count (space sort.«Type») old.content → AddsPrimitive old now p k → now ≡ record old { content = and_type old.content (value_def (primitive_def p)) } → new ≡ record now { content = and_declared now.content side n (e.Equal k) } → DeclaresItem ws c side old new n (kind.TypeItem (ty.Value v))
+primitive-written ws c side old now new n v p k is index adds same declares = record {
   now = now;
   behind = primitive-behind c old now v p k is adds same;
   description = e.Equal k;
@@ -179,8 +193,8 @@ primitive-written c side old now new n v p k is index adds same declares = recor
   named = subst (λ (w : ValueType). NamesDefinition old now new w (count (space sort.«Type») now.content)) (sym is) (same-records side now new n (e.Equal k) declares);
 }
 
-pub second-written : (c : Collection) → StaysOnward → (side : Side) (old new : Scope) (n : Name) (v : ValueType) (d : DefinedTypeId) (k : ℕ) → value_resolved c v ≡ val.Defined d → value_index old d ≡ Some k → new ≡ record old { content = and_declared old.content side n (e.Equal k) } → DeclaresItem c side old new n (kind.TypeItem (ty.Value v))
-second-written c stays side old new n v d k is at declares = record {
+pub second-written : (ws : Worlds) (c : Collection) → StaysOnward → (side : Side) (old new : Scope) (n : Name) (v : ValueType) (d : DefinedTypeId) (k : ℕ) → value_resolved c v ≡ val.Defined d → value_index old d ≡ Some k → new ≡ record old { content = and_declared old.content side n (e.Equal k) } → DeclaresItem ws c side old new n (kind.TypeItem (ty.Value v))
+second-written ws c stays side old new n v d k is at declares = record {
   now = old;
   behind = definition-behind c old old v d is (writes-none c stays (PartOf c (value_resolved c v)) old old (as-it-was old));
   description = e.Equal k;
@@ -189,8 +203,8 @@ second-written c stays side old new n v d k is at declares = record {
   named = subst (λ (w : ValueType). NamesDefinition old old new w (count (space sort.«Type») old.content)) (sym is) (subst (λ (o : Option ℕ). IsNamedFrom o old new d (count (space sort.«Type») old.content)) (sym at) (same-records side old new n (e.Equal k) declares));
 }
 
-pub first-written : (c : Collection) (side : Side) (old now new : Scope) (n : Name) (v : ValueType) (d : DefinedTypeId) (k j : ℕ) → value_resolved c v ≡ val.Defined d → value_index old d ≡ None → WritesFor c 0 (PartOf c (value_resolved c v)) old now → value_index now d ≡ Some k → new.content ≡ and_declared now.content side n (e.Equal k) → HasToo now (ty.Value (val.Defined d)) j new → named_at new d ≡ Some j → j ≡ count (space sort.«Type») now.content → DeclaresItem c side old new n (kind.TypeItem (ty.Value v))
-first-written c side old now new n v d k j is none w at appended too name index = record {
+pub first-written : (ws : Worlds) (c : Collection) (side : Side) (old now new : Scope) (n : Name) (v : ValueType) (d : DefinedTypeId) (k j : ℕ) → value_resolved c v ≡ val.Defined d → value_index old d ≡ None → WritesFor c 0 (PartOf c (value_resolved c v)) old now → value_index now d ≡ Some k → new.content ≡ and_declared now.content side n (e.Equal k) → HasToo now (ty.Value (val.Defined d)) j new → named_at new d ≡ Some j → j ≡ count (space sort.«Type») now.content → DeclaresItem ws c side old new n (kind.TypeItem (ty.Value v))
+first-written ws c side old now new n v d k j is none w at appended too name index = record {
   now = now;
   behind = definition-behind c old now v d is w;
   description = e.Equal k;
@@ -199,8 +213,8 @@ first-written c side old now new n v d k j is none w at appended too name index 
   named = subst (λ (u : ValueType). NamesDefinition old now new u (count (space sort.«Type») now.content)) (sym is) (subst (λ (o : Option ℕ). IsNamedFrom o now new d (count (space sort.«Type») now.content)) (sym none) (subst (λ (i : ℕ). HasToo now (ty.Value (val.Defined d)) i new × (named_at new d ≡ Some i)) index (too, name)));
 }
 
-pub function-written : (c : Collection) (side : Side) (old now new : Scope) (n : Name) (f : FuncTypeId) (k : ℕ) → WritesFor c 0 (IsOfFunc c f) old now → AddsHeldFunc c old now f k → IsFuncAt c f old now k → new ≡ record now { content = and_declared now.content side n (e.Func k) } → DeclaresItem c side old new n (kind.Func f)
-function-written c side old now new n f k w adds there declares = record {
+pub function-written : (ws : Worlds) (c : Collection) (side : Side) (old now new : Scope) (n : Name) (f : FuncTypeId) (k : ℕ) → WritesFor c 0 (IsOfFunc c f) old now → AddsHeldFunc c old now f k → IsFuncAt c f old now k → new ≡ record now { content = and_declared now.content side n (e.Func k) } → DeclaresItem ws c side old new n (kind.Func f)
+function-written ws c side old now new n f k w adds there declares = record {
   now = now;
   behind = w;
   description = e.Func k;
@@ -209,8 +223,8 @@ function-written c side old now new n f k w adds there declares = record {
   named = same-records side now new n (e.Func k) declares;
 }
 
-pub function-type-written : (c : Collection) (side : Side) (old now new : Scope) (n : Name) (f : FuncTypeId) (k : ℕ) → WritesFor c 0 (IsOfFunc c f) old now → AddsHeldFunc c old now f k → IsFuncAt c f old now k → new ≡ record now { content = and_declared now.content side n (e.Equal k) } → DeclaresItem c side old new n (kind.TypeItem (ty.Func f))
-function-type-written c side old now new n f k w adds there declares = record {
+pub function-type-written : (ws : Worlds) (c : Collection) (side : Side) (old now new : Scope) (n : Name) (f : FuncTypeId) (k : ℕ) → WritesFor c 0 (IsOfFunc c f) old now → AddsHeldFunc c old now f k → IsFuncAt c f old now k → new ≡ record now { content = and_declared now.content side n (e.Equal k) } → DeclaresItem ws c side old new n (kind.TypeItem (ty.Func f))
+function-type-written ws c side old now new n f k w adds there declares = record {
   now = now;
   behind = w;
   description = e.Equal k;
@@ -219,8 +233,8 @@ function-type-written c side old now new n f k w adds there declares = record {
   named = same-records side now new n (e.Equal k) declares;
 }
 
-pub instance-written : (c : Collection) (side : Side) (old now new : Scope) (n : Name) (i : InterfaceId) (it : Interface) (k j : ℕ) (es : List (DefinedTypeId × Name)) → item_at c.interfaces i.0 ≡ Some it → es ≡ listed_definitions c it.exports → WritesFor c 0 (NeededBy c (kind.Instance i)) old now → IsInterfaceAt c old now i k → new.content ≡ and_declared now.content side n (e.Instance k) → AlsoLists now j es new → j ≡ count (space sort.Instance) now.content → DeclaresItem c side old new n (kind.Instance i)
-instance-written c side old now new n i it k j es found listed w there declares lists index = record {
+pub instance-written : (ws : Worlds) (c : Collection) (side : Side) (old now new : Scope) (n : Name) (i : InterfaceId) (it : Interface) (k j : ℕ) (es : List (DefinedTypeId × Name)) → item_at c.interfaces i.0 ≡ Some it → es ≡ listed_definitions c it.exports → WritesFor c 0 (NeededBy c (kind.Instance i)) old now → IsInterfaceAt ws c old now i k → new.content ≡ and_declared now.content side n (e.Instance k) → AlsoLists now j es new → j ≡ count (space sort.Instance) now.content → DeclaresItem ws c side old new n (kind.Instance i)
+instance-written ws c side old now new n i it k j es found listed w there declares lists index = record {
   now = now;
   behind = w;
   description = e.Instance k;
@@ -229,8 +243,8 @@ instance-written c side old now new n i it k j es found listed w there declares 
   named = subst (λ (q : ℕ). AlsoLists now q (listed_definitions c (option_case (item_at c.interfaces i.0) [] (λ y. y.exports))) new) index (subst (λ (ds : List (DefinedTypeId × Name)). AlsoLists now j ds new) (listed ∙ ap (λ (x : Option Interface). listed_definitions c (option_case x [] (λ y. y.exports))) (sym found)) lists);
 }
 
-pub interface-type-written : (c : Collection) (side : Side) (old now new : Scope) (n : Name) (i : InterfaceId) (k : ℕ) → WritesFor c 0 (NeededBy c (kind.Instance i)) old now → IsInterfaceAt c old now i k → new ≡ record now { content = and_declared now.content side n (e.Equal k) } → DeclaresItem c side old new n (kind.TypeItem (ty.Interface i))
-interface-type-written c side old now new n i k w there declares = record {
+pub interface-type-written : (ws : Worlds) (c : Collection) (side : Side) (old now new : Scope) (n : Name) (i : InterfaceId) (k : ℕ) → WritesFor c 0 (NeededBy c (kind.Instance i)) old now → IsInterfaceAt ws c old now i k → new ≡ record now { content = and_declared now.content side n (e.Equal k) } → DeclaresItem ws c side old new n (kind.TypeItem (ty.Interface i))
+interface-type-written ws c side old now new n i k w there declares = record {
   now = now;
   behind = w;
   description = e.Equal k;
@@ -239,45 +253,60 @@ interface-type-written c side old now new n i k w there declares = record {
   named = same-records side now new n (e.Equal k) declares;
 }
 
+pub world-type-written : (ws : Worlds) (c : Collection) (side : Side) (old now new : Scope) (n : Name) (w : WorldId) (k : ℕ) → WritesFor c 0 (NeededBy c (kind.TypeItem (ty.World w))) old now → IsWorldTypeAt ws old now w k → new ≡ record now { content = and_declared now.content side n (e.Equal k) } → DeclaresItem ws c side old new n (kind.TypeItem (ty.World w))
+world-type-written ws c side old now new n w k behind there declares = record {
+  now = now;
+  behind = behind;
+  description = e.Equal k;
+  described = there;
+  appended = declared-so side now new n (e.Equal k) declares;
+  named = same-records side now new n (e.Equal k) declares;
+}
+
 -- refusals
 
-pub primitive-refused : (A B : Type 0) (c : Collection) → StaysOnward → (side : Side) (old : Scope) (n : Name) (v : ValueType) (p : PrimitiveType) (f : EncodeFault) → value_resolved c v ≡ val.Primitive p → WritesUnlessTooLarge {A = A} (Err f) (ContentFits (and_type old.content (value_def (primitive_def p)))) → IsItemRefused {A = B} c side n (kind.TypeItem (ty.Value v)) old (Err f)
-primitive-refused A B c stays side old n v p (fault.Write g) is h = absurd h
-primitive-refused A B c stays side old n v p fault.TooLarge is h = record {
+pub primitive-refused : (A B : Type 0) (ws : Worlds) (c : Collection) → StaysOnward → (side : Side) (old : Scope) (n : Name) (v : ValueType) (p : PrimitiveType) (f : EncodeFault) → value_resolved c v ≡ val.Primitive p → WritesUnlessTooLarge {A = A} (Err f) (ContentFits (and_type old.content (value_def (primitive_def p)))) → IsItemRefused {A = B} ws c side n (kind.TypeItem (ty.Value v)) old (Err f)
+primitive-refused A B ws c stays side old n v p (fault.Write g) is h = absurd h
+primitive-refused A B ws c stays side old n v p fault.TooLarge is h = record {
   scope = old;
   types = 0;
   behind = writes-none c stays (NeededBy c (kind.TypeItem (ty.Value v))) old old (as-it-was old);
   large = inl (inr (subst (λ (w : ValueType). PrimitiveDoesNotFit w old) (sym is) h));
 }
-primitive-refused A B c stays side old n v p fault.OutOfMemory is h = tt
+primitive-refused A B ws c stays side old n v p fault.OutOfMemory is h = tt
 
-pub value-refused : (A B : Type 0) (c : Collection) (side : Side) (old now : Scope) (n : Name) (v : ValueType) (f : EncodeFault) → WritesFor c 0 (PartOf c (value_resolved c v)) old now → IsRefused {A = A} c (PartOf c (value_resolved c v)) now (Err f) → IsItemRefused {A = B} c side n (kind.TypeItem (ty.Value v)) old (Err f)
-value-refused A B c side old now n v (fault.Write g) w h = h
-value-refused A B c side old now n v fault.TooLarge w h = record { scope = now; types = 0; behind = w; large = inl (inl h) }
-value-refused A B c side old now n v fault.OutOfMemory w h = tt
+pub value-refused : (A B : Type 0) (ws : Worlds) (c : Collection) (side : Side) (old now : Scope) (n : Name) (v : ValueType) (f : EncodeFault) → WritesFor c 0 (PartOf c (value_resolved c v)) old now → IsRefused {A = A} c (PartOf c (value_resolved c v)) now (Err f) → IsItemRefused {A = B} ws c side n (kind.TypeItem (ty.Value v)) old (Err f)
+value-refused A B ws c side old now n v (fault.Write g) w h = h
+value-refused A B ws c side old now n v fault.TooLarge w h = record { scope = now; types = 0; behind = w; large = inl (inl h) }
+value-refused A B ws c side old now n v fault.OutOfMemory w h = tt
 
-pub function-refused : (A B : Type 0) (c : Collection) (side : Side) (old now : Scope) (n : Name) (g : FuncTypeId) (f : EncodeFault) → WritesFor c 0 (IsOfFunc c g) old now → IsFuncRefused {A = A} c g now (Err f) → IsItemRefused {A = B} c side n (kind.Func g) old (Err f)
-function-refused A B c side old now n g (fault.Write h) w refused = refused
-function-refused A B c side old now n g fault.TooLarge w refused = record { scope = now; types = 0; behind = w; large = inl refused }
-function-refused A B c side old now n g fault.OutOfMemory w refused = tt
+pub function-refused : (A B : Type 0) (ws : Worlds) (c : Collection) (side : Side) (old now : Scope) (n : Name) (g : FuncTypeId) (f : EncodeFault) → WritesFor c 0 (IsOfFunc c g) old now → IsFuncRefused {A = A} c g now (Err f) → IsItemRefused {A = B} ws c side n (kind.Func g) old (Err f)
+function-refused A B ws c side old now n g (fault.Write h) w refused = refused
+function-refused A B ws c side old now n g fault.TooLarge w refused = record { scope = now; types = 0; behind = w; large = inl refused }
+function-refused A B ws c side old now n g fault.OutOfMemory w refused = tt
 
-pub function-type-refused : (A B : Type 0) (c : Collection) (side : Side) (old now : Scope) (n : Name) (g : FuncTypeId) (f : EncodeFault) → WritesFor c 0 (IsOfFunc c g) old now → IsFuncRefused {A = A} c g now (Err f) → IsItemRefused {A = B} c side n (kind.TypeItem (ty.Func g)) old (Err f)
-function-type-refused A B c side old now n g (fault.Write h) w refused = refused
-function-type-refused A B c side old now n g fault.TooLarge w refused = record { scope = now; types = 0; behind = w; large = inl refused }
-function-type-refused A B c side old now n g fault.OutOfMemory w refused = tt
+pub function-type-refused : (A B : Type 0) (ws : Worlds) (c : Collection) (side : Side) (old now : Scope) (n : Name) (g : FuncTypeId) (f : EncodeFault) → WritesFor c 0 (IsOfFunc c g) old now → IsFuncRefused {A = A} c g now (Err f) → IsItemRefused {A = B} ws c side n (kind.TypeItem (ty.Func g)) old (Err f)
+function-type-refused A B ws c side old now n g (fault.Write h) w refused = refused
+function-type-refused A B ws c side old now n g fault.TooLarge w refused = record { scope = now; types = 0; behind = w; large = inl refused }
+function-type-refused A B ws c side old now n g fault.OutOfMemory w refused = tt
 
-pub instance-refused : (A B : Type 0) (c : Collection) (side : Side) (old : Scope) (n : Name) (i : InterfaceId) (f : EncodeFault) → IsInstanceRefused {A = A} c i old (Err f) → IsItemRefused {A = B} c side n (kind.Instance i) old (Err f)
-instance-refused A B c side old n i (fault.Write g) h = h
-instance-refused A B c side old n i fault.TooLarge h = record { scope = h.0; types = 0; behind = aliases-for c i old h.0 h.1; large = inl h.2 }
-instance-refused A B c side old n i fault.OutOfMemory h = tt
+pub instance-refused : (A B : Type 0) (ws : Worlds) (c : Collection) (side : Side) (old : Scope) (n : Name) (i : InterfaceId) (f : EncodeFault) → IsInstanceRefused {A = A} ws c i old (Err f) → IsItemRefused {A = B} ws c side n (kind.Instance i) old (Err f)
+instance-refused A B ws c side old n i (fault.Write g) h = h
+instance-refused A B ws c side old n i fault.TooLarge h = record { scope = h.0; types = 0; behind = aliases-for c i old h.0 h.1; large = inl h.2 }
+instance-refused A B ws c side old n i fault.OutOfMemory h = tt
 
-pub interface-type-refused : (A B : Type 0) (c : Collection) (side : Side) (old : Scope) (n : Name) (i : InterfaceId) (f : EncodeFault) → IsInstanceRefused {A = A} c i old (Err f) → IsItemRefused {A = B} c side n (kind.TypeItem (ty.Interface i)) old (Err f)
-interface-type-refused A B c side old n i (fault.Write g) h = h
-interface-type-refused A B c side old n i fault.TooLarge h = record { scope = h.0; types = 0; behind = aliases-for c i old h.0 h.1; large = inl h.2 }
-interface-type-refused A B c side old n i fault.OutOfMemory h = tt
+pub interface-type-refused : (A B : Type 0) (ws : Worlds) (c : Collection) (side : Side) (old : Scope) (n : Name) (i : InterfaceId) (f : EncodeFault) → IsInstanceRefused {A = A} ws c i old (Err f) → IsItemRefused {A = B} ws c side n (kind.TypeItem (ty.Interface i)) old (Err f)
+interface-type-refused A B ws c side old n i (fault.Write g) h = h
+interface-type-refused A B ws c side old n i fault.TooLarge h = record { scope = h.0; types = 0; behind = aliases-for c i old h.0 h.1; large = inl h.2 }
+interface-type-refused A B ws c side old n i fault.OutOfMemory h = tt
+
+pub world-type-refused : (A B : Type 0) (ws : Worlds) (c : Collection) → StaysOnward → (side : Side) (old : Scope) (n : Name) (w : WorldId) (f : EncodeFault) → IsWorldTypeRefused {A = A} ws w old (Err f) → IsItemRefused {A = B} ws c side n (kind.TypeItem (ty.World w)) old (Err f)
+world-type-refused A B ws c stays side old n w (fault.Write g) h = absurd h
+world-type-refused A B ws c stays side old n w fault.TooLarge h = record { scope = old; types = 0; behind = writes-none c stays (NeededBy c (kind.TypeItem (ty.World w))) old old (as-it-was old); large = inl h }
+world-type-refused A B ws c stays side old n w fault.OutOfMemory h = tt
 
 -- where the item does not fit
-pub item-too-large : (A B : Type 0) (c : Collection) (side : Side) (old now : Scope) (n : Name) (k : ItemKind) (types : ℕ) (d : Description) (f : EncodeFault) → WritesFor c types (NeededBy c k) old now → IsDeclaredAs c old now k d → FitsUnlessTooLarge {A = A} (Err f) (ContentFits (and_declared now.content side n d)) → IsItemRefused {A = B} c side n k old (Err f)
-item-too-large A B c side old now n k types d (fault.Write g) w described h = absurd h
-item-too-large A B c side old now n k types d fault.TooLarge w described h = record { scope = now; types = types; behind = w; large = inr (d, described, h) }
-item-too-large A B c side old now n k types d fault.OutOfMemory w described h = tt
+pub item-too-large : (A B : Type 0) (ws : Worlds) (c : Collection) (side : Side) (old now : Scope) (n : Name) (k : ItemKind) (types : ℕ) (d : Description) (f : EncodeFault) → WritesFor c types (NeededBy c k) old now → IsDeclaredAs ws c old now k d → FitsUnlessTooLarge {A = A} (Err f) (ContentFits (and_declared now.content side n d)) → IsItemRefused {A = B} ws c side n k old (Err f)
+item-too-large A B ws c side old now n k types d (fault.Write g) w described h = absurd h
+item-too-large A B ws c side old now n k types d fault.TooLarge w described h = record { scope = now; types = types; behind = w; large = inr (d, described, h) }
+item-too-large A B ws c side old now n k types d fault.OutOfMemory w described h = tt

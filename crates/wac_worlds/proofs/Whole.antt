@@ -28,10 +28,12 @@ use Rattle.wac_stacks.specs.Listed.{AreListed, declaring, OpensWorld, TurnsToExp
 use Rattle.wac_scopes.specs.Rooted.{unbound}
 use Rattle.wac_scopes.specs.Scoped.{recorded_type, opened, place}
 use Rattle.wac_stacks.proofs.Moved.{ap2}
+use Rattle.wac_encode.specs.declared.worlds.Worlds.{Worlds}
 use Rattle.wac_worlds.specs.Declaring.{is_declarable, are_declarable, DeclaresSide, IsSideRefused}
 use Rattle.wac_worlds.specs.Steps.{DeclaresNothing, DeclaresAll, CanDeclare}
+use Rattle.wac_encode.specs.Worlds.{SaysWorld}
 use Rattle.wac_encode.specs.Instances.{IsBare}
-use Rattle.wac_worlds.specs.Worlds.{is_plain, is_plain_world, SaysWorld, WritesWorld, IsWorldRefused}
+use Rattle.wac_worlds.specs.Worlds.{is_plain, is_plain_world, WritesWorld, IsWorldRefused}
 
 -- whether all items can be declared
 
@@ -39,32 +41,32 @@ both-true : (a b : Bool) → (a && b) ≡ true → (a ≡ true) × (b ≡ true)
 both-true true b all = (refl, all)
 both-true false b all = let both : false ≡ true = all in cc
 
-each-declarable : (c : Collection) (es : List (Name × ItemKind)) → are_declarable c es ≡ true → (k : ℕ) (e : Name × ItemKind) → slice_get es k ≡ Some e → is_declarable c e.1 ≡ true
-each-declarable c [] all k e at = let none_some : None ≡ Some e = at in cc
-each-declarable c (x ∷ es) all zero e at = let both : Some x ≡ Some e = at in let same : x ≡ e = cc in subst (λ (y : Name × ItemKind). is_declarable c y.1 ≡ true) same (both-true (is_declarable c x.1) (are_declarable c es) all).0
-each-declarable c (x ∷ es) all (suc k) e at = each-declarable c es (both-true (is_declarable c x.1) (are_declarable c es) all).1 k e at
+each-declarable : (ws : Worlds) (c : Collection) (es : List (Name × ItemKind)) → are_declarable ws c es ≡ true → (k : ℕ) (e : Name × ItemKind) → slice_get es k ≡ Some e → is_declarable ws c e.1 ≡ true
+each-declarable ws c [] all k e at = let none_some : None ≡ Some e = at in cc
+each-declarable ws c (x ∷ es) all zero e at = let both : Some x ≡ Some e = at in let same : x ≡ e = cc in subst (λ (y : Name × ItemKind). is_declarable ws c y.1 ≡ true) same (both-true (is_declarable ws c x.1) (are_declarable ws c es) all).0
+each-declarable ws c (x ∷ es) all (suc k) e at = each-declarable ws c es (both-true (is_declarable ws c x.1) (are_declarable ws c es) all).1 k e at
 
-pub not-declarable : (c : Collection) (es : List (Name × ItemKind)) (k : ℕ) (e : Name × ItemKind) → slice_get es k ≡ Some e → is_declarable c e.1 ≡ false → are_declarable c es ≡ false
-not-declarable c es k e at other = by_all (are_declarable c es) refl
+pub not-declarable : (ws : Worlds) (c : Collection) (es : List (Name × ItemKind)) (k : ℕ) (e : Name × ItemKind) → slice_get es k ≡ Some e → is_declarable ws c e.1 ≡ false → are_declarable ws c es ≡ false
+not-declarable ws c es k e at other = by_all (are_declarable ws c es) refl
   where
-    by_all : (b : Bool) → are_declarable c es ≡ b → b ≡ false
+    by_all : (b : Bool) → are_declarable ws c es ≡ b → b ≡ false
     by_all false is = refl
-    by_all true is = sym (each-declarable c es is k e at) ∙ other
+    by_all true is = sym (each-declarable ws c es is k e at) ∙ other
 
-one-more : (c : Collection) (fs : List (Name × ItemKind)) (e : Name × ItemKind) → are_declarable c fs ≡ true → is_declarable c e.1 ≡ true → are_declarable c (fs ++ e ∷ []) ≡ true
-one-more c [] e all here = ap (λ (b : Bool). b && true) here
-one-more c (x ∷ fs) e all here = let h = both-true (is_declarable c x.1) (are_declarable c fs) all in ap (λ (b : Bool). b && are_declarable c (fs ++ e ∷ [])) h.0 ∙ one-more c fs e h.1 here
+one-more : (ws : Worlds) (c : Collection) (fs : List (Name × ItemKind)) (e : Name × ItemKind) → are_declarable ws c fs ≡ true → is_declarable ws c e.1 ≡ true → are_declarable ws c (fs ++ e ∷ []) ≡ true
+one-more ws c [] e all here = ap (λ (b : Bool). b && true) here
+one-more ws c (x ∷ fs) e all here = let h = both-true (is_declarable ws c x.1) (are_declarable ws c fs) all in ap (λ (b : Bool). b && are_declarable ws c (fs ++ e ∷ [])) h.0 ∙ one-more ws c fs e h.1 here
 
-pub declarable-further : (c : Collection) (es : List (Name × ItemKind)) (i : ℕ) (e : Name × ItemKind) → slice_get es i ≡ Some e → are_declarable c (take i es) ≡ true → is_declarable c e.1 ≡ true → are_declarable c (take (i + 1) es) ≡ true
-declarable-further c es i e at before here = ap (λ (j : ℕ). are_declarable c (take j es)) (add-one i) ∙ ap (are_declarable c) (take_at es i e at) ∙ one-more c (take i es) e before here
+pub declarable-further : (ws : Worlds) (c : Collection) (es : List (Name × ItemKind)) (i : ℕ) (e : Name × ItemKind) → slice_get es i ≡ Some e → are_declarable ws c (take i es) ≡ true → is_declarable ws c e.1 ≡ true → are_declarable ws c (take (i + 1) es) ≡ true
+declarable-further ws c es i e at before here = ap (λ (j : ℕ). are_declarable ws c (take j es)) (add-one i) ∙ ap (are_declarable ws c) (take_at es i e at) ∙ one-more ws c (take i es) e before here
 
 -- whether a world is plain
 
-pub plain-of : (c : Collection) (w : WorldId) (x : World) → item_at c.worlds w.0 ≡ Some x → is_plain_world c w ≡ is_plain c x
-plain-of c w x at = ap (λ (o : Option World). option_case o true (λ y. is_plain c y)) at
+pub plain-of : (ws : Worlds) (c : Collection) (w : WorldId) (x : World) → item_at c.worlds w.0 ≡ Some x → is_plain_world ws c w ≡ is_plain ws c x
+plain-of ws c w x at = ap (λ (o : Option World). option_case o true (λ y. is_plain ws c y)) at
 
-pub plain-parts : (c : Collection) (x : World) → is_plain c x ≡ true → (are_declarable c x.imports ≡ true) × (are_declarable c x.exports ≡ true)
-plain-parts c x plain = both-true (are_declarable c x.imports) (are_declarable c x.exports) plain
+pub plain-parts : (ws : Worlds) (c : Collection) (x : World) → is_plain ws c x ≡ true → (are_declarable ws c x.imports ≡ true) × (are_declarable ws c x.exports ≡ true)
+plain-parts ws c x plain = both-true (are_declarable ws c x.imports) (are_declarable ws c x.exports) plain
 
 -- what a world lists is held
 
@@ -109,11 +111,11 @@ held-imports c wf w x at = (held-sides c wf w x at).0
 pub held-exports : (c : Collection) → IsWellFormed c → (w : WorldId) (x : World) → item_at c.worlds w.0 ≡ Some x → ListsHeld c x.exports
 held-exports c wf w x at = (held-sides c wf w x at).1
 
-pub can-import : (c : Collection) → IsWellFormed c → (w : WorldId) (x : World) → item_at c.worlds w.0 ≡ Some x → is_plain c x ≡ true → (k : ℕ) (e : Name × ItemKind) → slice_get x.imports k ≡ Some e → CanDeclare c e.1
-can-import c wf w x at plain k e here = (held-imports c wf w x at k e here, each-declarable c x.imports (plain-parts c x plain).0 k e here)
+pub can-import : (ws : Worlds) (c : Collection) → IsWellFormed c → (w : WorldId) (x : World) → item_at c.worlds w.0 ≡ Some x → is_plain ws c x ≡ true → (k : ℕ) (e : Name × ItemKind) → slice_get x.imports k ≡ Some e → CanDeclare ws c e.1
+can-import ws c wf w x at plain k e here = (held-imports c wf w x at k e here, each-declarable ws c x.imports (plain-parts ws c x plain).0 k e here)
 
-pub can-export : (c : Collection) → IsWellFormed c → (w : WorldId) (x : World) → item_at c.worlds w.0 ≡ Some x → is_plain c x ≡ true → (k : ℕ) (e : Name × ItemKind) → slice_get x.exports k ≡ Some e → CanDeclare c e.1
-can-export c wf w x at plain k e here = (held-exports c wf w x at k e here, each-declarable c x.exports (plain-parts c x plain).1 k e here)
+pub can-export : (ws : Worlds) (c : Collection) → IsWellFormed c → (w : WorldId) (x : World) → item_at c.worlds w.0 ≡ Some x → is_plain ws c x ≡ true → (k : ℕ) (e : Name × ItemKind) → slice_get x.exports k ≡ Some e → CanDeclare ws c e.1
+can-export ws c wf w x at plain k e here = (held-exports c wf w x at k e here, each-declarable ws c x.exports (plain-parts ws c x plain).1 k e here)
 
 -- a component type in which nothing is written
 
@@ -142,8 +144,8 @@ says-world c wf opens turns holds closes w x start between s ds found bare impor
     let all_exports : AreListed c me exported x.exports exported_items = subst (λ (items : Name → Tree). AreListed c me exported x.exports items) (ap (λ (p : Open). (env p []).exports) content) ex.this in
     (component imported_items exported_items, holds c wf m w x imported_items exported_items found all_imports all_exports, tt, closes c me m ms ds around o os good g)
 
-pub writes-world : (c : Collection) (w : WorldId) (x : World) (start between s : Scope) (ds : List Decl) → item_at c.worlds w.0 ≡ Some x → IsBare start → DeclaresSide c imported start x.imports between → DeclaresSide c exported between x.exports s → s.content ≡ Component ds → WritesWorld c w ds
-writes-world c w x start between s ds found bare imports exports is = record {
+pub writes-world : (ws : Worlds) (c : Collection) (w : WorldId) (x : World) (start between s : Scope) (ds : List Decl) → item_at c.worlds w.0 ≡ Some x → IsBare start → DeclaresSide ws c imported start x.imports between → DeclaresSide ws c exported between x.exports s → s.content ≡ Component ds → WritesWorld ws c w ds
+writes-world ws c w x start between s ds found bare imports exports is = record {
   world = x;
   found = found;
   start = start;
@@ -157,12 +159,12 @@ writes-world c w x start between s ds found bare imports exports is = record {
 
 -- refusals
 
-pub imports-refused : (A B : Type 0) (c : Collection) (w : WorldId) (x : World) (start : Scope) (e : EncodeFault) → item_at c.worlds w.0 ≡ Some x → IsBare start → IsSideRefused {A = A} c imported start x.imports (Err e) → IsWorldRefused {A = B} c w (Err e)
-imports-refused A B c w x start (fault.Write f) found bare h = record { world = x; found = found; start = start; bare = bare; stopped = inl h }
-imports-refused A B c w x start fault.TooLarge found bare h = record { world = x; found = found; start = start; bare = bare; stopped = inl h }
-imports-refused A B c w x start fault.OutOfMemory found bare h = tt
+pub imports-refused : (A B : Type 0) (ws : Worlds) (c : Collection) (w : WorldId) (x : World) (start : Scope) (e : EncodeFault) → item_at c.worlds w.0 ≡ Some x → IsBare start → IsSideRefused {A = A} ws c imported start x.imports (Err e) → IsWorldRefused {A = B} ws c w (Err e)
+imports-refused A B ws c w x start (fault.Write f) found bare h = record { world = x; found = found; start = start; bare = bare; stopped = inl h }
+imports-refused A B ws c w x start fault.TooLarge found bare h = record { world = x; found = found; start = start; bare = bare; stopped = inl h }
+imports-refused A B ws c w x start fault.OutOfMemory found bare h = tt
 
-pub exports-refused : (A B : Type 0) (c : Collection) (w : WorldId) (x : World) (start between : Scope) (e : EncodeFault) → item_at c.worlds w.0 ≡ Some x → IsBare start → DeclaresSide c imported start x.imports between → IsSideRefused {A = A} c exported between x.exports (Err e) → IsWorldRefused {A = B} c w (Err e)
-exports-refused A B c w x start between (fault.Write f) found bare written h = record { world = x; found = found; start = start; bare = bare; stopped = inr (record { between = between; imports = written; stopped = h }) }
-exports-refused A B c w x start between fault.TooLarge found bare written h = record { world = x; found = found; start = start; bare = bare; stopped = inr (record { between = between; imports = written; stopped = h }) }
-exports-refused A B c w x start between fault.OutOfMemory found bare written h = tt
+pub exports-refused : (A B : Type 0) (ws : Worlds) (c : Collection) (w : WorldId) (x : World) (start between : Scope) (e : EncodeFault) → item_at c.worlds w.0 ≡ Some x → IsBare start → DeclaresSide ws c imported start x.imports between → IsSideRefused {A = A} ws c exported between x.exports (Err e) → IsWorldRefused {A = B} ws c w (Err e)
+exports-refused A B ws c w x start between (fault.Write f) found bare written h = record { world = x; found = found; start = start; bare = bare; stopped = inr (record { between = between; imports = written; stopped = h }) }
+exports-refused A B ws c w x start between fault.TooLarge found bare written h = record { world = x; found = found; start = start; bare = bare; stopped = inr (record { between = between; imports = written; stopped = h }) }
+exports-refused A B ws c w x start between fault.OutOfMemory found bare written h = tt

@@ -23,24 +23,27 @@ use Rattle.wac_scopes.specs.Contents.{count, ContentFits}
 use Rattle.wac_scopes.specs.Sides.{and_declared}
 use Rattle.wac_scopes.specs.Scoped.{value_index, named_at, HasToo, AlsoLists}
 use Rattle.wac_listing.specs.Order.{AreOrdered}
+use Rattle.wac_encode.specs.declared.worlds.Worlds.{Worlds}
 use Rattle.wac_encode.specs.Written.{PartOf, WritesFor, HasHandle, IsOfFunc}
+use Rattle.wac_encode.specs.Worlds.{is_written, IsWorldTypeAt, WorldDoesNotFit}
 use Rattle.wac_encode.specs.Listing.{lists_plain, NeededBy, own_types, IsDescribed, SameRecords, TypeDoesNotFit}
 use Rattle.wac_encode.specs.Instances.{IsInterfaceAt, listed_definitions, InterfaceDoesNotFit, IsInstanceRefused}
 use Rattle.wac_worlds.specs.declared.order.Group.{Group}
 use Rattle.wac_worlds.specs.declared.order.Group.TheVariants.{Instances, OtherTypes, Others}
 
--- whether an item is of a sort that is written so far, or that no component type can list
-abbrev pub is_declarable : Collection → ItemKind → Bool
-is_declarable c (kind.TypeItem (ty.Value v)) = true
-is_declarable c (kind.TypeItem (ty.Func f)) = true
-is_declarable c (kind.TypeItem (ty.Module m)) = true
-is_declarable c (kind.TypeItem (ty.Interface i)) = lists_plain c i
-is_declarable c (kind.TypeItem t) = false
-is_declarable c (kind.Instance i) = lists_plain c i
-is_declarable c k = true
+-- whether an item is of a sort that is written so far, or that no component type can list; of a type item of a world, whether the component type is written
+abbrev pub is_declarable : Worlds → Collection → ItemKind → Bool
+is_declarable ws c (kind.TypeItem (ty.Value v)) = true
+is_declarable ws c (kind.TypeItem (ty.Func f)) = true
+is_declarable ws c (kind.TypeItem (ty.Module m)) = true
+is_declarable ws c (kind.TypeItem (ty.Interface i)) = lists_plain ws c i
+is_declarable ws c (kind.TypeItem (ty.World w)) = is_written ws w
+is_declarable ws c (kind.TypeItem t) = false
+is_declarable ws c (kind.Instance i) = lists_plain ws c i
+is_declarable ws c k = true
 
-abbrev pub are_declarable : Collection → List (Name × ItemKind) → Bool
-are_declarable c es = list_all (λ e. is_declarable c e.1) es
+abbrev pub are_declarable : Worlds → Collection → List (Name × ItemKind) → Bool
+are_declarable ws c es = list_all (λ e. is_declarable ws c e.1) es
 
 -- which items belong to a group
 abbrev pub is_in : Group → ItemKind → Bool
@@ -68,10 +71,11 @@ pub record IsDeclaredOrder (c : Collection) (es order : List (Name × ItemKind))
   pub permutation : IsPermutation es order
 
 -- what an item is described by, where its types were written since old
-abbrev pub IsDeclaredAs : Collection → Scope → Scope → ItemKind → Description → Type 0
-IsDeclaredAs c old now (kind.Instance i) (e.Instance j) = IsInterfaceAt c old now i j
-IsDeclaredAs c old now (kind.TypeItem (ty.Interface i)) (e.Equal j) = IsInterfaceAt c old now i j
-IsDeclaredAs c old now k d = IsDescribed c old now k d
+abbrev pub IsDeclaredAs : Worlds → Collection → Scope → Scope → ItemKind → Description → Type 0
+IsDeclaredAs ws c old now (kind.Instance i) (e.Instance j) = IsInterfaceAt ws c old now i j
+IsDeclaredAs ws c old now (kind.TypeItem (ty.Interface i)) (e.Equal j) = IsInterfaceAt ws c old now i j
+IsDeclaredAs ws c old now (kind.TypeItem (ty.World w)) (e.Equal j) = IsWorldTypeAt ws old now w j
+IsDeclaredAs ws c old now k d = IsDescribed c old now k d
 
 -- a definition that was not written before is recorded at the item's own index, and so written by its name from then on
 abbrev pub IsNamedFrom : Option ℕ → Scope → Scope → DefinedTypeId → ℕ → Type 0
@@ -89,84 +93,86 @@ NamesDeclared c old now new (kind.Instance i) k = AlsoLists now k (listed_defini
 NamesDeclared c old now new item k = SameRecords now new
 
 -- From old to new, an item is declared on this side: what it is made of is written first, once, where it is not written yet.
-pub record DeclaresItem (c : Collection) (side : Side) (old new : Scope) (n : Name) (item : ItemKind) : Type 0 where
+pub record DeclaresItem (ws : Worlds) (c : Collection) (side : Side) (old new : Scope) (n : Name) (item : ItemKind) : Type 0 where
   pub now : Scope
   pub behind : WritesFor c (own_types c item) (NeededBy c item) old now
   pub description : Description
-  pub described : IsDeclaredAs c old now item description
+  pub described : IsDeclaredAs ws c old now item description
   pub appended : new.content ≡ and_declared now.content side n description
   pub named : NamesDeclared c old now new item (count (space (described_sort description)) now.content)
 
 -- items, one after the other
-abbrev pub DeclaresItems : Collection → Side → Scope → List (Name × ItemKind) → Scope → Type 0
-DeclaresItems c side old [] new = new ≡ old
-DeclaresItems c side old (e ∷ es) new = (now : Scope) × DeclaresItem c side old now e.0 e.1 × DeclaresItems c side now es new
+abbrev pub DeclaresItems : Worlds → Collection → Side → Scope → List (Name × ItemKind) → Scope → Type 0
+DeclaresItems ws c side old [] new = new ≡ old
+DeclaresItems ws c side old (e ∷ es) new = (now : Scope) × DeclaresItem ws c side old now e.0 e.1 × DeclaresItems ws c side now es new
 
 -- the items of a side, in the order in which they are declared
-pub record DeclaresSide (c : Collection) (side : Side) (old : Scope) (es : List (Name × ItemKind)) (new : Scope) : Type 0 where
+pub record DeclaresSide (ws : Worlds) (c : Collection) (side : Side) (old : Scope) (es : List (Name × ItemKind)) (new : Scope) : Type 0 where
   pub order : List (Name × ItemKind)
   pub ordered : IsDeclaredOrder c es order
-  pub items : DeclaresItems c side old order new
+  pub items : DeclaresItems ws c side old order new
 
 -- which of an item's types does not fit behind what is written
-abbrev pub DeclaredTypeDoesNotFit : Collection → ItemKind → Scope → Type 0
-DeclaredTypeDoesNotFit c (kind.Instance i) s = InterfaceDoesNotFit c i s
-DeclaredTypeDoesNotFit c (kind.TypeItem (ty.Interface i)) s = InterfaceDoesNotFit c i s
-DeclaredTypeDoesNotFit c k s = TypeDoesNotFit c k s
+abbrev pub DeclaredTypeDoesNotFit : Worlds → Collection → ItemKind → Scope → Type 0
+DeclaredTypeDoesNotFit ws c (kind.Instance i) s = InterfaceDoesNotFit ws c i s
+DeclaredTypeDoesNotFit ws c (kind.TypeItem (ty.Interface i)) s = InterfaceDoesNotFit ws c i s
+DeclaredTypeDoesNotFit ws c (kind.TypeItem (ty.World w)) s = WorldDoesNotFit ws w s
+DeclaredTypeDoesNotFit ws c k s = TypeDoesNotFit c k s
 
 -- the item itself does not
-abbrev pub DeclarationDoesNotFit : Collection → Side → Name → ItemKind → Scope → Scope → Type 0
-DeclarationDoesNotFit c side n k old s = (d : Description) × IsDeclaredAs c old s k d × (ContentFits (and_declared s.content side n d) → ⊥)
+abbrev pub DeclarationDoesNotFit : Worlds → Collection → Side → Name → ItemKind → Scope → Scope → Type 0
+DeclarationDoesNotFit ws c side n k old s = (d : Description) × IsDeclaredAs ws c old s k d × (ContentFits (and_declared s.content side n d) → ⊥)
 
 -- behind some of what it is made of
-pub record ItemDoesNotFit (c : Collection) (side : Side) (n : Name) (k : ItemKind) (old : Scope) : Type 0 where
+pub record ItemDoesNotFit (ws : Worlds) (c : Collection) (side : Side) (n : Name) (k : ItemKind) (old : Scope) : Type 0 where
   pub scope : Scope
   pub types : ℕ
   pub behind : WritesFor c types (NeededBy c k) old scope
-  pub large : DeclaredTypeDoesNotFit c k scope ⊎ DeclarationDoesNotFit c side n k old scope
+  pub large : DeclaredTypeDoesNotFit ws c k scope ⊎ DeclarationDoesNotFit ws c side n k old scope
 
 -- which fault stands at an item: a handle, whose resource nothing binds; a core module type; the fault of the interface's first item that
--- has one; what no component type can list
-abbrev pub IsItemFault : Collection → ItemKind → Scope → WriteFault → Type 0
-IsItemFault c (kind.TypeItem (ty.Value v)) s f = (f ≡ write.UnboundResource) × HasHandle (PartOf c (value_resolved c v))
-IsItemFault c (kind.TypeItem (ty.Func g)) s f = (f ≡ write.UnboundResource) × HasHandle (IsOfFunc c g)
-IsItemFault c (kind.Func g) s f = (f ≡ write.UnboundResource) × HasHandle (IsOfFunc c g)
-IsItemFault c (kind.TypeItem (ty.Module m)) s f = f ≡ write.ModuleAsType
-IsItemFault c (kind.Instance i) s f = IsInstanceRefused {A = Unit {0}} c i s (Err (fault.Write f))
-IsItemFault c (kind.TypeItem (ty.Interface i)) s f = IsInstanceRefused {A = Unit {0}} c i s (Err (fault.Write f))
-IsItemFault c k s f = f ≡ write.NestedItem
+-- has one; what no component type can list; none at a type item of a world, whose component type is written
+abbrev pub IsItemFault : Worlds → Collection → ItemKind → Scope → WriteFault → Type 0
+IsItemFault ws c (kind.TypeItem (ty.Value v)) s f = (f ≡ write.UnboundResource) × HasHandle (PartOf c (value_resolved c v))
+IsItemFault ws c (kind.TypeItem (ty.Func g)) s f = (f ≡ write.UnboundResource) × HasHandle (IsOfFunc c g)
+IsItemFault ws c (kind.Func g) s f = (f ≡ write.UnboundResource) × HasHandle (IsOfFunc c g)
+IsItemFault ws c (kind.TypeItem (ty.Module m)) s f = f ≡ write.ModuleAsType
+IsItemFault ws c (kind.TypeItem (ty.World w)) s f = ⊥
+IsItemFault ws c (kind.Instance i) s f = IsInstanceRefused {A = Unit {0}} ws c i s (Err (fault.Write f))
+IsItemFault ws c (kind.TypeItem (ty.Interface i)) s f = IsInstanceRefused {A = Unit {0}} ws c i s (Err (fault.Write f))
+IsItemFault ws c k s f = f ≡ write.NestedItem
 
 -- what stands where an item is refused in a scope
-abbrev pub IsItemRefused : {A : Type 0} → Collection → Side → Name → ItemKind → Scope → Result A EncodeFault → Type 0
-IsItemRefused c side n k s (Ok x) = Unit {0}
-IsItemRefused c side n k s (Err (fault.Write f)) = IsItemFault c k s f
-IsItemRefused c side n k s (Err fault.TooLarge) = ItemDoesNotFit c side n k s
-IsItemRefused c side n k s (Err fault.OutOfMemory) = Unit {0}
+abbrev pub IsItemRefused : {A : Type 0} → Worlds → Collection → Side → Name → ItemKind → Scope → Result A EncodeFault → Type 0
+IsItemRefused ws c side n k s (Ok x) = Unit {0}
+IsItemRefused ws c side n k s (Err (fault.Write f)) = IsItemFault ws c k s f
+IsItemRefused ws c side n k s (Err fault.TooLarge) = ItemDoesNotFit ws c side n k s
+IsItemRefused ws c side n k s (Err fault.OutOfMemory) = Unit {0}
 
 -- an item is refused behind those before it
-pub record IsStopped (c : Collection) (side : Side) (start : Scope) (order : List (Name × ItemKind)) (e : EncodeFault) : Type 0 where
+pub record IsStopped (ws : Worlds) (c : Collection) (side : Side) (start : Scope) (order : List (Name × ItemKind)) (e : EncodeFault) : Type 0 where
   pub before : List (Name × ItemKind)
   pub name : Name
   pub item : ItemKind
   pub after : List (Name × ItemKind)
   pub split : order ≡ before ++ (name, item) ∷ after
   pub scope : Scope
-  pub written : DeclaresItems c side start before scope
-  pub refused : IsItemRefused {A = Unit {0}} c side name item scope (Err e)
+  pub written : DeclaresItems ws c side start before scope
+  pub refused : IsItemRefused {A = Unit {0}} ws c side name item scope (Err e)
 
 -- the first in order that is refused; or memory was refused
-abbrev pub AreRefused : {A : Type 0} → Collection → Side → Scope → List (Name × ItemKind) → Result A EncodeFault → Type 0
-AreRefused c side start order (Ok x) = Unit {0}
-AreRefused c side start order (Err fault.OutOfMemory) = Unit {0}
-AreRefused c side start order (Err e) = IsStopped c side start order e
+abbrev pub AreRefused : {A : Type 0} → Worlds → Collection → Side → Scope → List (Name × ItemKind) → Result A EncodeFault → Type 0
+AreRefused ws c side start order (Ok x) = Unit {0}
+AreRefused ws c side start order (Err fault.OutOfMemory) = Unit {0}
+AreRefused ws c side start order (Err e) = IsStopped ws c side start order e
 
 -- of a side
-pub record IsSideStopped (c : Collection) (side : Side) (start : Scope) (es : List (Name × ItemKind)) (e : EncodeFault) : Type 0 where
+pub record IsSideStopped (ws : Worlds) (c : Collection) (side : Side) (start : Scope) (es : List (Name × ItemKind)) (e : EncodeFault) : Type 0 where
   pub order : List (Name × ItemKind)
   pub ordered : IsDeclaredOrder c es order
-  pub stopped : IsStopped c side start order e
+  pub stopped : IsStopped ws c side start order e
 
-abbrev pub IsSideRefused : {A : Type 0} → Collection → Side → Scope → List (Name × ItemKind) → Result A EncodeFault → Type 0
-IsSideRefused c side start es (Ok x) = Unit {0}
-IsSideRefused c side start es (Err fault.OutOfMemory) = Unit {0}
-IsSideRefused c side start es (Err e) = IsSideStopped c side start es e
+abbrev pub IsSideRefused : {A : Type 0} → Worlds → Collection → Side → Scope → List (Name × ItemKind) → Result A EncodeFault → Type 0
+IsSideRefused ws c side start es (Ok x) = Unit {0}
+IsSideRefused ws c side start es (Err fault.OutOfMemory) = Unit {0}
+IsSideRefused ws c side start es (Err e) = IsSideStopped ws c side start es e

@@ -1,3 +1,5 @@
 pub mod Steps
 pub mod Declaring
 pub mod Worlds
+pub mod Nested
+pub mod Ahead

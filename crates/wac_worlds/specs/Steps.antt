@@ -12,6 +12,7 @@ use Rattle.wac_stacks.specs.Scopes.{Open, Stack, env, envs}
 use Rattle.wac_stacks.specs.Good.{Good}
 use Rattle.wac_stacks.specs.Listed.{IsItem, IsNewName, Lists, AreListed, on_side, other}
 use Rattle.wac_scopes.specs.Scoped.{opened}
+use Rattle.wac_encode.specs.declared.worlds.Worlds.{Worlds}
 use Rattle.wac_worlds.specs.Declaring.{is_declarable}
 
 -- good stacks in which no item on this side has the name declare it
@@ -34,8 +35,8 @@ DeclaresAll c side old new es = (m : Bindings) (ms : List Bindings) (o : Open) (
     → Declares c side m ms old new o os es
 
 -- an item can be declared
-abbrev pub CanDeclare : Collection → ItemKind → Type 0
-CanDeclare c k = (holds_type c (kind_type k) ≡ true) × (is_declarable c k ≡ true)
+abbrev pub CanDeclare : Worlds → Collection → ItemKind → Type 0
+CanDeclare ws c k = (holds_type c (kind_type k) ≡ true) × (is_declarable ws c k ≡ true)
 
 -- behind the old ones stand the items at these positions
 pub record PutsAt (es : List (Name × ItemKind)) (ps : List ℕ) (old new : List (Name × ItemKind)) : Type 0 where

@@ -6,10 +6,11 @@ ghost use Rattle.wac_shapes.specs.declared.component.ItemKind.{ItemKind as AnyIt
 ghost use Rattle.wac_shapes.specs.declared.component.ItemKind.TheVariants as kind;
 ghost use Rattle.wac_shapes.specs.declared.component.ValueType.TheVariants as val;
 ghost use Rattle.wac_shapes.specs.declared.component.«Type».TheVariants as ty;
-ghost use Rattle.wac_collection.specs.Collection.{HasFunc, HasInterface, holds_value};
+ghost use Rattle.wac_collection.specs.Collection.{HasFunc, HasInterface, HasWorld, holds_value};
 ghost use Rattle.wac_collection.specs.Aliases.{value_resolved};
 ghost use Rattle.wac_scopes.specs.Scoped.{value_index};
 ghost use Rattle.wac_scopes.specs.Sides.{side_of, IsOpenComponent};
+ghost use Rattle.wac_encode.specs.Worlds.{is_written, SayWorlds};
 ghost use Rattle.wac_encode.specs.Listing.{lists_plain};
 ghost use Rattle.wac_worlds.specs.Declaring.{DeclaresItem, DeclaresItems, DeclaresSide, IsItemRefused, AreRefused, IsSideRefused};
 ghost use Rattle.wac_worlds.specs.Steps.{DeclaresHeld, DeclaresAll, CanDeclare};
@@ -19,6 +20,7 @@ use crate::worlds::WorldEncoder;
 use wac_binary::ComponentValType;
 use wac_collection::{
     DefinedTypeId, FuncTypeId, InterfaceId, ItemKind, Named, PrimitiveType, Type, ValueType,
+    WorldId,
 };
 use wac_scopes::{
     EncodeFault, Scope, Side, WriteFault, alias_law, instance_law, listing_law, step_law, still_law,
@@ -37,8 +39,8 @@ impl<'a> WorldEncoder<'a> {
         requires end { value_resolved self.now.types.now value ≡ val.Primitive primitive }
         requires open { IsOpenComponent scope.old.content }
         ensures listed { OnOk result (DeclaresHeld self.now.types.now (side_of side) scope.old scope.new name.now (kind.TypeItem (ty.Value value))) }
-        ensures wrote { OnOk result (DeclaresItem self.now.types.now (side_of side) scope.old scope.new name.now (kind.TypeItem (ty.Value value))) }
-        ensures fault { IsItemRefused self.now.types.now (side_of side) name.now (kind.TypeItem (ty.Value value)) scope.old result }
+        ensures wrote { OnOk result (DeclaresItem self.now.worlds.now self.now.types.now (side_of side) scope.old scope.new name.now (kind.TypeItem (ty.Value value))) }
+        ensures fault { IsItemRefused self.now.worlds.now self.now.types.now (side_of side) name.now (kind.TypeItem (ty.Value value)) scope.old result }
     {
         self.types.law();
         alias_law();
@@ -62,8 +64,8 @@ impl<'a> WorldEncoder<'a> {
         requires written { value_index scope.old id ≡ Some index }
         requires open { IsOpenComponent scope.old.content }
         ensures listed { OnOk result (DeclaresHeld self.now.types.now (side_of side) scope.old scope.new name.now (kind.TypeItem (ty.Value value))) }
-        ensures wrote { OnOk result (DeclaresItem self.now.types.now (side_of side) scope.old scope.new name.now (kind.TypeItem (ty.Value value))) }
-        ensures fault { IsItemRefused self.now.types.now (side_of side) name.now (kind.TypeItem (ty.Value value)) scope.old result }
+        ensures wrote { OnOk result (DeclaresItem self.now.worlds.now self.now.types.now (side_of side) scope.old scope.new name.now (kind.TypeItem (ty.Value value))) }
+        ensures fault { IsItemRefused self.now.worlds.now self.now.types.now (side_of side) name.now (kind.TypeItem (ty.Value value)) scope.old result }
     {
         self.types.law();
         alias_law();
@@ -87,8 +89,8 @@ impl<'a> WorldEncoder<'a> {
         requires unwritten { value_index scope.old id ≡ None }
         requires open { IsOpenComponent scope.old.content }
         ensures listed { OnOk result (DeclaresHeld self.now.types.now (side_of side) scope.old scope.new name.now (kind.TypeItem (ty.Value value))) }
-        ensures wrote { OnOk result (DeclaresItem self.now.types.now (side_of side) scope.old scope.new name.now (kind.TypeItem (ty.Value value))) }
-        ensures fault { IsItemRefused self.now.types.now (side_of side) name.now (kind.TypeItem (ty.Value value)) scope.old result }
+        ensures wrote { OnOk result (DeclaresItem self.now.worlds.now self.now.types.now (side_of side) scope.old scope.new name.now (kind.TypeItem (ty.Value value))) }
+        ensures fault { IsItemRefused self.now.worlds.now self.now.types.now (side_of side) name.now (kind.TypeItem (ty.Value value)) scope.old result }
     {
         self.types.law();
         alias_law();
@@ -111,8 +113,8 @@ impl<'a> WorldEncoder<'a> {
         requires held { holds_value self.now.types.now value ≡ true }
         requires open { IsOpenComponent scope.old.content }
         ensures listed { OnOk result (DeclaresHeld self.now.types.now (side_of side) scope.old scope.new name.now (kind.TypeItem (ty.Value value))) }
-        ensures wrote { OnOk result (DeclaresItem self.now.types.now (side_of side) scope.old scope.new name.now (kind.TypeItem (ty.Value value))) }
-        ensures fault { IsItemRefused self.now.types.now (side_of side) name.now (kind.TypeItem (ty.Value value)) scope.old result }
+        ensures wrote { OnOk result (DeclaresItem self.now.worlds.now self.now.types.now (side_of side) scope.old scope.new name.now (kind.TypeItem (ty.Value value))) }
+        ensures fault { IsItemRefused self.now.worlds.now self.now.types.now (side_of side) name.now (kind.TypeItem (ty.Value value)) scope.old result }
     {
         let end = self.types.resolve_value_type(value);
         match end {
@@ -142,8 +144,8 @@ impl<'a> WorldEncoder<'a> {
         requires held { HasFunc self.now.types.now func }
         requires open { IsOpenComponent scope.old.content }
         ensures listed { OnOk result (DeclaresHeld self.now.types.now (side_of side) scope.old scope.new name.now (kind.Func func)) }
-        ensures wrote { OnOk result (DeclaresItem self.now.types.now (side_of side) scope.old scope.new name.now (kind.Func func)) }
-        ensures fault { IsItemRefused self.now.types.now (side_of side) name.now (kind.Func func) scope.old result }
+        ensures wrote { OnOk result (DeclaresItem self.now.worlds.now self.now.types.now (side_of side) scope.old scope.new name.now (kind.Func func)) }
+        ensures fault { IsItemRefused self.now.worlds.now self.now.types.now (side_of side) name.now (kind.Func func) scope.old result }
     {
         let index = self.func(scope, func)?;
         scope.declare_func(side, name, index)?;
@@ -161,8 +163,8 @@ impl<'a> WorldEncoder<'a> {
         requires held { HasFunc self.now.types.now func }
         requires open { IsOpenComponent scope.old.content }
         ensures listed { OnOk result (DeclaresHeld self.now.types.now (side_of side) scope.old scope.new name.now (kind.TypeItem (ty.Func func))) }
-        ensures wrote { OnOk result (DeclaresItem self.now.types.now (side_of side) scope.old scope.new name.now (kind.TypeItem (ty.Func func))) }
-        ensures fault { IsItemRefused self.now.types.now (side_of side) name.now (kind.TypeItem (ty.Func func)) scope.old result }
+        ensures wrote { OnOk result (DeclaresItem self.now.worlds.now self.now.types.now (side_of side) scope.old scope.new name.now (kind.TypeItem (ty.Func func))) }
+        ensures fault { IsItemRefused self.now.worlds.now self.now.types.now (side_of side) name.now (kind.TypeItem (ty.Func func)) scope.old result }
     {
         let index = self.func(scope, func)?;
         scope.declare_type(side, name, index)?;
@@ -179,11 +181,12 @@ impl<'a> WorldEncoder<'a> {
         interface: InterfaceId,
     ) -> Result<(), EncodeFault>
         requires held { HasInterface self.now.types.now interface }
-        requires plain { lists_plain self.now.types.now interface ≡ true }
+        requires say { SayWorlds self.now.types.now self.now.worlds.now }
+        requires plain { lists_plain self.now.worlds.now self.now.types.now interface ≡ true }
         requires open { IsOpenComponent scope.old.content }
         ensures listed { OnOk result (DeclaresHeld self.now.types.now (side_of side) scope.old scope.new name.now (kind.Instance interface)) }
-        ensures wrote { OnOk result (DeclaresItem self.now.types.now (side_of side) scope.old scope.new name.now (kind.Instance interface)) }
-        ensures fault { IsItemRefused self.now.types.now (side_of side) name.now (kind.Instance interface) scope.old result }
+        ensures wrote { OnOk result (DeclaresItem self.now.worlds.now self.now.types.now (side_of side) scope.old scope.new name.now (kind.Instance interface)) }
+        ensures fault { IsItemRefused self.now.worlds.now self.now.types.now (side_of side) name.now (kind.Instance interface) scope.old result }
     {
         instance_law();
         self.types.law();
@@ -204,13 +207,36 @@ impl<'a> WorldEncoder<'a> {
         interface: InterfaceId,
     ) -> Result<(), EncodeFault>
         requires held { HasInterface self.now.types.now interface }
-        requires plain { lists_plain self.now.types.now interface ≡ true }
+        requires say { SayWorlds self.now.types.now self.now.worlds.now }
+        requires plain { lists_plain self.now.worlds.now self.now.types.now interface ≡ true }
         requires open { IsOpenComponent scope.old.content }
         ensures listed { OnOk result (DeclaresHeld self.now.types.now (side_of side) scope.old scope.new name.now (kind.TypeItem (ty.Interface interface))) }
-        ensures wrote { OnOk result (DeclaresItem self.now.types.now (side_of side) scope.old scope.new name.now (kind.TypeItem (ty.Interface interface))) }
-        ensures fault { IsItemRefused self.now.types.now (side_of side) name.now (kind.TypeItem (ty.Interface interface)) scope.old result }
+        ensures wrote { OnOk result (DeclaresItem self.now.worlds.now self.now.types.now (side_of side) scope.old scope.new name.now (kind.TypeItem (ty.Interface interface))) }
+        ensures fault { IsItemRefused self.now.worlds.now self.now.types.now (side_of side) name.now (kind.TypeItem (ty.Interface interface)) scope.old result }
     {
         let index = self.instance(scope, interface)?;
+        scope.declare_type(side, name, index)?;
+        Ok(())
+    }
+
+    /// Writes the component type of a world, and declares a type item that equals it. It is still written by the index that it has.
+    fn world_type_item(
+        &self,
+        scope: &mut Scope,
+        side: Side,
+        name: &str,
+        world: WorldId,
+    ) -> Result<(), EncodeFault>
+        requires held { HasWorld self.now.types.now world }
+        requires ahead { is_written self.now.worlds.now world ≡ true }
+        requires say { SayWorlds self.now.types.now self.now.worlds.now }
+        requires open { IsOpenComponent scope.old.content }
+        ensures listed { OnOk result (DeclaresHeld self.now.types.now (side_of side) scope.old scope.new name.now (kind.TypeItem (ty.World world))) }
+        ensures wrote { OnOk result (DeclaresItem self.now.worlds.now self.now.types.now (side_of side) scope.old scope.new name.now (kind.TypeItem (ty.World world))) }
+        ensures fault { IsItemRefused self.now.worlds.now self.now.types.now (side_of side) name.now (kind.TypeItem (ty.World world)) scope.old result }
+    {
+        still_law();
+        let index = self.world(scope, world)?;
         scope.declare_type(side, name, index)?;
         Ok(())
     }
@@ -223,11 +249,12 @@ impl<'a> WorldEncoder<'a> {
         name: &str,
         item: ItemKind,
     ) -> Result<(), EncodeFault>
-        requires held { CanDeclare self.now.types.now item }
+        requires say { SayWorlds self.now.types.now self.now.worlds.now }
+        requires held { CanDeclare self.now.worlds.now self.now.types.now item }
         requires open { IsOpenComponent scope.old.content }
         ensures listed { OnOk result (DeclaresHeld self.now.types.now (side_of side) scope.old scope.new name.now item) }
-        ensures wrote { OnOk result (DeclaresItem self.now.types.now (side_of side) scope.old scope.new name.now item) }
-        ensures fault { IsItemRefused self.now.types.now (side_of side) name.now item scope.old result }
+        ensures wrote { OnOk result (DeclaresItem self.now.worlds.now self.now.types.now (side_of side) scope.old scope.new name.now item) }
+        ensures fault { IsItemRefused self.now.worlds.now self.now.types.now (side_of side) name.now item scope.old result }
     {
         match item {
             ItemKind::TypeItem(Type::Value(value)) => self.type_item(scope, side, name, value),
@@ -235,6 +262,9 @@ impl<'a> WorldEncoder<'a> {
             ItemKind::TypeItem(Type::Interface(interface)) => {
                 self.interface_type_item(scope, side, name, interface)
             }
+            ItemKind::TypeItem(Type::World(world)) => self.world_type_item(
+                scope, side, name, world,
+            ),
             ItemKind::Func(func) => self.func_item(scope, side, name, func),
             ItemKind::Instance(interface) => self.instance_item(scope, side, name, interface),
             ItemKind::TypeItem(Type::Module(_)) => {
@@ -254,13 +284,14 @@ impl<'a> WorldEncoder<'a> {
         side: Side,
         order: &[(&str, ItemKind)],
     ) -> Result<(), EncodeFault>
-        requires plain { (k : ℕ) (e : List ℕ × AnyItem) → slice_get (named_pairs order.now) k ≡ Some e → CanDeclare self.now.types.now e.1 }
+        requires say { SayWorlds self.now.types.now self.now.worlds.now }
+        requires plain { (k : ℕ) (e : List ℕ × AnyItem) → slice_get (named_pairs order.now) k ≡ Some e → CanDeclare self.now.worlds.now self.now.types.now e.1 }
         requires once { NoNameTwice (named_pairs order.now) }
         requires open { IsOpenComponent scope.old.content }
         ensures listed { OnOk result (DeclaresAll self.now.types.now (side_of side) scope.old scope.new (named_pairs order.now)) }
-        ensures wrote { OnOk result (DeclaresItems self.now.types.now (side_of side) scope.old (named_pairs order.now) scope.new) }
+        ensures wrote { OnOk result (DeclaresItems self.now.worlds.now self.now.types.now (side_of side) scope.old (named_pairs order.now) scope.new) }
         ensures open { OnOk result (IsOpenComponent scope.new.content) }
-        ensures fault { AreRefused self.now.types.now (side_of side) scope.old (named_pairs order.now) result }
+        ensures fault { AreRefused self.now.worlds.now self.now.types.now (side_of side) scope.old (named_pairs order.now) result }
     {
         listing_law();
         for i in 0..order.len() {
@@ -278,12 +309,13 @@ impl<'a> WorldEncoder<'a> {
         side: Side,
         items: &Named<ItemKind>,
     ) -> Result<(), EncodeFault>
-        requires plain { (k : ℕ) (e : List ℕ × AnyItem) → slice_get items.now k ≡ Some e → CanDeclare self.now.types.now e.1 }
+        requires say { SayWorlds self.now.types.now self.now.worlds.now }
+        requires plain { (k : ℕ) (e : List ℕ × AnyItem) → slice_get items.now k ≡ Some e → CanDeclare self.now.worlds.now self.now.types.now e.1 }
         requires open { IsOpenComponent scope.old.content }
         ensures listed { OnOk result (DeclaresAll self.now.types.now (side_of side) scope.old scope.new items.now) }
-        ensures wrote { OnOk result (DeclaresSide self.now.types.now (side_of side) scope.old items.now scope.new) }
+        ensures wrote { OnOk result (DeclaresSide self.now.worlds.now self.now.types.now (side_of side) scope.old items.now scope.new) }
         ensures open { OnOk result (IsOpenComponent scope.new.content) }
-        ensures fault { IsSideRefused self.now.types.now (side_of side) scope.old items.now result }
+        ensures fault { IsSideRefused self.now.worlds.now self.now.types.now (side_of side) scope.old items.now result }
     {
         items.law();
         listing_law();

@@ -16,7 +16,7 @@ index-held-requires c = subst (λ (t : Collection). c.args.interface.0 < length 
 pub returns-clause-right : goal.returns-clause-right
 returns-clause-right c =
     let g = c.args.reader.now in
-    let are = listed_are g.types c.types-types.result.now c.new.result.types.now c.args.interface c.index-held.result.now c.in_ok-definitions.definitions.items c.types-types.ensures c.new.ensures c.index-held.ensures c.in_ok-definitions.ensures in
+    let are = listed_are g.types c.types-types.result.now c.new.result.types.now c.args.interface c.index-held.result.now c.in_ok-definitions.definitions.items c.types-types.ensures c.new.ensures.types c.index-held.ensures c.in_ok-definitions.ensures in
     c.in_ok-list_definitions.ensures.right g.types c.requires.right c.requires.types
     (subst (λ (ds : List (DefinedTypeId × Name)). HasListing g.types c.args.root.now c.place_of-index.result.1 ds) (sym are)
     (has_listing c.class_laws.ensures (λ t es order w. (c.order_law.ensures t es order w).each) c.args.reader.now c.law-2.ensures c.args.imports.now c.requires.placed c.args.position c.args.name.now c.args.interface c.requires.asked c.instance_law.ensures.holds_value c.law.ensures.instances_counted c.kept_law.ensures.instance_there c.requires.importable c.args.root.now c.requires.begins c.place_of-index.result c.place_of-index.ensures))
@@ -24,5 +24,5 @@ returns-clause-right c =
 pub returns-clause-listed : goal.returns-clause-listed
 returns-clause-listed c =
     let g = c.args.reader.now in
-    let are = listed_are g.types c.types-types.result.now c.new.result.types.now c.args.interface c.index-held.result.now c.in_ok-definitions.definitions.items c.types-types.ensures c.new.ensures c.index-held.ensures c.in_ok-definitions.ensures in
+    let are = listed_are g.types c.types-types.result.now c.new.result.types.now c.args.interface c.index-held.result.now c.in_ok-definitions.definitions.items c.types-types.ensures c.new.ensures.types c.index-held.ensures c.in_ok-definitions.ensures in
     (c.place_of-index.result.1, is_placed c.class_laws.ensures (λ t es order w. (c.order_law.ensures t es order w).each) c.args.reader.now c.law-2.ensures c.args.imports.now c.requires.placed c.args.position c.args.name.now c.args.interface c.requires.asked c.place_of-index.result c.place_of-index.ensures, subst (λ (ds : List (DefinedTypeId × Name)). AlsoLists c.args.root.now c.place_of-index.result.1 ds c.list_definitions.new.self) are c.in_ok-list_definitions.ensures.listed)

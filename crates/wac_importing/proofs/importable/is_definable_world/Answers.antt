@@ -20,7 +20,7 @@ pub returns-clause-definable : goal.returns-clause-definable
 returns-clause-definable c h =
     let few : length c.index-item.result.now.uses ≤ 0 = (let l = c.len.ensures in let f = c.if-len-gt0.false in omega (arith, l, f)) in
     definable_world c.args.types.now c.law.ensures c.args.world c.index-item.result.now c.index-item.ensures (c.is_none.ensures ∙ ap not c.if-is_none.false) few
-    (c.use_nothing.ensures.nothing c.if-not-use_nothing.false) (c.use_nothing-2.ensures.nothing c.if-not-use_nothing-2.false) (c.has_plain_sides.ensures.plain h)
+    (c.use_nothing.ensures.nothing c.if-not-use_nothing.false) (c.use_nothing-2.ensures.nothing c.if-not-use_nothing-2.false) (c.has_plain_items.ensures.plain h)
 
 pub returns-clause-not : goal.returns-clause-not
-returns-clause-not c h so = c.has_plain_sides.ensures.not h (plain_items c.args.types.now c.law.ensures c.args.world so)
+returns-clause-not c h so = c.has_plain_items.ensures.not h (plain_items c.args.types.now c.law.ensures c.args.world so)

@@ -1,8 +1,5 @@
-use Rattle.std.proofs.Common.{sym, subst}
 use Rattle.wac_shapes.specs.declared.component.ItemKind.TheVariants as kind
-use Rattle.wac_shapes.specs.declared.component.«Type».{«Type» as AnyType}
-use Rattle.wac_meaning.specs.Importable.{IsImportableKind}
-use Rattle.wac_importing.specs.Looked.{ListsPlain}
+use Rattle.wac_importing.proofs.Ahead.{is_holder, type_lists, held_by_type}
 use Rattle.wac_importing.proofs.Items.{is_of_values, not_of_values, type_not_importable, free_lists, values_importable}
 use Rattle.wac_importing.proofs.importable.is_importable_type.Goals as goal
 
@@ -18,14 +15,11 @@ returns-in-Value-clause-not c h so = c.has_no_handle.ensures.some h (values_impo
 pub returns-in_default : goal.returns-in_default
 returns-in_default c = record { plain = λ h. cc; free = λ h. cc; not = λ h. type_not_importable c.args.types.now c.law.ensures c.args.ty c.requires.held (not_of_values c.args.ty c.in_default.not-Value c.in_default.not-Func) c.in_default.not-Interface c.in_default.not-World }
 
+pub has_plain_items-requires-clause-held : goal.has_plain_items-requires-clause-held
+has_plain_items-requires-clause-held c = is_holder c.args.types.now c.args.ty c.requires.held c.in-Interface.is
+
 pub returns-in-Interface-clause-plain : goal.returns-in-Interface-clause-plain
-returns-in-Interface-clause-plain c h = subst (λ (a : AnyType). ListsPlain c.args.types.now (kind.TypeItem a)) (sym c.in-Interface.is) (c.has_plain_items.ensures.plain h)
+returns-in-Interface-clause-plain c h = type_lists c.args.types.now c.args.ty c.in-Interface.is (c.has_plain_items.ensures.plain h)
 
 pub returns-in-Interface-clause-not : goal.returns-in-Interface-clause-not
-returns-in-Interface-clause-not c h so = c.has_plain_items.ensures.not_type h (subst (λ (a : AnyType). IsImportableKind c.args.types.now (kind.TypeItem a)) c.in-Interface.is so)
-
-pub returns-in-World-clause-plain : goal.returns-in-World-clause-plain
-returns-in-World-clause-plain c h = subst (λ (a : AnyType). ListsPlain c.args.types.now (kind.TypeItem a)) (sym c.in-World.is) (c.has_plain_sides.ensures.plain h)
-
-pub returns-in-World-clause-not : goal.returns-in-World-clause-not
-returns-in-World-clause-not c h so = c.has_plain_sides.ensures.not_type h (subst (λ (a : AnyType). IsImportableKind c.args.types.now (kind.TypeItem a)) c.in-World.is so)
+returns-in-Interface-clause-not c h so = c.has_plain_items.ensures.not_item h (kind.TypeItem c.args.ty) (held_by_type c.args.ty c.in-Interface.is) so

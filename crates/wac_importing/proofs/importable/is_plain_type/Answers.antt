@@ -1,9 +1,6 @@
-use Rattle.std.proofs.Common.{sym, subst}
 use Rattle.wac_shapes.specs.declared.component.ItemKind.TheVariants as kind
-use Rattle.wac_shapes.specs.declared.component.«Type».{«Type» as AnyType}
-use Rattle.wac_importing.specs.Looked.{IsPlainAlone}
 use Rattle.wac_importing.proofs.Items.{is_of_values, not_of_values, values_plain}
-use Rattle.wac_importing.proofs.Nested.{alone_of, alone_value, type_not_alone}
+use Rattle.wac_importing.proofs.Nested.{alone_of, alone_value, type_not_alone, alone_holder}
 use Rattle.wac_importing.proofs.importable.is_plain_type.Goals as goal
 
 pub has_no_handle-requires-clause-of_values : goal.has_no_handle-requires-clause-of_values
@@ -16,7 +13,7 @@ pub returns-in-Value-clause-not : goal.returns-in-Value-clause-not
 returns-in-Value-clause-not c h so = c.has_no_handle.ensures.some h (alone_value c.args.types.now c.args.ty (is_of_values c.args.ty c.in-Value.is) so)
 
 pub returns-in-Interface-clause-plain : goal.returns-in-Interface-clause-plain
-returns-in-Interface-clause-plain c h = subst (λ (a : AnyType). IsPlainAlone c.args.types.now (kind.TypeItem a)) (sym c.in-Interface.is) tt
+returns-in-Interface-clause-plain c h = alone_holder c.args.types.now c.args.ty c.in-Interface.is
 
 pub returns-in_default : goal.returns-in_default
-returns-in_default c = record { plain = λ h. cc; free = λ h. cc; not = λ h. type_not_alone c.args.types.now c.law.ensures c.args.ty c.requires.held (not_of_values c.args.ty c.in_default.not-Value c.in_default.not-Func) c.in_default.not-Interface }
+returns-in_default c = record { plain = λ h. cc; free = λ h. cc; not = λ h. type_not_alone c.args.types.now c.law.ensures c.args.ty c.requires.held (not_of_values c.args.ty c.in_default.not-Value c.in_default.not-Func) c.in_default.not-Interface c.in_default.not-World }

@@ -8,7 +8,14 @@ pub lists_plain_alone-requires-clause-held : goal.lists_plain_alone-requires-cla
 lists_plain_alone-requires-clause-held c = let less = c.loop-i-test.true in c.requires.held c.loop-i.i _ (slice_get-get_or c.args.inside.now c.loop-i.i _ (omega (arith, less)))
 
 pub returns-then-not-branch-clause-not : goal.returns-then-not-branch-clause-not
-returns-then-not-branch-clause-not c h all = let less = c.loop-i-test.true in c.lists_plain_alone.ensures.not (c.in_ok-lists_plain_alone.was ∙ ap Ok c.if-not-branch.true) (all c.loop-i.i _ (slice_get-get_or c.args.inside.now c.loop-i.i _ (omega (arith, less))))
+returns-then-not-branch-clause-not c h =
+    let less = c.loop-i-test.true in
+    record {
+      i = c.loop-i.i;
+      holder = _;
+      there = slice_get-get_or c.args.inside.now c.loop-i.i _ (omega (arith, less));
+      other = c.lists_plain_alone.ensures.not (c.in_ok-lists_plain_alone.was ∙ ap Ok c.if-not-branch.true);
+    }
 
 pub loop-i-preserved : goal.loop-i-preserved
 loop-i-preserved c = let less = c.loop-i-test.true in (

@@ -19,7 +19,7 @@ returns-in_err-component-clause-refused c =
 pub returns-in_err-component-clause-fault : goal.returns-in_err-component-clause-fault
 returns-in_err-component-clause-fault c =
     let p = err_from_is_err_and c.from_residual.result c.from_residual.ensures.1 in
-    rw (p.1, p.2) (under-id-refused (List Decl) ℕ c.args.self.now.types.now c.args.world c.args.name.now c.args.root.now c.in_err-component.field-0.0 c.in_err-component.ensures.fault)
+    rw (p.1, p.2) (under-id-refused (List Decl) ℕ c.args.self.now.worlds.now c.args.self.now.types.now c.args.world c.args.name.now c.args.root.now c.in_err-component.field-0.0 c.in_err-component.ensures.fault)
 
 pub returns-in_err-index-clause-right : goal.returns-in_err-index-clause-right
 returns-in_err-index-clause-right c = right-same c.args.self.now.types.now c.args.root.now c.define_component.new.self c.in_err-index.ensures.refused c.requires.right
@@ -32,7 +32,7 @@ returns-in_err-index-clause-refused c =
 pub returns-in_err-index-clause-fault : goal.returns-in_err-index-clause-fault
 returns-in_err-index-clause-fault c =
     let p = err_from_is_err_and c.from_residual-in_err-index.result c.from_residual-in_err-index.ensures.1 in
-    rw (p.1, p.2) (type-too-large ℕ ℕ c.args.self.now.types.now c.args.world c.args.name.now c.args.root.now c.in_ok-component.component c.in_err-index.field-0.0 c.in_ok-component.ensures.written c.in_err-index.ensures.too_large)
+    rw (p.1, p.2) (type-too-large ℕ ℕ c.args.self.now.worlds.now c.args.self.now.types.now c.args.world c.args.name.now c.args.root.now c.in_ok-component.component c.in_err-index.field-0.0 c.in_ok-component.ensures.written c.in_err-index.ensures.too_large)
 
 pub export-requires : goal.export-requires
 export-requires c =
@@ -56,7 +56,7 @@ pub returns-in_err-own-clause-fault : goal.returns-in_err-own-clause-fault
 returns-in_err-own-clause-fault c =
     let t = c.args.self.now.types.now in
     let p = err_from_is_err_and c.from_residual-in_err-own.result c.from_residual-in_err-own.ensures.1 in
-    rw (p.1, p.2) (name-too-large t c.args.root.now c.define_component.new.self c.args.name.now c.args.world c.in_ok-component.component c.in_ok-index.index c.in_ok-component.ensures.written c.in_ok-index.ensures.appended c.in_ok-index.ensures.index
+    rw (p.1, p.2) (name-too-large c.args.self.now.worlds.now t c.args.root.now c.define_component.new.self c.args.name.now c.args.world c.in_ok-component.component c.in_ok-index.index c.in_ok-component.ensures.written c.in_ok-index.ensures.appended c.in_ok-index.ensures.index
     ℕ ℕ (encode_fault c.in_err-own.field-0.0) (as-fault ℕ c.in_err-own.field-0.0 _ c.in_err-own.ensures.too_large))
 
 pub returns-clause-definition : goal.returns-clause-definition
@@ -65,7 +65,7 @@ returns-clause-definition c = world-defined (c.rooted_law.ensures.written_there,
 pub returns-clause-written : goal.returns-clause-written
 returns-clause-written c =
     let t = c.args.self.now.types.now in
-    defines-world t c.args.root.now c.define_component.new.self c.args.name.now c.args.world c.in_ok-component.component c.in_ok-index.index c.in_ok-component.ensures.written c.in_ok-index.ensures.appended c.in_ok-index.ensures.index
+    defines-world c.args.self.now.worlds.now t c.args.root.now c.define_component.new.self c.args.name.now c.args.world c.in_ok-component.component c.in_ok-index.index c.in_ok-component.ensures.written c.in_ok-index.ensures.appended c.in_ok-index.ensures.index
     c.export.new.self c.in_ok-own.own c.in_ok-own.ensures.appended c.in_ok-own.ensures.index
 
 pub returns-clause-right : goal.returns-clause-right

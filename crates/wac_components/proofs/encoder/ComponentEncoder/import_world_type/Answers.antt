@@ -20,7 +20,7 @@ returns-in_err-declarations-clause-refused c =
 pub returns-in_err-declarations-clause-fault : goal.returns-in_err-declarations-clause-fault
 returns-in_err-declarations-clause-fault c =
     let p = err_from_is_err_and c.from_residual.result c.from_residual.ensures.1 in
-    rw (p.1, p.2) (world-not-imported (Option (List Decl)) (Option ℕ) c.args.self.now.types.now c.args.name.now e.Equal c.args.world c.args.root.now c.in_err-declarations.field-0.0 c.in_err-declarations.ensures.fault)
+    rw (p.1, p.2) (world-not-imported (Option (List Decl)) (Option ℕ) c.args.self.now.worlds.now c.args.self.now.types.now c.args.name.now e.Equal c.args.world c.args.root.now c.in_err-declarations.field-0.0 c.in_err-declarations.ensures.fault)
 
 pub returns-in_err-index-clause-refused : goal.returns-in_err-index-clause-refused
 returns-in_err-index-clause-refused c =
@@ -31,7 +31,7 @@ pub returns-in_err-index-clause-fault : goal.returns-in_err-index-clause-fault
 returns-in_err-index-clause-fault c =
     let t = c.args.self.now.types.now in
     let p = err_from_is_err_and c.from_residual-in_err-index.result c.from_residual-in_err-index.ensures.1 in
-    rw (p.1, p.2) (type-too-large ℕ (Option ℕ) t c.args.name.now e.Equal c.args.world c.args.root.now c.in-Some.declarations c.in_err-index.field-0.0 (subst (WritesIfThere t c.args.world) c.in-Some.is c.in_ok-declarations.ensures.written) c.in_err-index.ensures.too_large)
+    rw (p.1, p.2) (type-too-large ℕ (Option ℕ) c.args.self.now.worlds.now t c.args.name.now e.Equal c.args.world c.args.root.now c.in-Some.declarations c.in_err-index.field-0.0 (subst (WritesIfThere c.args.self.now.worlds.now t c.args.world) c.in-Some.is c.in_ok-declarations.ensures.written) c.in_err-index.ensures.too_large)
 
 pub import_type-requires : goal.import_type-requires
 import_type-requires c =
@@ -50,7 +50,7 @@ pub returns-in_err-import-clause-fault : goal.returns-in_err-import-clause-fault
 returns-in_err-import-clause-fault c =
     let t = c.args.self.now.types.now in
     let p = err_from_is_err_and c.from_residual-in_err-import.result c.from_residual-in_err-import.ensures.1 in
-    rw (p.1, p.2) (import-too-large t c.args.root.now c.define_component.new.self c.args.name.now e.Equal c.args.world c.in-Some.declarations c.in_ok-index.index (subst (WritesIfThere t c.args.world) c.in-Some.is c.in_ok-declarations.ensures.written) c.in_ok-index.ensures.appended c.in_ok-index.ensures.index
+    rw (p.1, p.2) (import-too-large c.args.self.now.worlds.now t c.args.root.now c.define_component.new.self c.args.name.now e.Equal c.args.world c.in-Some.declarations c.in_ok-index.index (subst (WritesIfThere c.args.self.now.worlds.now t c.args.world) c.in-Some.is c.in_ok-declarations.ensures.written) c.in_ok-index.ensures.appended c.in_ok-index.ensures.index
     ℕ (Option ℕ) c.in_err-import.field-0.0 c.in_err-import.ensures.too_large)
 
 pub returns-clause-imports : goal.returns-clause-imports
@@ -62,5 +62,5 @@ returns-clause-imports c =
 pub returns-clause-written : goal.returns-clause-written
 returns-clause-written c =
     let t = c.args.self.now.types.now in
-    imports-world t c.args.root.now c.define_component.new.self c.args.name.now e.Equal c.args.world c.in-Some.declarations c.in_ok-index.index (subst (WritesIfThere t c.args.world) c.in-Some.is c.in_ok-declarations.ensures.written) c.in_ok-index.ensures.appended c.in_ok-index.ensures.index
+    imports-world c.args.self.now.worlds.now t c.args.root.now c.define_component.new.self c.args.name.now e.Equal c.args.world c.in-Some.declarations c.in_ok-index.index (subst (WritesIfThere c.args.self.now.worlds.now t c.args.world) c.in-Some.is c.in_ok-declarations.ensures.written) c.in_ok-index.ensures.appended c.in_ok-index.ensures.index
     c.import_type.new.self c.in_ok-import.import c.in_ok-import.ensures.appended c.in_ok-import.ensures.index

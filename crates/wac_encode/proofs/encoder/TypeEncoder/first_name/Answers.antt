@@ -15,14 +15,14 @@ use Rattle.wac_encode.proofs.encoder.TypeEncoder.first_name.Goals as goal
 pub returns-in_err-index-clause-fault : goal.returns-in_err-index-clause-fault
 returns-in_err-index-clause-fault c =
     let p = err_from_is_err_and c.from_residual.result c.from_residual.ensures.1 in
-    rw (p.1, p.2) (value-item-refused ComponentValType (Unit {0}) c.args.self.now.types.now c.args.scope.now c.value_type.new.scope c.args.name.now c.args.value c.in_err-index.field-0.0 c.in_err-index.ensures.written c.in_err-index.ensures.fault)
+    rw (p.1, p.2) (value-item-refused ComponentValType (Unit {0}) c.args.self.now.worlds.now c.args.self.now.types.now c.args.scope.now c.value_type.new.scope c.args.name.now c.args.value c.in_err-index.field-0.0 c.in_err-index.ensures.written c.in_err-index.ensures.fault)
 
 pub returns-in_err-export_value-clause-fault : goal.returns-in_err-export_value-clause-fault
 returns-in_err-export_value-clause-fault c =
     let t = c.args.self.now.types.now in
     let p = err_from_is_err_and c.from_residual-in_err-export_value.result c.from_residual-in_err-export_value.ensures.1 in
     let at = recorded-at t c.value_type.new.scope c.args.value c.args.id c.in-Index.index c.requires.end (subst (λ (x : ComponentValType). IsByRecord t c.value_type.new.scope c.args.value x) c.in-Index.is c.in_ok-index.ensures.recorded) in
-    rw (p.1, p.2) (export-refused ℕ (Unit {0}) t c.args.scope.now c.value_type.new.scope c.args.name.now (kind.TypeItem (ty.Value c.args.value)) (own_types t (kind.TypeItem (ty.Value c.args.value))) (e.Equal c.in-Index.index) c.in_err-export_value.field-0.0
+    rw (p.1, p.2) (export-refused ℕ (Unit {0}) c.args.self.now.worlds.now t c.args.scope.now c.value_type.new.scope c.args.name.now (kind.TypeItem (ty.Value c.args.value)) (own_types t (kind.TypeItem (ty.Value c.args.value))) (e.Equal c.in-Index.index) c.in_err-export_value.field-0.0
     (definition-behind t c.args.scope.now c.value_type.new.scope c.args.value c.args.id c.requires.end c.in_ok-index.ensures.written)
     (definition-described t c.args.scope.now c.value_type.new.scope c.args.value c.args.id c.in-Index.index c.requires.end at)
     (recorded-so ℕ c.value_type.new.scope.content _ c.in_err-export_value.field-0.0 c.in_err-export_value.ensures.too_large))
@@ -37,7 +37,7 @@ pub returns-clause-wrote : goal.returns-clause-wrote
 returns-clause-wrote c =
     let t = c.args.self.now.types.now in
     let at = recorded-at t c.value_type.new.scope c.args.value c.args.id c.in-Index.index c.requires.end (subst (λ (x : ComponentValType). IsByRecord t c.value_type.new.scope c.args.value x) c.in-Index.is c.in_ok-index.ensures.recorded) in
-    first-wrote t c.args.scope.now c.value_type.new.scope c.export_value.new.self c.args.name.now c.args.value c.args.id c.in-Index.index c.in_ok-export_value.field-0 c.requires.end c.requires.unwritten c.in_ok-index.ensures.written at c.in_ok-export_value.ensures.appended c.in_ok-export_value.ensures.index c.in_ok-export_value.ensures.recorded c.in_ok-export_value.ensures.named c.in_ok-export_value.ensures.stands
+    first-wrote c.args.self.now.worlds.now t c.args.scope.now c.value_type.new.scope c.export_value.new.self c.args.name.now c.args.value c.args.id c.in-Index.index c.in_ok-export_value.field-0 c.requires.end c.requires.unwritten c.in_ok-index.ensures.written at c.in_ok-export_value.ensures.appended c.in_ok-export_value.ensures.index c.in_ok-export_value.ensures.recorded c.in_ok-export_value.ensures.named c.in_ok-export_value.ensures.stands
 
 pub export_value-requires : goal.export_value-requires
 export_value-requires c = still-open c.args.scope.now.content c.value_type.new.scope.content c.in_ok-index.ensures.written.types c.in_ok-index.ensures.written.appended c.requires.open

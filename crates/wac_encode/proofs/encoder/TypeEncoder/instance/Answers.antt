@@ -18,7 +18,7 @@ pub returns-in-Some-clause-adds : goal.returns-in-Some-clause-adds
 returns-in-Some-clause-adds c = interface-there c.args.self.now.types.now c.still_law.ensures c.args.scope.now c.args.interface c.in-Some.index c.in-Some.ensures.stands
 
 pub returns-in-Some-clause-recorded : goal.returns-in-Some-clause-recorded
-returns-in-Some-clause-recorded c = interface-at-there (WritesInterface c.args.self.now.types.now) c.args.self.now.types.now c.args.scope.now c.args.interface c.in-Some.index (sym c.in-Some.ensures.is)
+returns-in-Some-clause-recorded c = interface-at-there (WritesInterface c.args.self.now.worlds.now c.args.self.now.types.now) c.args.self.now.types.now c.args.scope.now c.args.interface c.in-Some.index (sym c.in-Some.ensures.is)
 
 pub returns-in_err-alias_listed-clause-written : goal.returns-in_err-alias_listed-clause-written
 returns-in_err-alias_listed-clause-written c = aliases-for c.args.self.now.types.now c.args.interface c.args.scope.now c.alias_listed.new.scope c.in_err-alias_listed.ensures.written
@@ -26,7 +26,7 @@ returns-in_err-alias_listed-clause-written c = aliases-for c.args.self.now.types
 pub returns-in_err-alias_listed-clause-fault : goal.returns-in_err-alias_listed-clause-fault
 returns-in_err-alias_listed-clause-fault c =
     let p = err_from_is_err_and c.from_residual.result c.from_residual.ensures.1 in
-    rw (p.1, p.2) (aliases-refused (Unit {0}) ℕ c.args.self.now.types.now c.args.interface c.args.scope.now c.alias_listed.new.scope c.in_err-alias_listed.field-0.0 c.in_err-alias_listed.ensures.written c.in_err-alias_listed.ensures.fault)
+    rw (p.1, p.2) (aliases-refused (Unit {0}) ℕ c.args.self.now.worlds.now c.args.self.now.types.now c.args.interface c.args.scope.now c.alias_listed.new.scope c.in_err-alias_listed.field-0.0 c.in_err-alias_listed.ensures.written c.in_err-alias_listed.ensures.fault)
 
 pub returns-in_err-declarations-clause-written : goal.returns-in_err-declarations-clause-written
 returns-in_err-declarations-clause-written c = aliases-for c.args.self.now.types.now c.args.interface c.args.scope.now c.alias_listed.new.scope c.in_ok-alias_listed.ensures.written
@@ -34,7 +34,7 @@ returns-in_err-declarations-clause-written c = aliases-for c.args.self.now.types
 pub returns-in_err-declarations-clause-fault : goal.returns-in_err-declarations-clause-fault
 returns-in_err-declarations-clause-fault c =
     let p = err_from_is_err_and c.from_residual-in_err-declarations.result c.from_residual-in_err-declarations.ensures.1 in
-    rw (p.1, p.2) (interface-refused (Option (List Decl)) ℕ c.args.self.now.types.now c.args.interface c.args.scope.now c.alias_listed.new.scope c.in_err-declarations.field-0.0 c.in_ok-alias_listed.ensures.written c.in_err-declarations.ensures.fault)
+    rw (p.1, p.2) (interface-refused (Option (List Decl)) ℕ c.args.self.now.worlds.now c.args.self.now.types.now c.args.interface c.args.scope.now c.alias_listed.new.scope c.in_err-declarations.field-0.0 c.in_ok-alias_listed.ensures.written c.in_err-declarations.ensures.fault)
 
 pub returns-in_err-index-clause-written : goal.returns-in_err-index-clause-written
 returns-in_err-index-clause-written c =
@@ -45,7 +45,7 @@ pub returns-in_err-index-clause-fault : goal.returns-in_err-index-clause-fault
 returns-in_err-index-clause-fault c =
     let t = c.args.self.now.types.now in
     let p = err_from_is_err_and c.from_residual-in_err-index.result c.from_residual-in_err-index.ensures.1 in
-    rw (p.1, p.2) (instance-too-large ℕ ℕ t c.args.interface c.args.scope.now c.alias_listed.new.scope c.in-Some-2.declarations c.in_err-index.field-0.0 c.in_ok-alias_listed.ensures.written (subst (WritesIfThere t c.alias_listed.new.scope c.args.interface) c.in-Some-2.is c.in_ok-declarations.ensures.written) c.in_err-index.ensures.too_large)
+    rw (p.1, p.2) (instance-too-large ℕ ℕ c.args.self.now.worlds.now t c.args.interface c.args.scope.now c.alias_listed.new.scope c.in-Some-2.declarations c.in_err-index.field-0.0 c.in_ok-alias_listed.ensures.written (subst (WritesIfThere c.args.self.now.worlds.now t c.alias_listed.new.scope c.args.interface) c.in-Some-2.is c.in_ok-declarations.ensures.written) c.in_err-index.ensures.too_large)
 
 pub returns-clause-written : goal.returns-clause-written
 returns-clause-written c =
@@ -65,5 +65,5 @@ returns-clause-adds c =
 pub returns-clause-recorded : goal.returns-clause-recorded
 returns-clause-recorded c =
     let t = c.args.self.now.types.now in
-    ends-with-interface (WritesInterface t) t c.args.scope.now c.alias_listed.new.scope c.define_instance.new.self c.args.interface c.in-Some-2.declarations c.in_ok-index.index (none-else (type_index c.args.scope.now (ty.Interface c.args.interface)) (λ k is. c.in_default.not-Some k (c.interface.ensures.is ∙ is)))
-    c.in_ok-alias_listed.ensures.written c.in_ok-alias_listed.ensures.all (subst (WritesIfThere t c.alias_listed.new.scope c.args.interface) c.in-Some-2.is c.in_ok-declarations.ensures.written) c.in_ok-index.ensures.appended c.in_ok-index.ensures.recorded c.in_ok-index.ensures.index
+    ends-with-interface (WritesInterface c.args.self.now.worlds.now t) t c.args.scope.now c.alias_listed.new.scope c.define_instance.new.self c.args.interface c.in-Some-2.declarations c.in_ok-index.index (none-else (type_index c.args.scope.now (ty.Interface c.args.interface)) (λ k is. c.in_default.not-Some k (c.interface.ensures.is ∙ is)))
+    c.in_ok-alias_listed.ensures.written c.in_ok-alias_listed.ensures.all (subst (WritesIfThere c.args.self.now.worlds.now t c.alias_listed.new.scope c.args.interface) c.in-Some-2.is c.in_ok-declarations.ensures.written) c.in_ok-index.ensures.appended c.in_ok-index.ensures.recorded c.in_ok-index.ensures.index

@@ -6,7 +6,7 @@ use Rattle.wac_encode.proofs.Remaining.{weight}
 use Rattle.wac_encode.proofs.encoder.TypeEncoder.nested_type.Given as goal
 
 abbrev pub invariant-nesting : goal.invariant-nesting
-invariant-nesting l = IsChain (size l.self.types.now) l.self.types.now l.fn.around l.fn.interface l.levels.items l.level
+invariant-nesting l = IsChain (size l.self.types.now) l.self.worlds.now l.self.types.now l.fn.around l.fn.interface l.levels.items l.level
     × AreAtPlaces l.self.types.now (places_of l.plan) l.levels.items × IsAtPlace l.self.types.now (places_of l.plan) l.level
 
 abbrev pub decreases-nesting : goal.decreases-nesting

@@ -26,7 +26,7 @@ returns-in_err-index-clause-refused c =
 pub returns-in_err-index-clause-fault : goal.returns-in_err-index-clause-fault
 returns-in_err-index-clause-fault c =
     let p = err_from_is_err_and c.from_residual.result c.from_residual.ensures.1 in
-    rw (p.1, p.2) (value-not-defined ComponentValType ℕ c.args.self.now.types.now c.args.root.now c.value_type.new.scope c.args.name.now c.args.value c.in_err-index.field-0.0 c.in_err-index.ensures.written c.in_err-index.ensures.fault)
+    rw (p.1, p.2) (value-not-defined ComponentValType ℕ c.args.self.now.worlds.now c.args.self.now.types.now c.args.root.now c.value_type.new.scope c.args.name.now c.args.value c.in_err-index.field-0.0 c.in_err-index.ensures.written c.in_err-index.ensures.fault)
 
 pub returns-in_err-own-clause-right : goal.returns-in_err-own-clause-right
 returns-in_err-own-clause-right c = right-still c.rooted_law.ensures.stays c.args.self.now.types.now c.value_type.new.scope c.export_definition.new.self c.in_err-own.ensures.refused (right-after c.rooted_law.ensures.stays c.rooted_law.ensures.before (c.rooted_law.ensures.written_there, c.rooted_law.ensures.listed_stays) c.step_law.ensures.is_its_tree c.args.self.now.types.now 0 (PartOf c.args.self.now.types.now (value_resolved c.args.self.now.types.now c.args.value)) c.args.root.now c.value_type.new.scope c.in_ok-index.ensures.written c.requires.right)
@@ -39,13 +39,13 @@ returns-in_err-own-clause-refused c =
 pub returns-in_err-own-clause-fault : goal.returns-in_err-own-clause-fault
 returns-in_err-own-clause-fault c =
     let p = err_from_is_err_and c.from_residual-in_err-own.result c.from_residual-in_err-own.ensures.1 in
-    rw (p.1, p.2) (name-too-large ℕ ℕ c.args.self.now.types.now (ty.Value c.args.value) c.args.root.now c.value_type.new.scope c.args.name.now 0 c.in-Index.index c.in_err-own.field-0.0 c.in_ok-index.ensures.written (definition-described c.args.self.now.types.now c.args.root.now c.value_type.new.scope c.args.value c.args.id c.in-Index.index c.requires.end (recorded-at c.args.self.now.types.now c.value_type.new.scope c.args.value c.args.id c.in-Index.index c.requires.end (subst (λ (x : ComponentValType). IsByRecord c.args.self.now.types.now c.value_type.new.scope c.args.value x) c.in-Index.is c.in_ok-index.ensures.recorded))) c.in_err-own.ensures.too_large)
+    rw (p.1, p.2) (name-too-large ℕ ℕ c.args.self.now.worlds.now c.args.self.now.types.now (ty.Value c.args.value) c.args.root.now c.value_type.new.scope c.args.name.now 0 c.in-Index.index c.in_err-own.field-0.0 c.in_ok-index.ensures.written (definition-described c.args.self.now.types.now c.args.root.now c.value_type.new.scope c.args.value c.args.id c.in-Index.index c.requires.end (recorded-at c.args.self.now.types.now c.value_type.new.scope c.args.value c.args.id c.in-Index.index c.requires.end (subst (λ (x : ComponentValType). IsByRecord c.args.self.now.types.now c.value_type.new.scope c.args.value x) c.in-Index.is c.in_ok-index.ensures.recorded))) c.in_err-own.ensures.too_large)
 
 pub returns-clause-definition : goal.returns-clause-definition
 returns-clause-definition c = first-defined c.rooted_law.ensures.stays c.rooted_law.ensures.before (c.rooted_law.ensures.written_there, c.rooted_law.ensures.listed_stays) c.alias_law.ensures c.step_law.ensures.is_its_tree c.args.self.now.types.now c.law.ensures c.args.root.now c.value_type.new.scope c.export_definition.new.self c.args.name.now c.args.value c.args.id c.in-Index.index c.in_ok-own.own c.requires.right c.requires.end c.in_ok-index.ensures.written (recorded-at c.args.self.now.types.now c.value_type.new.scope c.args.value c.args.id c.in-Index.index c.requires.end (subst (λ (x : ComponentValType). IsByRecord c.args.self.now.types.now c.value_type.new.scope c.args.value x) c.in-Index.is c.in_ok-index.ensures.recorded)) c.in_ok-own.ensures.appended c.in_ok-own.ensures.index
 
 pub returns-clause-written : goal.returns-clause-written
-returns-clause-written c = first-once c.args.self.now.types.now c.args.root.now c.value_type.new.scope c.export_definition.new.self c.args.name.now c.args.value c.args.id c.in-Index.index c.in_ok-own.own c.requires.end c.requires.unwritten c.in_ok-index.ensures.written (recorded-at c.args.self.now.types.now c.value_type.new.scope c.args.value c.args.id c.in-Index.index c.requires.end (subst (λ (x : ComponentValType). IsByRecord c.args.self.now.types.now c.value_type.new.scope c.args.value x) c.in-Index.is c.in_ok-index.ensures.recorded)) c.in_ok-own.ensures.appended c.in_ok-own.ensures.recorded c.in_ok-own.ensures.named
+returns-clause-written c = first-once c.args.self.now.worlds.now c.args.self.now.types.now c.args.root.now c.value_type.new.scope c.export_definition.new.self c.args.name.now c.args.value c.args.id c.in-Index.index c.in_ok-own.own c.requires.end c.requires.unwritten c.in_ok-index.ensures.written (recorded-at c.args.self.now.types.now c.value_type.new.scope c.args.value c.args.id c.in-Index.index c.requires.end (subst (λ (x : ComponentValType). IsByRecord c.args.self.now.types.now c.value_type.new.scope c.args.value x) c.in-Index.is c.in_ok-index.ensures.recorded)) c.in_ok-own.ensures.appended c.in_ok-own.ensures.recorded c.in_ok-own.ensures.named
 
 pub returns-clause-right : goal.returns-clause-right
 returns-clause-right c = c.in_ok-own.ensures.right c.args.self.now.types.now (right-after c.rooted_law.ensures.stays c.rooted_law.ensures.before (c.rooted_law.ensures.written_there, c.rooted_law.ensures.listed_stays) c.step_law.ensures.is_its_tree c.args.self.now.types.now 0 (PartOf c.args.self.now.types.now (value_resolved c.args.self.now.types.now c.args.value)) c.args.root.now c.value_type.new.scope c.in_ok-index.ensures.written c.requires.right) (recorded-at c.args.self.now.types.now c.value_type.new.scope c.args.value c.args.id c.in-Index.index c.requires.end (subst (λ (x : ComponentValType). IsByRecord c.args.self.now.types.now c.value_type.new.scope c.args.value x) c.in-Index.is c.in_ok-index.ensures.recorded))

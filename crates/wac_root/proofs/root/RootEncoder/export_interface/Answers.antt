@@ -18,7 +18,7 @@ returns-in_err-component-clause-refused c =
 pub returns-in_err-component-clause-fault : goal.returns-in_err-component-clause-fault
 returns-in_err-component-clause-fault c =
     let p = err_from_is_err_and c.from_residual.result c.from_residual.ensures.1 in
-    rw (p.1, p.2) (component-not-defined (List Decl) ℕ c.args.self.now.types.now c.still_law.ensures c.args.root.now c.args.name.now c.args.interface c.in_err-component.field-0.0 c.in_err-component.ensures.fault)
+    rw (p.1, p.2) (component-not-defined (List Decl) ℕ c.args.self.now.worlds.now c.args.self.now.types.now c.still_law.ensures c.args.root.now c.args.name.now c.args.interface c.in_err-component.field-0.0 c.in_err-component.ensures.fault)
 
 pub returns-in_err-index-clause-right : goal.returns-in_err-index-clause-right
 returns-in_err-index-clause-right c = right-same c.args.self.now.types.now c.args.root.now c.define_component.new.self c.in_err-index.ensures.refused c.requires.right
@@ -31,7 +31,7 @@ returns-in_err-index-clause-refused c =
 pub returns-in_err-index-clause-fault : goal.returns-in_err-index-clause-fault
 returns-in_err-index-clause-fault c =
     let p = err_from_is_err_and c.from_residual-in_err-index.result c.from_residual-in_err-index.ensures.1 in
-    rw (p.1, p.2) (component-too-large ℕ ℕ c.args.self.now.types.now c.still_law.ensures c.args.root.now c.args.name.now c.args.interface c.in_ok-component.component c.in_err-index.field-0.0 c.in_ok-component.ensures.written c.in_err-index.ensures.too_large)
+    rw (p.1, p.2) (component-too-large ℕ ℕ c.args.self.now.worlds.now c.args.self.now.types.now c.still_law.ensures c.args.root.now c.args.name.now c.args.interface c.in_ok-component.component c.in_err-index.field-0.0 c.in_ok-component.ensures.written c.in_err-index.ensures.too_large)
 
 pub export-requires : goal.export-requires
 export-requires c =
@@ -56,8 +56,8 @@ returns-in_err-own-clause-fault c =
     let t = c.args.self.now.types.now in
     let p = err_from_is_err_and c.from_residual-in_err-own.result c.from_residual-in_err-own.ensures.1 in
     let w = component-behind t c.args.root.now c.define_component.new.self c.args.interface c.in_ok-component.component c.in_ok-index.index c.in_ok-component.ensures.says c.in_ok-index.ensures.stands c.in_ok-index.ensures.appended in
-    let ends = ends-with-component t c.args.root.now c.define_component.new.self c.args.interface c.in_ok-component.component c.in_ok-index.index c.in_ok-component.ensures.written c.in_ok-index.ensures.appended c.in_ok-index.ensures.index in
-    rw (p.1, p.2) (name-too-large ℕ ℕ t (ty.Interface c.args.interface) c.args.root.now c.define_component.new.self c.args.name.now 1 c.in_ok-index.index (encode_fault c.in_err-own.field-0.0) w ends (as-fault ℕ c.in_err-own.field-0.0 _ c.in_err-own.ensures.too_large))
+    let ends = ends-with-component c.args.self.now.worlds.now t c.args.root.now c.define_component.new.self c.args.interface c.in_ok-component.component c.in_ok-index.index c.in_ok-component.ensures.written c.in_ok-index.ensures.appended c.in_ok-index.ensures.index in
+    rw (p.1, p.2) (name-too-large ℕ ℕ c.args.self.now.worlds.now t (ty.Interface c.args.interface) c.args.root.now c.define_component.new.self c.args.name.now 1 c.in_ok-index.index (encode_fault c.in_err-own.field-0.0) w ends (as-fault ℕ c.in_err-own.field-0.0 _ c.in_err-own.ensures.too_large))
 
 pub returns-clause-definition : goal.returns-clause-definition
 returns-clause-definition c = interface-defined (c.rooted_law.ensures.written_there, c.rooted_law.ensures.listed_stays) c.args.self.now.types.now c.args.root.now c.define_component.new.self c.export.new.self c.args.name.now c.args.interface c.in_ok-component.component c.in_ok-index.index c.in_ok-own.own c.requires.right c.in_ok-component.ensures.says c.in_ok-index.ensures.stands c.in_ok-index.ensures.appended c.in_ok-index.ensures.index c.in_ok-own.ensures.appended c.in_ok-own.ensures.index
@@ -66,8 +66,8 @@ pub returns-clause-written : goal.returns-clause-written
 returns-clause-written c =
     let t = c.args.self.now.types.now in
     let w = component-behind t c.args.root.now c.define_component.new.self c.args.interface c.in_ok-component.component c.in_ok-index.index c.in_ok-component.ensures.says c.in_ok-index.ensures.stands c.in_ok-index.ensures.appended in
-    let ends = ends-with-component t c.args.root.now c.define_component.new.self c.args.interface c.in_ok-component.component c.in_ok-index.index c.in_ok-component.ensures.written c.in_ok-index.ensures.appended c.in_ok-index.ensures.index in
-    interface-once t c.args.root.now c.define_component.new.self c.export.new.self c.args.name.now c.args.interface c.in_ok-index.index c.in_ok-own.own w ends c.in_ok-own.ensures.appended
+    let ends = ends-with-component c.args.self.now.worlds.now t c.args.root.now c.define_component.new.self c.args.interface c.in_ok-component.component c.in_ok-index.index c.in_ok-component.ensures.written c.in_ok-index.ensures.appended c.in_ok-index.ensures.index in
+    interface-once c.args.self.now.worlds.now t c.args.root.now c.define_component.new.self c.export.new.self c.args.name.now c.args.interface c.in_ok-index.index c.in_ok-own.own w ends c.in_ok-own.ensures.appended
 
 pub returns-clause-right : goal.returns-clause-right
 returns-clause-right c =

@@ -23,7 +23,7 @@ returns-in_err-index-clause-refused c =
 pub returns-in_err-index-clause-fault : goal.returns-in_err-index-clause-fault
 returns-in_err-index-clause-fault c =
     let p = err_from_is_err_and c.from_residual.result c.from_residual.ensures.1 in
-    rw (p.1, p.2) (value-not-imported ComponentValType ℕ c.args.self.now.types.now c.args.root.now c.value_type.new.scope c.args.name.now c.args.value c.in_err-index.field-0.0 c.in_err-index.ensures.written c.in_err-index.ensures.fault)
+    rw (p.1, p.2) (value-not-imported ComponentValType ℕ c.args.self.now.worlds.now c.args.self.now.types.now c.args.root.now c.value_type.new.scope c.args.name.now c.args.value c.in_err-index.field-0.0 c.in_err-index.ensures.written c.in_err-index.ensures.fault)
 
 pub returns-in_err-import-clause-refused : goal.returns-in_err-import-clause-refused
 returns-in_err-import-clause-refused c =
@@ -35,7 +35,7 @@ returns-in_err-import-clause-fault c =
     let t = c.args.self.now.types.now in
     let p = err_from_is_err_and c.from_residual-in_err-import.result c.from_residual-in_err-import.ensures.1 in
     let at = recorded-at t c.value_type.new.scope c.args.value c.args.id c.in-Index.index c.requires.end (subst (λ (x : ComponentValType). IsByRecord t c.value_type.new.scope c.args.value x) c.in-Index.is c.in_ok-index.ensures.recorded) in
-    rw (p.1, p.2) (import-too-large ℕ ℕ t c.args.root.now c.value_type.new.scope c.args.name.now (kind.TypeItem (ty.Value c.args.value)) (own_types t (kind.TypeItem (ty.Value c.args.value))) (e.Equal c.in-Index.index) c.in_err-import.field-0.0
+    rw (p.1, p.2) (import-too-large ℕ ℕ c.args.self.now.worlds.now t c.args.root.now c.value_type.new.scope c.args.name.now (kind.TypeItem (ty.Value c.args.value)) (own_types t (kind.TypeItem (ty.Value c.args.value))) (e.Equal c.in-Index.index) c.in_err-import.field-0.0
     (definition-behind t c.args.root.now c.value_type.new.scope c.args.value c.args.id c.requires.end c.in_ok-index.ensures.written)
     (definition-described t c.args.root.now c.value_type.new.scope c.args.value c.args.id c.in-Index.index c.requires.end at)
     c.in_err-import.ensures.too_large)
@@ -50,4 +50,4 @@ pub returns-clause-wrote : goal.returns-clause-wrote
 returns-clause-wrote c =
     let t = c.args.self.now.types.now in
     let at = recorded-at t c.value_type.new.scope c.args.value c.args.id c.in-Index.index c.requires.end (subst (λ (x : ComponentValType). IsByRecord t c.value_type.new.scope c.args.value x) c.in-Index.is c.in_ok-index.ensures.recorded) in
-    first-written t c.args.root.now c.value_type.new.scope c.import_value.new.self c.args.name.now c.args.value c.args.id c.in-Index.index c.in_ok-import.import c.requires.end c.requires.unwritten c.in_ok-index.ensures.written at c.in_ok-import.ensures.appended c.in_ok-import.ensures.recorded c.in_ok-import.ensures.named c.in_ok-import.ensures.index
+    first-written c.args.self.now.worlds.now t c.args.root.now c.value_type.new.scope c.import_value.new.self c.args.name.now c.args.value c.args.id c.in-Index.index c.in_ok-import.import c.requires.end c.requires.unwritten c.in_ok-index.ensures.written at c.in_ok-import.ensures.appended c.in_ok-import.ensures.recorded c.in_ok-import.ensures.named c.in_ok-import.ensures.index

@@ -18,7 +18,7 @@ returns-in_err-index-clause-refused c =
 pub returns-in_err-index-clause-fault : goal.returns-in_err-index-clause-fault
 returns-in_err-index-clause-fault c =
     let p = err_from_is_err_and c.from_residual.result c.from_residual.ensures.1 in
-    rw (p.1, p.2) (function-not-imported ℕ ℕ c.args.self.now.types.now c.args.root.now c.func.new.scope c.args.name.now c.args.func c.in_err-index.field-0.0 c.in_err-index.ensures.written c.in_err-index.ensures.fault)
+    rw (p.1, p.2) (function-not-imported ℕ ℕ c.args.self.now.worlds.now c.args.self.now.types.now c.args.root.now c.func.new.scope c.args.name.now c.args.func c.in_err-index.field-0.0 c.in_err-index.ensures.written c.in_err-index.ensures.fault)
 
 pub returns-in_err-import-clause-refused : goal.returns-in_err-import-clause-refused
 returns-in_err-import-clause-refused c =
@@ -29,11 +29,11 @@ pub returns-in_err-import-clause-fault : goal.returns-in_err-import-clause-fault
 returns-in_err-import-clause-fault c =
     let t = c.args.self.now.types.now in
     let p = err_from_is_err_and c.from_residual-in_err-import.result c.from_residual-in_err-import.ensures.1 in
-    rw (p.1, p.2) (import-too-large ℕ ℕ t c.args.root.now c.func.new.scope c.args.name.now (kind.Func c.args.func) 0 (e.Func c.in_ok-index.index) c.in_err-import.field-0.0 c.in_ok-index.ensures.written (c.in_ok-index.ensures.adds, c.in_ok-index.ensures.recorded)
+    rw (p.1, p.2) (import-too-large ℕ ℕ c.args.self.now.worlds.now t c.args.root.now c.func.new.scope c.args.name.now (kind.Func c.args.func) 0 (e.Func c.in_ok-index.index) c.in_err-import.field-0.0 c.in_ok-index.ensures.written (c.in_ok-index.ensures.adds, c.in_ok-index.ensures.recorded)
     (exactly-so ℕ _ c.in_err-import.field-0.0 c.in_err-import.ensures.too_large))
 
 pub returns-clause-imports : goal.returns-clause-imports
 returns-clause-imports c = function-imported c.listed_law.ensures.imports c.args.self.now.types.now c.step_law.ensures.follows c.step_law.ensures.is_its_tree c.args.root.now c.func.new.scope c.import_func.new.self c.args.name.now c.args.func c.in_ok-index.index c.in_ok-import.import c.in_ok-index.ensures.written c.in_ok-index.ensures.adds c.in_ok-import.ensures.stands
 
 pub returns-clause-wrote : goal.returns-clause-wrote
-returns-clause-wrote c = function-written c.args.self.now.types.now c.args.root.now c.func.new.scope c.import_func.new.self c.args.name.now c.args.func c.in_ok-index.index c.in_ok-import.import c.in_ok-index.ensures.written c.in_ok-index.ensures.adds c.in_ok-index.ensures.recorded c.in_ok-import.ensures.appended c.in_ok-import.ensures.index
+returns-clause-wrote c = function-written c.args.self.now.worlds.now c.args.self.now.types.now c.args.root.now c.func.new.scope c.import_func.new.self c.args.name.now c.args.func c.in_ok-index.index c.in_ok-import.import c.in_ok-index.ensures.written c.in_ok-index.ensures.adds c.in_ok-index.ensures.recorded c.in_ok-import.ensures.appended c.in_ok-import.ensures.index

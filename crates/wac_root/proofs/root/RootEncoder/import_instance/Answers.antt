@@ -17,7 +17,7 @@ returns-in_err-index-clause-refused c =
 pub returns-in_err-index-clause-fault : goal.returns-in_err-index-clause-fault
 returns-in_err-index-clause-fault c =
     let p = err_from_is_err_and c.from_residual.result c.from_residual.ensures.1 in
-    rw (p.1, p.2) (instance-not-imported ℕ ℕ c.args.self.now.types.now c.args.root.now c.args.name.now c.args.interface c.in_err-index.field-0.0 c.in_err-index.ensures.fault)
+    rw (p.1, p.2) (instance-not-imported ℕ ℕ c.args.self.now.worlds.now c.args.self.now.types.now c.args.root.now c.args.name.now c.args.interface c.in_err-index.field-0.0 c.in_err-index.ensures.fault)
 
 pub returns-in_err-import-clause-refused : goal.returns-in_err-import-clause-refused
 returns-in_err-import-clause-refused c =
@@ -28,13 +28,13 @@ pub returns-in_err-import-clause-fault : goal.returns-in_err-import-clause-fault
 returns-in_err-import-clause-fault c =
     let t = c.args.self.now.types.now in
     let p = err_from_is_err_and c.from_residual-in_err-import.result c.from_residual-in_err-import.ensures.1 in
-    rw (p.1, p.2) (import-too-large ℕ ℕ t c.args.root.now c.instance.new.scope c.args.name.now (kind.Instance c.args.interface) 0 (e.Instance c.in_ok-index.index) c.in_err-import.field-0.0 c.in_ok-index.ensures.written c.in_ok-index.ensures.recorded c.in_err-import.ensures.too_large)
+    rw (p.1, p.2) (import-too-large ℕ ℕ c.args.self.now.worlds.now t c.args.root.now c.instance.new.scope c.args.name.now (kind.Instance c.args.interface) 0 (e.Instance c.in_ok-index.index) c.in_err-import.field-0.0 c.in_ok-index.ensures.written c.in_ok-index.ensures.recorded c.in_err-import.ensures.too_large)
 
 pub returns-clause-imports : goal.returns-clause-imports
-returns-clause-imports c = instance-imported c.listed_law.ensures.imports c.instance_law.ensures.exports_end c.args.self.now.types.now c.law.ensures c.step_law.ensures.follows c.step_law.ensures.is_its_tree c.args.root.now c.instance.new.scope c.import_listing.new.self c.args.name.now c.args.interface c.index-held.result.now c.in_ok-index.index c.in_ok-import.import c.in_ok-definitions.definitions.items c.index-held.ensures c.requires.plain c.law-2.ensures c.in_ok-definitions.ensures (still-root c.args.root.now.content c.instance.new.scope.content c.in_ok-index.ensures.written.types c.in_ok-index.ensures.written.appended c.requires.root) c.in_ok-index.ensures.written c.in_ok-index.ensures.adds c.in_ok-import.ensures.appended c.in_ok-import.ensures.stands
+returns-clause-imports c = instance-imported c.listed_law.ensures.imports c.instance_law.ensures.exports_end c.args.self.now.worlds.now c.args.self.now.types.now c.law.ensures c.step_law.ensures.follows c.step_law.ensures.is_its_tree c.args.root.now c.instance.new.scope c.import_listing.new.self c.args.name.now c.args.interface c.index-held.result.now c.in_ok-index.index c.in_ok-import.import c.in_ok-definitions.definitions.items c.index-held.ensures c.requires.plain c.law-2.ensures c.in_ok-definitions.ensures (still-root c.args.root.now.content c.instance.new.scope.content c.in_ok-index.ensures.written.types c.in_ok-index.ensures.written.appended c.requires.root) c.in_ok-index.ensures.written c.in_ok-index.ensures.adds c.in_ok-import.ensures.appended c.in_ok-import.ensures.stands
 
 pub returns-clause-wrote : goal.returns-clause-wrote
-returns-clause-wrote c = instance-written c.args.self.now.types.now c.args.root.now c.instance.new.scope c.import_listing.new.self c.args.name.now c.args.interface c.index-held.result.now c.in_ok-index.index c.in_ok-import.import c.in_ok-definitions.definitions.items c.index-held.ensures c.in_ok-definitions.ensures c.in_ok-index.ensures.written c.in_ok-index.ensures.recorded c.in_ok-import.ensures.appended c.in_ok-import.ensures.listed c.in_ok-import.ensures.index
+returns-clause-wrote c = instance-written c.args.self.now.worlds.now c.args.self.now.types.now c.args.root.now c.instance.new.scope c.import_listing.new.self c.args.name.now c.args.interface c.index-held.result.now c.in_ok-index.index c.in_ok-import.import c.in_ok-definitions.definitions.items c.index-held.ensures c.in_ok-definitions.ensures c.in_ok-index.ensures.written c.in_ok-index.ensures.recorded c.in_ok-import.ensures.appended c.in_ok-import.ensures.listed c.in_ok-import.ensures.index
 
 pub returns-in_err-definitions-clause-refused : goal.returns-in_err-definitions-clause-refused
 returns-in_err-definitions-clause-refused c =

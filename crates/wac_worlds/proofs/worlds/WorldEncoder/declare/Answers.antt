@@ -16,7 +16,7 @@ pub items-requires-clause-plain : goal.items-requires-clause-plain
 items-requires-clause-plain c =
     let t = c.args.self.now.types.now in
     let es = c.args.items.now in
-    ordered-can t es (named_pairs c.as_slice.result.now) (subst (λ (os : List (Bor (List ℕ) × ItemKind)). IsDeclaredOrder t es (named_pairs os)) (sym c.as_slice.ensures.value) c.in_ok-order.ensures) c.requires.plain
+    ordered-can c.args.self.now.worlds.now t es (named_pairs c.as_slice.result.now) (subst (λ (os : List (Bor (List ℕ) × ItemKind)). IsDeclaredOrder t es (named_pairs os)) (sym c.as_slice.ensures.value) c.in_ok-order.ensures) c.requires.plain
 
 pub items-requires-clause-once : goal.items-requires-clause-once
 items-requires-clause-once c =
@@ -29,7 +29,7 @@ returns-in_err-items-clause-fault c =
     let t = c.args.self.now.types.now in
     let es = c.args.items.now in
     let p = err_from_is_err_and c.from_residual-in_err-items.result c.from_residual-in_err-items.ensures.1 in
-    rw (p.1, p.2) (refused-as (Unit {0}) (Unit {0}) t (side_of c.args.side) c.args.scope.now es (named_pairs c.as_slice.result.now) c.in_err-items.field-0.0 (subst (λ (os : List (Bor (List ℕ) × ItemKind)). IsDeclaredOrder t es (named_pairs os)) (sym c.as_slice.ensures.value) c.in_ok-order.ensures) c.in_err-items.ensures.fault)
+    rw (p.1, p.2) (refused-as (Unit {0}) (Unit {0}) c.args.self.now.worlds.now t (side_of c.args.side) c.args.scope.now es (named_pairs c.as_slice.result.now) c.in_err-items.field-0.0 (subst (λ (os : List (Bor (List ℕ) × ItemKind)). IsDeclaredOrder t es (named_pairs os)) (sym c.as_slice.ensures.value) c.in_ok-order.ensures) c.in_err-items.ensures.fault)
 
 pub returns-clause-listed : goal.returns-clause-listed
 returns-clause-listed c =

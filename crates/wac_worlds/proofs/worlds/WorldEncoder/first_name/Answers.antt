@@ -18,14 +18,14 @@ declare_value-requires c = still-open c.args.scope.now.content c.value_type.new.
 pub returns-in_err-index-clause-fault : goal.returns-in_err-index-clause-fault
 returns-in_err-index-clause-fault c =
     let p = err_from_is_err_and c.from_residual.result c.from_residual.ensures.1 in
-    rw (p.1, p.2) (value-refused ComponentValType (Unit {0}) c.args.self.now.types.now (side_of c.args.side) c.args.scope.now c.value_type.new.scope c.args.name.now c.args.value c.in_err-index.field-0.0 c.in_err-index.ensures.written c.in_err-index.ensures.fault)
+    rw (p.1, p.2) (value-refused ComponentValType (Unit {0}) c.args.self.now.worlds.now c.args.self.now.types.now (side_of c.args.side) c.args.scope.now c.value_type.new.scope c.args.name.now c.args.value c.in_err-index.field-0.0 c.in_err-index.ensures.written c.in_err-index.ensures.fault)
 
 pub returns-in_err-declare_value-clause-fault : goal.returns-in_err-declare_value-clause-fault
 returns-in_err-declare_value-clause-fault c =
     let t = c.args.self.now.types.now in
     let p = err_from_is_err_and c.from_residual-in_err-declare_value.result c.from_residual-in_err-declare_value.ensures.1 in
     let at = recorded-at t c.value_type.new.scope c.args.value c.args.id c.in-Index.index c.requires.end (subst (λ (x : ComponentValType). IsByRecord t c.value_type.new.scope c.args.value x) c.in-Index.is c.in_ok-index.ensures.recorded) in
-    rw (p.1, p.2) (item-too-large ℕ (Unit {0}) t (side_of c.args.side) c.args.scope.now c.value_type.new.scope c.args.name.now (kind.TypeItem (ty.Value c.args.value)) (own_types t (kind.TypeItem (ty.Value c.args.value))) (e.Equal c.in-Index.index) c.in_err-declare_value.field-0.0
+    rw (p.1, p.2) (item-too-large ℕ (Unit {0}) c.args.self.now.worlds.now t (side_of c.args.side) c.args.scope.now c.value_type.new.scope c.args.name.now (kind.TypeItem (ty.Value c.args.value)) (own_types t (kind.TypeItem (ty.Value c.args.value))) (e.Equal c.in-Index.index) c.in_err-declare_value.field-0.0
     (definition-behind t c.args.scope.now c.value_type.new.scope c.args.value c.args.id c.requires.end c.in_ok-index.ensures.written)
     (definition-described t c.args.scope.now c.value_type.new.scope c.args.value c.args.id c.in-Index.index c.requires.end at)
     c.in_err-declare_value.ensures.too_large)
@@ -40,4 +40,4 @@ pub returns-clause-wrote : goal.returns-clause-wrote
 returns-clause-wrote c =
     let t = c.args.self.now.types.now in
     let at = recorded-at t c.value_type.new.scope c.args.value c.args.id c.in-Index.index c.requires.end (subst (λ (x : ComponentValType). IsByRecord t c.value_type.new.scope c.args.value x) c.in-Index.is c.in_ok-index.ensures.recorded) in
-    first-written t (side_of c.args.side) c.args.scope.now c.value_type.new.scope c.declare_value.new.self c.args.name.now c.args.value c.args.id c.in-Index.index c.in_ok-declare_value.field-0 c.requires.end c.requires.unwritten c.in_ok-index.ensures.written at c.in_ok-declare_value.ensures.appended c.in_ok-declare_value.ensures.recorded c.in_ok-declare_value.ensures.named c.in_ok-declare_value.ensures.index
+    first-written c.args.self.now.worlds.now t (side_of c.args.side) c.args.scope.now c.value_type.new.scope c.declare_value.new.self c.args.name.now c.args.value c.args.id c.in-Index.index c.in_ok-declare_value.field-0 c.requires.end c.requires.unwritten c.in_ok-index.ensures.written at c.in_ok-declare_value.ensures.appended c.in_ok-declare_value.ensures.recorded c.in_ok-declare_value.ensures.named c.in_ok-declare_value.ensures.index

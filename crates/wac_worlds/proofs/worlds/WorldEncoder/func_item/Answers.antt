@@ -13,17 +13,17 @@ declare_func-requires c = still-open c.args.scope.now.content c.func.new.scope.c
 pub returns-in_err-index-clause-fault : goal.returns-in_err-index-clause-fault
 returns-in_err-index-clause-fault c =
     let p = err_from_is_err_and c.from_residual.result c.from_residual.ensures.1 in
-    rw (p.1, p.2) (function-refused ℕ (Unit {0}) c.args.self.now.types.now (side_of c.args.side) c.args.scope.now c.func.new.scope c.args.name.now c.args.func c.in_err-index.field-0.0 c.in_err-index.ensures.written c.in_err-index.ensures.fault)
+    rw (p.1, p.2) (function-refused ℕ (Unit {0}) c.args.self.now.worlds.now c.args.self.now.types.now (side_of c.args.side) c.args.scope.now c.func.new.scope c.args.name.now c.args.func c.in_err-index.field-0.0 c.in_err-index.ensures.written c.in_err-index.ensures.fault)
 
 pub returns-in_err-declare_func-clause-fault : goal.returns-in_err-declare_func-clause-fault
 returns-in_err-declare_func-clause-fault c =
     let t = c.args.self.now.types.now in
     let p = err_from_is_err_and c.from_residual-in_err-declare_func.result c.from_residual-in_err-declare_func.ensures.1 in
-    rw (p.1, p.2) (item-too-large ℕ (Unit {0}) t (side_of c.args.side) c.args.scope.now c.func.new.scope c.args.name.now (kind.Func c.args.func) 0 (e.Func c.in_ok-index.index) c.in_err-declare_func.field-0.0 c.in_ok-index.ensures.written (c.in_ok-index.ensures.adds, c.in_ok-index.ensures.recorded)
+    rw (p.1, p.2) (item-too-large ℕ (Unit {0}) c.args.self.now.worlds.now t (side_of c.args.side) c.args.scope.now c.func.new.scope c.args.name.now (kind.Func c.args.func) 0 (e.Func c.in_ok-index.index) c.in_err-declare_func.field-0.0 c.in_ok-index.ensures.written (c.in_ok-index.ensures.adds, c.in_ok-index.ensures.recorded)
     (exactly-so ℕ _ c.in_err-declare_func.field-0.0 c.in_err-declare_func.ensures.too_large))
 
 pub returns-clause-listed : goal.returns-clause-listed
 returns-clause-listed c = function-declared c.args.self.now.types.now (side_of c.args.side) c.args.scope.now c.func.new.scope c.declare_func.new.self c.args.name.now c.args.func c.in_ok-index.index c.in_ok-index.ensures.adds c.in_ok-declare_func.ensures.stands
 
 pub returns-clause-wrote : goal.returns-clause-wrote
-returns-clause-wrote c = function-written c.args.self.now.types.now (side_of c.args.side) c.args.scope.now c.func.new.scope c.declare_func.new.self c.args.name.now c.args.func c.in_ok-index.index c.in_ok-index.ensures.written c.in_ok-index.ensures.adds c.in_ok-index.ensures.recorded c.in_ok-declare_func.ensures.appended
+returns-clause-wrote c = function-written c.args.self.now.worlds.now c.args.self.now.types.now (side_of c.args.side) c.args.scope.now c.func.new.scope c.declare_func.new.self c.args.name.now c.args.func c.in_ok-index.index c.in_ok-index.ensures.written c.in_ok-index.ensures.adds c.in_ok-index.ensures.recorded c.in_ok-declare_func.ensures.appended

@@ -35,3 +35,9 @@ returns-in-TypeItem-Interface-clause-listed c =
     let inner = rw c.in-TypeItem-Interface.is at c.in-TypeItem-Interface.field-0-is in
     let same : c.args.item ≡ kind.TypeItem (ty.Interface c.in-TypeItem-Interface.interface) = c.in-TypeItem-Interface.is ∙ ap (λ (w : AnyType). kind.TypeItem w) inner in
     subst (λ (k : ItemKind). OnOk c.interface_type_item.result (DeclaresHeld c.args.self.now.types.now (side_of c.args.side) c.args.scope.now c.interface_type_item.new.scope c.args.name.now k)) (sym same) c.interface_type_item.ensures.listed
+
+pub returns-in-TypeItem-World-clause-listed : goal.returns-in-TypeItem-World-clause-listed
+returns-in-TypeItem-World-clause-listed c =
+    let inner = rw c.in-TypeItem-World.is at c.in-TypeItem-World.field-0-is in
+    let same : c.args.item ≡ kind.TypeItem (ty.World c.in-TypeItem-World.world) = c.in-TypeItem-World.is ∙ ap (λ (w : AnyType). kind.TypeItem w) inner in
+    subst (λ (k : ItemKind). OnOk c.world_type_item.result (DeclaresHeld c.args.self.now.types.now (side_of c.args.side) c.args.scope.now c.world_type_item.new.scope c.args.name.now k)) (sym same) c.world_type_item.ensures.listed

@@ -19,13 +19,13 @@ declare_type-requires c = still-open-behind c.args.scope.now.content c.define_pr
 pub returns-in_err-index-clause-fault : goal.returns-in_err-index-clause-fault
 returns-in_err-index-clause-fault c =
     let p = err_from_is_err_and c.from_residual.result c.from_residual.ensures.1 in
-    rw (p.1, p.2) (primitive-refused ℕ (Unit {0}) c.args.self.now.types.now c.still_law.ensures (side_of c.args.side) c.args.scope.now c.args.name.now c.args.value c.args.primitive c.in_err-index.field-0.0 c.requires.end c.in_err-index.ensures.too_large)
+    rw (p.1, p.2) (primitive-refused ℕ (Unit {0}) c.args.self.now.worlds.now c.args.self.now.types.now c.still_law.ensures (side_of c.args.side) c.args.scope.now c.args.name.now c.args.value c.args.primitive c.in_err-index.field-0.0 c.requires.end c.in_err-index.ensures.too_large)
 
 pub returns-in_err-declare_type-clause-fault : goal.returns-in_err-declare_type-clause-fault
 returns-in_err-declare_type-clause-fault c =
     let t = c.args.self.now.types.now in
     let p = err_from_is_err_and c.from_residual-in_err-declare_type.result c.from_residual-in_err-declare_type.ensures.1 in
-    rw (p.1, p.2) (item-too-large ℕ (Unit {0}) t (side_of c.args.side) c.args.scope.now c.define_primitive.new.self c.args.name.now (kind.TypeItem (ty.Value c.args.value)) (own_types t (kind.TypeItem (ty.Value c.args.value))) (e.Equal c.in_ok-index.index) c.in_err-declare_type.field-0.0
+    rw (p.1, p.2) (item-too-large ℕ (Unit {0}) c.args.self.now.worlds.now t (side_of c.args.side) c.args.scope.now c.define_primitive.new.self c.args.name.now (kind.TypeItem (ty.Value c.args.value)) (own_types t (kind.TypeItem (ty.Value c.args.value))) (e.Equal c.in_ok-index.index) c.in_err-declare_type.field-0.0
     (primitive-behind t c.args.scope.now c.define_primitive.new.self c.args.value c.args.primitive c.in_ok-index.index c.requires.end c.in_ok-index.ensures.stands c.in_ok-index.ensures.appended)
     (primitive-described t c.args.scope.now c.define_primitive.new.self c.args.value c.args.primitive c.in_ok-index.index c.requires.end c.in_ok-index.ensures.stands c.in_ok-index.ensures.appended c.in_ok-index.ensures.index)
     (exactly-so ℕ _ c.in_err-declare_type.field-0.0 c.in_err-declare_type.ensures.too_large))
@@ -34,4 +34,4 @@ pub returns-clause-listed : goal.returns-clause-listed
 returns-clause-listed c = primitive-declared c.args.self.now.types.now c.law.ensures c.alias_law.ensures (side_of c.args.side) c.args.scope.now c.define_primitive.new.self c.declare_type.new.self c.args.name.now c.args.value c.args.primitive c.in_ok-index.index c.in_ok-declare_type.field-0 c.requires.end c.in_ok-index.ensures.stands c.in_ok-declare_type.ensures.stands
 
 pub returns-clause-wrote : goal.returns-clause-wrote
-returns-clause-wrote c = primitive-written c.args.self.now.types.now (side_of c.args.side) c.args.scope.now c.define_primitive.new.self c.declare_type.new.self c.args.name.now c.args.value c.args.primitive c.in_ok-index.index c.requires.end c.in_ok-index.ensures.index c.in_ok-index.ensures.stands c.in_ok-index.ensures.appended c.in_ok-declare_type.ensures.appended
+returns-clause-wrote c = primitive-written c.args.self.now.worlds.now c.args.self.now.types.now (side_of c.args.side) c.args.scope.now c.define_primitive.new.self c.declare_type.new.self c.args.name.now c.args.value c.args.primitive c.in_ok-index.index c.requires.end c.in_ok-index.ensures.index c.in_ok-index.ensures.stands c.in_ok-index.ensures.appended c.in_ok-declare_type.ensures.appended

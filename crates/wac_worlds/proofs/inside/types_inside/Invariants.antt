@@ -1,0 +1,10 @@
+use Rattle.std.specs.Prelude.{◌-◌, length}
+use Rattle.wac_reach.proofs.Universe.{types_of}
+use Rattle.wac_worlds.proofs.TypesInside.{AreFound}
+use Rattle.wac_worlds.proofs.inside.types_inside.Given as goal
+
+abbrev pub invariant-loop-next : goal.invariant-loop-next
+invariant-loop-next l = AreFound l.fn.types l.fn.starts l.found.keys l.next
+
+abbrev pub decreases-loop-next : goal.decreases-loop-next
+decreases-loop-next l = length (types_of l.fn.types) - l.next
