@@ -27,7 +27,7 @@ use Rattle.wac_scopes.specs.declared.scope.Listed.{Listed}
 use Rattle.wac_scopes.specs.declared.scope.Listed.TheVariants.{ByInstance}
 use Rattle.wac_scopes.specs.declared.scope.Scope.{Scope}
 use Rattle.wac_scopes.specs.Contents.{content_of, items_of, IsRoot, and_import, count}
-use Rattle.wac_stacks.specs.Scopes.{Where, at_type, at_export, Open, Stack, env, envs, remember_at}
+use Rattle.wac_stacks.specs.Scopes.{Where, at_type, Open, Stack, env, envs, remember_at}
 use Rattle.wac_stacks.specs.Good.{At, StandsFrom, IsHeld, IsOf, Good, GoodScope, top, Onward}
 use Rattle.wac_stacks.specs.Instances.{Exports, holding, IsNewImport, ImportsInstance, ImportsType, ImportsFunc, ImportsModule, ImportsComponent, ListsImport}
 use Rattle.wac_scopes.specs.Scoped.{type_index, named_at, listed_at, place_listed, listing, place, recorded_type, first_of, listed_by, listed_too, HasToo, IsAsBefore, AlsoLists, opened, imported_at, RootImportsListing, RootImports, RootImportsType, RootImportsValue, RootImportsFunction, RootImportsInstance, RootImportsModule, RootImportsComponent}

@@ -4,3 +4,4 @@ pub mod ImportLaws
 pub mod SideLaws
 pub mod Rooted
 pub mod Undefined
+pub mod Standing

@@ -31,7 +31,7 @@ use Rattle.wac_stacks.specs.Good.{At, Good, nothing_bound, top}
 use Rattle.wac_stacks.specs.Instances.{holding}
 use Rattle.wac_stacks.specs.Inside.{RootGoesOn}
 use Rattle.wac_scopes.specs.Scoped.{type_index, listed_at, listed_too, listing, place, recorded_type, AlsoLists, IsAsBefore, HasToo, opened, root_of}
-use Rattle.wac_scopes.specs.Rooted.{unbound, thing_listed, IsListedIn, ListedStays, IsRightRoot, BeginsRight, StaysRight, MeansBefore, IsTypeItem, thing_of_type, IsWrittenThere, ExportsRight, HasListing, ListsRight}
+use Rattle.wac_scopes.specs.Rooted.{unbound, thing_listed, IsListedIn, ListedStays, IsRightRoot, BeginsRight, StaysRight, MeansBefore, IsTypeItem, thing_of_type, IsWrittenThere, ExportsRight, ListsRight}
 use Rattle.wac_stacks.proofs.Grow.{at-last, at-type_at}
 use Rattle.wac_stacks.proofs.Moved.{ap2}
 use Rattle.wac_scopes.proofs.ScopedLaws.{recorded-at, recorded-same, recorded-too}

@@ -3,3 +3,4 @@ pub mod Contents
 pub mod Scoped
 pub mod Sides
 pub mod Rooted
+pub mod Binding

@@ -1,6 +1,7 @@
 //! The open scopes of a type encoder: what is written in each, where types stand among it, and what each step adds.
 #![tactic(auto)]
 
+mod binding;
 pub mod encodable;
 pub mod fault;
 pub mod laws;

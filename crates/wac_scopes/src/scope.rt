@@ -16,6 +16,7 @@ ghost use Rattle.wac_binary.specs.Views.{arguments_of, defined_of, func_of};
 ghost use Rattle.wac_scopes.specs.declared.encodable.Encodable.TheVariants.{Builder};
 ghost use Rattle.wac_scopes.specs.Contents.{IsRoot, IsOpenType, and_type, and_core_module, and_export, and_import, count, items_of, ContentFits};
 ghost use Rattle.wac_scopes.specs.Scoped.{IfThere, IsThere, AddsValue, AddsFunc, AddsPrimitive, AddsInstance, AddsWorld, AddsComponent, AddsModule, ListsType, ListsValue, ListsFunction, ListsInstanceOf, ListsComponentOf, RootImportsType, RootImportsValue, RootImportsFunction, RootImportsInstance, RootImportsModule, RootImportsComponent, RootImportsListing, HasToo, IsAsBefore, AlsoLists, ListsAround, AliasesValue, IsAliased, AliasFits, IsAt, type_index, value_index, named_at, listed_at, listing, in_use, WritesUnlessTooLarge, FitsUnlessTooLarge, RecordsUnlessTooLarge};
+ghost use Rattle.wac_scopes.specs.Binding.{BindsListing};
 ghost use Rattle.wac_scopes.specs.Rooted.{ExportsRight, ListsRight};
 ghost use Rattle.wac_scopes.specs.Sides.{side_of, IsOpenComponent, and_declared, DeclaresType, DeclaresValue, DeclaresFunction, DeclaresInstance, DeclaresListing};
 
@@ -237,7 +238,7 @@ impl Scope {
     }
 
     /// Makes room to record one more definition.
-    fn make_room(&mut self) -> Result<(), AllocError>
+    pub(crate) fn make_room(&mut self) -> Result<(), AllocError>
         ensures same { IsAsBefore self.old self.new }
         ensures room { OnOk result (0 < spare self.new.values) }
     {
@@ -245,7 +246,7 @@ impl Scope {
     }
 
     /// Makes room to record one more function type.
-    fn make_func_room(&mut self) -> Result<(), AllocError>
+    pub(crate) fn make_func_room(&mut self) -> Result<(), AllocError>
         ensures same { IsAsBefore self.old self.new }
         ensures room { OnOk result (0 < spare self.new.funcs) }
     {
@@ -253,7 +254,7 @@ impl Scope {
     }
 
     /// Makes room to record one more interface.
-    fn make_interface_room(&mut self) -> Result<(), AllocError>
+    pub(crate) fn make_interface_room(&mut self) -> Result<(), AllocError>
         ensures same { IsAsBefore self.old self.new }
         ensures room { OnOk result (0 < spare self.new.interfaces) }
     {
@@ -261,7 +262,7 @@ impl Scope {
     }
 
     /// Makes room to record one more world.
-    fn make_world_room(&mut self) -> Result<(), AllocError>
+    pub(crate) fn make_world_room(&mut self) -> Result<(), AllocError>
         ensures same { IsAsBefore self.old self.new }
         ensures room { OnOk result (0 < spare self.new.worlds) }
     {
@@ -269,7 +270,7 @@ impl Scope {
     }
 
     /// Records that a definition is written at a type index, and whether that has a name. There is room for it.
-    fn record_value(&mut self, id: DefinedTypeId, index: u32, named: bool)
+    pub(crate) fn record_value(&mut self, id: DefinedTypeId, index: u32, named: bool)
         requires { 0 < spare self.old.values }
         ensures recorded { HasToo self.old (ty.Value (val.Defined id)) index self.new }
         ensures named { named_at self.new id ≡ cond named (Some index) None }
@@ -282,7 +283,7 @@ impl Scope {
     }
 
     /// Records that a function type is written at a type index. There is room for it.
-    fn record_func(&mut self, id: FuncTypeId, index: u32)
+    pub(crate) fn record_func(&mut self, id: FuncTypeId, index: u32)
         requires { 0 < spare self.old.funcs }
         ensures recorded { HasToo self.old (ty.Func id) index self.new }
         ensures kept { self.new.content ≡ self.old.content }
@@ -294,7 +295,7 @@ impl Scope {
     }
 
     /// Records that the instance type of an interface is written at a type index. There is room for it.
-    fn record_interface(&mut self, id: InterfaceId, index: u32)
+    pub(crate) fn record_interface(&mut self, id: InterfaceId, index: u32)
         requires { 0 < spare self.old.interfaces }
         ensures recorded { HasToo self.old (ty.Interface id) index self.new }
         ensures kept { self.new.content ≡ self.old.content }
@@ -306,7 +307,7 @@ impl Scope {
     }
 
     /// Records that the component type of a world is written at a type index. There is room for it.
-    fn record_world(&mut self, id: WorldId, index: u32)
+    pub(crate) fn record_world(&mut self, id: WorldId, index: u32)
         requires { 0 < spare self.old.worlds }
         ensures recorded { HasToo self.old (ty.World id) index self.new }
         ensures kept { self.new.content ≡ self.old.content }
@@ -646,12 +647,14 @@ impl Scope {
         instance: u32,
         definitions: Vec<(DefinedTypeId, Text)>,
     ) -> Result<(), AllocError>
+        ensures stands { OnOk result (BindsListing self.old self.new instance definitions.items) }
         ensures right { OnOk result (ListsRight self.old instance definitions.items self.new) }
         ensures listed { OnOk result (AlsoLists self.old instance definitions.items self.new) }
         ensures kept { self.new.content ≡ self.old.content }
         ensures refused { OnErr result (IsAsBefore self.old self.new) }
     {
-        self.make_listed_room(definitions.len())?;
+        let count = definitions.len();
+        self.make_listed_room(count)?;
         self.list(instance, definitions);
         Ok(())
     }
