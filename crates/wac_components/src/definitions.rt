@@ -23,7 +23,7 @@ impl<'a> ComponentEncoder<'a> {
     ///
     /// Answers what `WorldEncoder::world_type` answers where it refuses the world, and `TooLarge` where its component type or the export
     /// does not fit into the other; `OutOfMemory` where memory was refused.
-    fn world_component(&self, world: WorldId, id: &str) -> Result<ComponentType, EncodeFault>
+    pub fn world_component(&self, world: WorldId, id: &str) -> Result<ComponentType, EncodeFault>
         requires held { HasWorld self.now.types.now world }
         requires say { SayWorlds self.now.types.now self.now.worlds.now }
         requires plain { is_plain_world self.now.worlds.now self.now.types.now world ≡ true }

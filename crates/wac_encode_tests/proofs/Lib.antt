@@ -1,2 +1,3 @@
 pub mod StillOpen
 pub mod Saying
+pub mod SameTypes

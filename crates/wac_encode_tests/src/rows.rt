@@ -8,7 +8,7 @@ use wac_collection::Types;
 use wac_scopes::{Encodable, Scope};
 use wac_shapes::{
     DefinedType, DefinedTypeId, Enum, FuncType, FuncTypeId, Interface, InterfaceId, ItemKind,
-    PrimitiveType, Resource, ResourceId, Type, ValueType, World, WorldId,
+    PrimitiveType, Record, Resource, ResourceId, Type, ValueType, World, WorldId,
 };
 
 /// A name, and the place of what it is of.
@@ -29,6 +29,8 @@ pub enum Row {
     Optional(usize),
     /// A tuple of two types.
     Pair(usize, usize),
+    /// A record of these fields.
+    Record(&'static [Item]),
     /// A new resource.
     Resource,
     /// The type of a handle to a resource.
@@ -120,6 +122,10 @@ impl Items {
             Row::Pair(first, second) => {
                 let parts = [self.value(rt, first), self.value(rt, second)];
                 DefinedType::tuple(alloc, &parts).expect(rt, "a tuple")
+            }
+            Row::Record(fields) => {
+                let fields = self.params(rt, fields);
+                DefinedType::Record(Record::new(alloc, &fields).expect(rt, "a record"))
             }
             _ => panic!(rt; "no definition"),
         }

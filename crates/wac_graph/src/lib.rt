@@ -42,6 +42,7 @@ pub use wac_nodes::{
     UnexportError, laws, one_export_answer,
 };
 pub use wac_plugging::{PlugError, PlugFault};
-pub use wac_scopes::WriteFault;
+pub use wac_scopes::{EncodeFault, WriteFault};
+pub use wac_state::State;
 pub use wac_types as types;
 pub use wac_validation::ValidationFault;

@@ -18,7 +18,7 @@ impl<'a> RootEncoder<'a> {
     ///
     /// Answers what `interface_type` answers where it refuses the interface, and else `TooLarge` where the instance type or its export
     /// does not fit into the component type, and `OutOfMemory` where memory was refused.
-    pub(crate) fn interface_component(
+    pub fn interface_component(
         &self,
         interface: InterfaceId,
         id: &str,

@@ -1,0 +1,24 @@
+use Rattle.wac_binary.specs.Items.{instantiate as instantiated}
+use Rattle.wac_binary.specs.Indexes.{space}
+use Rattle.wac_binary.specs.declared.sorts.Sort.TheVariants as s
+use Rattle.wac_binary.specs.Views.{arguments_of}
+use Rattle.wac_state.proofs.Answering.{item-after, item-appended, item-refused, item-index}
+use Rattle.wac_state.proofs.state.State.instantiate.Goals as goal
+
+pub instantiate-requires : goal.instantiate-requires
+instantiate-requires c = c.self.invariant.is_root
+
+pub invariant_of-self : goal.invariant_of-self
+invariant_of-self c = item-after c.self.inside.types.now c.self.inside.root c.instantiate.new.self (instantiated c.args.component (arguments_of c.args.arguments.now)) c.instantiate.result c.root_law.ensures.root_goes_on c.rooted_law.ensures.before c.instantiate.ensures.appended c.instantiate.ensures.refused c.self.invariant
+
+pub returns-clause-appended : goal.returns-clause-appended
+returns-clause-appended c = rw (← c.self.view_is) (item-appended c.self.inside.types.now c.self.inside.root c.instantiate.new.self (instantiated c.args.component (arguments_of c.args.arguments.now)) c.instantiate.result c.instantiate.ensures.appended)
+
+pub returns-clause-refused : goal.returns-clause-refused
+returns-clause-refused c = rw (← c.self.view_is) (item-refused c.self.inside.types.now c.self.inside.root c.instantiate.new.self c.instantiate.result c.instantiate.ensures.refused)
+
+pub returns-clause-too_large : goal.returns-clause-too_large
+returns-clause-too_large c = rw (← c.self.view_is) c.instantiate.ensures.too_large
+
+pub returns-clause-index : goal.returns-clause-index
+returns-clause-index c = rw (← c.self.view_is) (item-index c.self.inside.types.now c.self.inside.root (space s.Instance) c.instantiate.result c.self.invariant c.instantiate.ensures.index)

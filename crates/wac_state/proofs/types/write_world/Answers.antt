@@ -1,0 +1,105 @@
+use Rattle.std.specs.Prelude.{ℕ, ◌≡◌, true, Option, Err}
+use Rattle.std.proofs.Common.{refl, subst, inr}
+use Rattle.std.proofs.lemmas.Result.{err_from_is_err_and}
+use Rattle.wac_shapes.specs.declared.component.ItemKind.TheVariants as kind
+use Rattle.wac_shapes.specs.declared.component.«Type».TheVariants as ty
+use Rattle.wac_collection.specs.Collection.{Collection}
+use Rattle.wac_binary.specs.HasMeaning.{IsComponent}
+use Rattle.wac_encode.specs.declared.worlds.Worlds.{Worlds}
+use Rattle.wac_encode.specs.Worlds.{is_written, SayWorlds, AddsHeldWorld, IsWorldTypeAt, IsWorldTypeRefused}
+use Rattle.wac_encode.specs.Written.{WritesFor}
+use Rattle.wac_encode.specs.Listing.{NeededBy}
+use Rattle.wac_root.proofs.Importing.{nothing-of}
+use Rattle.wac_worlds.specs.Nested.{IsHolder}
+use Rattle.wac_worlds.proofs.TypesInside.{holder-held}
+use Rattle.wac_state.proofs.Ahead.{as-held, of-held, say}
+use Rattle.wac_state.proofs.Growth.{grows-same, grows-written}
+use Rattle.wac_state.proofs.Indexes.{held-index}
+use Rattle.wac_state.proofs.Lists.{one_start}
+use Rattle.wac_state.proofs.Plain.{world_ahead}
+use Rattle.wac_state.proofs.Refusals.{worlds-refused, world-refused}
+use Rattle.wac_state.proofs.types.write_world.Goals as goal
+
+pub worlds_inside-requires : goal.worlds_inside-requires
+worlds_inside-requires c = one_start (IsHolder c.args.types.now) (ty.World c.args.world) c.requires
+
+pub world-requires-clause-say : goal.world-requires-clause-say
+world-requires-clause-say c = as-held SayWorlds c.args.types.now c.new.result.types.now c.in_ok-worlds.worlds c.new.result.worlds.now c.new.ensures.types c.new.ensures.worlds (say c.args.types.now c.in_ok-worlds.worlds c.in_ok-worlds.ensures.are)
+
+pub world-requires-clause-ahead : goal.world-requires-clause-ahead
+world-requires-clause-ahead c = as-held (λ types ws. is_written ws c.args.world ≡ true) c.args.types.now c.new.result.types.now c.in_ok-worlds.worlds c.new.result.worlds.now c.new.ensures.types c.new.ensures.worlds
+    (world_ahead c.args.types.now c.law.ensures c.in_ok-worlds.worlds c.args.world (holder-held c.args.types.now (ty.World c.args.world) c.requires) (c.in_ok-listed.ensures.none c.if-listed.false) c.in_ok-worlds.ensures.all)
+
+-- where resources could not be looked for
+pub returns-in_err-listed-clause-refused : goal.returns-in_err-listed-clause-refused
+returns-in_err-listed-clause-refused c =
+    let p = err_from_is_err_and c.from_residual.result c.from_residual.ensures.1 in
+    rw p.1 (nothing-of c.args.types.now c.still_law.ensures (kind.TypeItem (ty.World c.args.world)) c.args.root.now c.args.root.now refl)
+
+pub returns-in_err-listed-clause-grows : goal.returns-in_err-listed-clause-grows
+returns-in_err-listed-clause-grows c = grows-same c.still_law.ensures c.args.types.now c.args.root.now c.args.root.now refl
+
+-- where there is one
+pub returns-then-listed-clause-none : goal.returns-then-listed-clause-none
+returns-then-listed-clause-none c is = c.in_ok-listed.ensures.some c.if-listed.true
+
+pub returns-then-listed-clause-grows : goal.returns-then-listed-clause-grows
+returns-then-listed-clause-grows c = grows-same c.still_law.ensures c.args.types.now c.args.root.now c.args.root.now refl
+
+-- where a world inside is refused
+pub returns-in_err-worlds-clause-not : goal.returns-in_err-worlds-clause-not
+returns-in_err-worlds-clause-not c h = absurd (h (c.in_ok-listed.ensures.none c.if-listed.false))
+
+pub returns-in_err-worlds-clause-refused : goal.returns-in_err-worlds-clause-refused
+returns-in_err-worlds-clause-refused c =
+    let p = err_from_is_err_and c.from_residual-in_err-worlds.result c.from_residual-in_err-worlds.ensures.1 in
+    rw p.1 (nothing-of c.args.types.now c.still_law.ensures (kind.TypeItem (ty.World c.args.world)) c.args.root.now c.args.root.now refl)
+
+pub returns-in_err-worlds-clause-fault : goal.returns-in_err-worlds-clause-fault
+returns-in_err-worlds-clause-fault c =
+    let p = err_from_is_err_and c.from_residual-in_err-worlds.result c.from_residual-in_err-worlds.ensures.1 in
+    rw (p.1, p.2) (worlds-refused Worlds (Option ℕ) c.args.types.now (ty.World c.args.world) c.args.root.now c.args.root.now c.in_err-worlds.field-0.0 (inr (c.args.world, refl)) c.in_err-worlds.ensures.fault)
+
+pub returns-in_err-worlds-clause-grows : goal.returns-in_err-worlds-clause-grows
+returns-in_err-worlds-clause-grows c = grows-same c.still_law.ensures c.args.types.now c.args.root.now c.args.root.now refl
+
+-- where its own is
+pub returns-in_err-index-clause-not : goal.returns-in_err-index-clause-not
+returns-in_err-index-clause-not c h = absurd (h (c.in_ok-listed.ensures.none c.if-listed.false))
+
+pub returns-in_err-index-clause-refused : goal.returns-in_err-index-clause-refused
+returns-in_err-index-clause-refused c =
+    let p = err_from_is_err_and c.from_residual-in_err-index.result c.from_residual-in_err-index.ensures.1 in
+    rw p.1 (0, subst (λ (t : Collection). WritesFor t 0 (NeededBy t (kind.TypeItem (ty.World c.args.world))) c.args.root.now c.world.new.scope) c.new.ensures.types c.in_err-index.ensures.written)
+
+pub returns-in_err-index-clause-fault : goal.returns-in_err-index-clause-fault
+returns-in_err-index-clause-fault c =
+    let p = err_from_is_err_and c.from_residual-in_err-index.result c.from_residual-in_err-index.ensures.1 in
+    rw (p.1, p.2) (world-refused ℕ (Option ℕ) c.args.types.now c.args.world c.in_ok-worlds.worlds c.args.root.now c.world.new.scope c.in_err-index.field-0.0 (c.in_ok-worlds.ensures.are, c.in_ok-worlds.ensures.all)
+    (of-held (λ types ws. IsWorldTypeRefused {A = ℕ} ws c.args.world c.args.root.now (Err c.in_err-index.field-0.0)) c.args.types.now c.new.result.types.now c.in_ok-worlds.worlds c.new.result.worlds.now c.new.ensures.types c.new.ensures.worlds c.in_err-index.ensures.fault))
+
+pub returns-in_err-index-clause-grows : goal.returns-in_err-index-clause-grows
+returns-in_err-index-clause-grows c =
+    let t = c.args.types.now in
+    grows-written t 0 (NeededBy t (kind.TypeItem (ty.World c.args.world))) c.args.root.now c.world.new.scope (subst (λ (t : Collection). WritesFor t 0 (NeededBy t (kind.TypeItem (ty.World c.args.world))) c.args.root.now c.world.new.scope) c.new.ensures.types c.in_err-index.ensures.written)
+
+pub returns-clause-not : goal.returns-clause-not
+returns-clause-not c h = absurd (h (c.in_ok-listed.ensures.none c.if-listed.false))
+
+pub returns-clause-written : goal.returns-clause-written
+returns-clause-written c = record {
+  behind = subst (λ (t : Collection). WritesFor t 0 (NeededBy t (kind.TypeItem (ty.World c.args.world))) c.args.root.now c.world.new.scope) c.new.ensures.types c.in_ok-index.ensures.written;
+  at = (
+    c.in_ok-worlds.worlds,
+    (c.in_ok-worlds.ensures.are, c.in_ok-worlds.ensures.all),
+    of-held (λ types ws. IsWorldTypeAt ws c.args.root.now c.world.new.scope c.args.world c.in_ok-index.index) c.args.types.now c.new.result.types.now c.in_ok-worlds.worlds c.new.result.worlds.now c.new.ensures.types c.new.ensures.worlds c.in_ok-index.ensures.recorded,
+  );
+}
+
+pub returns-clause-index : goal.returns-clause-index
+returns-clause-index c = held-index c.step_law.ensures.is_its_tree c.args.types.now c.args.root.now c.world.new.scope (ty.World c.args.world) IsComponent c.in_ok-index.index (subst (λ (t : Collection). AddsHeldWorld t c.args.root.now c.world.new.scope c.args.world c.in_ok-index.index) c.new.ensures.types c.in_ok-index.ensures.adds)
+
+pub returns-clause-grows : goal.returns-clause-grows
+returns-clause-grows c =
+    let t = c.args.types.now in
+    grows-written t 0 (NeededBy t (kind.TypeItem (ty.World c.args.world))) c.args.root.now c.world.new.scope (subst (λ (t : Collection). WritesFor t 0 (NeededBy t (kind.TypeItem (ty.World c.args.world))) c.args.root.now c.world.new.scope) c.new.ensures.types c.in_ok-index.ensures.written)

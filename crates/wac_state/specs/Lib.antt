@@ -1,0 +1,5 @@
+pub mod Root
+pub mod Held
+pub mod Defined
+pub mod Growing
+pub mod Binding
