@@ -1,5 +1,5 @@
-//! How the times of a workload of graphs grow with its count, measured in two ways. Alone, one graph stands at a time: a small one
-//! fits the processor's caches and a large one does not, and that grows too. In equal memory, as many graphs of each count
+//! How the times of a workload of graphs grow with its count, measured in two ways, in memory that is kept from round to round. Alone,
+//! one graph stands at a time: a small one fits the processor's caches and a large one does not, and that grows too. In equal memory, as many graphs of each count
 //! stand as have 100,000 parts, and each part of a step is taken in all of them before the next: so each count makes as many parts, writes
 //! to as much memory and comes to it cold, and what grows is the work for a part, and what is near within one graph.
 
@@ -13,6 +13,10 @@ use std::time::{Duration, Instant};
 
 /// How often each count is timed, the counts in turn.
 const ROUNDS: usize = 9;
+
+/// How many bytes are asked for and let go of before anything is timed: a block that large the C library hands back to the system, and
+/// from then on it keeps what is let go of, up to twice as much, so that no round pays for pages that the system clears anew.
+const BLOCK: usize = 33_000_000;
 
 /// How many parts the graphs of each count have together where memory is equal.
 const PARTS: u32 = 100_000;
@@ -48,6 +52,12 @@ fn sizes(alloc: Global, counts: &[u32], together: u32) -> Result<Vec<Size>, Allo
         })?;
     }
     Ok(sizes)
+}
+
+/// Has the C library keep what is let go of from here on.
+fn keep_memory(alloc: Global) -> Result<(), AllocError> {
+    let _block: Vec<u8> = Vec::with_capacity(alloc, BLOCK)?;
+    Ok(())
 }
 
 /// How long a step takes in all of these graphs; no time where it is not done.
@@ -132,6 +142,7 @@ fn measure_sizes<G: Graph>(
     sort: Sort,
     together: u32,
 ) -> Result<()> {
+    keep_memory(rt.alloc())?;
     let mut sizes = sizes(rt.alloc(), sort.counts(), together)?;
     for _ in 0..ROUNDS {
         for size in sizes.iter_mut() {
