@@ -1,6 +1,8 @@
 //! Types and definitions that are written into a root by hand.
-ghost use Rattle.std.specs.Prelude.{◌≡◌};
+ghost use Rattle.std.specs.Prelude.{◌≡◌, ◌<◌};
 ghost use Rattle.wac_binary.specs.HasMeaning.{HasMeaning};
+ghost use Rattle.wac_binary.specs.Indexes.{space, indexes};
+ghost use Rattle.wac_binary.specs.declared.sorts.Sort.TheVariants as s;
 ghost use Rattle.wac_state.specs.Root.{items as items_written};
 
 use crate::rows::Row::{
@@ -304,4 +306,60 @@ fn a_type_is_written_by_the_first_index_at_which_it_is_told_to_stand(rt: HostRun
     assert!(rt; does(&rt, &items, &mut state, Typed(3, Ok(Some(0)))));
     let bytes = state.finish().expect(&rt, "bytes");
     assert!(rt; bytes.as_slice().get(8..) == Some(TOLD));
+}
+
+// A root with an instance of a component that is not there: its items have no meaning, so that the instance may be told to be of any interface.
+fn instantiated<'a>(rt: &impl Abort, items: &'a Items) -> State<'a>
+    ensures types { result.types ≡ items.now.types }
+    ensures meaningless { HasMeaning (items_written result) → ⊥ }
+    ensures there { 0 < indexes (space s.Instance) (items_written result) }
+{
+    let mut state = State::new(&items.types);
+    let index = state.instantiate(0, &[]).expect(rt, "an instance");
+    assert!(rt; index == 0);
+    state
+}
+
+// Whether the instance of such a root is told to be of the interface at a place.
+fn tells_instance(rt: &impl Abort, items: &Items, state: &mut State<'_>, place: usize) -> bool
+    requires types { state.old.types ≡ items.now.types }
+    requires meaningless { HasMeaning (items_written state.old) → ⊥ }
+    requires there { 0 < indexes (space s.Instance) (items_written state.old) }
+    ensures { state.new.types ≡ state.old.types }
+{
+    let interface = items.interface(rt, place);
+    assert!(rt; items.types.contains(Type::Interface(interface)));
+    state.bind(ItemKind::Instance(interface), 0) == Ok(())
+}
+
+// The instance, and what is written over a type that it is told to export.
+const EXPORTED: &[u8] = &[
+    0x05, 0x04, 0x01, 0x00, 0x00, 0x00, // an instance of a component
+    0x06, 0x06, 0x01, 0x03, 0x00, 0x00, 0x01, 0x74, // its type `t`
+    0x07, 0x03, 0x01, 0x70, 0x00, // a list of it
+];
+
+#[test]
+fn a_type_is_aliased_from_the_instance_that_is_told_to_export_it(rt: HostRuntime) {
+    let rows = [
+        Enumeration("a"),
+        Alias(0),
+        List(0),
+        Func(&[("x", 0)], None),
+        Instance(Some("n:p/i"), &[("t", 1), ("f", 3)]),
+    ];
+    let items = Items::new(&rt, rt.alloc(), &rows);
+    let mut state = instantiated(&rt, &items);
+    assert!(rt; tells_instance(&rt, &items, &mut state, 4));
+    assert!(rt; does(&rt, &items, &mut state, Typed(2, Ok(Some(1)))));
+    assert!(rt;
+        does(
+            &rt,
+            &items,
+            &mut state,
+            Value(0, Ok(ComponentValType::Index(0)))
+        )
+    );
+    let bytes = state.finish().expect(&rt, "bytes");
+    assert!(rt; bytes.as_slice().get(8..) == Some(EXPORTED));
 }
