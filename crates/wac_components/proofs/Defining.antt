@@ -28,15 +28,15 @@ use Rattle.wac_stacks.specs.Laws.{Adds, IsItsTree}
 use Rattle.wac_stacks.specs.Listed.{declaring, OpensWorld, ClosesComponent}
 use Rattle.wac_scopes.specs.Rooted.{unbound, IsRightRoot}
 use Rattle.wac_scopes.specs.Scoped.{recorded_type, opened, AddsComponent, ListsComponentOf, WritesUnlessTooLarge, FitsUnlessTooLarge}
-use Rattle.wac_encode.specs.declared.worlds.Worlds.{Worlds}
-use Rattle.wac_encode.specs.Written.{GoesOn, WritesFor}
+use Rattle.wac_sorting.specs.declared.worlds.Worlds.{Worlds}
+use Rattle.wac_defining.specs.Written.{GoesOn, WritesFor}
 use Rattle.wac_encode.specs.Instances.{IsBare}
-use Rattle.wac_encode.proofs.Rows.{writes-type}
+use Rattle.wac_defining.proofs.Rows.{writes-type}
 use Rattle.wac_root.specs.Components.{held_world_under_id, world_component_tree}
 use Rattle.wac_root.specs.Defining.{WritesDefinition, MadeFor}
 use Rattle.wac_root.proofs.Defining.{StandsBehind, stands-last, at-root, defined-so, content-is}
 use Rattle.wac_root.proofs.Imported.{still-root}
-use Rattle.wac_encode.specs.Worlds.{SaysWorld}
+use Rattle.wac_sorting.specs.Worlds.{SaysWorld}
 use Rattle.wac_worlds.specs.Worlds.{is_plain_world, WritesWorld, IsWorldRefused}
 use Rattle.wac_worlds.proofs.Whole.{new-opened}
 use Rattle.wac_components.specs.Imports.{and_component_type, next_index}

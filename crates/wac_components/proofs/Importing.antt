@@ -20,14 +20,14 @@ use Rattle.wac_scopes.specs.declared.scope.Scope.{Scope}
 use Rattle.wac_scopes.specs.Contents.{and_type, and_import, count, ContentFits}
 use Rattle.wac_scopes.specs.Scoped.{opened, AddsComponent, RootImportsType, RootImportsComponent, WritesUnlessTooLarge}
 use Rattle.wac_stacks.specs.Laws.{Follows, IsItsTree}
-use Rattle.wac_encode.specs.declared.worlds.Worlds.{Worlds}
-use Rattle.wac_encode.specs.Written.{GoesOn, WritesFor}
+use Rattle.wac_sorting.specs.declared.worlds.Worlds.{Worlds}
+use Rattle.wac_defining.specs.Written.{GoesOn, WritesFor}
 use Rattle.wac_encode.specs.Listing.{NeededBy}
-use Rattle.wac_encode.proofs.Rows.{writes-type}
+use Rattle.wac_defining.proofs.Rows.{writes-type}
 use Rattle.wac_root.specs.Importing.{ImportsHeld}
 use Rattle.wac_root.proofs.Imported.{ListsOneMore}
 use Rattle.wac_root.proofs.Importing.{as-held, imports-after, still-new}
-use Rattle.wac_encode.specs.Worlds.{SaysWorld}
+use Rattle.wac_sorting.specs.Worlds.{SaysWorld}
 use Rattle.wac_worlds.specs.Worlds.{WritesWorld, IsWorldRefused}
 use Rattle.wac_components.specs.Imports.{and_component_type, next_index, ImportsWorld, IsWorldNotImported}
 

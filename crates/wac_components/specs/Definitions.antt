@@ -19,7 +19,7 @@ use Rattle.wac_stacks.specs.Scopes.{Open, Stack, next_type, with_def}
 use Rattle.wac_stacks.specs.Good.{Good}
 use Rattle.wac_stacks.specs.Laws.{Adds}
 use Rattle.wac_root.specs.Components.{world_component_tree}
-use Rattle.wac_encode.specs.declared.worlds.Worlds.{Worlds}
+use Rattle.wac_sorting.specs.declared.worlds.Worlds.{Worlds}
 use Rattle.wac_worlds.specs.Worlds.{is_plain_world, WritesWorld, IsWorldRefused}
 use Rattle.wac_components.specs.Imports.{and_component_type, next_index}
 

@@ -6,7 +6,7 @@ ghost use Rattle.wac_collection.specs.Collection.{HasWorld};
 ghost use Rattle.wac_scopes.specs.declared.encodable.Encodable.TheVariants.{Component};
 ghost use Rattle.wac_scopes.specs.Rooted.{IsRightRoot};
 ghost use Rattle.wac_scopes.specs.Sides.{IsOpenComponent};
-ghost use Rattle.wac_encode.specs.Worlds.{SayWorlds};
+ghost use Rattle.wac_sorting.specs.Worlds.{SayWorlds};
 ghost use Rattle.wac_root.specs.Defining.{WritesDefinition, WritesTypesFor};
 ghost use Rattle.wac_worlds.specs.Worlds.{is_plain_world};
 ghost use Rattle.wac_components.specs.Definitions.{HasWorldId, IsDefinableWorld, SaysUnderId, WritesUnderId, IsUnderIdRefused, DefinesWorld, IsWorldNotDefined};

@@ -3,7 +3,7 @@
 ghost use Rattle.std.specs.Prelude.{◌≡◌, ◌⊎◌, true, false, None, Ok as Answers, Err as Refused, IfOk};
 ghost use Rattle.wac_collection.specs.Collection.{HasWorld};
 ghost use Rattle.wac_scopes.specs.declared.fault.EncodeFault.TheVariants.{OutOfMemory};
-ghost use Rattle.wac_encode.specs.Worlds.{SayWorlds};
+ghost use Rattle.wac_sorting.specs.Worlds.{SayWorlds};
 ghost use Rattle.wac_worlds.specs.Worlds.{is_plain_world, SaysIfThere, WritesIfThere, IsWorldRefused};
 
 use std::alloc::AllocError;

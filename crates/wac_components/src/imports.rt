@@ -7,7 +7,7 @@ ghost use Rattle.wac_collection.specs.Collection.{HasWorld};
 ghost use Rattle.wac_binary.specs.declared.sorts.Description.TheVariants as e;
 ghost use Rattle.wac_scopes.specs.declared.fault.EncodeFault.TheVariants.{OutOfMemory};
 ghost use Rattle.wac_scopes.specs.Contents.{IsRoot};
-ghost use Rattle.wac_encode.specs.Worlds.{SayWorlds};
+ghost use Rattle.wac_sorting.specs.Worlds.{SayWorlds};
 ghost use Rattle.wac_root.specs.Importing.{ImportsIfThere, WritesTypesOf};
 ghost use Rattle.wac_worlds.specs.Worlds.{is_plain_world};
 ghost use Rattle.wac_components.specs.Imports.{ImportsWorldIfThere, IsWorldNotImported};

@@ -22,12 +22,12 @@ use Rattle.wac_binary.specs.Unfold.{Bound}
 use Rattle.wac_stacks.specs.Good.{IsHeld}
 use Rattle.wac_stacks.specs.Instances.{Exports, ExportsEnd, BindsInstance}
 use Rattle.wac_planning.specs.Listed.{definition_of, listed_definition}
-use Rattle.wac_encode.specs.declared.worlds.Worlds.{Worlds}
+use Rattle.wac_sorting.specs.declared.worlds.Worlds.{Worlds}
 use Rattle.wac_encode.specs.Instances.{listed_definitions}
-use Rattle.wac_encode.specs.Listing.{lists_plain, lists_plain_to}
+use Rattle.wac_sorting.specs.Sorts.{lists_plain, lists_plain_to}
 use Rattle.wac_encode.proofs.Around.{owns-nothing}
 use Rattle.wac_planning.proofs.Listing.{held-items}
-use Rattle.wac_encode.proofs.Plain.{plain-of}
+use Rattle.wac_sorting.proofs.Plain.{plain-of}
 
 -- where an entry of two lists in a row stands
 in-row : {A : Type 0} (xs ys : List A) (p : ℕ) (e : A) → slice_get (xs ++ ys) p ≡ Some e → (slice_get xs p ≡ Some e) ⊎ ((q : ℕ) × (slice_get ys q ≡ Some e))

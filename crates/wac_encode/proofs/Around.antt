@@ -33,15 +33,16 @@ use Rattle.wac_stacks.specs.Laws.{Follows, StaysOnward}
 use Rattle.wac_stacks.specs.Listed.{has_own, OpensOver}
 use Rattle.wac_scopes.proofs.ScopedLaws.{recorded-at}
 use Rattle.wac_listing.specs.Made.{AreMadeOf}
-use Rattle.wac_encode.specs.declared.worlds.Worlds.{Worlds}
-use Rattle.wac_encode.specs.Written.{IsLargeFrom}
+use Rattle.wac_sorting.specs.declared.worlds.Worlds.{Worlds}
+use Rattle.wac_defining.specs.Written.{IsLargeFrom}
 use Rattle.wac_planning.specs.Plans.{IsOneOf, AreOfItems}
 use Rattle.wac_encode.specs.Plans.{IsOpenedFor}
-use Rattle.wac_encode.specs.Tasks.{WritesOne, IsOneRefused, AliasesOne, aliased_now, as_before, IsOneAliasRefused}
-use Rattle.wac_encode.specs.Listing.{is_plain, are_plain, IsOfItems, AliasesFor, AllAliased, IsAliasRefused, around_at, IsOpened}
-use Rattle.wac_encode.proofs.Plain.{both-true}
-use Rattle.wac_encode.proofs.Answering.{as-it-was}
-use Rattle.wac_encode.proofs.Stacks.{writes-none, writes-more, writes-then, recorded-now, recorded-there, new-is, is-there}
+use Rattle.wac_defining.specs.Tasks.{WritesOne, IsOneRefused, AliasesOne, aliased_now, as_before, IsOneAliasRefused}
+use Rattle.wac_sorting.specs.Sorts.{is_plain, are_plain}
+use Rattle.wac_encode.specs.Listing.{IsOfItems, AliasesFor, AllAliased, IsAliasRefused, around_at, IsOpened}
+use Rattle.wac_sorting.proofs.Plain.{both-true}
+use Rattle.wac_defining.proofs.Answering.{as-it-was}
+use Rattle.wac_defining.proofs.Stacks.{writes-none, writes-more, writes-then, recorded-now, recorded-there, new-is, is-there}
 
 -- an interface whose items are plain has no resource of its own
 pub owns-nothing : (ws : Worlds) (c : Collection) (P : InterfaceId → Bool) (uses : List (Name × UsedType)) (es : List (Name × ItemKind)) (r : ResourceId) → are_plain ws P es ≡ true → own_name c uses es r ≡ None

@@ -17,9 +17,10 @@ use Rattle.wac_scopes.specs.Contents.{IsOpenType}
 use Rattle.wac_stacks.specs.Laws.{Follows, StaysOnward}
 use Rattle.wac_stacks.specs.Listed.{OpensInterface, OpensOver, ClosesInstance, HoldsInterface, ListsOneMore, ListsInAnyOrder}
 use Rattle.wac_listing.specs.Made.{interface_of}
-use Rattle.wac_encode.specs.declared.worlds.Worlds.{Worlds}
+use Rattle.wac_sorting.specs.declared.worlds.Worlds.{Worlds}
 use Rattle.wac_encode.specs.declared.level.Level.{Level}
-use Rattle.wac_encode.specs.Listing.{SaysInterface, lists_plain, lists_plain_to, AliasesFor, AllAliased, IsAliasRefused, WritesItem, WritesInterfaceTo, WritesInterface, IsItemRefused, IsRefusedTo, IsInterfaceRefused}
+use Rattle.wac_encode.specs.Listing.{SaysInterface, AliasesFor, AllAliased, IsAliasRefused, WritesItem, WritesInterfaceTo, WritesInterface, IsItemRefused, IsRefusedTo, IsInterfaceRefused}
+use Rattle.wac_sorting.specs.Sorts.{lists_plain, lists_plain_to}
 use Rattle.wac_encode.specs.Items.{ListsHeld, CanClose, CanList, nothing_inside, none_refused}
 use Rattle.wac_encode.specs.Levels.{IsBegun, IsLevel, IsWaiting, IsChain, PutsItem, ItemNotPut}
 use Rattle.wac_encode.proofs.InstanceTypes.{still-unwritten}

@@ -12,8 +12,9 @@ use Rattle.wac_binary.specs.declared.sorts.Description.{Description}
 use Rattle.wac_binary.specs.declared.sorts.Description.TheVariants as e
 use Rattle.wac_scopes.specs.declared.scope.Scope.{Scope}
 use Rattle.wac_scopes.specs.Scoped.{type_index}
-use Rattle.wac_encode.specs.declared.worlds.Worlds.{Worlds}
-use Rattle.wac_encode.specs.Worlds.{declarations_of, IsWorldTypeFrom, IsWorldTypeAt}
+use Rattle.wac_sorting.specs.declared.worlds.Worlds.{Worlds}
+use Rattle.wac_sorting.specs.Worlds.{declarations_of}
+use Rattle.wac_encode.specs.Worlds.{IsWorldTypeFrom, IsWorldTypeAt}
 use Rattle.wac_encode.specs.Listing.{IsInstanceTypeFrom, IsItemDescribed, WritesItem, WritesItems, WritesInterfaceTo, WritesInterface}
 use Rattle.wac_encode.specs.Instances.{IsInterfaceAt}
 

@@ -15,12 +15,12 @@ use Rattle.wac_scopes.specs.declared.scope.Scope.{Scope}
 use Rattle.wac_scopes.specs.Contents.{and_type, count, ContentFits}
 use Rattle.wac_stacks.specs.Laws.{Follows, StaysOnward}
 use Rattle.wac_scopes.specs.Scoped.{type_index, opened, HasToo, IsAt, AddsInstance, FitsUnlessTooLarge}
-use Rattle.wac_encode.specs.declared.worlds.Worlds.{Worlds}
-use Rattle.wac_encode.specs.Written.{WritesFor, defined}
+use Rattle.wac_sorting.specs.declared.worlds.Worlds.{Worlds}
+use Rattle.wac_defining.specs.Written.{WritesFor, defined}
 use Rattle.wac_encode.specs.Listing.{IsOfItems, AliasesFor, AllAliased, IsAliasRefused, SaysInterface, WritesInterface, NeededBy, IsInstanceTypeFrom, IsInstanceTypeAt, IsInterfaceRefused}
 use Rattle.wac_encode.specs.Instances.{AddsHeldInterface, IsInstanceRefused}
-use Rattle.wac_encode.proofs.Answering.{as-it-was}
-use Rattle.wac_encode.proofs.Stacks.{writes-none, writes-recorded, writes-as, writes-then}
+use Rattle.wac_defining.proofs.Answering.{as-it-was}
+use Rattle.wac_defining.proofs.Stacks.{writes-none, writes-recorded, writes-as, writes-then}
 
 -- the instance type, which is recorded
 

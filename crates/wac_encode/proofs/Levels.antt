@@ -28,19 +28,21 @@ use Rattle.wac_stacks.specs.Laws.{Follows, StaysOnward}
 use Rattle.wac_stacks.specs.Listed.{OpensInterface, OpensOver, ClosesInstance, HoldsInterface, ListsOneMore, ListsInAnyOrder}
 use Rattle.wac_listing.specs.Made.{interface_of}
 use Rattle.wac_listing.proofs.Interfaces.{type-of}
-use Rattle.wac_encode.specs.declared.worlds.Worlds.{Worlds}
+use Rattle.wac_sorting.specs.declared.worlds.Worlds.{Worlds}
 use Rattle.wac_encode.specs.declared.level.Level.{Level}
-use Rattle.wac_encode.specs.Written.{WritesFor}
-use Rattle.wac_encode.specs.Listing.{SaysInterface, lists_plain_to, IsOrder, AliasesFor, AllAliased, IsAliasRefused, NeededBy, IsInstanceTypeFrom, IsItemDescribed, WritesItem, WritesItems, WritesInterfaceTo, InsideDoesNotFit, ItemTypeDoesNotFit, IsFaultIn, IsItemRefused, IsRefusedTo, IsInterfaceRefused}
+use Rattle.wac_defining.specs.Written.{WritesFor}
+use Rattle.wac_encode.specs.Listing.{SaysInterface, AliasesFor, AllAliased, IsAliasRefused, NeededBy, IsInstanceTypeFrom, IsItemDescribed, WritesItem, WritesItems, WritesInterfaceTo, InsideDoesNotFit, ItemTypeDoesNotFit, IsFaultIn, IsItemRefused, IsRefusedTo, IsInterfaceRefused}
+use Rattle.wac_sorting.specs.Sorts.{lists_plain_to}
+use Rattle.wac_sorting.specs.Order.{IsOrder}
 use Rattle.wac_encode.specs.Instances.{AddsHeldInterface}
 use Rattle.wac_encode.specs.Items.{ListsHeld, HasListed, CanList, nothing_inside, none_refused}
 use Rattle.wac_encode.specs.Levels.{SoFar, IsBegun, IsLevel, IsWaiting, IsChain, described_by, PutsItem, ItemNotPut}
 use Rattle.wac_encode.proofs.InstanceTypes.{adds-interface, instance-behind, aliases-for, still-unwritten, written-behind, adds-behind, ends-with-interface}
-use Rattle.wac_encode.proofs.Ordered.{once-ordered, same-under, stands-there}
+use Rattle.wac_sorting.proofs.Ordered.{once-ordered, same-under, stands-there}
 use Rattle.wac_planning.proofs.Listing.{listed-before, held-items}
-use Rattle.wac_encode.proofs.Plain.{plain-each, plain-of, plain-alone}
+use Rattle.wac_sorting.proofs.Plain.{plain-each, plain-of, plain-alone, one-plain}
 use Rattle.wac_encode.proofs.Listed.{starts, goes-further, stops-at, closes-open, says-interface}
-use Rattle.wac_encode.proofs.OfInterface.{one-plain, one-needed, one-behind, one-described, one-named, one-listed, one-fault, one-large}
+use Rattle.wac_encode.proofs.OfInterface.{one-needed, one-behind, one-described, one-named, one-listed, one-fault, one-large}
 
 -- an item for which nothing is written inside is written so whatever is inside
 

@@ -1,14 +1,5 @@
-pub mod Saying
-pub mod Stacks
-pub mod Counting
-pub mod Below
-pub mod Stepping
-pub mod Answering
-pub mod Rows
-pub mod Ordered
 pub mod Listed
 pub mod Naming
-pub mod Plain
 pub mod Around
 pub mod Aliasing
 pub mod InstanceTypes
@@ -17,7 +8,5 @@ pub mod Growing
 pub mod Levels
 pub mod Chains
 pub mod Remaining
-pub mod Inside
-pub mod Flat
 pub mod Placed
 pub mod OfInterface

@@ -1,7 +1,6 @@
 -- Interfaces, item by item.
 use Rattle.std.specs.Prelude.{ℕ, zero, suc, ◌+◌, ◌≤◌, ◌≡◌, Bool, true, List, [], ◌∷◌, ◌++◌, length, map, Option, Some, None, slice_get, Err}
 use Rattle.std.proofs.Common.{refl, ap, ◌∙◌, sym, subst, take, add-one, arith}
-use Rattle.std.proofs.Math.Seq.{take-length}
 use Rattle.wac_primitives.specs.Name.{Name, find_name}
 use Rattle.wac_shapes.specs.Named.{NoNameTwice}
 use Rattle.wac_shapes.proofs.Names.{take_at, none_before}
@@ -35,12 +34,13 @@ use Rattle.wac_stacks.specs.Laws.{IsItsEnd, IsRecorded}
 use Rattle.wac_stacks.specs.Listed.{IsUnder, IsNewName, Lists, AreListed, has_own, declaring, ListsOneMore, ListsInAnyOrder, OpensInterface, OpensOver, ClosesInstance, HoldsInterface}
 use Rattle.wac_scopes.specs.Scoped.{value_index, recorded_type, opened, AddsPrimitive, ListsType, ListsValue, ListsFunction, ListsInstanceOf}
 use Rattle.wac_stacks.proofs.Values.{primitive-held}
-use Rattle.wac_encode.specs.declared.worlds.Worlds.{Worlds}
-use Rattle.wac_encode.specs.Written.{GoesOn, with_types, AddsHeldFunc, NewType, defined, aliased, as_decl}
+use Rattle.wac_sorting.specs.declared.worlds.Worlds.{Worlds}
+use Rattle.wac_defining.specs.Written.{GoesOn, with_types, AddsHeldFunc, NewType, defined, aliased, as_decl}
 use Rattle.wac_encode.specs.Listing.{SaysInterface, WritesItem, WritesItems, IsOpened, IsItemRefused, IsStopped}
 use Rattle.wac_encode.specs.Worlds.{AddsHeldWorld}
 use Rattle.wac_encode.specs.Instances.{AddsHeldInterface}
-use Rattle.wac_encode.specs.Listing.{are_plain}
+use Rattle.wac_sorting.specs.Sorts.{are_plain}
+use Rattle.wac_sorting.proofs.Ordered.{all-of}
 use Rattle.wac_encode.proofs.Around.{starts-good}
 use Rattle.wac_encode.specs.Items.{ListsHeld, CanClose, HasListed}
 use Rattle.wac_encode.specs.Levels.{SoFar}
@@ -234,9 +234,6 @@ goes-further I ws c more it start now new order i n k once at so_far item wrote 
       closes = still-closes I ws c now new n k wrote so_far.closes;
       written = subst (λ (es : List (Name × ItemKind)). WritesItems I ws c start es new) (sym longer) (writes-one-more I ws c start now new (take i order) n k so_far.written wrote);
     })
-
-pub all-of : {A : Type 0} (es : List A) (i : ℕ) → i ≡ length es → take i es ≡ es
-all-of {A} es i is = ap (λ (k : ℕ). take k es) is ∙ take-length es
 
 -- all of them
 pub record AtEnd (I : Scope → InterfaceId → List Decl → Type 0) (ws : Worlds) (c : Collection) (it : Interface) (start now : Scope) (order : List (Name × ItemKind)) : Type 0 where

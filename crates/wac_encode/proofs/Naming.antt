@@ -29,17 +29,17 @@ use Rattle.wac_scopes.specs.Contents.{and_type, and_export, count, ContentFits}
 use Rattle.wac_stacks.specs.Laws.{StaysOnward}
 use Rattle.wac_scopes.specs.Scoped.{type_index, value_index, named_at, by_index, in_use, HasToo, AddsPrimitive, ListsValue, WritesUnlessTooLarge, FitsUnlessTooLarge, listing}
 use Rattle.wac_listing.specs.Made.{interface_of, itself}
-use Rattle.wac_encode.specs.declared.worlds.Worlds.{Worlds}
-use Rattle.wac_encode.specs.Written.{PartOf, WritesFor, HasHandle, IsHandle, IsByRecord, IsRefused, IsOfFunc, AddsHeldFunc, IsFuncAt, IsFuncRefused}
+use Rattle.wac_sorting.specs.declared.worlds.Worlds.{Worlds}
+use Rattle.wac_defining.specs.Written.{PartOf, WritesFor, HasHandle, IsHandle, IsByRecord, IsRefused, IsOfFunc, AddsHeldFunc, IsFuncAt, IsFuncRefused}
 use Rattle.wac_encode.specs.Worlds.{IsWorldTypeAt, IsWorldTypeRefused}
 use Rattle.wac_encode.specs.Listing.{NeededBy, own_types, one_if_primitive, IsListedAt, IsDescribed, IsItemDescribed, SameRecords, IsNamedOnce, NamesValue, WritesItem, PrimitiveDoesNotFit, IsItemRefused}
 use Rattle.wac_encode.specs.Items.{nothing_inside, none_refused}
 use Rattle.wac_encode.specs.Levels.{described_by}
-use Rattle.wac_encode.proofs.Answering.{as-it-was}
+use Rattle.wac_defining.proofs.Answering.{as-it-was}
 use Rattle.wac_encode.proofs.InstanceTypes.{interface-at-there}
 use Rattle.wac_encode.proofs.OfInterface.{one-needed, one-behind, one-described, one-named}
-use Rattle.wac_encode.proofs.Stacks.{writes-none}
-use Rattle.wac_encode.proofs.Rows.{writes-type}
+use Rattle.wac_defining.proofs.Stacks.{writes-none}
+use Rattle.wac_defining.proofs.Rows.{writes-type}
 
 abbrev with_export : Scope → Name → Description → Scope
 with_export s n d = record s { content = and_export s.content n d }

@@ -1,6 +1,5 @@
 -- What is written of an item that is written with an instance type.
-use Rattle.std.specs.Prelude.{ℕ, ◌≡◌, Bool, List, Some}
-use Rattle.std.proofs.Common.{refl}
+use Rattle.std.specs.Prelude.{ℕ, ◌≡◌, List, Some}
 use Rattle.wac_primitives.specs.Name.{Name}
 use Rattle.wac_shapes.specs.declared.component.InterfaceId.{InterfaceId}
 use Rattle.wac_shapes.specs.declared.component.ItemKind.{ItemKind}
@@ -13,19 +12,15 @@ use Rattle.wac_scopes.specs.declared.fault.EncodeFault.{EncodeFault}
 use Rattle.wac_scopes.specs.declared.fault.EncodeFault.TheVariants as fault
 use Rattle.wac_scopes.specs.declared.fault.WriteFault.{WriteFault}
 use Rattle.wac_scopes.specs.declared.scope.Scope.{Scope}
-use Rattle.wac_encode.specs.declared.worlds.Worlds.{Worlds}
-use Rattle.wac_encode.specs.Written.{WritesFor}
-use Rattle.wac_encode.specs.Listing.{is_plain, AliasesFor, NeededBy, own_types, IsInstanceTypeAt, IsItemDescribed, SameRecords, NamesItem, InsideDoesNotFit, ItemTypeDoesNotFit, IsFaultIn}
+use Rattle.wac_sorting.specs.declared.worlds.Worlds.{Worlds}
+use Rattle.wac_defining.specs.Written.{WritesFor}
+use Rattle.wac_encode.specs.Listing.{AliasesFor, NeededBy, own_types, IsInstanceTypeAt, IsItemDescribed, SameRecords, NamesItem, InsideDoesNotFit, ItemTypeDoesNotFit, IsFaultIn}
 use Rattle.wac_encode.specs.Instances.{AddsHeldInterface}
 use Rattle.wac_encode.specs.Items.{ListsHeld}
 use Rattle.wac_encode.specs.Levels.{described_by, ListsBy}
 use Rattle.wac_encode.proofs.Listed.{instance-listed, interface-type-listed}
 
 module _ (k : ItemKind) (i : InterfaceId) (of : interface_of k ≡ Some i) where
-  -- it is plain where the interface is
-  pub one-plain : (ws : Worlds) (P : InterfaceId → Bool) → is_plain ws P k ≡ P i
-  one-plain ws P = by-interface (λ (x : ItemKind). is_plain ws P x ≡ P i) k i of refl refl
-
   -- it needs what the interface needs, and no type of its own
   pub one-needed : (c : Collection) (n : ℕ) (old now : Scope) → WritesFor c n (NeededBy c (kind.Instance i)) old now → WritesFor c n (NeededBy c k) old now
   one-needed c n old now w = by-interface (λ (x : ItemKind). WritesFor c n (NeededBy c x) old now) k i of w w

@@ -18,17 +18,17 @@ use Rattle.wac_binary.specs.Items.{Decl}
 use Rattle.wac_scopes.specs.declared.scope.Listed.{Listed}
 use Rattle.wac_scopes.specs.declared.scope.Scope.{Scope}
 use Rattle.wac_scopes.specs.Scoped.{value_index, named_at, listed_at, HasToo}
-use Rattle.wac_encode.specs.declared.worlds.Worlds.{Worlds}
+use Rattle.wac_sorting.specs.declared.worlds.Worlds.{Worlds}
 use Rattle.wac_encode.specs.declared.level.Level.{Level}
 use Rattle.wac_planning.specs.declared.plan.Place.{Place}
-use Rattle.wac_encode.specs.Written.{WritesFor, name_after}
+use Rattle.wac_defining.specs.Written.{WritesFor, name_after}
 use Rattle.wac_planning.specs.Listed.{definition_of, listed_definition}
 use Rattle.wac_encode.specs.Listing.{IsOfItems, AliasesFor, AllAliased, IsOpened, around_at, WritesItem, SameRecords, NamesItem, NamesValue, IsNamedOnce}
 use Rattle.wac_listing.specs.Made.{interface_of}
 use Rattle.wac_encode.specs.Levels.{IsBegun, PutsItem}
 use Rattle.wac_planning.specs.Plans.{IsOneOf, Takes, HasName, MayBeNamed, ArePlanned, IsTaker, inside_at}
 use Rattle.wac_encode.specs.Plans.{IsOpenedFor, IsAtPlace, AreAtPlaces}
-use Rattle.wac_encode.proofs.Stacks.{no-place}
+use Rattle.wac_defining.proofs.Stacks.{no-place}
 
 -- a scope that is opened
 

@@ -13,7 +13,7 @@ use Rattle.wac_collection.specs.Collection.{Collection}
 use Rattle.wac_scopes.specs.declared.scope.Scope.{Scope}
 use Rattle.wac_listing.specs.Made.{interface_of}
 use Rattle.wac_planning.proofs.Steps.{item_steps, steps_to}
-use Rattle.wac_encode.specs.declared.worlds.Worlds.{Worlds}
+use Rattle.wac_sorting.specs.declared.worlds.Worlds.{Worlds}
 use Rattle.wac_encode.specs.declared.level.Level.{Level}
 use Rattle.wac_encode.specs.Levels.{IsBegun, IsChain}
 

@@ -14,12 +14,13 @@ use Rattle.wac_scopes.specs.declared.scope.Scope.{Scope}
 use Rattle.wac_scopes.specs.Contents.{and_type, count, ContentFits}
 use Rattle.wac_stacks.specs.Laws.{Follows, StaysOnward}
 use Rattle.wac_scopes.specs.Scoped.{type_index, opened, HasToo, IsAt, AddsWorld, FitsUnlessTooLarge}
-use Rattle.wac_encode.specs.declared.worlds.Worlds.{Worlds}
-use Rattle.wac_encode.specs.Written.{WritesFor, defined}
-use Rattle.wac_encode.specs.Worlds.{declarations_of, SaysWorld, IsOfWorld, AddsHeldWorld, IsWorldTypeFrom, IsWorldTypeAt, IsWorldTypeRefused}
+use Rattle.wac_sorting.specs.declared.worlds.Worlds.{Worlds}
+use Rattle.wac_defining.specs.Written.{WritesFor, defined}
+use Rattle.wac_sorting.specs.Worlds.{declarations_of, SaysWorld}
+use Rattle.wac_encode.specs.Worlds.{IsOfWorld, AddsHeldWorld, IsWorldTypeFrom, IsWorldTypeAt, IsWorldTypeRefused}
 use Rattle.wac_encode.specs.Listing.{NeededBy}
-use Rattle.wac_encode.proofs.Answering.{as-it-was}
-use Rattle.wac_encode.proofs.Stacks.{writes-none, writes-recorded}
+use Rattle.wac_defining.proofs.Answering.{as-it-was}
+use Rattle.wac_defining.proofs.Stacks.{writes-none, writes-recorded}
 
 -- where it is recorded
 

@@ -19,7 +19,7 @@ use Rattle.wac_stacks.specs.Good.{IsHeld, Good}
 use Rattle.wac_stacks.specs.Laws.{Adds}
 use Rattle.wac_scopes.specs.Scoped.{type_index, opened, listing}
 use Rattle.wac_planning.specs.Listed.{listed_definition}
-use Rattle.wac_encode.specs.declared.worlds.Worlds.{Worlds}
+use Rattle.wac_sorting.specs.declared.worlds.Worlds.{Worlds}
 use Rattle.wac_encode.specs.Listing.{AliasesFor, WritesInterface, IsInstanceTypeAt, InsideDoesNotFit, IsInterfaceRefused}
 
 -- index k is the held interface's, in each stack that was good with the scope as the innermost; and that stack goes onward

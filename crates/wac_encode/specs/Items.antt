@@ -18,8 +18,8 @@ use Rattle.wac_stacks.specs.Scopes.{Open, Stack, env, envs, opening}
 use Rattle.wac_stacks.specs.Good.{Good, top}
 use Rattle.wac_stacks.specs.Listed.{IsItem, IsNewName, Lists, AreListed, has_own}
 use Rattle.wac_scopes.specs.Scoped.{opened}
-use Rattle.wac_encode.specs.declared.worlds.Worlds.{Worlds}
-use Rattle.wac_encode.specs.Listing.{is_plain}
+use Rattle.wac_sorting.specs.declared.worlds.Worlds.{Worlds}
+use Rattle.wac_sorting.specs.Sorts.{is_plain}
 
 -- good stacks in which nothing has the item's name list it
 abbrev pub ListsHeld : Collection → Scope → Scope → Name → ItemKind → Type 0

@@ -19,11 +19,13 @@ use Rattle.wac_scopes.specs.declared.scope.Scope.{Scope}
 use Rattle.wac_scopes.specs.Contents.{and_type, and_export, count, ContentFits}
 use Rattle.wac_scopes.specs.Scoped.{type_index, HasToo, AddsInstance, ListsInstanceOf, ListsType}
 use Rattle.wac_listing.specs.Made.{interface_of}
-use Rattle.wac_encode.specs.declared.worlds.Worlds.{Worlds}
+use Rattle.wac_sorting.specs.declared.worlds.Worlds.{Worlds}
 use Rattle.wac_encode.specs.declared.level.Level.{Level}
 use Rattle.wac_encode.specs.declared.level.Next.{Next}
 use Rattle.wac_encode.specs.declared.level.Next.TheVariants as step
-use Rattle.wac_encode.specs.Listing.{lists_plain_to, IsOrder, AliasesFor, AllAliased, IsOpened, WritesItems, WritesInterfaceTo}
+use Rattle.wac_sorting.specs.Sorts.{lists_plain_to}
+use Rattle.wac_sorting.specs.Order.{IsOrder}
+use Rattle.wac_encode.specs.Listing.{AliasesFor, AllAliased, IsOpened, WritesItems, WritesInterfaceTo}
 use Rattle.wac_encode.specs.Items.{CanClose, HasListed}
 
 -- what stands after some of the items of an interface

@@ -1,7 +1,6 @@
 -- What the writer of interfaces writes.
-use Rattle.std.specs.Prelude.{ℕ, zero, suc, ◌≡◌, ◌⊎◌, not, Bool, true, false, List, [], ◌∷◌, ◌++◌, Option, Some, None, IsSome, slice_get, Result, Ok, Err, IsPermutation}
-use Rattle.std.specs.List.{AllZip, filter, list_all}
-use Rattle.wac_primitives.specs.Name.{Name, option_case}
+use Rattle.std.specs.Prelude.{ℕ, zero, suc, ◌≡◌, ◌⊎◌, List, [], ◌∷◌, ◌++◌, Option, Some, None, IsSome, Result, Ok, Err}
+use Rattle.wac_primitives.specs.Name.{Name}
 use Rattle.wac_shapes.specs.declared.component.DefinedTypeId.{DefinedTypeId}
 use Rattle.wac_shapes.specs.declared.component.Interface.{Interface}
 use Rattle.wac_shapes.specs.declared.component.InterfaceId.{InterfaceId}
@@ -12,7 +11,7 @@ use Rattle.wac_shapes.specs.declared.component.ValueType.TheVariants as val
 use Rattle.wac_shapes.specs.declared.component.«Type».{«Type» as AnyType}
 use Rattle.wac_shapes.specs.declared.component.«Type».TheVariants as ty
 use Rattle.wac_primitives.specs.Tree.{Tree}
-use Rattle.wac_collection.specs.Collection.{Collection, interface_exports, item_at, size}
+use Rattle.wac_collection.specs.Collection.{Collection, interface_exports, item_at}
 use Rattle.wac_collection.specs.Aliases.{value_resolved}
 use Rattle.wac_collection.specs.Bound.{Bindings}
 use Rattle.wac_binary.specs.HasMeaning.{IsInstance}
@@ -35,62 +34,16 @@ use Rattle.wac_stacks.specs.Good.{IsHeld, Good}
 use Rattle.wac_stacks.specs.Laws.{Adds}
 use Rattle.wac_scopes.specs.Scoped.{type_index, value_index, named_at, listed_at, and_listed, listing, opened, HasToo, AddsPrimitive, ListsValue}
 use Rattle.wac_listing.specs.Made.{OneItemIsMadeOf}
-use Rattle.wac_listing.specs.Order.{AreOrdered}
-use Rattle.wac_encode.specs.declared.worlds.Worlds.{Worlds}
-use Rattle.wac_encode.specs.Worlds.{is_written, IsOfWorld, IsWorldTypeAt, WorldDoesNotFit}
-use Rattle.wac_encode.specs.Written.{OfValue, PartOf, WritesFor, HasHandle, DoesNotFit, IsOfFunc, AddsHeldFunc, IsFuncAt, FuncDoesNotFit}
+use Rattle.wac_sorting.specs.declared.worlds.Worlds.{Worlds}
+use Rattle.wac_sorting.specs.Order.{IsOrder}
+use Rattle.wac_encode.specs.Worlds.{IsOfWorld, IsWorldTypeAt, WorldDoesNotFit}
+use Rattle.wac_defining.specs.Written.{OfValue, PartOf, WritesFor, HasHandle, DoesNotFit, IsOfFunc, AddsHeldFunc, IsFuncAt, FuncDoesNotFit}
 
 -- closed, these declarations are the held interface, in each stack that is good with the scope around as the innermost, and that stack goes onward
 abbrev pub SaysInterface : Collection → Scope → InterfaceId → List Decl → Type 0
 SaysInterface c around i ds = (m : Bindings) (ms : List Bindings) (o : Open) (os : Stack) → Good c (m ∷ ms) (opened around o ∷ os)
     → (t : Tree) × IsHeld c m (ty.Interface i) t × IsInstance t
     × Adds c (m ∷ ms) (opened around o ∷ os) (with_def (instance_def (decls ds)) (opened around o) ∷ os) (next_type (opened around o)) t
-
--- whether an item is of a sort that is written so far, or that no instance type can list; of instances and of type items of interfaces this tells of which,
--- and of type items of worlds whether the component type is written
-abbrev pub is_plain : Worlds → (InterfaceId → Bool) → ItemKind → Bool
-is_plain ws inside (kind.TypeItem (ty.Value v)) = true
-is_plain ws inside (kind.TypeItem (ty.Func f)) = true
-is_plain ws inside (kind.TypeItem (ty.Module m)) = true
-is_plain ws inside (kind.TypeItem (ty.Interface i)) = inside i
-is_plain ws inside (kind.TypeItem (ty.World w)) = is_written ws w
-is_plain ws inside (kind.TypeItem t) = false
-is_plain ws inside (kind.Instance i) = inside i
-is_plain ws inside k = true
-
-abbrev pub are_plain : Worlds → (InterfaceId → Bool) → List (Name × ItemKind) → Bool
-are_plain ws inside es = list_all (λ e. is_plain ws inside e.1) es
-
--- whether all items of an interface are, and those of the interfaces of instances and type items among them, to this depth of interfaces in interfaces
-abbrev pub lists_plain_to : ℕ → Worlds → Collection → InterfaceId → Bool
-lists_plain_to zero ws c i = false
-lists_plain_to (suc d) ws c i = option_case (item_at c.interfaces i.0) true (λ it. are_plain ws (lists_plain_to d ws c) it.exports)
-
--- and to any: an interface lists those added before it alone, so that none are deeper than the collection is large
-abbrev pub lists_plain : Worlds → Collection → InterfaceId → Bool
-lists_plain ws c i = lists_plain_to (size c) ws c i
-
--- whether an item is a type item
-abbrev pub is_type : ItemKind → Bool
-is_type (kind.TypeItem t) = true
-is_type k = false
-
--- whether it is one of another type than a value type
-abbrev pub is_other_type : ItemKind → Bool
-is_other_type (kind.TypeItem (ty.Value v)) = false
-is_other_type (kind.TypeItem t) = true
-is_other_type k = false
-
--- the type items of value types, each the first listed one of those left that mentions none of those left; then the other type items, as they are
--- listed; then the others, as they are listed
-pub record IsOrder (c : Collection) (es order : List (Name × ItemKind)) : Type 0 where
-  pub positions : List ℕ
-  pub ordered : AreOrdered c es positions
-  pub types : List (Name × ItemKind)
-  pub at : AllZip (λ p e. slice_get es p ≡ Some e) positions types
-  pub is : order ≡ types ++ (filter (λ e. is_other_type e.1) es ++ filter (λ e. not (is_type e.1)) es)
-  -- so they are the same items
-  pub permutation : IsPermutation es order
 
 -- what the items of an interface are made of
 abbrev pub IsOfItems : Collection → InterfaceId → AnyType → Type 0

@@ -3,9 +3,10 @@
 ghost use Rattle.std.specs.Prelude.{◌≡◌, true, IfOk};
 ghost use Rattle.wac_shapes.specs.declared.component.ItemKind.TheVariants as kind;
 ghost use Rattle.wac_collection.specs.Collection.{HasInterface};
-ghost use Rattle.wac_encode.specs.Written.{WritesFor};
-ghost use Rattle.wac_encode.specs.Worlds.{SayWorlds};
-ghost use Rattle.wac_encode.specs.Listing.{NeededBy, lists_plain};
+ghost use Rattle.wac_defining.specs.Written.{WritesFor};
+ghost use Rattle.wac_sorting.specs.Worlds.{SayWorlds};
+ghost use Rattle.wac_encode.specs.Listing.{NeededBy};
+ghost use Rattle.wac_sorting.specs.Sorts.{lists_plain};
 ghost use Rattle.wac_encode.specs.Instances.{AddsHeldInterface, IsInterfaceAt, IsInstanceRefused, listed_definitions};
 
 use crate::encoder::TypeEncoder;

@@ -1,33 +1,26 @@
 //! The writer of interfaces.
 
-ghost use Rattle.std.specs.Prelude.{◌≡◌, ◌<◌, ◌++◌, not, ℕ, List, true, None, Some, IsSome, IfOk, OnOk, length, slice_get};
-ghost use Rattle.std.specs.List.{AllZip, filter};
-ghost use Rattle.wac_shapes.specs.Named.{NoNameTwice, named_pairs};
+ghost use Rattle.std.specs.Prelude.{◌≡◌, ◌<◌, true, None, Some, IsSome, IfOk, OnOk, length, slice_get};
 ghost use Rattle.wac_shapes.specs.declared.component.InterfaceId.{InterfaceId as AnId};
-ghost use Rattle.wac_shapes.specs.declared.component.ItemKind.{ItemKind as AnyItem};
 ghost use Rattle.wac_shapes.specs.declared.component.ItemKind.TheVariants as kind;
 ghost use Rattle.wac_shapes.specs.declared.component.ValueType.TheVariants as val;
 ghost use Rattle.wac_shapes.specs.declared.component.«Type».TheVariants as ty;
-ghost use Rattle.wac_shapes.specs.declared.component.Interface.{Interface as AnInterface};
-ghost use Rattle.wac_collection.specs.Collection.{HasFunc, HasInterface, HasWorld, holds_value, item_at};
+ghost use Rattle.wac_collection.specs.Collection.{HasFunc, HasWorld, holds_value};
 ghost use Rattle.wac_collection.specs.Aliases.{value_resolved};
 ghost use Rattle.wac_scopes.specs.declared.encodable.Encodable.TheVariants.{Instance};
 ghost use Rattle.wac_listing.specs.Made.{interface_of};
 ghost use Rattle.wac_scopes.specs.Contents.{ContentFits, IsOpenType, and_export};
 ghost use Rattle.wac_scopes.specs.Scoped.{WritesUnlessTooLarge, type_index, value_index};
-ghost use Rattle.wac_encode.specs.Listing.{is_type, is_other_type, IsOrder, WritesItem, IsItemRefused};
-ghost use Rattle.wac_encode.specs.Worlds.{is_written, SayWorlds};
+ghost use Rattle.wac_encode.specs.Listing.{WritesItem, IsItemRefused};
+ghost use Rattle.wac_sorting.specs.Worlds.{is_written, SayWorlds};
 ghost use Rattle.wac_encode.specs.Items.{ListsHeld, CanClose, CanList, nothing_inside, none_refused};
 ghost use Rattle.wac_encode.specs.Levels.{ListsBy, described_by};
 
 use crate::encoder::TypeEncoder;
-use std::alloc::{AllocError, Global};
 use wac_builder::{ComponentValType, InstanceType};
 use wac_collection::{
-    DefinedTypeId, FuncTypeId, InterfaceId, ItemKind, Named, PrimitiveType, Type, ValueType,
-    WorldId,
+    DefinedTypeId, FuncTypeId, InterfaceId, ItemKind, PrimitiveType, Type, ValueType, WorldId,
 };
-use wac_listing::type_order;
 use wac_scopes::{Encodable, EncodeFault, Scope, WriteFault, alias_law, step_law, still_law};
 
 impl<'a> TypeEncoder<'a> {
@@ -233,23 +226,6 @@ impl<'a> TypeEncoder<'a> {
             _ => unreachable!(),
         }
     }
-
-    /// The items of an interface in the order in which they are written.
-    pub(crate) fn order(
-        &self,
-        interface: InterfaceId,
-    ) -> Result<Vec<(&'a str, ItemKind)>, AllocError>
-        requires { HasInterface self.now.types.now interface }
-        ensures { IfOk result (λ order. (it : AnInterface) → item_at self.now.types.now.interfaces interface.0 ≡ Some it → IsOrder self.now.types.now it.exports (named_pairs order.items)) }
-    {
-        self.types.law();
-        let items = &self.types[interface].exports;
-        let positions = type_order(self.types, items)?;
-        let mut order = items_at(self.types.allocator(), items, positions.as_slice())?;
-        add_other_types(items, &mut order)?;
-        add_others(items, &mut order)?;
-        Ok(order)
-    }
 }
 
 /// Lists an item of the interface whose instance type stands at an index: an instance of that, or a type item that equals it.
@@ -278,73 +254,6 @@ pub(crate) fn instance_type(content: Encodable) -> InstanceType
     match content {
         Encodable::Instance(declarations) => declarations,
         Encodable::Builder(_) | Encodable::Component(_) => unreachable!(),
-    }
-}
-
-/// The items at these positions.
-fn items_at<'b>(
-    alloc: Global,
-    items: &'b Named<ItemKind>,
-    positions: &[usize],
-) -> Result<Vec<(&'b str, ItemKind)>, AllocError>
-    requires { (i p : ℕ) → slice_get positions.now i ≡ Some p → p < length items.now }
-    ensures { IfOk result (λ order. AllZip (λ p e. slice_get items.now p ≡ Some e) positions.now (named_pairs order.items)) }
-{
-    let mut order = Vec::new(alloc);
-    for i in 0..positions.len() {
-        let (name, item) = items.entry_at(positions[i]);
-        order.push((name, *item))?;
-    }
-    Ok(order)
-}
-
-/// Puts the type items of other types than value types behind these.
-fn add_other_types<'b>(
-    items: &'b Named<ItemKind>,
-    order: &mut Vec<(&'b str, ItemKind)>,
-) -> Result<(), AllocError>
-    ensures { OnOk result (named_pairs order.new.items ≡ named_pairs order.old.items ++ filter (λ e. is_other_type e.1) items.now) }
-{
-    for i in 0..items.len() {
-        let (name, item) = items.entry_at(i);
-        if is_other_type_item(*item) {
-            order.push((name, *item))?;
-        }
-    }
-    Ok(())
-}
-
-/// Puts the items that are no type items behind these.
-fn add_others<'b>(
-    items: &'b Named<ItemKind>,
-    order: &mut Vec<(&'b str, ItemKind)>,
-) -> Result<(), AllocError>
-    ensures { OnOk result (named_pairs order.new.items ≡ named_pairs order.old.items ++ filter (λ e. not (is_type e.1)) items.now) }
-{
-    for i in 0..items.len() {
-        let (name, item) = items.entry_at(i);
-        if !is_type_item(*item) {
-            order.push((name, *item))?;
-        }
-    }
-    Ok(())
-}
-
-/// Whether an item is a type item.
-fn is_type_item(item: ItemKind) -> bool
-    ensures { result ≡ is_type item }
-{
-    matches!(item, ItemKind::TypeItem(_))
-}
-
-/// Whether an item is a type item of another type than a value type.
-fn is_other_type_item(item: ItemKind) -> bool
-    ensures { result ≡ is_other_type item }
-{
-    match item {
-        ItemKind::TypeItem(Type::Value(_)) => false,
-        ItemKind::TypeItem(_) => true,
-        _ => false,
     }
 }
 

@@ -1,16 +1,13 @@
-//! Types of a collection, written into open scopes.
+//! Interfaces of a collection and what they list, written into open scopes.
 #![tactic(auto)]
 
 mod encoder;
-mod functions;
 mod instances;
 mod interfaces;
 mod level;
 mod nesting;
 mod opening;
-mod sorts;
-mod task;
 mod worlds;
 
 pub use encoder::TypeEncoder;
-pub use worlds::Worlds;
+pub use wac_sorting::Worlds;

@@ -15,8 +15,9 @@ ghost use Rattle.wac_scopes.specs.declared.encodable.Encodable.TheVariants.{Inst
 ghost use Rattle.wac_scopes.specs.Contents.{IsOpenType};
 ghost use Rattle.wac_scopes.specs.Scoped.{listed_at, type_index};
 ghost use Rattle.wac_encode.specs.Items.{ListsHeld, CanClose, CanList, nothing_inside, none_refused};
-ghost use Rattle.wac_encode.specs.Worlds.{SayWorlds};
-ghost use Rattle.wac_encode.specs.Listing.{WritesItem, IsItemRefused, AliasesFor, AllAliased, IsAliasRefused, SaysInterface, SaysIfThere, WritesInterface, WritesIfThere, lists_plain, IsInterfaceRefused};
+ghost use Rattle.wac_sorting.specs.Worlds.{SayWorlds};
+ghost use Rattle.wac_encode.specs.Listing.{WritesItem, IsItemRefused, AliasesFor, AllAliased, IsAliasRefused, SaysInterface, SaysIfThere, WritesInterface, WritesIfThere, IsInterfaceRefused};
+ghost use Rattle.wac_sorting.specs.Sorts.{lists_plain};
 ghost use Rattle.wac_planning.specs.Plans.{IsOneOf, Takes, HasName, ArePlanned, places_of};
 ghost use Rattle.wac_encode.specs.Plans.{IsAtPlace};
 ghost use Rattle.wac_listing.specs.Made.{interface_of as interface_that};
@@ -31,6 +32,7 @@ use wac_collection::{DefinedTypeId, InterfaceId, ItemKind};
 use wac_listing::interface_of;
 use wac_planning::Plan;
 use wac_scopes::{EncodeFault, Scope, closing_law, listing_law, step_law, still_law};
+use wac_sorting::item_order;
 
 impl<'a> TypeEncoder<'a> {
     /// Opens a level for an interface at a place over a scope, from which it takes these definitions.
@@ -48,7 +50,7 @@ impl<'a> TypeEncoder<'a> {
         ensures taken { IfOk result (λ l. (d : AnId) → IsSome (listed_at l.scope d) → IsOneOf d taken.now) }
     {
         self.types[interface].exports.law();
-        let order = self.order(interface)?;
+        let order = item_order(self.types, interface)?;
         let scope = self.open(around, taken)?;
         Ok(Level {
             scope,

@@ -8,30 +8,25 @@ ghost use Rattle.wac_scopes.specs.Scoped.{IsAsBefore, listed_at, value_index};
 ghost use Rattle.wac_encode.specs.Listing.{AliasesFor, AllAliased, IsAliasRefused};
 ghost use Rattle.wac_planning.specs.Plans.{IsOneOf, AreOfItems};
 ghost use Rattle.wac_encode.specs.Plans.{IsOpenedFor};
-ghost use Rattle.wac_encode.specs.Tasks.{AliasesOne, IsOneAliasRefused};
+ghost use Rattle.wac_defining.specs.Tasks.{AliasesOne, IsOneAliasRefused};
 
 use crate::encoder::TypeEncoder;
 use std::alloc::AllocError;
 use wac_builder::InstanceType;
-use wac_collection::{DefinedTypeId, InterfaceId, ValueType};
+use wac_collection::{DefinedTypeId, InterfaceId};
+use wac_defining::DefinitionEncoder;
 use wac_listing::definitions_of;
 use wac_scopes::{Encodable, EncodeFault, Scope, step_law, still_law};
 
 impl<'a> TypeEncoder<'a> {
-    /// Aliases a definition where it is listed and not written yet.
+    /// Aliases a definition where it is listed and not written yet, as `DefinitionEncoder::alias_one` does.
     fn alias_one(&self, scope: &mut Scope, id: DefinedTypeId) -> Result<(), EncodeFault>
         requires held { HasDefined self.now.types.now id }
         ensures wrote { OnOk result (AliasesOne self.now.types.now scope.old scope.new id) }
         ensures refused { OnErr result (IsAsBefore scope.old scope.new) }
         ensures fault { IsOneAliasRefused scope.old id result }
     {
-        if !scope.is_listed(id) {
-            return Ok(());
-        }
-        match scope.value(ValueType::Defined(id)) {
-            Some(_) => Ok(()),
-            None => self.alias(scope, id),
-        }
+        DefinitionEncoder::new(self.types).alias_one(scope, id)
     }
 
     /// Aliases each definition that an interface's items are made of, where it is listed in the scope and not written yet, in the order in

@@ -18,10 +18,10 @@ use Rattle.wac_scopes.specs.Contents.{count}
 use Rattle.wac_scopes.specs.Scoped.{type_index, value_index, named_at, listed_at, listing, and_listed, HasToo}
 use Rattle.wac_scopes.proofs.ScopedLaws.{aliases-value}
 use Rattle.wac_stacks.specs.Laws.{Follows, StaysOnward, SettlesValue, BringsValue}
-use Rattle.wac_encode.specs.Written.{NewType, defined, aliased, as_item, with_types, IsWrittenAt, IsWrittenAs, IsListedThere}
+use Rattle.wac_defining.specs.Written.{NewType, defined, aliased, as_item, with_types, IsWrittenAt, IsWrittenAs, IsListedThere}
 use Rattle.wac_encode.specs.Listing.{IsOfItems, AliasesFor, AllAliased}
-use Rattle.wac_encode.proofs.Answering.{as-it-was}
-use Rattle.wac_encode.proofs.Stacks.{new-is, recorded-there, writes-none, writes-alias, writes-more}
+use Rattle.wac_defining.proofs.Answering.{as-it-was}
+use Rattle.wac_defining.proofs.Stacks.{new-is, recorded-there, writes-none, writes-alias, writes-more}
 use Rattle.wac_encode_examples.proofs.Apart.{no_flag, no_entry, one_entry, two_numbers}
 use Rattle.wac_encode_examples.proofs.EnumWritten.{enum_is_of_items}
 use Rattle.wac_encode_examples.proofs.ListedRows.{letter}

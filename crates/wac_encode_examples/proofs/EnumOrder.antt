@@ -14,8 +14,8 @@ use Rattle.wac_shapes.specs.declared.component.«Type».TheVariants as ty
 use Rattle.wac_collection.specs.Collection.{Collection, item_at}
 use Rattle.wac_listing.specs.Made.{MadeOf, itself, part, parts}
 use Rattle.wac_listing.specs.Order.{listed, Lists, Mentions, IsNext, Takes, is_value_type_at, AreOrdered}
-use Rattle.wac_encode.specs.Listing.{IsOrder}
-use Rattle.wac_encode.proofs.Ordered.{is-order}
+use Rattle.wac_sorting.specs.Order.{IsOrder}
+use Rattle.wac_sorting.proofs.Ordered.{is-order}
 use Rattle.wac_encode_examples.proofs.Apart.{no_flag, no_entry, one_entry, two_numbers}
 use Rattle.wac_encode_examples.specs.EnumInterface.{the_enum, the_enum_type, enum_item, function_item, items, types}
 

@@ -32,9 +32,10 @@ use Rattle.wac_stacks.specs.Good.{At, GoodScope, nothing_bound}
 use Rattle.wac_stacks.proofs.StepLaws.{is-its-tree}
 use Rattle.wac_scopes.specs.Contents.{content_of, and_type, and_export, count}
 use Rattle.wac_scopes.specs.Scoped.{listed_at, recorded_type, place, opened, type_index, value_index, listing, by_index, HasToo}
-use Rattle.wac_encode.specs.declared.worlds.Worlds.{Worlds}
-use Rattle.wac_encode.specs.Written.{NewType, defined, aliased, with_types, missing_below, unwritten, IsWrittenAt, IsWrittenAs, IsFuncFrom, IsFuncByRecord, EndsWithFunc}
-use Rattle.wac_encode.specs.Listing.{around_at, IsOrder, IsDescribed, IsNamedOnce, WritesItem, WritesItems, WritesListed, WritesInterfaceTo, WritesInterface}
+use Rattle.wac_sorting.specs.declared.worlds.Worlds.{Worlds}
+use Rattle.wac_defining.specs.Written.{NewType, defined, aliased, with_types, missing_below, unwritten, IsWrittenAt, IsWrittenAs, IsFuncFrom, IsFuncByRecord, EndsWithFunc}
+use Rattle.wac_encode.specs.Listing.{around_at, IsDescribed, IsNamedOnce, WritesItem, WritesItems, WritesListed, WritesInterfaceTo, WritesInterface}
+use Rattle.wac_sorting.specs.Order.{IsOrder}
 use Rattle.wac_encode_examples.proofs.Apart.{no_flag, no_entry, one_entry, two_numbers}
 use Rattle.wac_encode_examples.proofs.EnumOrder.{no_other_order}
 use Rattle.wac_encode_examples.specs.EnumInterface.{the_enum, the_function, the_function_type, the_interface, the_interface_type, items, types, written_enum, function_of, NamesNothing}

@@ -19,15 +19,15 @@ use Rattle.wac_scopes.proofs.ScopedLaws.{adds-value, adds-func, lists-value, the
 use Rattle.wac_stacks.specs.Laws.{DefinesValue, DefinesFunc, Follows, IsRecorded, StaysOnward}
 use Rattle.wac_stacks.specs.Listed.{ListsEqual}
 use Rattle.wac_listing.specs.Made.{itself, listed}
-use Rattle.wac_encode.specs.declared.worlds.Worlds.{Worlds}
-use Rattle.wac_encode.specs.Written.{WritesFor, PartOf, IsOfFunc, AddsHeldFunc, IsFuncByRecord}
+use Rattle.wac_sorting.specs.declared.worlds.Worlds.{Worlds}
+use Rattle.wac_defining.specs.Written.{WritesFor, PartOf, IsOfFunc, AddsHeldFunc, IsFuncByRecord}
 use Rattle.wac_encode.specs.Listing.{around_at, IsOfItems, WritesItem, WritesInterfaceTo, WritesInterface}
 use Rattle.wac_encode.specs.Items.{nothing_inside}
-use Rattle.wac_encode.proofs.Answering.{as-it-was}
+use Rattle.wac_defining.proofs.Answering.{as-it-was}
 use Rattle.wac_encode.proofs.Levels.{wrote-inside}
 use Rattle.wac_encode.proofs.Naming.{first-wrote, function-wrote}
-use Rattle.wac_encode.proofs.Rows.{adds-held, put-writes, ends-with}
-use Rattle.wac_encode.proofs.Stacks.{recorded-there, writes-none, writes-one, writes-more}
+use Rattle.wac_defining.proofs.Rows.{adds-held, put-writes, ends-with}
+use Rattle.wac_defining.proofs.Stacks.{recorded-there, writes-none, writes-one, writes-more}
 use Rattle.wac_encode_examples.proofs.Apart.{no_entry}
 use Rattle.wac_encode_examples.proofs.EnumOrder.{enum_first}
 use Rattle.wac_encode_examples.specs.EnumInterface.{the_enum, the_enum_type, the_function, the_function_type, the_interface, the_interface_type, enum_item, items, types, written_enum, function_of, declarations, Steps}

@@ -12,9 +12,10 @@ use Rattle.wac_binary.specs.declared.sorts.Description.TheVariants as e
 use Rattle.wac_scopes.specs.declared.scope.Scope.{Scope}
 use Rattle.wac_scopes.specs.Scoped.{type_index}
 use Rattle.wac_listing.specs.Made.{interface_of}
-use Rattle.wac_encode.specs.declared.worlds.Worlds.{Worlds}
-use Rattle.wac_encode.specs.Inside.{IsInside, IsInsideBy}
-use Rattle.wac_encode.specs.Listing.{IsInstanceTypeFrom, IsItemDescribed, lists_plain}
+use Rattle.wac_sorting.specs.declared.worlds.Worlds.{Worlds}
+use Rattle.wac_sorting.specs.Inside.{IsInside, IsInsideBy}
+use Rattle.wac_encode.specs.Listing.{IsInstanceTypeFrom, IsItemDescribed}
+use Rattle.wac_sorting.specs.Sorts.{lists_plain}
 use Rattle.wac_encode_examples.proofs.Apart.{no_entry, one_entry, two_numbers}
 use Rattle.wac_encode_examples.specs.EnumInterface.{items, enum_item, function_item, types}
 

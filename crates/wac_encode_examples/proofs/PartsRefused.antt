@@ -23,8 +23,8 @@ use Rattle.wac_scopes.specs.declared.encodable.Encodable.TheVariants.{Instance}
 use Rattle.wac_scopes.specs.declared.scope.Scope.{Scope}
 use Rattle.wac_scopes.specs.Contents.{and_type, and_export, count}
 use Rattle.wac_scopes.specs.Scoped.{type_index, value_index, listed_at, by_index}
-use Rattle.wac_encode.specs.declared.worlds.Worlds.{Worlds}
-use Rattle.wac_encode.specs.Written.{NewType, defined, aliased, as_decl, with_types, IsTypeByRecord, IsWrittenAs, IsWrittenAt, PartOfOne, WritesFor}
+use Rattle.wac_sorting.specs.declared.worlds.Worlds.{Worlds}
+use Rattle.wac_defining.specs.Written.{NewType, defined, aliased, as_decl, with_types, IsTypeByRecord, IsWrittenAs, IsWrittenAt, PartOfOne, WritesFor}
 use Rattle.wac_encode.specs.Listing.{IsDescribed, WritesItem}
 use Rattle.wac_encode_examples.proofs.Apart.{no_flag, no_entry, one_entry, two_numbers}
 use Rattle.wac_encode_examples.specs.EnumInterface.{the_enum, the_enum_type, written_enum}

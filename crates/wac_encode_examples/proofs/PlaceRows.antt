@@ -12,10 +12,10 @@ use Rattle.wac_scopes.specs.declared.scope.Scope.{Scope}
 use Rattle.wac_scopes.specs.Contents.{and_type, count}
 use Rattle.wac_scopes.specs.Scoped.{type_index, HasToo}
 use Rattle.wac_stacks.specs.Laws.{StaysOnward}
-use Rattle.wac_encode.specs.declared.worlds.Worlds.{Worlds}
+use Rattle.wac_sorting.specs.declared.worlds.Worlds.{Worlds}
 use Rattle.wac_encode.specs.Listing.{IsOfItems, IsInstanceTypeFrom, WritesInterface}
-use Rattle.wac_encode.proofs.Answering.{as-it-was}
-use Rattle.wac_encode.proofs.Stacks.{writes-none}
+use Rattle.wac_defining.proofs.Answering.{as-it-was}
+use Rattle.wac_defining.proofs.Stacks.{writes-none}
 use Rattle.wac_encode.specs.Instances.{IsInterfaceAt}
 use Rattle.wac_encode_examples.proofs.Apart.{no_flag, no_entry, two_numbers}
 use Rattle.wac_encode_examples.specs.EnumInterface.{the_interface, types, declarations}

@@ -4,7 +4,7 @@ use Rattle.wac_primitives.specs.Name.{Name}
 use Rattle.wac_shapes.specs.declared.component.ItemKind.{ItemKind}
 use Rattle.wac_shapes.specs.declared.component.ItemKind.TheVariants as kind
 use Rattle.wac_listing.specs.Order.{is_value_type_at}
-use Rattle.wac_encode.proofs.Ordered.{is-order}
+use Rattle.wac_sorting.proofs.Ordered.{is-order}
 use Rattle.wac_worlds.specs.Declaring.{IsDeclaredOrder}
 use Rattle.wac_encode_examples.proofs.Apart.{no_flag}
 use Rattle.wac_encode_examples.proofs.EnumOrder.{record_item, record_listed_first, with_record, enum_and_record, no_record_first}

@@ -6,7 +6,7 @@ ghost use Rattle.wac_binary.specs.Items.{instance_def, decls, type_item};
 ghost use Rattle.wac_scopes.specs.declared.encodable.Encodable.TheVariants.{Builder};
 ghost use Rattle.wac_scopes.specs.declared.scope.Scope.{Scope as AScope};
 ghost use Rattle.wac_scopes.specs.Scoped.{HasToo};
-ghost use Rattle.wac_encode.specs.declared.worlds.Worlds.{Worlds as AnyWorlds};
+ghost use Rattle.wac_sorting.specs.declared.worlds.Worlds.{Worlds as AnyWorlds};
 ghost use Rattle.wac_encode.specs.Listing.{AliasesFor, AllAliased, WritesInterface};
 ghost use Rattle.wac_encode.specs.Instances.{IsInterfaceAt};
 ghost use Rattle.wac_encode_examples.specs.EnumInterface.{types, the_interface, declarations, Steps};

@@ -2,8 +2,8 @@
 use Rattle.std.specs.Prelude.{◌≡◌}
 use Rattle.std.proofs.Common.{subst, sym}
 use Rattle.wac_collection.specs.Collection.{Collection}
-use Rattle.wac_encode.specs.declared.worlds.Worlds.{Worlds}
-use Rattle.wac_encode.specs.Worlds.{SayWorlds}
+use Rattle.wac_sorting.specs.declared.worlds.Worlds.{Worlds}
+use Rattle.wac_sorting.specs.Worlds.{SayWorlds}
 use Rattle.wac_worlds.specs.Nested.{AreWorlds}
 
 pub say-held : (c t : Collection) (ws vs : Worlds) → t ≡ c → vs ≡ ws → AreWorlds c ws → SayWorlds t vs

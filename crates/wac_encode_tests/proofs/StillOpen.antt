@@ -7,7 +7,7 @@ use Rattle.wac_binary.specs.Items.{ModuleDecl}
 use Rattle.wac_scopes.specs.declared.encodable.Encodable.{Encodable}
 use Rattle.wac_scopes.specs.declared.encodable.Encodable.TheVariants.{Builder, Instance, Component}
 use Rattle.wac_scopes.specs.Contents.{IsRoot, IsOpenType, and_core_module, and_export, and_import}
-use Rattle.wac_encode.specs.Written.{NewType, with_types}
+use Rattle.wac_defining.specs.Written.{NewType, with_types}
 
 types-kept : (x : Encodable) (ys : List NewType) → IsOpenType x → IsOpenType (with_types x ys)
 types-kept (Builder items) ys h = absurd h

@@ -11,8 +11,8 @@ use Rattle.wac_shapes.specs.declared.component.«Type».{«Type» as AnyType}
 use Rattle.wac_shapes.specs.declared.component.«Type».TheVariants as ty
 use Rattle.wac_collection.specs.Collection.{Collection, IsWellFormed, holds_type}
 use Rattle.wac_binary.specs.Items.{Decl}
-use Rattle.wac_encode.specs.declared.worlds.Worlds.{Worlds}
-use Rattle.wac_encode.specs.Worlds.{declarations_of, SayWorlds}
+use Rattle.wac_sorting.specs.declared.worlds.Worlds.{Worlds}
+use Rattle.wac_sorting.specs.Worlds.{declarations_of, SayWorlds}
 use Rattle.wac_terms.specs.Merge.{import_entries}
 use Rattle.wac_binary.specs.declared.fault.BinaryFault.TheVariants.{TooLarge}
 use Rattle.wac_meaning.specs.Importable.{IsDefinableKind}

@@ -20,7 +20,7 @@ use Rattle.wac_scopes.specs.declared.scope.Scope.{Scope}
 use Rattle.wac_scopes.specs.Contents.{items_of}
 use Rattle.wac_scopes.specs.Rooted.{IsTypeItem}
 use Rattle.wac_scopes.specs.Scoped.{value_index, listing}
-use Rattle.wac_encode.specs.declared.worlds.Worlds.{Worlds}
+use Rattle.wac_sorting.specs.declared.worlds.Worlds.{Worlds}
 use Rattle.wac_root.specs.Importing.{IsImportedOnce, NamesImportedValue}
 use Rattle.wac_root.specs.Defining.{defined_thing, NamesDefinition, WritesDefinition, WritesOnce, IsDefinitionFault}
 use Rattle.wac_root.specs.Defining.{IsDefinable as IsWritable}

@@ -26,7 +26,7 @@ use Rattle.wac_subtyping.proofs.Trees.{aliases_agree}
 use Rattle.wac_reach.specs.Reach.{IsIn, mentions, Reaches, at_once, further}
 use Rattle.wac_reach.proofs.Reaching.{mentioned_held}
 use Rattle.wac_listing.specs.Made.{parts, MadeOf, itself, part, some_of, second_of, some_second_of}
-use Rattle.wac_encode.specs.Written.{IsHandle, HasHandle, PartOf, IsOfFunc}
+use Rattle.wac_defining.specs.Written.{IsHandle, HasHandle, PartOf, IsOfFunc}
 use Rattle.wac_meaning.specs.Importable.{HasNoHandle, IsDefinable}
 use Rattle.wac_importing.specs.Looked.{IsOfValues}
 

@@ -20,7 +20,7 @@ use Rattle.wac_root.specs.Defining.{IsDefinable as IsWritable}
 use Rattle.wac_nodes.specs.Entries.{under_id}
 use Rattle.wac_meaning.specs.Definition.{definition_tree, uses_of, reached_to, reached, as_imports, listed, cut_imports}
 use Rattle.wac_meaning.specs.Importable.{IsPlainTo, IsDefinableKind}
-use Rattle.wac_encode.specs.declared.worlds.Worlds.{Worlds}
+use Rattle.wac_sorting.specs.declared.worlds.Worlds.{Worlds}
 use Rattle.wac_worlds.specs.Nested.{AllWritten}
 use Rattle.wac_worlds.proofs.TypesInside.{inside-holder}
 use Rattle.wac_importing.specs.Looked.{ArePlainInside}

@@ -37,8 +37,8 @@ use Rattle.wac_stacks.specs.Scopes.{Open, root, ContentHasMeaning, opening}
 use Rattle.wac_stacks.specs.Good.{Good}
 use Rattle.wac_stacks.specs.Inside.{StartsRoot}
 use Rattle.wac_scopes.specs.Scoped.{opened, place, recorded_type, type_index, listing, IsNewInRoot, root_of}
-use Rattle.wac_encode.specs.declared.worlds.Worlds.{Worlds}
-use Rattle.wac_encode.specs.Written.{NewType, defined, aliased, as_item, with_types}
+use Rattle.wac_sorting.specs.declared.worlds.Worlds.{Worlds}
+use Rattle.wac_defining.specs.Written.{NewType, defined, aliased, as_item, with_types}
 use Rattle.wac_root.specs.Importing.{ImportsHeld, WritesImport, IsImportedAs}
 use Rattle.wac_meaning.specs.Means.{sort_of_kind}
 use Rattle.wac_meaning.specs.Beginning.{Places, Begins}

@@ -13,7 +13,7 @@ use Rattle.wac_binary.specs.declared.fault.BinaryFault.{BinaryFault}
 use Rattle.wac_binary.specs.declared.fault.BinaryFault.TheVariants.{TooLarge, OutOfMemory}
 use Rattle.wac_scopes.specs.declared.scope.Scope.{Scope}
 use Rattle.wac_meaning.specs.Beginning.{Places}
-use Rattle.wac_encode.specs.declared.worlds.Worlds.{Worlds}
+use Rattle.wac_sorting.specs.declared.worlds.Worlds.{Worlds}
 use Rattle.wac_worlds.specs.Nested.{AreWorlds}
 use Rattle.wac_importing.specs.Looked.{AreImportable, HasNotYet}
 use Rattle.wac_importing.specs.Written.{IsAhead, AllImportable, HasUnimportable, IsTooLarge, AreRefused, IsNotWritten, merge_of}

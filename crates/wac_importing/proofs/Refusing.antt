@@ -25,14 +25,15 @@ use Rattle.wac_scopes.specs.declared.fault.EncodeFault.TheVariants as fault
 use Rattle.wac_scopes.specs.declared.scope.Scope.{Scope}
 use Rattle.wac_listing.specs.Made.{interface_of}
 use Rattle.wac_listing.proofs.Interfaces.{by-interface}
-use Rattle.wac_encode.specs.declared.worlds.Worlds.{Worlds}
-use Rattle.wac_encode.specs.Worlds.{is_written as is_ahead}
-use Rattle.wac_encode.specs.Inside.{IsInsideBy as IsAnInterfaceInsideBy, is_plain_alone}
-use Rattle.wac_encode.specs.Listing.{lists_plain, IsFaultIn, IsRefusedTo}
+use Rattle.wac_sorting.specs.declared.worlds.Worlds.{Worlds}
+use Rattle.wac_sorting.specs.Worlds.{is_written as is_ahead}
+use Rattle.wac_sorting.specs.Inside.{IsInsideBy as IsAnInterfaceInsideBy, is_plain_alone}
+use Rattle.wac_sorting.specs.Sorts.{lists_plain}
+use Rattle.wac_encode.specs.Listing.{IsFaultIn, IsRefusedTo}
 use Rattle.wac_root.specs.Importing.{is_importable, IsImportFault}
-use Rattle.wac_encode.proofs.Ordered.{stands-there}
-use Rattle.wac_encode.proofs.Inside.{all-plain}
-use Rattle.wac_encode.proofs.Plain.{each-plain}
+use Rattle.wac_sorting.proofs.Ordered.{stands-there}
+use Rattle.wac_sorting.proofs.Inside.{all-plain}
+use Rattle.wac_sorting.proofs.Plain.{each-plain}
 use Rattle.wac_meaning.specs.Importable.{IsPlainItem}
 use Rattle.wac_worlds.specs.Declaring.{is_declarable, are_declarable, IsItemFault, IsSideStopped}
 use Rattle.wac_worlds.specs.Worlds.{is_plain_world, IsStoppedBehind, IsWorldRefused}

@@ -18,7 +18,7 @@ use Rattle.wac_importing.specs.Looked.{HasPlainItems, UseNothing}
 use Rattle.wac_importing.proofs.Items.{imports_are, world_exports_are}
 use Rattle.wac_importing.proofs.Nested.{inside_to, to_inside, in_left, in_right, of_both}
 use Rattle.wac_importing.proofs.Refusing.{world_written}
-use Rattle.wac_encode.specs.declared.worlds.Worlds.{Worlds}
+use Rattle.wac_sorting.specs.declared.worlds.Worlds.{Worlds}
 use Rattle.wac_worlds.specs.Nested.{listed_in, IsHolder, AllWritten}
 use Rattle.wac_worlds.proofs.TypesInside.{inside-holder}
 

@@ -17,7 +17,7 @@ use Rattle.wac_scopes.specs.declared.fault.EncodeFault.{EncodeFault}
 use Rattle.wac_scopes.specs.declared.fault.EncodeFault.TheVariants as fault
 use Rattle.wac_scopes.specs.declared.scope.Scope.{Scope}
 use Rattle.wac_scopes.specs.Contents.{and_core_module, and_import, count, ContentFits}
-use Rattle.wac_encode.specs.declared.worlds.Worlds.{Worlds}
+use Rattle.wac_sorting.specs.declared.worlds.Worlds.{Worlds}
 use Rattle.wac_root.specs.Importing.{WritesImport, ImportedDoesNotFit}
 use Rattle.wac_components.specs.Imports.{ImportsWorld, WorldDoesNotFit}
 

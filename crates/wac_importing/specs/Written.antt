@@ -16,7 +16,7 @@ use Rattle.wac_scopes.specs.Contents.{items_of}
 use Rattle.wac_meaning.specs.Beginning.{Places, Begins}
 use Rattle.wac_meaning.specs.Importable.{IsImportableKind}
 use Rattle.wac_meaning.specs.MergedImports.{imports_from}
-use Rattle.wac_encode.specs.declared.worlds.Worlds.{Worlds}
+use Rattle.wac_sorting.specs.declared.worlds.Worlds.{Worlds}
 use Rattle.wac_worlds.specs.Nested.{type_inside, AreWorlds, AllWritten, AreWorldsRefused}
 use Rattle.wac_importing.specs.Modules.{OneDoesNotFit}
 

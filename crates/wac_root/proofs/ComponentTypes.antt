@@ -29,17 +29,18 @@ use Rattle.wac_stacks.specs.Laws.{Adds, IsItsTree, StaysOnward}
 use Rattle.wac_stacks.specs.Listed.{declaring, OpensWorld, ClosesComponent}
 use Rattle.wac_scopes.specs.Rooted.{unbound, IsRightRoot}
 use Rattle.wac_scopes.specs.Scoped.{type_index, recorded_type, opened, AddsInstance, AddsComponent, ListsInstanceOf, WritesUnlessTooLarge, FitsUnlessTooLarge, listing, place}
-use Rattle.wac_encode.specs.declared.worlds.Worlds.{Worlds}
-use Rattle.wac_encode.specs.Written.{GoesOn, WritesFor}
-use Rattle.wac_encode.specs.Listing.{lists_plain, SaysInterface, IsInterfaceRefused}
+use Rattle.wac_sorting.specs.declared.worlds.Worlds.{Worlds}
+use Rattle.wac_defining.specs.Written.{GoesOn, WritesFor}
+use Rattle.wac_sorting.specs.Sorts.{lists_plain}
+use Rattle.wac_encode.specs.Listing.{SaysInterface, IsInterfaceRefused}
 use Rattle.wac_encode.specs.Instances.{IsBare}
 use Rattle.wac_root.specs.Components.{HasId, held_under_id, component_tree, SaysComponent, WritesAlone, under_id, WritesComponent, IsComponentRefused, EndsWithComponent}
 use Rattle.wac_root.specs.Defining.{IsDefinable, WritesDefinition, MadeFor, WritesTypesFor, WritesOnce, IsDefinitionRefused}
-use Rattle.wac_encode.proofs.Answering.{as-it-was}
+use Rattle.wac_defining.proofs.Answering.{as-it-was}
 use Rattle.wac_root.proofs.Defining.{StandsBehind, stands-last, at-root, defined-so, content-is, records-same}
 use Rattle.wac_root.proofs.Imported.{still-root}
-use Rattle.wac_encode.proofs.Rows.{writes-type}
-use Rattle.wac_encode.proofs.Stacks.{writes-none}
+use Rattle.wac_defining.proofs.Rows.{writes-type}
+use Rattle.wac_defining.proofs.Stacks.{writes-none}
 use Rattle.wac_stacks.proofs.Moved.{ap2}
 
 -- the id is one

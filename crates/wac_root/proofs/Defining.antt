@@ -38,16 +38,16 @@ use Rattle.wac_scopes.proofs.Rooted.{content-of-root}
 use Rattle.wac_stacks.proofs.Values.{primitive-held}
 use Rattle.wac_scopes.specs.declared.scope.Listed.{Listed}
 use Rattle.wac_scopes.specs.declared.scope.Listed.TheVariants.{ByInstance, Around}
-use Rattle.wac_encode.specs.declared.worlds.Worlds.{Worlds}
-use Rattle.wac_encode.specs.Written.{PartOf, WritesFor, with_types, IsOfFunc, AddsHeldFunc, IsFuncFrom, IsFuncAt, IsRefused, IsFuncRefused, NewType, defined as as_defined, aliased, as_item, IsWrittenAs, IsListedThere}
+use Rattle.wac_sorting.specs.declared.worlds.Worlds.{Worlds}
+use Rattle.wac_defining.specs.Written.{PartOf, WritesFor, with_types, IsOfFunc, AddsHeldFunc, IsFuncFrom, IsFuncAt, IsRefused, IsFuncRefused, NewType, defined as as_defined, aliased, as_item, IsWrittenAs, IsListedThere}
 use Rattle.wac_encode.specs.Listing.{NeededBy, own_types, SameRecords, PrimitiveDoesNotFit}
 use Rattle.wac_root.specs.Importing.{IsImportedOnce, NamesImportedValue}
 use Rattle.wac_root.specs.Defining.{defined_thing, WritesDefinition, item_of_type, MadeFor, IsDefinedAt, WritesOnce, IsDefinitionRefused}
-use Rattle.wac_encode.proofs.Answering.{as-it-was}
+use Rattle.wac_defining.proofs.Answering.{as-it-was}
 use Rattle.wac_root.proofs.Imported.{still-root}
 use Rattle.wac_encode.proofs.Listed.{held-at-end}
 use Rattle.wac_encode.proofs.Naming.{primitive-behind, primitive-described, definition-behind, definition-described}
-use Rattle.wac_encode.proofs.Stacks.{writes-none, same-index}
+use Rattle.wac_defining.proofs.Stacks.{writes-none, same-index}
 use Rattle.wac_scopes.proofs.ScopedLaws.{recorded-at}
 use Rattle.std.specs.List.{AllByRecursion}
 

@@ -20,7 +20,7 @@ use Rattle.wac_scopes.specs.Contents.{IsRoot, items_of, and_import, ContentFits}
 use Rattle.wac_scopes.specs.Scoped.{opened, root_of, IsNewInRoot, RootImportsFunction, WritesUnlessTooLarge}
 use Rattle.wac_stacks.specs.Laws.{Follows}
 use Rattle.wac_scopes.specs.declared.scope.Listed.TheVariants.{ByInstance, Around}
-use Rattle.wac_encode.specs.Written.{IsOfFunc, WritesFor, with_types, AddsHeldFunc, IsFuncAt, IsFuncRefused, NewType, defined, aliased, as_item}
+use Rattle.wac_defining.specs.Written.{IsOfFunc, WritesFor, with_types, AddsHeldFunc, IsFuncAt, IsFuncRefused, NewType, defined, aliased, as_item}
 use Rattle.wac_root.specs.Importing.{ImportsHeldFunc, EndsWithImport, IsImportRefused}
 
 -- what one more item imports

@@ -1,5 +1,5 @@
 -- Items of held kinds are imported into the root.
-use Rattle.wac_encode.specs.declared.worlds.Worlds.{Worlds}
+use Rattle.wac_sorting.specs.declared.worlds.Worlds.{Worlds}
 use Rattle.wac_encode.proofs.Aliasing.{exports-listed}
 use Rattle.wac_stacks.specs.Instances.{ExportsEnd}
 use Rattle.std.specs.Prelude.{ℕ, suc, ◌+◌, ◌≡◌, List, [], ◌∷◌, ◌++◌, length, map, Option, Some, None, Err, true, slice_get}
@@ -40,16 +40,17 @@ use Rattle.wac_stacks.specs.Good.{At, Onward}
 use Rattle.wac_stacks.specs.Laws.{Follows, IsItsEnd, IsItsTree, IsRecorded, StaysOnward}
 use Rattle.wac_scopes.specs.Scoped.{type_index, value_index, named_at, opened, imported_at, root_of, IsNewInRoot, HasToo, IsAsBefore, AddsPrimitive, RootImports, RootImportsType, RootImportsValue, RootImportsFunction, RootImportsListing, AlsoLists, WritesUnlessTooLarge, FitsUnlessTooLarge, listing}
 use Rattle.wac_stacks.proofs.Values.{primitive-held}
-use Rattle.wac_encode.specs.Written.{PartOf, WritesFor, with_types, IsOfFunc, AddsHeldFunc, IsFuncAt, IsRefused, IsFuncRefused, NewType}
-use Rattle.wac_encode.specs.Listing.{NeededBy, SameRecords, PrimitiveDoesNotFit, lists_plain}
+use Rattle.wac_defining.specs.Written.{PartOf, WritesFor, with_types, IsOfFunc, AddsHeldFunc, IsFuncAt, IsRefused, IsFuncRefused, NewType}
+use Rattle.wac_encode.specs.Listing.{NeededBy, SameRecords, PrimitiveDoesNotFit}
+use Rattle.wac_sorting.specs.Sorts.{lists_plain}
 use Rattle.wac_encode.specs.Instances.{AddsHeldInterface, IsInterfaceAt, IsInstanceRefused, listed_definitions}
 use Rattle.wac_root.specs.Importing.{next_place, ImportsHeld, IsImportedAs, IsImportedOnce, NamesImportedValue, WritesImport, WritesTypesOf, IsItemNotImported, held_imports, ImportsOneMore}
-use Rattle.wac_encode.proofs.Answering.{as-it-was}
+use Rattle.wac_defining.proofs.Answering.{as-it-was}
 use Rattle.wac_root.proofs.Imported.{ListsOneMore, same-imports, still-root}
 use Rattle.wac_encode.proofs.Listed.{held-at-end, value-is-type}
 use Rattle.wac_encode.proofs.InstanceTypes.{aliases-for}
 use Rattle.wac_encode.proofs.Naming.{primitive-behind, primitive-described, definition-behind, definition-described}
-use Rattle.wac_encode.proofs.Stacks.{writes-none, writes-no-more}
+use Rattle.wac_defining.proofs.Stacks.{writes-none, writes-no-more}
 use Rattle.wac_scopes.proofs.ScopedLaws.{recorded-at}
 
 -- what is imported behind types of it

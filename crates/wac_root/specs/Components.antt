@@ -23,7 +23,7 @@ use Rattle.wac_scopes.specs.Contents.{and_type, count, ContentFits}
 use Rattle.wac_stacks.specs.Scopes.{Open, Stack, next_type, with_def}
 use Rattle.wac_stacks.specs.Good.{Good, nothing_bound}
 use Rattle.wac_stacks.specs.Laws.{Adds}
-use Rattle.wac_encode.specs.declared.worlds.Worlds.{Worlds}
+use Rattle.wac_sorting.specs.declared.worlds.Worlds.{Worlds}
 use Rattle.wac_encode.specs.Listing.{WritesInterface, IsInterfaceRefused}
 use Rattle.wac_encode.specs.Instances.{IsBare}
 

@@ -26,9 +26,10 @@ use Rattle.wac_scopes.specs.Contents.{items_of}
 use Rattle.wac_scopes.specs.Rooted.{thing_listed, IsTypeItem}
 use Rattle.wac_scopes.specs.Scoped.{listing, root_of}
 use Rattle.wac_stacks.specs.Good.{nothing_bound}
-use Rattle.wac_encode.specs.declared.worlds.Worlds.{Worlds}
-use Rattle.wac_encode.specs.Written.{WritesFor, HasHandle, AddsHeldFunc, IsFuncAt}
-use Rattle.wac_encode.specs.Listing.{lists_plain, NeededBy, own_types, IsListedAt, SameRecords, TypeDoesNotFit}
+use Rattle.wac_sorting.specs.declared.worlds.Worlds.{Worlds}
+use Rattle.wac_defining.specs.Written.{WritesFor, HasHandle, AddsHeldFunc, IsFuncAt}
+use Rattle.wac_sorting.specs.Sorts.{lists_plain}
+use Rattle.wac_encode.specs.Listing.{NeededBy, own_types, IsListedAt, SameRecords, TypeDoesNotFit}
 use Rattle.wac_root.specs.Importing.{NamesImportedValue}
 use Rattle.wac_root.specs.Components.{HasId, component_tree, world_component_tree, IsRefusedAlone, IsComponentRefused, EndsWithComponent, ComponentDoesNotFit}
 

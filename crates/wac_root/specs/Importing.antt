@@ -26,9 +26,10 @@ use Rattle.wac_scopes.specs.Contents.{and_import, count, ContentFits}
 use Rattle.wac_stacks.specs.Scopes.{Open, Stack}
 use Rattle.wac_stacks.specs.Good.{At, IsHeld, Good}
 use Rattle.wac_scopes.specs.Scoped.{value_index, named_at, HasToo, AlsoLists, opened, root_of, IsNewInRoot, RootImports}
-use Rattle.wac_encode.specs.declared.worlds.Worlds.{Worlds}
-use Rattle.wac_encode.specs.Written.{PartOf, WritesFor, HasHandle, IsOfFunc, AddsHeldFunc, IsFuncAt, IsFuncRefused}
-use Rattle.wac_encode.specs.Listing.{lists_plain, NeededBy, own_types, IsDescribed, SameRecords, TypeDoesNotFit, IsInterfaceRefused}
+use Rattle.wac_sorting.specs.declared.worlds.Worlds.{Worlds}
+use Rattle.wac_defining.specs.Written.{PartOf, WritesFor, HasHandle, IsOfFunc, AddsHeldFunc, IsFuncAt, IsFuncRefused}
+use Rattle.wac_sorting.specs.Sorts.{lists_plain}
+use Rattle.wac_encode.specs.Listing.{NeededBy, own_types, IsDescribed, SameRecords, TypeDoesNotFit, IsInterfaceRefused}
 use Rattle.wac_encode.specs.Instances.{IsInterfaceAt, listed_definitions, InterfaceDoesNotFit}
 
 -- a function of the held function type is imported under a name that is new, in each stack that was good with the root as the innermost; index k is that import

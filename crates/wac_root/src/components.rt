@@ -3,8 +3,8 @@
 ghost use Rattle.std.specs.Prelude.{◌≡◌, true, IfOk};
 ghost use Rattle.wac_collection.specs.Collection.{HasInterface};
 ghost use Rattle.wac_scopes.specs.declared.encodable.Encodable.TheVariants.{Component};
-ghost use Rattle.wac_encode.specs.Worlds.{SayWorlds};
-ghost use Rattle.wac_encode.specs.Listing.{lists_plain};
+ghost use Rattle.wac_sorting.specs.Worlds.{SayWorlds};
+ghost use Rattle.wac_sorting.specs.Sorts.{lists_plain};
 ghost use Rattle.wac_root.specs.Components.{HasId, SaysComponent, WritesComponent, IsComponentRefused, IsComponent};
 
 use crate::root::RootEncoder;

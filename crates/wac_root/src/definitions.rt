@@ -7,7 +7,7 @@ ghost use Rattle.wac_collection.specs.Collection.{HasFunc, HasInterface, holds_t
 ghost use Rattle.wac_collection.specs.Aliases.{value_resolved};
 ghost use Rattle.wac_scopes.specs.Scoped.{value_index};
 ghost use Rattle.wac_scopes.specs.Rooted.{IsRightRoot};
-ghost use Rattle.wac_encode.specs.Worlds.{SayWorlds};
+ghost use Rattle.wac_sorting.specs.Worlds.{SayWorlds};
 ghost use Rattle.wac_root.specs.Defining.{IsDefinable, WritesDefinition, WritesTypesFor, WritesOnce, IsDefinitionRefused};
 
 use crate::root::RootEncoder;

@@ -10,10 +10,10 @@ ghost use Rattle.wac_collection.specs.Aliases.{value_resolved};
 ghost use Rattle.wac_scopes.specs.declared.fault.EncodeFault.TheVariants.{OutOfMemory};
 ghost use Rattle.wac_scopes.specs.Contents.{IsRoot};
 ghost use Rattle.wac_scopes.specs.Scoped.{value_index};
-ghost use Rattle.wac_encode.specs.Written.{WritesFor, IsOfFunc};
+ghost use Rattle.wac_defining.specs.Written.{WritesFor, IsOfFunc};
 ghost use Rattle.wac_root.specs.Importing.{ImportsHeldFunc, EndsWithImport, IsImportRefused};
-ghost use Rattle.wac_encode.specs.Worlds.{SayWorlds};
-ghost use Rattle.wac_encode.specs.Listing.{lists_plain};
+ghost use Rattle.wac_sorting.specs.Worlds.{SayWorlds};
+ghost use Rattle.wac_sorting.specs.Sorts.{lists_plain};
 ghost use Rattle.wac_root.specs.Importing.{is_importable as importable, ImportsHeld, WritesImport, WritesTypesOf, IsItemNotImported, ImportsIfThere, WritesImportIfThere, ImportsOneMore};
 
 use crate::root::RootEncoder;

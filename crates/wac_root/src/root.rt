@@ -5,9 +5,10 @@ ghost use Rattle.wac_shapes.specs.declared.component.ItemKind.TheVariants as kin
 ghost use Rattle.wac_collection.specs.Collection.{HasFunc, HasInterface, holds_value};
 ghost use Rattle.wac_collection.specs.Aliases.{value_resolved};
 ghost use Rattle.wac_scopes.specs.declared.fault.EncodeFault.TheVariants.{OutOfMemory};
-ghost use Rattle.wac_encode.specs.Written.{IsByRecord, PartOf, WritesFor, IsRefused, IsOfFunc, AddsHeldFunc, IsFuncAt, IsFuncRefused};
-ghost use Rattle.wac_encode.specs.Worlds.{SayWorlds};
-ghost use Rattle.wac_encode.specs.Listing.{NeededBy, SaysIfThere, WritesIfThere, lists_plain, IsInterfaceRefused};
+ghost use Rattle.wac_defining.specs.Written.{IsByRecord, PartOf, WritesFor, IsRefused, IsOfFunc, AddsHeldFunc, IsFuncAt, IsFuncRefused};
+ghost use Rattle.wac_sorting.specs.Worlds.{SayWorlds};
+ghost use Rattle.wac_encode.specs.Listing.{NeededBy, SaysIfThere, WritesIfThere, IsInterfaceRefused};
+ghost use Rattle.wac_sorting.specs.Sorts.{lists_plain};
 ghost use Rattle.wac_encode.specs.Instances.{AddsHeldInterface, IsInterfaceAt, IsInstanceRefused, listed_definitions};
 
 use std::alloc::AllocError;

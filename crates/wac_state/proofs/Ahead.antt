@@ -2,8 +2,8 @@
 use Rattle.std.specs.Prelude.{◌≡◌}
 use Rattle.std.proofs.Common.{sym, subst}
 use Rattle.wac_collection.specs.Collection.{Collection}
-use Rattle.wac_encode.specs.Worlds.{SayWorlds}
-use Rattle.wac_encode.specs.declared.worlds.Worlds.{Worlds}
+use Rattle.wac_sorting.specs.Worlds.{SayWorlds}
+use Rattle.wac_sorting.specs.declared.worlds.Worlds.{Worlds}
 use Rattle.wac_worlds.specs.Nested.{AreWorlds}
 
 pub as-held : (P : Collection → Worlds → Type 0) (c t : Collection) (ws vs : Worlds) → t ≡ c → vs ≡ ws → P c ws → P t vs

@@ -24,7 +24,7 @@ use Rattle.wac_stacks.specs.Inside.{RootGoesOn}
 use Rattle.wac_stacks.specs.Instances.{holding}
 use Rattle.wac_stacks.specs.Laws.{IsItsTree, StaysOnward}
 use Rattle.wac_stacks.specs.Scopes.{Content, Open, ContentHasMeaning, scope_of}
-use Rattle.wac_encode.specs.Written.{GoesOn, NewType, as_item, with_types, Says, WritesFor}
+use Rattle.wac_defining.specs.Written.{GoesOn, NewType, as_item, with_types, Says, WritesFor}
 use Rattle.wac_root.proofs.Imported.{still-root}
 use Rattle.wac_state.specs.Growing.{Grows, StandsSince, IsIndexSince}
 use Rattle.wac_state.specs.Held.{IsIndexOf}

@@ -25,9 +25,9 @@ use Rattle.wac_stacks.specs.Laws.{Adds, IsItsEnd, IsItsTree}
 use Rattle.wac_stacks.specs.Modules.{HoldsModule}
 use Rattle.wac_stacks.specs.Scopes.{Open, Stack, env, next_type, with_def}
 use Rattle.wac_stacks.proofs.Values.{primitive-held}
-use Rattle.wac_encode.specs.Written.{GoesOn, Says}
+use Rattle.wac_defining.specs.Written.{GoesOn, Says}
 use Rattle.wac_encode.proofs.Listed.{held-at-end}
-use Rattle.wac_encode.proofs.Rows.{writes-type}
+use Rattle.wac_defining.proofs.Rows.{writes-type}
 use Rattle.wac_state.specs.Growing.{Grows, StandsSince, IsIndexSince}
 use Rattle.wac_state.proofs.Growth.{grows-written, grows-module}
 

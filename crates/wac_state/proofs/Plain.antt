@@ -14,12 +14,12 @@ use Rattle.wac_collection.specs.Collection.{Collection, IsWellFormed, IsBefore, 
 use Rattle.wac_collection.proofs.Growth.{type_before}
 use Rattle.wac_listing.specs.Made.{interface_of}
 use Rattle.wac_listing.proofs.Interfaces.{by-interface}
-use Rattle.wac_encode.specs.declared.worlds.Worlds.{Worlds}
-use Rattle.wac_encode.specs.Worlds.{is_written as is_ahead}
-use Rattle.wac_encode.specs.Inside.{IsInsideBy as IsAnInterfaceInsideBy, is_plain_alone}
-use Rattle.wac_encode.specs.Listing.{lists_plain}
-use Rattle.wac_encode.proofs.Inside.{all-plain}
-use Rattle.wac_encode.proofs.Plain.{each-plain}
+use Rattle.wac_sorting.specs.declared.worlds.Worlds.{Worlds}
+use Rattle.wac_sorting.specs.Worlds.{is_written as is_ahead}
+use Rattle.wac_sorting.specs.Inside.{IsInsideBy as IsAnInterfaceInsideBy, is_plain_alone}
+use Rattle.wac_sorting.specs.Sorts.{lists_plain}
+use Rattle.wac_sorting.proofs.Inside.{all-plain}
+use Rattle.wac_sorting.proofs.Plain.{each-plain}
 use Rattle.wac_worlds.specs.Declaring.{is_declarable, are_declarable}
 use Rattle.wac_worlds.specs.Worlds.{is_plain_world}
 use Rattle.wac_worlds.specs.Nested.{type_inside, listed_in, IsInside, IsHolder, AllWritten}

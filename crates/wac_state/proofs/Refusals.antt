@@ -25,11 +25,11 @@ use Rattle.wac_scopes.specs.declared.fault.EncodeFault.{EncodeFault}
 use Rattle.wac_scopes.specs.declared.fault.EncodeFault.TheVariants as fault
 use Rattle.wac_scopes.specs.declared.fault.WriteFault.TheVariants as write
 use Rattle.wac_scopes.specs.declared.scope.Scope.{Scope}
-use Rattle.wac_encode.specs.declared.worlds.Worlds.{Worlds}
+use Rattle.wac_sorting.specs.declared.worlds.Worlds.{Worlds}
 use Rattle.wac_encode.specs.Listing.{PrimitiveDoesNotFit}
 use Rattle.wac_encode.specs.Instances.{IsInstanceRefused}
 use Rattle.wac_encode.specs.Worlds.{IsWorldTypeRefused}
-use Rattle.wac_encode.specs.Written.{PartOf, IsRefused, IsFuncRefused}
+use Rattle.wac_defining.specs.Written.{PartOf, IsRefused, IsFuncRefused}
 use Rattle.wac_root.specs.Components.{WritesComponent, IsComponentRefused}
 use Rattle.wac_worlds.specs.Nested.{AreWorldsRefused}
 use Rattle.wac_components.specs.Imports.{and_component_type}

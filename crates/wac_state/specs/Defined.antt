@@ -16,7 +16,7 @@ use Rattle.wac_scopes.specs.declared.fault.EncodeFault.TheVariants as fault
 use Rattle.wac_scopes.specs.declared.fault.WriteFault.TheVariants as write
 use Rattle.wac_scopes.specs.declared.scope.Scope.{Scope}
 use Rattle.wac_scopes.specs.Contents.{ContentFits}
-use Rattle.wac_encode.specs.declared.worlds.Worlds.{Worlds}
+use Rattle.wac_sorting.specs.declared.worlds.Worlds.{Worlds}
 use Rattle.wac_root.specs.Components.{HasId, component_tree, world_component_tree, IsComponentRefused, EndsWithComponent, ComponentDoesNotFit}
 use Rattle.wac_components.specs.Imports.{and_component_type, next_index}
 use Rattle.wac_components.specs.Definitions.{HasWorldId, WritesUnderId, IsUnderIdRefused}

@@ -12,7 +12,7 @@ use Rattle.wac_scopes.specs.Rooted.{unbound}
 use Rattle.wac_scopes.specs.Scoped.{opened}
 use Rattle.wac_stacks.specs.Good.{At, Good, nothing_bound}
 use Rattle.wac_stacks.specs.Scopes.{env}
-use Rattle.wac_encode.specs.Written.{GoesOn}
+use Rattle.wac_defining.specs.Written.{GoesOn}
 
 -- From old to new: good stacks go onward, and items are added alone.
 pub record Grows (c : Collection) (old new : Scope) : Type 0 where

@@ -20,8 +20,8 @@ use Rattle.wac_scopes.specs.declared.scope.Scope.{Scope}
 use Rattle.wac_scopes.specs.Contents.{and_core_module, ContentFits}
 use Rattle.wac_scopes.specs.Scoped.{root_of}
 use Rattle.wac_stacks.specs.Good.{At, nothing_bound}
-use Rattle.wac_encode.specs.declared.worlds.Worlds.{Worlds}
-use Rattle.wac_encode.specs.Written.{PartOf, WritesFor, HasHandle, IsOfFunc, IsFuncAt}
+use Rattle.wac_sorting.specs.declared.worlds.Worlds.{Worlds}
+use Rattle.wac_defining.specs.Written.{PartOf, WritesFor, HasHandle, IsOfFunc, IsFuncAt}
 use Rattle.wac_encode.specs.Listing.{NeededBy, own_types, IsListedAt, TypeDoesNotFit}
 use Rattle.wac_encode.specs.Instances.{IsInterfaceAt, IsInstanceRefused}
 use Rattle.wac_encode.specs.Worlds.{IsWorldTypeAt, IsWorldTypeRefused}

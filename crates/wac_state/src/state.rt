@@ -18,7 +18,7 @@ ghost use Rattle.wac_scopes.specs.Contents.{items_of};
 ghost use Rattle.wac_scopes.specs.Scoped.{type_index, listing, IsAsBefore};
 ghost use Rattle.wac_scopes.specs.declared.fault.EncodeFault.TheVariants.{OutOfMemory, Write};
 ghost use Rattle.wac_scopes.specs.declared.fault.WriteFault.TheVariants.{UnnamedDefinition};
-ghost use Rattle.wac_encode.specs.Written.{IsByRecord, PartOf, WritesFor, IsRefused};
+ghost use Rattle.wac_defining.specs.Written.{IsByRecord, PartOf, WritesFor, IsRefused};
 ghost use Rattle.wac_root.specs.Importing.{WritesTypesOf};
 ghost use Rattle.wac_state.specs.Binding.{StandsFor, Binds, IsToRecord};
 ghost use Rattle.wac_state.specs.Root.{IsRight, Continues, SaysHeld, UnfoldsTo, items, with_item};

@@ -7,7 +7,7 @@ ghost use Rattle.wac_shapes.specs.declared.component.«Type».TheVariants as ty;
 ghost use Rattle.wac_collection.specs.Aliases.{value_resolved};
 ghost use Rattle.wac_collection.specs.Collection.{HasFunc, HasInterface, HasModule, HasWorld, holds_type, holds_value};
 ghost use Rattle.wac_scopes.specs.declared.fault.EncodeFault.TheVariants.{OutOfMemory};
-ghost use Rattle.wac_encode.specs.Written.{IsByRecord, PartOf, Says, WritesFor, IsRefused};
+ghost use Rattle.wac_defining.specs.Written.{IsByRecord, PartOf, Says, WritesFor, IsRefused};
 ghost use Rattle.wac_root.specs.Importing.{WritesTypesOf};
 ghost use Rattle.wac_state.specs.Held.{HasNoResource, IsTypeRefused, WritesAt, WritesAtIfThere};
 ghost use Rattle.wac_state.specs.Growing.{Grows, IsIndexSince};

@@ -8,8 +8,8 @@ use Rattle.wac_collection.specs.Collection.{Collection}
 use Rattle.wac_binary.specs.Items.{Decl}
 use Rattle.wac_scopes.specs.declared.fault.EncodeFault.{EncodeFault}
 use Rattle.wac_scopes.specs.declared.fault.EncodeFault.TheVariants as fault
-use Rattle.wac_encode.specs.declared.worlds.Worlds.{Worlds}
-use Rattle.wac_encode.specs.Worlds.{declarations_of, is_written, SaysWorld, SayWorlds}
+use Rattle.wac_sorting.specs.declared.worlds.Worlds.{Worlds}
+use Rattle.wac_sorting.specs.Worlds.{declarations_of, is_written, SaysWorld, SayWorlds}
 use Rattle.wac_encode.proofs.Growing.{GrowWorlds}
 use Rattle.wac_worlds.specs.Worlds.{is_plain_world, WritesWorld, IsWorldRefused}
 use Rattle.wac_worlds.specs.Nested.{AreTypesInside, AreWorldsAmong, AreWorlds, AllWritten, AreWorldsRefused}

@@ -39,19 +39,20 @@ use Rattle.wac_stacks.specs.Listed.{IsNewName, Lists, on_side, other}
 use Rattle.wac_stacks.specs.Instances.{ExportsEnd}
 use Rattle.wac_scopes.specs.Scoped.{type_index, value_index, named_at, opened, HasToo, AddsPrimitive, AlsoLists, WritesUnlessTooLarge, FitsUnlessTooLarge, listing}
 use Rattle.wac_stacks.proofs.Values.{primitive-held}
-use Rattle.wac_encode.specs.declared.worlds.Worlds.{Worlds}
-use Rattle.wac_encode.specs.Written.{GoesOn, PartOf, WritesFor, with_types, IsOfFunc, AddsHeldFunc, IsFuncAt, IsRefused, IsFuncRefused, NewType}
+use Rattle.wac_sorting.specs.declared.worlds.Worlds.{Worlds}
+use Rattle.wac_defining.specs.Written.{GoesOn, PartOf, WritesFor, with_types, IsOfFunc, AddsHeldFunc, IsFuncAt, IsRefused, IsFuncRefused, NewType}
 use Rattle.wac_encode.specs.Worlds.{AddsHeldWorld, IsWorldTypeAt, IsWorldTypeRefused}
-use Rattle.wac_encode.specs.Listing.{NeededBy, SameRecords, PrimitiveDoesNotFit, lists_plain}
+use Rattle.wac_encode.specs.Listing.{NeededBy, SameRecords, PrimitiveDoesNotFit}
+use Rattle.wac_sorting.specs.Sorts.{lists_plain}
 use Rattle.wac_encode.specs.Instances.{AddsHeldInterface, IsInterfaceAt, IsInstanceRefused, listed_definitions}
 use Rattle.wac_worlds.specs.Declaring.{IsDeclaredAs, IsNamedFrom, NamesDefinition, DeclaresItem, IsItemRefused}
 use Rattle.wac_worlds.specs.Steps.{DeclaresHeld}
 use Rattle.wac_encode.proofs.Aliasing.{exports-listed}
-use Rattle.wac_encode.proofs.Answering.{as-it-was}
+use Rattle.wac_defining.proofs.Answering.{as-it-was}
 use Rattle.wac_encode.proofs.Listed.{held-at-end, value-is-type}
 use Rattle.wac_encode.proofs.InstanceTypes.{aliases-for}
 use Rattle.wac_encode.proofs.Naming.{primitive-behind, primitive-described, definition-behind, definition-described}
-use Rattle.wac_encode.proofs.Stacks.{writes-none}
+use Rattle.wac_defining.proofs.Stacks.{writes-none}
 use Rattle.wac_scopes.proofs.ScopedLaws.{recorded-at}
 
 keeps-both : (a b d : Env) → Keeps a b → Keeps b d → Keeps a d

@@ -11,7 +11,7 @@ use Rattle.wac_binary.specs.Items.{Decl}
 use Rattle.wac_binary.specs.declared.sorts.Description.{Description}
 use Rattle.wac_binary.specs.declared.sorts.Description.TheVariants as e
 use Rattle.wac_scopes.specs.declared.scope.Scope.{Scope}
-use Rattle.wac_encode.specs.declared.worlds.Worlds.{Worlds}
+use Rattle.wac_sorting.specs.declared.worlds.Worlds.{Worlds}
 use Rattle.wac_encode.proofs.Growing.{GrowWorlds, world-at-more, interface-at-more}
 use Rattle.wac_worlds.specs.Declaring.{IsDeclaredAs, DeclaresItem, DeclaresItems, DeclaresSide}
 use Rattle.wac_worlds.specs.Worlds.{WritesWorld}

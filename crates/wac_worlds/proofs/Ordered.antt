@@ -14,7 +14,7 @@ use Rattle.wac_shapes.specs.declared.component.ItemKind.TheVariants as kind
 use Rattle.wac_shapes.specs.declared.component.«Type».{«Type» as AnyType}
 use Rattle.wac_shapes.specs.declared.component.«Type».TheVariants as ty
 use Rattle.wac_listing.specs.Order.{is_value_type, AreOrdered}
-use Rattle.wac_encode.proofs.Ordered.{by_now, Stand, types-ordered, zip-push}
+use Rattle.wac_sorting.proofs.Ordered.{by_now, Stand, types-ordered, zip-push}
 use Rattle.wac_worlds.specs.Declaring.{is_in, group, IsDeclaredOrder}
 use Rattle.wac_worlds.specs.Steps.{PutsAt}
 use Rattle.wac_worlds.specs.declared.order.Group.{Group}

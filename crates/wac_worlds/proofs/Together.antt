@@ -16,9 +16,8 @@ use Rattle.wac_scopes.specs.Sides.{IsOpenComponent}
 use Rattle.wac_stacks.specs.Scopes.{env, envs}
 use Rattle.wac_stacks.specs.Listed.{IsUnder, AreListed, on_side, ListsOneMore, ListsInAnyOrder}
 use Rattle.wac_scopes.specs.Scoped.{opened}
-use Rattle.wac_encode.specs.declared.worlds.Worlds.{Worlds}
-use Rattle.wac_encode.proofs.Listed.{all-of}
-use Rattle.wac_encode.proofs.Ordered.{once-ordered, same-under, stands-there}
+use Rattle.wac_sorting.specs.declared.worlds.Worlds.{Worlds}
+use Rattle.wac_sorting.proofs.Ordered.{all-of, once-ordered, same-under, stands-there}
 use Rattle.wac_worlds.specs.Declaring.{IsDeclaredOrder, DeclaresItem, DeclaresItems, IsItemRefused, IsStopped, AreRefused, IsSideRefused}
 use Rattle.wac_worlds.specs.Steps.{DeclaresHeld, DeclaresAll, CanDeclare}
 use Rattle.wac_worlds.proofs.Declared.{item-open}

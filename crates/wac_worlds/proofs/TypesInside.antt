@@ -26,7 +26,7 @@ use Rattle.wac_reach.proofs.Lists.{in_at, at_in, all_old, all_new, all_only, all
 use Rattle.wac_reach.proofs.Universe.{types_of, found_few}
 use Rattle.wac_planning.proofs.Listing.{held-items}
 use Rattle.wac_worlds.specs.Nested.{type_inside, listed_in, IsInsideBy, IsInsideOne, IsHolder, NamesOnce, AreTypesInside, and_type_inside, with_types_inside, AreWorldsAmong}
-use Rattle.wac_encode.proofs.Ordered.{stands-there}
+use Rattle.wac_sorting.proofs.Ordered.{stands-there}
 use Rattle.wac_worlds.specs.Ahead.{ArePut, world_of}
 use Rattle.wac_worlds.proofs.Whole.{held-imports, held-exports}
 

@@ -28,10 +28,10 @@ use Rattle.wac_stacks.specs.Listed.{AreListed, declaring, OpensWorld, TurnsToExp
 use Rattle.wac_scopes.specs.Rooted.{unbound}
 use Rattle.wac_scopes.specs.Scoped.{recorded_type, opened, place}
 use Rattle.wac_stacks.proofs.Moved.{ap2}
-use Rattle.wac_encode.specs.declared.worlds.Worlds.{Worlds}
+use Rattle.wac_sorting.specs.declared.worlds.Worlds.{Worlds}
 use Rattle.wac_worlds.specs.Declaring.{is_declarable, are_declarable, DeclaresSide, IsSideRefused}
 use Rattle.wac_worlds.specs.Steps.{DeclaresNothing, DeclaresAll, CanDeclare}
-use Rattle.wac_encode.specs.Worlds.{SaysWorld}
+use Rattle.wac_sorting.specs.Worlds.{SaysWorld}
 use Rattle.wac_encode.specs.Instances.{IsBare}
 use Rattle.wac_worlds.specs.Worlds.{is_plain, is_plain_world, WritesWorld, IsWorldRefused}
 

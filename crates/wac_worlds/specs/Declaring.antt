@@ -23,10 +23,12 @@ use Rattle.wac_scopes.specs.Contents.{count, ContentFits}
 use Rattle.wac_scopes.specs.Sides.{and_declared}
 use Rattle.wac_scopes.specs.Scoped.{value_index, named_at, HasToo, AlsoLists}
 use Rattle.wac_listing.specs.Order.{AreOrdered}
-use Rattle.wac_encode.specs.declared.worlds.Worlds.{Worlds}
-use Rattle.wac_encode.specs.Written.{PartOf, WritesFor, HasHandle, IsOfFunc}
-use Rattle.wac_encode.specs.Worlds.{is_written, IsWorldTypeAt, WorldDoesNotFit}
-use Rattle.wac_encode.specs.Listing.{lists_plain, NeededBy, own_types, IsDescribed, SameRecords, TypeDoesNotFit}
+use Rattle.wac_sorting.specs.declared.worlds.Worlds.{Worlds}
+use Rattle.wac_defining.specs.Written.{PartOf, WritesFor, HasHandle, IsOfFunc}
+use Rattle.wac_sorting.specs.Worlds.{is_written}
+use Rattle.wac_encode.specs.Worlds.{IsWorldTypeAt, WorldDoesNotFit}
+use Rattle.wac_sorting.specs.Sorts.{lists_plain}
+use Rattle.wac_encode.specs.Listing.{NeededBy, own_types, IsDescribed, SameRecords, TypeDoesNotFit}
 use Rattle.wac_encode.specs.Instances.{IsInterfaceAt, listed_definitions, InterfaceDoesNotFit, IsInstanceRefused}
 use Rattle.wac_worlds.specs.declared.order.Group.{Group}
 use Rattle.wac_worlds.specs.declared.order.Group.TheVariants.{Instances, OtherTypes, Others}

@@ -13,8 +13,8 @@ use Rattle.wac_reach.specs.Found.{with_all}
 use Rattle.wac_reach.specs.Reach.{IsIn}
 use Rattle.wac_scopes.specs.declared.fault.EncodeFault.{EncodeFault}
 use Rattle.wac_scopes.specs.declared.fault.EncodeFault.TheVariants as fault
-use Rattle.wac_encode.specs.declared.worlds.Worlds.{Worlds}
-use Rattle.wac_encode.specs.Worlds.{declarations_of, is_written, SaysWorld}
+use Rattle.wac_sorting.specs.declared.worlds.Worlds.{Worlds}
+use Rattle.wac_sorting.specs.Worlds.{declarations_of, is_written, SaysWorld}
 use Rattle.wac_worlds.specs.Worlds.{is_plain_world, WritesWorld, IsWorldRefused}
 
 -- the interface or the world that an item is an instance or a type item of

@@ -12,7 +12,7 @@ use Rattle.wac_stacks.specs.Scopes.{Open, Stack, env, envs}
 use Rattle.wac_stacks.specs.Good.{Good}
 use Rattle.wac_stacks.specs.Listed.{IsItem, IsNewName, Lists, AreListed, on_side, other}
 use Rattle.wac_scopes.specs.Scoped.{opened}
-use Rattle.wac_encode.specs.declared.worlds.Worlds.{Worlds}
+use Rattle.wac_sorting.specs.declared.worlds.Worlds.{Worlds}
 use Rattle.wac_worlds.specs.Declaring.{is_declarable}
 
 -- good stacks in which no item on this side has the name declare it

@@ -10,8 +10,8 @@ use Rattle.wac_scopes.specs.declared.encodable.Encodable.TheVariants.{Component}
 use Rattle.wac_scopes.specs.declared.fault.EncodeFault.{EncodeFault}
 use Rattle.wac_scopes.specs.declared.fault.EncodeFault.TheVariants as fault
 use Rattle.wac_scopes.specs.declared.scope.Scope.{Scope}
-use Rattle.wac_encode.specs.declared.worlds.Worlds.{Worlds}
-use Rattle.wac_encode.specs.Worlds.{SaysWorld}
+use Rattle.wac_sorting.specs.declared.worlds.Worlds.{Worlds}
+use Rattle.wac_sorting.specs.Worlds.{SaysWorld}
 use Rattle.wac_encode.specs.Instances.{IsBare}
 use Rattle.wac_worlds.specs.Declaring.{are_declarable, DeclaresSide, IsSideStopped}
 

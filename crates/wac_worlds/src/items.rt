@@ -10,8 +10,8 @@ ghost use Rattle.wac_collection.specs.Collection.{HasFunc, HasInterface, HasWorl
 ghost use Rattle.wac_collection.specs.Aliases.{value_resolved};
 ghost use Rattle.wac_scopes.specs.Scoped.{value_index};
 ghost use Rattle.wac_scopes.specs.Sides.{side_of, IsOpenComponent};
-ghost use Rattle.wac_encode.specs.Worlds.{is_written, SayWorlds};
-ghost use Rattle.wac_encode.specs.Listing.{lists_plain};
+ghost use Rattle.wac_sorting.specs.Worlds.{is_written, SayWorlds};
+ghost use Rattle.wac_sorting.specs.Sorts.{lists_plain};
 ghost use Rattle.wac_worlds.specs.Declaring.{DeclaresItem, DeclaresItems, DeclaresSide, IsItemRefused, AreRefused, IsSideRefused};
 ghost use Rattle.wac_worlds.specs.Steps.{DeclaresHeld, DeclaresAll, CanDeclare};
 

@@ -1,4 +1,4 @@
-use Rattle.wac_encode.specs.declared.worlds.Worlds.{Worlds}
+use Rattle.wac_sorting.specs.declared.worlds.Worlds.{Worlds}
 use Rattle.wac_encode_examples.proofs.EnumWritten.{interface_written}
 use Rattle.wac_encode_examples.proofs.PlaceRows.{written_at_index}
 use Rattle.wac_encode_examples.proofs.interface.interface_rows.Goals as goal

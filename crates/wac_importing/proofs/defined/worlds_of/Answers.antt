@@ -1,5 +1,5 @@
 use Rattle.std.proofs.Common.{[], ◌∷◌, Err, ap, ◌∙◌, subst}
-use Rattle.wac_encode.specs.declared.worlds.Worlds.{Worlds}
+use Rattle.wac_sorting.specs.declared.worlds.Worlds.{Worlds}
 use Rattle.wac_shapes.specs.declared.component.ItemKind.TheVariants as kind
 use Rattle.wac_worlds.specs.Nested.{IsHolder, AreWorldsRefused}
 use Rattle.wac_importing.specs.Looked.{ArePlainInside}

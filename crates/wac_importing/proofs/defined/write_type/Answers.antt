@@ -1,5 +1,5 @@
 use Rattle.std.proofs.Common.{Err, ap, ◌∙◌, subst}
-use Rattle.wac_encode.specs.Worlds.{SayWorlds}
+use Rattle.wac_sorting.specs.Worlds.{SayWorlds}
 use Rattle.wac_root.specs.Defining.{IsDefinable, WritesDefinition, WritesOnce, IsDefinitionRefused}
 use Rattle.wac_importing.proofs.Ahead.{as_held, of_held, say}
 use Rattle.wac_importing.proofs.Defining.{is_writable, no_fault, defines, still_listed}

@@ -3,7 +3,7 @@ use Rattle.wac_shapes.specs.declared.component.ItemKind.TheVariants as kind
 use Rattle.wac_shapes.specs.declared.component.«Type».TheVariants as ty
 use Rattle.wac_collection.specs.Collection.{Collection}
 use Rattle.wac_binary.specs.declared.sorts.Description.TheVariants as e
-use Rattle.wac_encode.specs.Worlds.{SayWorlds}
+use Rattle.wac_sorting.specs.Worlds.{SayWorlds}
 use Rattle.wac_scopes.specs.declared.fault.EncodeFault.TheVariants.{Write}
 use Rattle.wac_root.specs.Importing.{ImportsHeld, ImportsIfThere}
 use Rattle.wac_worlds.specs.Worlds.{is_plain_world}

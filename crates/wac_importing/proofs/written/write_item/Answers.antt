@@ -1,6 +1,6 @@
 use Rattle.std.proofs.Common.{◌≡◌, ℕ, Option, true, false, ap, ◌∙◌, subst, Ok, Err}
 use Rattle.wac_collection.specs.Collection.{Collection}
-use Rattle.wac_encode.specs.Worlds.{SayWorlds}
+use Rattle.wac_sorting.specs.Worlds.{SayWorlds}
 use Rattle.wac_scopes.specs.declared.fault.EncodeFault.TheVariants.{Write}
 use Rattle.wac_root.specs.Importing.{IsItemNotImported, ImportsHeld, ImportsIfThere, is_importable}
 use Rattle.wac_importing.proofs.Ahead.{as_held, of_held, say}

@@ -1,6 +1,6 @@
 use Rattle.std.proofs.Common.{List, Err, ap, ◌∙◌, subst}
 use Rattle.wac_shapes.specs.declared.component.«Type».{«Type» as AnyType}
-use Rattle.wac_encode.specs.declared.worlds.Worlds.{Worlds}
+use Rattle.wac_sorting.specs.declared.worlds.Worlds.{Worlds}
 use Rattle.wac_reach.specs.Reach.{IsIn}
 use Rattle.wac_reach.proofs.Lists.{in_at}
 use Rattle.wac_scopes.specs.declared.fault.EncodeFault.TheVariants.{Write, TooLarge}

@@ -4,9 +4,9 @@ use Rattle.std.proofs.lemmas.Result.{err_from_is_err_and}
 use Rattle.wac_shapes.specs.declared.component.«Type».TheVariants as ty
 use Rattle.wac_collection.specs.Collection.{Collection, HasInterface}
 use Rattle.wac_binary.specs.Items.{Decl}
-use Rattle.wac_encode.specs.declared.worlds.Worlds.{Worlds}
-use Rattle.wac_encode.specs.Worlds.{SayWorlds}
-use Rattle.wac_encode.specs.Listing.{lists_plain}
+use Rattle.wac_sorting.specs.declared.worlds.Worlds.{Worlds}
+use Rattle.wac_sorting.specs.Worlds.{SayWorlds}
+use Rattle.wac_sorting.specs.Sorts.{lists_plain}
 use Rattle.wac_root.specs.Components.{HasId, component_tree, SaysComponent, WritesComponent, IsComponentRefused}
 use Rattle.wac_root.proofs.ComponentTypes.{ends-with-component}
 use Rattle.wac_worlds.specs.Nested.{IsHolder}

@@ -4,8 +4,8 @@ use Rattle.std.proofs.lemmas.Result.{err_from_is_err_and}
 use Rattle.wac_shapes.specs.declared.component.«Type».TheVariants as ty
 use Rattle.wac_collection.specs.Collection.{Collection, HasWorld}
 use Rattle.wac_binary.specs.Items.{Decl}
-use Rattle.wac_encode.specs.declared.worlds.Worlds.{Worlds}
-use Rattle.wac_encode.specs.Worlds.{SayWorlds}
+use Rattle.wac_sorting.specs.declared.worlds.Worlds.{Worlds}
+use Rattle.wac_sorting.specs.Worlds.{SayWorlds}
 use Rattle.wac_root.specs.Components.{world_component_tree}
 use Rattle.wac_worlds.specs.Worlds.{is_plain_world}
 use Rattle.wac_components.specs.Definitions.{HasWorldId, SaysUnderId, WritesUnderId, IsUnderIdRefused}

@@ -2,7 +2,7 @@ use Rattle.std.specs.Prelude.{ℕ}
 use Rattle.std.proofs.Common.{subst}
 use Rattle.std.proofs.lemmas.Result.{err_from_is_err_and}
 use Rattle.wac_binary.specs.declared.types.ComponentValType.{ComponentValType}
-use Rattle.wac_encode.specs.Written.{Says, IsByRecord}
+use Rattle.wac_defining.specs.Written.{Says, IsByRecord}
 use Rattle.wac_encode.proofs.Naming.{definition-behind, definition-described, recorded-at}
 use Rattle.wac_state.proofs.Indexes.{value-index}
 use Rattle.wac_state.proofs.Refusals.{value-refused}

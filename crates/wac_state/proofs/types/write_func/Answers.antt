@@ -4,7 +4,7 @@ use Rattle.std.proofs.lemmas.Result.{err_from_is_err_and}
 use Rattle.wac_shapes.specs.declared.component.«Type».TheVariants as ty
 use Rattle.wac_collection.specs.Collection.{Collection}
 use Rattle.wac_binary.specs.HasMeaning.{IsFunction}
-use Rattle.wac_encode.specs.Written.{WritesFor, IsOfFunc, AddsHeldFunc, IsFuncAt, IsFuncRefused}
+use Rattle.wac_defining.specs.Written.{WritesFor, IsOfFunc, AddsHeldFunc, IsFuncAt, IsFuncRefused}
 use Rattle.wac_state.proofs.Growth.{grows-written}
 use Rattle.wac_state.proofs.Indexes.{held-index}
 use Rattle.wac_state.proofs.Refusals.{func-refused}

@@ -5,10 +5,11 @@ use Rattle.wac_shapes.specs.declared.component.ItemKind.TheVariants as kind
 use Rattle.wac_shapes.specs.declared.component.«Type».TheVariants as ty
 use Rattle.wac_collection.specs.Collection.{Collection}
 use Rattle.wac_binary.specs.HasMeaning.{IsInstance}
-use Rattle.wac_encode.specs.declared.worlds.Worlds.{Worlds}
-use Rattle.wac_encode.specs.Worlds.{SayWorlds}
-use Rattle.wac_encode.specs.Written.{WritesFor}
-use Rattle.wac_encode.specs.Listing.{NeededBy, lists_plain}
+use Rattle.wac_sorting.specs.declared.worlds.Worlds.{Worlds}
+use Rattle.wac_sorting.specs.Worlds.{SayWorlds}
+use Rattle.wac_defining.specs.Written.{WritesFor}
+use Rattle.wac_encode.specs.Listing.{NeededBy}
+use Rattle.wac_sorting.specs.Sorts.{lists_plain}
 use Rattle.wac_encode.specs.Instances.{AddsHeldInterface, IsInterfaceAt, IsInstanceRefused}
 use Rattle.wac_root.proofs.Importing.{nothing-of}
 use Rattle.wac_worlds.specs.Nested.{IsHolder}

@@ -5,9 +5,10 @@ use Rattle.wac_shapes.specs.declared.component.ItemKind.TheVariants as kind
 use Rattle.wac_shapes.specs.declared.component.«Type».TheVariants as ty
 use Rattle.wac_collection.specs.Collection.{Collection}
 use Rattle.wac_binary.specs.HasMeaning.{IsComponent}
-use Rattle.wac_encode.specs.declared.worlds.Worlds.{Worlds}
-use Rattle.wac_encode.specs.Worlds.{is_written, SayWorlds, AddsHeldWorld, IsWorldTypeAt, IsWorldTypeRefused}
-use Rattle.wac_encode.specs.Written.{WritesFor}
+use Rattle.wac_sorting.specs.declared.worlds.Worlds.{Worlds}
+use Rattle.wac_sorting.specs.Worlds.{is_written, SayWorlds}
+use Rattle.wac_encode.specs.Worlds.{AddsHeldWorld, IsWorldTypeAt, IsWorldTypeRefused}
+use Rattle.wac_defining.specs.Written.{WritesFor}
 use Rattle.wac_encode.specs.Listing.{NeededBy}
 use Rattle.wac_root.proofs.Importing.{nothing-of}
 use Rattle.wac_worlds.specs.Nested.{IsHolder}

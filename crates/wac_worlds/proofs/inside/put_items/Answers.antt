@@ -1,4 +1,4 @@
-use Rattle.wac_encode.proofs.Inside.{second-at}
+use Rattle.wac_sorting.proofs.Inside.{second-at}
 use Rattle.wac_worlds.proofs.TypesInside.{inside-more}
 use Rattle.wac_worlds.proofs.inside.put_items.Goals as goal
 

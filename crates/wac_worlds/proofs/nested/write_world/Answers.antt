@@ -3,7 +3,7 @@ use Rattle.std.proofs.Common.{refl, ap, ◌∙◌, sym, subst}
 use Rattle.std.proofs.lemmas.Result.{err_from_is_err_and}
 use Rattle.wac_collection.specs.Collection.{Collection, HasWorld}
 use Rattle.wac_binary.specs.Items.{Decl}
-use Rattle.wac_encode.specs.Worlds.{SayWorlds, SaysWorld}
+use Rattle.wac_sorting.specs.Worlds.{SayWorlds, SaysWorld}
 use Rattle.wac_worlds.specs.Worlds.{is_plain_world, WritesWorld, SaysIfThere, WritesIfThere, IsWorldRefused}
 use Rattle.wac_worlds.proofs.Ahead.{are-more, one-more, none-if, refused-same, as-held, of-held, say}
 use Rattle.wac_worlds.proofs.nested.write_world.Goals as goal

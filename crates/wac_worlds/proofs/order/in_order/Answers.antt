@@ -4,7 +4,7 @@ use Rattle.std.proofs.Common.{ap, ◌∙◌, subst}
 use Rattle.wac_shapes.specs.Named.{named_pairs}
 use Rattle.wac_shapes.specs.declared.component.ItemKind.{ItemKind}
 use Rattle.wac_listing.specs.Order.{is_value_type_at}
-use Rattle.wac_encode.proofs.Ordered.{taken-within, type-within}
+use Rattle.wac_sorting.proofs.Ordered.{taken-within, type-within}
 use Rattle.wac_worlds.specs.Declaring.{group}
 use Rattle.wac_worlds.specs.Steps.{PutsAt}
 use Rattle.wac_worlds.specs.declared.order.Group.TheVariants.{Instances}

@@ -1,6 +1,6 @@
 use Rattle.std.proofs.Common.{sym, subst}
 use Rattle.wac_collection.specs.Collection.{Collection}
-use Rattle.wac_encode.specs.Worlds.{SayWorlds}
+use Rattle.wac_sorting.specs.Worlds.{SayWorlds}
 use Rattle.wac_components.proofs.encoder.ComponentEncoder.world_type.Goals as goal
 
 pub world_type-requires-clause-say : goal.world_type-requires-clause-say

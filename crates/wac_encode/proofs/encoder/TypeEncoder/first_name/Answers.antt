@@ -5,11 +5,11 @@ use Rattle.wac_shapes.specs.declared.component.ItemKind.TheVariants as kind
 use Rattle.wac_shapes.specs.declared.component.«Type».TheVariants as ty
 use Rattle.wac_binary.specs.declared.sorts.Description.TheVariants as e
 use Rattle.wac_binary.specs.declared.types.ComponentValType.{ComponentValType}
-use Rattle.wac_encode.specs.Written.{IsByRecord}
+use Rattle.wac_defining.specs.Written.{IsByRecord}
 use Rattle.wac_encode.specs.Listing.{own_types}
 use Rattle.wac_encode.proofs.Listed.{first-listed, still-open}
 use Rattle.wac_encode.proofs.Naming.{definition-behind, definition-described, first-wrote, export-refused, value-item-refused, recorded-at}
-use Rattle.wac_encode.proofs.Stacks.{recorded-so}
+use Rattle.wac_defining.proofs.Stacks.{recorded-so}
 use Rattle.wac_encode.proofs.encoder.TypeEncoder.first_name.Goals as goal
 
 pub returns-in_err-index-clause-fault : goal.returns-in_err-index-clause-fault

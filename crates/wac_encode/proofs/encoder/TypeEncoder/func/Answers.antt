@@ -1,15 +1,17 @@
-use Rattle.std.proofs.Common.{sym}
-use Rattle.wac_encode.specs.Written.{IsOfFunc}
-use Rattle.wac_encode.proofs.Answering.{as-it-was}
-use Rattle.wac_encode.proofs.Rows.{func-there, func-at-there}
-use Rattle.wac_encode.proofs.Stacks.{writes-none}
+use Rattle.std.specs.Prelude.{IfOk}
+use Rattle.std.proofs.Common.{subst}
+use Rattle.wac_collection.specs.Collection.{Collection}
+use Rattle.wac_defining.specs.Written.{WritesFor, IsOfFunc, AddsHeldFunc, IsFuncAt, IsFuncRefused}
 use Rattle.wac_encode.proofs.encoder.TypeEncoder.func.Goals as goal
 
-pub returns-in-Some-clause-written : goal.returns-in-Some-clause-written
-returns-in-Some-clause-written c = writes-none c.args.self.now.types.now c.still_law.ensures (IsOfFunc c.args.self.now.types.now c.args.func) c.args.scope.now c.args.scope.now (as-it-was c.args.scope.now)
+pub returns-clause-written : goal.returns-clause-written
+returns-clause-written c = subst (λ (t : Collection). WritesFor t 0 (IsOfFunc t c.args.func) c.args.scope.now c.func.new.scope) c.new.ensures.types c.func.ensures.written
 
-pub returns-in-Some-clause-adds : goal.returns-in-Some-clause-adds
-returns-in-Some-clause-adds c = func-there c.args.self.now.types.now c.still_law.ensures c.args.scope.now c.args.func c.in-Some.index c.in-Some.ensures.stands
+pub returns-clause-adds : goal.returns-clause-adds
+returns-clause-adds c = subst (λ (t : Collection). IfOk c.func.result (AddsHeldFunc t c.args.scope.now c.func.new.scope c.args.func)) c.new.ensures.types c.func.ensures.adds
 
-pub returns-in-Some-clause-recorded : goal.returns-in-Some-clause-recorded
-returns-in-Some-clause-recorded c = func-at-there c.args.self.now.types.now c.args.scope.now c.args.func c.in-Some.index (sym c.in-Some.ensures.is)
+pub returns-clause-recorded : goal.returns-clause-recorded
+returns-clause-recorded c = subst (λ (t : Collection). IfOk c.func.result (IsFuncAt t c.args.func c.args.scope.now c.func.new.scope)) c.new.ensures.types c.func.ensures.recorded
+
+pub returns-clause-fault : goal.returns-clause-fault
+returns-clause-fault c = subst (λ (t : Collection). IsFuncRefused t c.args.func c.func.new.scope c.func.result) c.new.ensures.types c.func.ensures.fault

@@ -4,7 +4,7 @@ use Rattle.wac_shapes.specs.declared.component.ItemKind.TheVariants as kind
 use Rattle.wac_binary.specs.declared.sorts.Description.TheVariants as e
 use Rattle.wac_encode.proofs.Listed.{function-listed, still-open}
 use Rattle.wac_encode.proofs.Naming.{function-wrote, function-item-refused, export-refused}
-use Rattle.wac_encode.proofs.Stacks.{exactly-so}
+use Rattle.wac_defining.proofs.Stacks.{exactly-so}
 use Rattle.wac_encode.proofs.encoder.TypeEncoder.func_item.Goals as goal
 
 pub returns-in_err-index-clause-fault : goal.returns-in_err-index-clause-fault

@@ -6,9 +6,9 @@ use Rattle.wac_shapes.specs.declared.component.«Type».TheVariants as ty
 use Rattle.wac_binary.specs.Items.{Decl}
 use Rattle.wac_scopes.specs.Scoped.{type_index}
 use Rattle.wac_encode.specs.Listing.{NeededBy, SaysIfThere, WritesInterface, WritesIfThere}
-use Rattle.wac_encode.proofs.Answering.{as-it-was}
+use Rattle.wac_defining.proofs.Answering.{as-it-was}
 use Rattle.wac_encode.proofs.InstanceTypes.{none-else, adds-interface, adds-behind, aliases-for, still-unwritten, written-behind, instance-behind, interface-there, interface-at-there, ends-with-interface, aliases-refused, interface-refused, instance-too-large}
-use Rattle.wac_encode.proofs.Stacks.{writes-none, writes-no-more}
+use Rattle.wac_defining.proofs.Stacks.{writes-none, writes-no-more}
 use Rattle.wac_encode.proofs.encoder.TypeEncoder.instance.Goals as goal
 
 pub returns-in-Some-clause-written : goal.returns-in-Some-clause-written

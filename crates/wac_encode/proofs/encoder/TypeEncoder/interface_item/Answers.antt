@@ -5,7 +5,7 @@ use Rattle.wac_encode.specs.Levels.{described_by}
 use Rattle.wac_encode.proofs.OfInterface.{one-listed}
 use Rattle.wac_encode.proofs.Naming.{interface-behind, interface-described, interface-wrote, export-refused}
 use Rattle.wac_encode.proofs.InstanceTypes.{interface-there}
-use Rattle.wac_encode.proofs.Stacks.{exactly-so}
+use Rattle.wac_defining.proofs.Stacks.{exactly-so}
 use Rattle.wac_encode.proofs.encoder.TypeEncoder.interface_item.Goals as goal
 
 pub returns-in_err-export_interface-clause-fault : goal.returns-in_err-export_interface-clause-fault

@@ -14,7 +14,7 @@ use Rattle.wac_encode.specs.Items.{nothing_inside}
 use Rattle.wac_planning.specs.Plans.{IsOneOf, Takes, HasName, places_of}
 use Rattle.wac_encode.specs.Plans.{AreAtPlaces}
 use Rattle.wac_encode.specs.Levels.{IsChain, PutsItem, ItemNotPut}
-use Rattle.wac_encode.proofs.Ordered.{pairs-length}
+use Rattle.wac_sorting.proofs.Ordered.{pairs-length}
 use Rattle.wac_encode.proofs.Remaining.{weight, less-by-item, less-by-opening, less-by-closing}
 use Rattle.wac_encode.proofs.Chains.{begins-chain, chain-can-list, chain-listed, chain-open, chain-can-close, chain-inside-held, chain-item, chain-item-refused, chain-inside, chain-alias-refused, chain-says, chain-writes, closed-at, closed-held, closed-open, closed-unwritten, closed-says, chain-put, chain-put-refused}
 use Rattle.wac_encode.proofs.Placed.{placed-item, placed-put, placed-begun, none-wait, one-waits, first-wait}

@@ -9,7 +9,7 @@ use Rattle.wac_scopes.specs.declared.scope.Scope.{Scope}
 use Rattle.wac_encode.specs.Listing.{own_types}
 use Rattle.wac_encode.proofs.Listed.{primitive-listed, still-open-behind}
 use Rattle.wac_encode.proofs.Naming.{primitive-behind, primitive-described, primitive-wrote, primitive-refused, export-refused}
-use Rattle.wac_encode.proofs.Stacks.{exactly-so}
+use Rattle.wac_defining.proofs.Stacks.{exactly-so}
 use Rattle.wac_encode.proofs.encoder.TypeEncoder.primitive_item.Goals as goal
 
 pub returns-in_err-index-clause-fault : goal.returns-in_err-index-clause-fault

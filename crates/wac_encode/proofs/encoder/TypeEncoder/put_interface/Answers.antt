@@ -3,7 +3,7 @@ use Rattle.std.proofs.lemmas.Result.{err_from_is_err_and}
 use Rattle.wac_binary.specs.Items.{instance_def, decls}
 use Rattle.wac_encode.proofs.Levels.{first-not-put, second-not-put}
 use Rattle.wac_encode.proofs.Listed.{still-open-behind}
-use Rattle.wac_encode.proofs.Stacks.{exactly-so}
+use Rattle.wac_defining.proofs.Stacks.{exactly-so}
 use Rattle.wac_encode.proofs.encoder.TypeEncoder.put_interface.Goals as goal
 
 pub returns-in_err-index-clause-fault : goal.returns-in_err-index-clause-fault

@@ -5,7 +5,7 @@ use Rattle.wac_shapes.specs.declared.component.«Type».TheVariants as ty
 use Rattle.wac_binary.specs.declared.sorts.Description.TheVariants as e
 use Rattle.wac_encode.proofs.Listed.{second-listed}
 use Rattle.wac_encode.proofs.Naming.{still-described, second-wrote, export-refused}
-use Rattle.wac_encode.proofs.Stacks.{exactly-so}
+use Rattle.wac_defining.proofs.Stacks.{exactly-so}
 use Rattle.wac_encode.proofs.encoder.TypeEncoder.second_name.Goals as goal
 
 pub returns-in_err-export_type-clause-fault : goal.returns-in_err-export_type-clause-fault

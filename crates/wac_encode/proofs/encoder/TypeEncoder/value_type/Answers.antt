@@ -1,22 +1,18 @@
-use Rattle.std.proofs.lemmas.Result.{err_from_is_err_and}
+use Rattle.std.specs.Prelude.{IfOk}
+use Rattle.std.proofs.Common.{subst}
+use Rattle.wac_collection.specs.Collection.{Collection}
 use Rattle.wac_collection.specs.Aliases.{value_resolved}
-use Rattle.wac_binary.specs.declared.types.ComponentValType.{ComponentValType}
-use Rattle.wac_encode.specs.Written.{PartOf}
-use Rattle.wac_encode.proofs.Answering.{as-it-was, value-refused}
-use Rattle.wac_encode.proofs.Stacks.{writes-none}
+use Rattle.wac_defining.specs.Written.{PartOf, WritesFor, Says, IsByRecord, IsRefused}
 use Rattle.wac_encode.proofs.encoder.TypeEncoder.value_type.Goals as goal
 
-pub returns-in_err-missing-clause-written : goal.returns-in_err-missing-clause-written
-returns-in_err-missing-clause-written c =
-    let t = c.args.self.now.types.now in
-    writes-none t c.still_law.ensures (PartOf t (value_resolved t c.args.value)) c.args.scope.now c.args.scope.now (as-it-was c.args.scope.now)
+pub returns-clause-written : goal.returns-clause-written
+returns-clause-written c = subst (λ (t : Collection). WritesFor t 0 (PartOf t (value_resolved t c.args.value)) c.args.scope.now c.value_type.new.scope) c.new.ensures.types c.value_type.ensures.written
 
-pub returns-in_err-missing-clause-fault : goal.returns-in_err-missing-clause-fault
-returns-in_err-missing-clause-fault c =
-    let p = err_from_is_err_and c.from_residual.result c.from_residual.ensures.1 in
-    rw (p.1, p.2) (value-refused ComponentValType c.args.self.now.types.now c.args.scope.now c.args.value c.in_err-missing.field-0.0 c.in_err-missing.ensures)
+pub returns-clause-says : goal.returns-clause-says
+returns-clause-says c = subst (λ (t : Collection). IfOk c.value_type.result (Says t c.value_type.new.scope c.args.value)) c.new.ensures.types c.value_type.ensures.says
 
-pub returns-in-None-clause-written : goal.returns-in-None-clause-written
-returns-in-None-clause-written c =
-    let t = c.args.self.now.types.now in
-    writes-none t c.still_law.ensures (PartOf t (value_resolved t c.args.value)) c.args.scope.now c.args.scope.now (as-it-was c.args.scope.now)
+pub returns-clause-recorded : goal.returns-clause-recorded
+returns-clause-recorded c = subst (λ (t : Collection). IfOk c.value_type.result (IsByRecord t c.value_type.new.scope c.args.value)) c.new.ensures.types c.value_type.ensures.recorded
+
+pub returns-clause-fault : goal.returns-clause-fault
+returns-clause-fault c = subst (λ (t : Collection). IsRefused t (PartOf t (value_resolved t c.args.value)) c.value_type.new.scope c.value_type.result) c.new.ensures.types c.value_type.ensures.fault

@@ -5,7 +5,7 @@ use Rattle.wac_shapes.specs.declared.component.«Type».TheVariants as ty
 use Rattle.wac_binary.specs.declared.sorts.Description.TheVariants as e
 use Rattle.wac_encode.proofs.Listed.{world-type-listed, still-open}
 use Rattle.wac_encode.proofs.Naming.{world-type-wrote, world-type-refused, export-refused}
-use Rattle.wac_encode.proofs.Stacks.{exactly-so}
+use Rattle.wac_defining.proofs.Stacks.{exactly-so}
 use Rattle.wac_encode.proofs.encoder.TypeEncoder.world_type_item.Goals as goal
 
 pub returns-in_err-index-clause-fault : goal.returns-in_err-index-clause-fault

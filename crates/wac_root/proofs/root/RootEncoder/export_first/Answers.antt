@@ -4,7 +4,7 @@ use Rattle.std.proofs.Common.{subst}
 use Rattle.wac_shapes.specs.declared.component.«Type».TheVariants as ty
 use Rattle.wac_collection.specs.Aliases.{value_resolved}
 use Rattle.wac_binary.specs.declared.types.ComponentValType.{ComponentValType}
-use Rattle.wac_encode.specs.Written.{PartOf, IsByRecord}
+use Rattle.wac_defining.specs.Written.{PartOf, IsByRecord}
 use Rattle.wac_encode.proofs.Naming.{recorded-at}
 use Rattle.wac_root.proofs.Imported.{still-root}
 use Rattle.wac_root.proofs.Importing.{first-at-most}

@@ -3,7 +3,7 @@ use Rattle.std.proofs.lemmas.Result.{err_from_is_err_and}
 use Rattle.wac_shapes.specs.declared.component.ItemKind.TheVariants as kind
 use Rattle.wac_shapes.specs.declared.component.«Type».TheVariants as ty
 use Rattle.wac_scopes.specs.Faults.{encode_fault}
-use Rattle.wac_encode.specs.Written.{IsOfFunc}
+use Rattle.wac_defining.specs.Written.{IsOfFunc}
 use Rattle.wac_root.proofs.Imported.{still-root}
 use Rattle.wac_root.proofs.Importing.{types-of}
 use Rattle.wac_root.proofs.Defining.{function-defined, function-once, function-not-defined, name-too-large, as-fault, right-after, right-same, right-exported}

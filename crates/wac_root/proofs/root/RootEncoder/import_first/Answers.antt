@@ -5,7 +5,7 @@ use Rattle.wac_shapes.specs.declared.component.ItemKind.TheVariants as kind
 use Rattle.wac_shapes.specs.declared.component.«Type».TheVariants as ty
 use Rattle.wac_binary.specs.declared.sorts.Description.TheVariants as e
 use Rattle.wac_binary.specs.declared.types.ComponentValType.{ComponentValType}
-use Rattle.wac_encode.specs.Written.{IsByRecord}
+use Rattle.wac_defining.specs.Written.{IsByRecord}
 use Rattle.wac_encode.specs.Listing.{own_types}
 use Rattle.wac_root.proofs.Imported.{still-root}
 use Rattle.wac_root.proofs.Importing.{first-imported, first-written, value-not-imported, import-too-large, first-at-most}

@@ -4,7 +4,7 @@ use Rattle.wac_shapes.specs.declared.component.ItemKind.TheVariants as kind
 use Rattle.wac_binary.specs.declared.sorts.Description.TheVariants as e
 use Rattle.wac_root.proofs.Imported.{still-root}
 use Rattle.wac_root.proofs.Importing.{function-imported, function-written, function-not-imported, import-too-large, types-of}
-use Rattle.wac_encode.proofs.Stacks.{exactly-so}
+use Rattle.wac_defining.proofs.Stacks.{exactly-so}
 use Rattle.wac_root.proofs.root.RootEncoder.import_function.Goals as goal
 
 pub import_func-requires : goal.import_func-requires

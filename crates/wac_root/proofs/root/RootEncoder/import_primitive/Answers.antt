@@ -7,7 +7,7 @@ use Rattle.wac_encode.specs.Listing.{own_types}
 use Rattle.wac_root.proofs.Imported.{still-root}
 use Rattle.wac_root.proofs.Importing.{primitive-imported, primitive-written, primitive-not-imported, import-too-large, nothing-of, types-of}
 use Rattle.wac_encode.proofs.Naming.{primitive-behind, primitive-described}
-use Rattle.wac_encode.proofs.Stacks.{exactly-so}
+use Rattle.wac_defining.proofs.Stacks.{exactly-so}
 use Rattle.wac_root.proofs.root.RootEncoder.import_primitive.Goals as goal
 
 pub import_type-requires : goal.import_type-requires

@@ -5,7 +5,7 @@ use Rattle.wac_shapes.specs.declared.component.«Type».TheVariants as ty
 use Rattle.wac_binary.specs.declared.sorts.Description.TheVariants as e
 use Rattle.wac_root.proofs.Importing.{second-imported, second-written, import-too-large, nothing-of}
 use Rattle.wac_encode.proofs.Naming.{still-described}
-use Rattle.wac_encode.proofs.Stacks.{exactly-so}
+use Rattle.wac_defining.proofs.Stacks.{exactly-so}
 use Rattle.wac_root.proofs.root.RootEncoder.import_second.Goals as goal
 
 pub returns-in_err-import-clause-refused : goal.returns-in_err-import-clause-refused

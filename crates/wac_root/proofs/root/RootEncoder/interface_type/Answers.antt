@@ -1,8 +1,8 @@
 use Rattle.std.specs.Prelude.{IfOk}
 use Rattle.std.proofs.Common.{sym, subst}
 use Rattle.wac_collection.specs.Collection.{Collection}
-use Rattle.wac_encode.specs.declared.worlds.Worlds.{Worlds}
-use Rattle.wac_encode.specs.Worlds.{SayWorlds}
+use Rattle.wac_sorting.specs.declared.worlds.Worlds.{Worlds}
+use Rattle.wac_sorting.specs.Worlds.{SayWorlds}
 use Rattle.wac_encode.specs.Listing.{SaysIfThere, WritesIfThere, IsInterfaceRefused}
 use Rattle.wac_root.proofs.root.RootEncoder.interface_type.Goals as goal
 

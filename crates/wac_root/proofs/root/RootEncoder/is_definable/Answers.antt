@@ -1,6 +1,6 @@
 use Rattle.std.specs.Prelude.{◌≡◌, not, IfOk, true}
 use Rattle.std.proofs.Common.{ap, sym, subst, ◌∙◌}
-use Rattle.wac_encode.specs.Listing.{lists_plain}
+use Rattle.wac_sorting.specs.Sorts.{lists_plain}
 use Rattle.wac_root.proofs.ComponentTypes.{interface-definable}
 use Rattle.wac_root.proofs.root.RootEncoder.is_definable.Goals as goal
 

@@ -1,4 +1,4 @@
-use Rattle.wac_encode.specs.Written.{Says}
+use Rattle.wac_defining.specs.Written.{Says}
 use Rattle.wac_state.specs.Root.{SaysHeld}
 use Rattle.wac_state.proofs.Answering.{if-ok}
 use Rattle.wac_state.proofs.Growth.{state, right-on, continues, says-held}

@@ -1,6 +1,6 @@
 use Rattle.std.specs.Prelude.{◌≡◌, true, false, length}
 use Rattle.std.proofs.Common.{arith, ap, sym, ◌∙◌}
-use Rattle.wac_encode.proofs.Listed.{all-of}
+use Rattle.wac_sorting.proofs.Ordered.{all-of}
 use Rattle.wac_worlds.specs.Declaring.{is_declarable, are_declarable}
 use Rattle.wac_worlds.proofs.Whole.{not-declarable, declarable-further}
 use Rattle.wac_worlds.proofs.worlds.WorldEncoder.are_declarable.Goals as goal

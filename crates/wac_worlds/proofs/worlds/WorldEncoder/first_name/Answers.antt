@@ -6,7 +6,7 @@ use Rattle.wac_shapes.specs.declared.component.«Type».TheVariants as ty
 use Rattle.wac_binary.specs.declared.sorts.Description.TheVariants as e
 use Rattle.wac_binary.specs.declared.types.ComponentValType.{ComponentValType}
 use Rattle.wac_scopes.specs.Sides.{side_of}
-use Rattle.wac_encode.specs.Written.{IsByRecord}
+use Rattle.wac_defining.specs.Written.{IsByRecord}
 use Rattle.wac_encode.specs.Listing.{own_types}
 use Rattle.wac_encode.proofs.Naming.{definition-behind, definition-described, recorded-at}
 use Rattle.wac_worlds.proofs.Declared.{first-declared, first-written, value-refused, item-too-large, still-open}

@@ -4,7 +4,7 @@ use Rattle.std.proofs.lemmas.Result.{err_from_is_err_and}
 use Rattle.wac_shapes.specs.Named.{named_pairs}
 use Rattle.wac_shapes.proofs.Names.{named_pairs-at}
 use Rattle.wac_scopes.specs.Sides.{side_of}
-use Rattle.wac_encode.proofs.Ordered.{pairs-length}
+use Rattle.wac_sorting.proofs.Ordered.{pairs-length}
 use Rattle.wac_worlds.proofs.Together.{starts, goes-further, stops-at, all-listed, all-written}
 use Rattle.wac_worlds.proofs.worlds.WorldEncoder.items.Goals as goal
 

@@ -9,7 +9,7 @@ use Rattle.wac_scopes.specs.declared.scope.Scope.{Scope}
 use Rattle.wac_scopes.specs.Sides.{side_of}
 use Rattle.wac_encode.specs.Listing.{own_types}
 use Rattle.wac_encode.proofs.Naming.{primitive-behind, primitive-described}
-use Rattle.wac_encode.proofs.Stacks.{exactly-so}
+use Rattle.wac_defining.proofs.Stacks.{exactly-so}
 use Rattle.wac_worlds.proofs.Declared.{primitive-declared, primitive-written, primitive-refused, item-too-large, still-open-behind}
 use Rattle.wac_worlds.proofs.worlds.WorldEncoder.primitive_item.Goals as goal
 

@@ -5,7 +5,7 @@ use Rattle.wac_shapes.specs.declared.component.«Type».TheVariants as ty
 use Rattle.wac_binary.specs.declared.sorts.Description.TheVariants as e
 use Rattle.wac_scopes.specs.Sides.{side_of}
 use Rattle.wac_encode.proofs.Naming.{still-described}
-use Rattle.wac_encode.proofs.Stacks.{exactly-so}
+use Rattle.wac_defining.proofs.Stacks.{exactly-so}
 use Rattle.wac_worlds.proofs.Declared.{second-declared, second-written, item-too-large}
 use Rattle.wac_worlds.proofs.worlds.WorldEncoder.second_name.Goals as goal
 

@@ -3,9 +3,10 @@ use Rattle.std.proofs.Common.{subst}
 use Rattle.wac_shapes.specs.declared.component.ItemKind.TheVariants as kind
 use Rattle.wac_shapes.specs.declared.component.«Type».TheVariants as ty
 use Rattle.wac_collection.specs.Collection.{Collection}
-use Rattle.wac_encode.specs.declared.worlds.Worlds.{Worlds}
-use Rattle.wac_encode.specs.Written.{WritesFor}
-use Rattle.wac_encode.specs.Worlds.{SayWorlds, AddsHeldWorld, IsWorldTypeAt, IsWorldTypeRefused}
+use Rattle.wac_sorting.specs.declared.worlds.Worlds.{Worlds}
+use Rattle.wac_defining.specs.Written.{WritesFor}
+use Rattle.wac_sorting.specs.Worlds.{SayWorlds}
+use Rattle.wac_encode.specs.Worlds.{AddsHeldWorld, IsWorldTypeAt, IsWorldTypeRefused}
 use Rattle.wac_encode.specs.Listing.{NeededBy}
 use Rattle.wac_worlds.proofs.Ahead.{as-held}
 use Rattle.wac_worlds.proofs.worlds.WorldEncoder.world.Goals as goal

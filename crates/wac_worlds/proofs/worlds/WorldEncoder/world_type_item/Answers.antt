@@ -4,7 +4,7 @@ use Rattle.wac_shapes.specs.declared.component.ItemKind.TheVariants as kind
 use Rattle.wac_shapes.specs.declared.component.«Type».TheVariants as ty
 use Rattle.wac_binary.specs.declared.sorts.Description.TheVariants as e
 use Rattle.wac_scopes.specs.Sides.{side_of}
-use Rattle.wac_encode.proofs.Stacks.{exactly-so}
+use Rattle.wac_defining.proofs.Stacks.{exactly-so}
 use Rattle.wac_worlds.proofs.Declared.{world-type-declared, world-type-written, world-type-refused, item-too-large, still-open}
 use Rattle.wac_worlds.proofs.worlds.WorldEncoder.world_type_item.Goals as goal
 

@@ -1,0 +1,4 @@
+pub mod Plain
+pub mod Ordered
+pub mod Inside
+pub mod Flat

@@ -1,0 +1,24 @@
+use Rattle.std.proofs.Common.{arith, not, sym, ap, ◌∙◌, ◌≡◌, ◌++◌, length}
+use Rattle.std.specs.List.{filter}
+use Rattle.std.proofs.lemmas.List.{append-nil}
+use Rattle.wac_shapes.specs.Named.{named_pairs}
+use Rattle.wac_sorting.proofs.Ordered.{all-of, no_type_item, group-more, group-passed}
+use Rattle.wac_sorting.proofs.order.add_others.Goals as goal
+use Rattle.wac_sorting.proofs.order.add_others.Goals.{then-not-is_type_item+in_ok-push, else-not-is_type_item}
+
+pub loop-i-init : goal.loop-i-init
+loop-i-init c = sym (append-nil (named_pairs c.args.order.now.items))
+
+pub loop-i-preserved : goal.loop-i-preserved
+loop-i-preserved c =
+    let es = c.args.items.now in
+    let fs = named_pairs c.args.order.now.items in
+    elim c.if-not-is_type_item.branch [
+      | then-not-is_type_item+in_ok-push w ↦ ap (λ v. named_pairs v.items) w.order-is ∙ (group-more no_type_item es fs c.loop-i.i c.entry_at.result.0 c.entry_at.result.1.now c.loop-i.order.items w.push.new.self.items c.entry_at.ensures (ap not (sym c.is_type_item.ensures ∙ w.if-not-is_type_item.true)) c.loop-i.invariant w.in_ok-push.ensures.items)
+      | else-not-is_type_item w ↦ ap (λ v. named_pairs v.items) w.order-is ∙ (group-passed no_type_item es fs c.loop-i.i c.entry_at.result.0 c.entry_at.result.1.now c.loop-i.order.items c.entry_at.ensures (ap not (sym c.is_type_item.ensures ∙ w.if-not-is_type_item.false)) c.loop-i.invariant)
+    ]
+
+pub returns : goal.returns
+returns c =
+    let whole : c.loop-i.i ≡ length c.args.items.now = omega (arith, c.loop-i-test.false, c.len-i-end.ensures, c.loop-i.auto.i-end) in
+    c.loop-i.invariant ∙ ap (λ es. named_pairs c.args.order.now.items ++ filter no_type_item es) (all-of c.args.items.now c.loop-i.i whole)

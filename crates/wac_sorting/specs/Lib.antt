@@ -1,0 +1,4 @@
+pub mod Worlds
+pub mod Sorts
+pub mod Order
+pub mod Inside
