@@ -26,7 +26,7 @@ use Rattle.wac_sorting.specs.declared.worlds.Worlds.{Worlds}
 use Rattle.wac_encode.specs.Instances.{listed_definitions}
 use Rattle.wac_sorting.specs.Sorts.{lists_plain, lists_plain_to}
 use Rattle.wac_encode.proofs.Around.{owns-nothing}
-use Rattle.wac_planning.proofs.Listing.{held-items}
+use Rattle.wac_listing.proofs.Listing.{held-items}
 use Rattle.wac_sorting.proofs.Plain.{plain-of}
 
 -- where an entry of two lists in a row stands

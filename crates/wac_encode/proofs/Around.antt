@@ -2,7 +2,7 @@
 use Rattle.std.specs.Prelude.{ℕ, zero, suc, ◌+◌, ◌<◌, ◌≡◌, ◌⊎◌, cond, nat_eq, Bool, true, false, List, [], ◌∷◌, length, Option, Some, None, IsSome, is_some, slice_get, Result, Ok, Err, OnOk}
 use Rattle.std.specs.HashMap.{get}
 use Rattle.std.proofs.Common.{refl, ap, ◌∙◌, sym, subst, arith, inl, inr}
-use Rattle.wac_primitives.specs.Name.{Name, option_case}
+use Rattle.wac_primitives.specs.Name.{Name}
 use Rattle.wac_shapes.specs.declared.component.DefinedTypeId.{DefinedTypeId}
 use Rattle.wac_shapes.specs.declared.component.Interface.{Interface}
 use Rattle.wac_shapes.specs.declared.component.InterfaceId.{InterfaceId}
@@ -33,6 +33,8 @@ use Rattle.wac_stacks.specs.Laws.{Follows, StaysOnward}
 use Rattle.wac_stacks.specs.Listed.{has_own, OpensOver}
 use Rattle.wac_scopes.proofs.ScopedLaws.{recorded-at}
 use Rattle.wac_listing.specs.Made.{AreMadeOf}
+use Rattle.wac_listing.proofs.Grown.{below-or-last}
+use Rattle.wac_listing.proofs.Listing.{exports-are}
 use Rattle.wac_sorting.specs.declared.worlds.Worlds.{Worlds}
 use Rattle.wac_defining.specs.Written.{IsLargeFrom}
 use Rattle.wac_planning.specs.Plans.{IsOneOf, AreOfItems}
@@ -136,19 +138,12 @@ make_id n = record { 0 = n }
 same-id : (a b : DefinedTypeId) → nat_eq a.0 b.0 ≡ true → a ≡ b
 same-id a b h = let same : a.0 ≡ b.0 = grind arith in ap make_id same
 
-last-or-before : (k i : ℕ) → k < i + 1 → (k < i) ⊎ (k ≡ i)
-last-or-before k i less = by_equal (nat_eq k i) refl
-  where
-    by_equal : (b : Bool) → nat_eq k i ≡ b → (k < i) ⊎ (k ≡ i)
-    by_equal true is = inr (grind arith)
-    by_equal false is = inl (grind arith)
-
 -- one that has a name around
 pub opening-named : (around : Scope) (ds : List DefinedTypeId) (i : ℕ) (s s' : Scope) (d : DefinedTypeId) (j : ℕ) → slice_get ds i ≡ Some d → named_at around d ≡ Some j → IsOpening around ds i s → ListsAround s d j s' → IsOpening around ds (i + 1) s'
 opening-named around ds i s s' d j at named w lists = record {
   content = lists.content ∙ w.content;
   types = λ a. lists.types a ∙ w.types a;
-  before = λ k e less here. lists.listed e ∙ before k e (last-or-before k i less) here (nat_eq d.0 e.0) refl;
+  before = λ k e less here. lists.listed e ∙ before k e (below-or-last k i less) here (nat_eq d.0 e.0) refl;
   only = λ e l is. only e l (nat_eq d.0 e.0) refl (sym (lists.listed e) ∙ is);
 }
   where
@@ -174,7 +169,7 @@ pub opening-unnamed : (around : Scope) (ds : List DefinedTypeId) (i : ℕ) (s : 
 opening-unnamed around ds i s d at unnamed w = record {
   content = w.content;
   types = w.types;
-  before = λ k e less here. before k e (last-or-before k i less) here;
+  before = λ k e less here. before k e (below-or-last k i less) here;
   only = w.only;
 }
   where
@@ -188,9 +183,6 @@ opening-unnamed around ds i s d at unnamed w = record {
         let both : Some d ≡ Some e = sym at ∙ ap (slice_get ds) (sym last) ∙ here in
         let same : d ≡ e = cc in
         subst (λ (x : DefinedTypeId). listed_at s x ≡ around_at (named_at around x)) same (nowhere (listed_at s d) refl)
-
-exports-are : (c : Collection) (i : InterfaceId) (it : Interface) → item_at c.interfaces i.0 ≡ Some it → interface_exports c i ≡ it.exports
-exports-are c i it at = ap (λ (o : Option Interface). option_case o [] (λ x. x.exports)) at
 
 -- the definitions that an interface's items are made of
 abbrev pub AreDefinitionsOf : Collection → InterfaceId → List DefinedTypeId → Type 0
@@ -288,7 +280,7 @@ pub aliasing-further : (c : Collection) → Follows → StaysOnward → (ds : Li
 aliasing-further c follows stays ds n old now new d held at w (aliased_now listed none one) = record {
   so_far = λ i made. aliases-one-more c follows i old now new d held (made d (n, at)) listed none (w.so_far i made) one;
   listed = λ a. one.recorded.listed a ∙ w.listed a;
-  all = λ k e less here some. all k e (last-or-before k n less) here some;
+  all = λ k e less here some. all k e (below-or-last k n less) here some;
 }
   where
     all : (k : ℕ) (e : DefinedTypeId) → (k < n) ⊎ (k ≡ n) → slice_get ds k ≡ Some e → IsSome (listed_at old e) → IsSome (value_index new e)
@@ -300,7 +292,7 @@ aliasing-further c follows stays ds n old now new d held at w (aliased_now liste
 aliasing-further c follows stays ds n old now new d held at w (as_before same written_) = record {
   so_far = λ i made. aliases-still c follows stays i old now new same (w.so_far i made);
   listed = λ a. same.listed a ∙ w.listed a;
-  all = λ k e less here some. still-some now new e (λ j is. same.types (ty.Value (val.Defined e)) ∙ is) (all k e (last-or-before k n less) here some);
+  all = λ k e less here some. still-some now new e (λ j is. same.types (ty.Value (val.Defined e)) ∙ is) (all k e (below-or-last k n less) here some);
 }
   where
     all : (k : ℕ) (e : DefinedTypeId) → (k < n) ⊎ (k ≡ n) → slice_get ds k ≡ Some e → IsSome (listed_at old e) → IsSome (value_index now e)

@@ -9,8 +9,7 @@ use Rattle.wac_shapes.specs.declared.component.InterfaceId.{InterfaceId}
 use Rattle.wac_shapes.specs.declared.component.ItemKind.{ItemKind}
 use Rattle.wac_shapes.specs.declared.component.ItemKind.TheVariants as kind
 use Rattle.wac_shapes.specs.declared.component.«Type».TheVariants as ty
-use Rattle.wac_collection.specs.declared.collection.Held.{Held}
-use Rattle.wac_collection.specs.Collection.{Collection, IsWellFormed, AddedBefore, IsBefore, holds_type, interface_exports, item_at, size}
+use Rattle.wac_collection.specs.Collection.{Collection, IsWellFormed, IsBefore, holds_type, interface_exports, item_at, size}
 use Rattle.wac_collection.proofs.Growth.{type_within}
 use Rattle.wac_binary.specs.Items.{instance_def, Decl, decls}
 use Rattle.wac_binary.specs.declared.sorts.Sort.TheVariants as sort
@@ -39,7 +38,7 @@ use Rattle.wac_encode.specs.Items.{ListsHeld, HasListed, CanList, nothing_inside
 use Rattle.wac_encode.specs.Levels.{SoFar, IsBegun, IsLevel, IsWaiting, IsChain, described_by, PutsItem, ItemNotPut}
 use Rattle.wac_encode.proofs.InstanceTypes.{adds-interface, instance-behind, aliases-for, still-unwritten, written-behind, adds-behind, ends-with-interface}
 use Rattle.wac_sorting.proofs.Ordered.{once-ordered, same-under, stands-there}
-use Rattle.wac_planning.proofs.Listing.{listed-before, held-items}
+use Rattle.wac_listing.proofs.Listing.{none-first, listed-before, held-items}
 use Rattle.wac_sorting.proofs.Plain.{plain-each, plain-of, plain-alone, one-plain}
 use Rattle.wac_encode.proofs.Listed.{starts, goes-further, stops-at, closes-open, says-interface}
 use Rattle.wac_encode.proofs.OfInterface.{one-needed, one-behind, one-described, one-named, one-listed, one-fault, one-large}
@@ -287,11 +286,7 @@ chain-refused B ws c around i fault.OutOfMemory h = tt
 -- an interface inside is opened
 
 opens-chain : (ws : Worlds) (c : Collection) → OpensInterface → (d : ℕ) (a : Scope) (i : InterfaceId) (k m : Level) (j : InterfaceId) → IsWaiting d ws c a i k j → Listed d ws c j → IsBegun c k.scope j m → IsChain (suc d) ws c a i (k ∷ []) m
-opens-chain ws c opens zero a i k m j w h b = absurd (never (slice_get c.interfaces j.0) h.before)
-  where
-    never : (o : Option (Held Interface)) → AddedBefore 0 o → ⊥
-    never None low = low
-    never (Some x) low = omega (arith, low)
+opens-chain ws c opens zero a i k m j w h b = absurd (none-first (slice_get c.interfaces j.0) h.before)
 opens-chain ws c opens (suc d) a i k m j w h b = (j, w, begins-level ws c opens d k.scope j m h.plain h.before b)
 
 pub opens-inside : (ws : Worlds) (c : Collection) → IsWellFormed c → OpensInterface → (d : ℕ) (a : Scope) (i : InterfaceId) (l k m : Level) (e : Name × ItemKind) (j : InterfaceId) → k.interface ≡ l.interface → k.order ≡ l.order → k.next ≡ l.next → slice_get (named_pairs l.order.items) l.next ≡ Some e → interface_of e.1 ≡ Some j → type_index l.scope (ty.Interface j) ≡ None

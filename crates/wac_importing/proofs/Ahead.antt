@@ -1,4 +1,4 @@
--- Worlds that are written ahead, as an encoder holds them, and those inside a type or an item that is written.
+-- The worlds inside a type or an item that is written, which are written ahead.
 use Rattle.std.proofs.Common.{◌≡◌, ℕ, zero, suc, ◌+◌, true, List, [], ◌∷◌, ◌++◌, take, refl, ap, ◌∙◌, sym, subst, add-one, Option, Some, None, ◌⊎◌, inl, inr, Err}
 use Rattle.std.specs.Prelude.{slice_get}
 use Rattle.wac_primitives.specs.Name.{Name, option_case}
@@ -10,38 +10,21 @@ use Rattle.wac_shapes.specs.declared.component.WorldId.{WorldId}
 use Rattle.wac_shapes.specs.declared.component.«Type».{«Type» as AnyType}
 use Rattle.wac_shapes.specs.declared.component.«Type».TheVariants as ty
 use Rattle.wac_collection.specs.Collection.{Collection, IsWellFormed, holds_type}
-use Rattle.wac_binary.specs.Items.{Decl}
 use Rattle.wac_sorting.specs.declared.worlds.Worlds.{Worlds}
-use Rattle.wac_sorting.specs.Worlds.{declarations_of, SayWorlds}
 use Rattle.wac_terms.specs.Merge.{import_entries}
 use Rattle.wac_binary.specs.declared.fault.BinaryFault.TheVariants.{TooLarge}
 use Rattle.wac_meaning.specs.Importable.{IsDefinableKind}
 use Rattle.wac_reach.specs.Reach.{IsIn}
 use Rattle.wac_scopes.specs.declared.fault.EncodeFault.TheVariants as fault
 use Rattle.wac_scopes.specs.declared.fault.WriteFault.{WriteFault}
-use Rattle.wac_worlds.specs.Nested.{type_inside, IsHolder, IsInside, IsInsideOne, AreWorlds, AllWritten, AreWorldsRefused}
+use Rattle.wac_worlds.specs.Nested.{type_inside, IsHolder, IsInsideOne, AllWritten, AreWorldsRefused}
+use Rattle.wac_worlds.proofs.Earlier.{inside-one}
 use Rattle.wac_worlds.proofs.TypesInside.{inside-holder}
 use Rattle.wac_importing.specs.Looked.{ArePlainInside, IsHeldBy, ListsPlain, AreImportable}
 use Rattle.wac_importing.specs.Written.{holder_of, holders_of, entry_items, IsAhead, IsTooLarge, merge_of}
 use Rattle.wac_importing.proofs.Interfaces.{lists_plain_items}
 use Rattle.wac_importing.proofs.Refusing.{inside_no_fault}
 use Rattle.wac_importing.proofs.Worlds.{plain_items}
-
--- what an encoder holds
-pub as_held : (P : Collection → Worlds → Type 0) (c t : Collection) (ws vs : Worlds) → t ≡ c → vs ≡ ws → P c ws → P t vs
-as_held P c t ws vs is same h = subst (λ (x : Collection). P x vs) (sym is) (subst (P c) (sym same) h)
-
-pub of_held : (P : Collection → Worlds → Type 0) (c t : Collection) (ws vs : Worlds) → t ≡ c → vs ≡ ws → P t vs → P c ws
-of_held P c t ws vs is same h = subst (P c) same (subst (λ (x : Collection). P x vs) is h)
-
-pub say : (c : Collection) (ws : Worlds) → AreWorlds c ws → SayWorlds c ws
-say c ws are w ds at = (are w ds at).0
-
--- none is written
-pub none_are : (c : Collection) (ws : Worlds) → ((w : WorldId) → declarations_of ws w ≡ None) → AreWorlds c ws
-none_are c ws none w ds at = absurd (no_declarations ds (sym (none w) ∙ at)) where
-  no_declarations : (ds : List Decl) → None ≡ Some ds → ⊥
-  no_declarations ds h = cc
 
 -- of a type
 
@@ -78,14 +61,6 @@ only_one P a h t (inr none) = absurd none
 pub all_ahead : (c : Collection) (ws : Worlds) (a : AnyType) → holds_type c a ≡ true → AllWritten c (a ∷ []) ws → IsAhead c ws (kind.TypeItem a)
 all_ahead c ws a held all t is = subst (λ (x : AnyType). AllWritten c (x ∷ []) ws) (sym (type_holder c a t held is).1) all
 
-pub no_other_holder : (c : Collection) (a : AnyType) → IsHolder c a → ((i : InterfaceId) → a ≡ ty.Interface i → ⊥) → ((w : WorldId) → a ≡ ty.World w → ⊥) → ⊥
-no_other_holder c (ty.Interface i) holder apart away = apart i refl
-no_other_holder c (ty.World w) holder apart away = away w refl
-no_other_holder c (ty.Value v) holder apart away = holder
-no_other_holder c (ty.Resource r) holder apart away = holder
-no_other_holder c (ty.Func f) holder apart away = holder
-no_other_holder c (ty.Module m) holder apart away = holder
-
 pub type_lists : (c : Collection) (a : AnyType) → ((i : InterfaceId) × (a ≡ ty.Interface i)) ⊎ ((w : WorldId) × (a ≡ ty.World w)) → ArePlainInside c a → ListsPlain c (kind.TypeItem a)
 type_lists c a (inl h) plain = subst (λ (x : AnyType). ListsPlain c (kind.TypeItem x)) (sym h.1) (subst (ArePlainInside c) h.1 plain)
 type_lists c a (inr h) plain = subst (λ (x : AnyType). ListsPlain c (kind.TypeItem x)) (sym h.1) (subst (ArePlainInside c) h.1 plain)
@@ -93,11 +68,6 @@ type_lists c a (inr h) plain = subst (λ (x : AnyType). ListsPlain c (kind.TypeI
 pub held_by_type : (a : AnyType) → ((i : InterfaceId) × (a ≡ ty.Interface i)) ⊎ ((w : WorldId) × (a ≡ ty.World w)) → IsHeldBy a (kind.TypeItem a)
 held_by_type a (inl h) = subst (λ (x : AnyType). IsHeldBy x (kind.TypeItem x)) (sym h.1) (inr refl)
 held_by_type a (inr h) = subst (λ (x : AnyType). IsHeldBy x (kind.TypeItem x)) (sym h.1) (inr refl)
-
--- one to start from
-pub one_start : {A : Type 0} (P : A → Type 0) (a : A) → P a → (i : ℕ) (x : A) → slice_get (a ∷ []) i ≡ Some x → P x
-one_start P a h zero x at = let both : Some a ≡ Some x = at in let same : a ≡ x = cc in subst P same h
-one_start P a h (suc i) x at = cc
 
 pub definable_inside : (c : Collection) → IsWellFormed c → (a : AnyType) → IsHolder c a → IsDefinableKind c (kind.TypeItem a) → ArePlainInside c a
 definable_inside c wf (ty.Interface i) holder so = lists_plain_items c wf i so
@@ -173,10 +143,7 @@ pub holders_plain : (c : Collection) (es : List (Name × ItemKind)) → AreImpor
 holders_plain c es all t h = let (i, e, at, is) = of_holders es t h in holder_plain c e.1 t (all i e at) is
 
 pub entry_ahead : (c : Collection) (ws : Worlds) (es : List (Name × ItemKind)) → AllWritten c (holders_of es) ws → (i : ℕ) (e : Name × ItemKind) → slice_get es i ≡ Some e → IsAhead c ws e.1
-entry_ahead c ws es all i e at t is w inside plain = all w (t, among_holders es i e at t is, only inside) plain where
-  only : IsInsideOne c (t ∷ []) (ty.World w) → IsInside c t (ty.World w)
-  only (v, inl same, within) = subst (λ (x : AnyType). IsInside c x (ty.World w)) same within
-  only (v, inr none, within) = absurd none
+entry_ahead c ws es all i e at t is w inside plain = all w (t, among_holders es i e at t is, inside-one c t (ty.World w) inside) plain
 
 -- a list that was gone through as far as a position
 pub holders_next : (es : List (Name × ItemKind)) (i : ℕ) (e : Name × ItemKind) → slice_get es i ≡ Some e → holders_of (take (suc i) es) ≡ option_case (holder_of e.1) (holders_of (take i es)) (λ t. holders_of (take i es) ++ t ∷ [])
@@ -199,10 +166,6 @@ step_some es i e t old new at is was pushed =
 
 pub step_none : (es : List (Name × ItemKind)) (i : ℕ) (e : Name × ItemKind) (old : List AnyType) → slice_get es i ≡ Some e → holder_of e.1 ≡ None → old ≡ holders_of (take i es) → old ≡ holders_of (take (i + 1) es)
 step_none es i e old at is was = was ∙ sym (one_more_taken es i ∙ holders_next es i e at ∙ ap (λ (o : Option AnyType). option_case o (holders_of (take i es)) (λ u. holders_of (take i es) ++ u ∷ [])) is)
-
-pub none_if : {A : Type 0} (o : Option A) → ((x : A) → o ≡ Some x → ⊥) → o ≡ None
-none_if None other = refl
-none_if (Some x) other = absurd (other x refl)
 
 -- the entries of a merge are the listed items again
 entries_back : (es : List (Name × ItemKind)) → entry_items (import_entries es) ≡ es

@@ -16,6 +16,7 @@ use Rattle.wac_collection.specs.Collection.{Collection, IsWellFormed, AddedBefor
 use Rattle.wac_collection.specs.declared.collection.Held.{Held}
 use Rattle.wac_subtyping.proofs.Unfolding.{type_before}
 use Rattle.wac_subtyping.specs.Subtype.{Sub, IsPlain, IsSubtype, type_tree, kind_tree, listed_in}
+use Rattle.wac_comparison.proofs.Subtyping.{kind_there, listed_some}
 use Rattle.wac_entries.specs.Bindings.{AreHeld}
 use Rattle.wac_entries.specs.Classes.{Entry, by_names, is_instance as is_instance_kind, same_class, members, names_of_classes, class_names, ClassLaws}
 use Rattle.wac_terms.specs.Merge.{Merged, IsMerge, with_names, names_behind, export_list, export_lists}
@@ -24,11 +25,11 @@ use Rattle.wac_meaning.proofs.AskedMembers.{IsIn, in_filter}
 use Rattle.wac_meaning.proofs.MergeLemmas.{OrderHasClasses, canonical_in}
 use Rattle.wac_uses.specs.United.{instances_of, listed_by}
 use Rattle.wac_merge.specs.Listed.{interface_in, united_interfaces, Unites, AreListedInOrder}
-use Rattle.wac_planning.proofs.Listing.{listed-before}
+use Rattle.wac_listing.proofs.Listing.{none-first, listed-before}
 use Rattle.wac_importing.specs.Written.{AllImportable}
 use Rattle.wac_meaning.proofs.PlainLemmas.{plain_item}
-use Rattle.wac_importing.proofs.Items.{interface_is, interface_there, exports_are}
-use Rattle.wac_importing.proofs.Nested.{listed_held, never}
+use Rattle.wac_worlds.proofs.TypesInside.{listed-held, exports-named}
+use Rattle.wac_importing.proofs.Items.{interface_is, interface_there}
 use Rattle.wac_importing.proofs.Refusing.{is_held}
 
 -- ---- subtypes of what is importable
@@ -107,14 +108,6 @@ module _ {L : Type 0} where
   sub_below a b (Sub.module_items x y s) = tt
 
 -- ---- names
-kind_there : (c : Collection) (k : ItemKind) → kind_tree c k ≢ absent
-kind_there c (kind.TypeItem a) e = cc
-kind_there c (kind.Func f) e = cc
-kind_there c (kind.Instance i) e = cc
-kind_there c (kind.Component w) e = cc
-kind_there c (kind.Module m) e = cc
-kind_there c (kind.Value v) e = cc
-
 abbrev NamesHas : List (Name × ItemKind) → Name → Type 0
 NamesHas es n = IsIn (map (λ e. e.0) es) n
 
@@ -252,13 +245,6 @@ found_kind c (e ∷ es) n there = by (same_name n e.0) there (found_kind c es n)
   by true is later = (e.1, refl, refl)
   by false is later = later is
 
-listed_found : (c : Collection) (es : List (Name × ItemKind)) (n : Name) (x : ItemKind) → find_name es n ≡ Some x → listed_in c es n ≡ kind_tree c x
-listed_found c [] n x find = cc
-listed_found c (e ∷ es) n x find = by (same_name n e.0) find (listed_found c es n x) where
-  by : (b : Bool) → cond b (Some e.1) (find_name es n) ≡ Some x → (find_name es n ≡ Some x → listed_in c es n ≡ kind_tree c x) → cond b (kind_tree c e.1) (listed_in c es n) ≡ kind_tree c x
-  by true is later = let same : e.1 ≡ x = cc in ap (kind_tree c) same
-  by false is later = later is
-
 found_place : (es : List (Name × ItemKind)) (n : Name) (x : ItemKind) → find_name es n ≡ Some x → (p : ℕ) × (a : Name) × (slice_get es p ≡ Some (a, x))
 found_place [] n x find = cc
 found_place (e ∷ es) n x find = by (same_name n e.0) find (found_place es n x) where
@@ -330,7 +316,7 @@ module _ (c : Collection) (wf : IsWellFormed c) (es : List Entry) (m : Merged) (
   at_member w it tree n j (held, sub, plain) x find =
       let (jt, found) = interface_there c wf j held in
       let y_tree = interface_is c wf j jt held found in
-      let is : listed_in c jt.exports n ≡ kind_tree c x = listed_found c jt.exports n x (ap (λ (xs : List (Name × ItemKind)). find_name xs n) (sym (exports_are c j jt found)) ∙ find) in
+      let is : listed_in c jt.exports n ≡ kind_tree c x = listed_some c jt.exports n x (ap (λ (xs : List (Name × ItemKind)). find_name xs n) (sym (exports-named c j jt found)) ∙ find) in
       let both : Sub (instance (listed_in m.types it.exports)) (instance (listed_in c jt.exports)) = subst (λ (t : TypeTree Name). Sub (instance (listed_in m.types it.exports)) t) y_tree (subst (λ (t : TypeTree Name). Sub t (type_tree c (ty.Interface j))) tree sub) in
       let inner = inside (instance (listed_in m.types it.exports)) (instance (listed_in c jt.exports)) both n (λ e. kind_there c x (sym is ∙ e)) in
       let all = subst (λ (t : TypeTree Name). IsPlainItem (instance_item t)) y_tree plain in (
@@ -364,10 +350,10 @@ module _ (c : Collection) (wf : IsWellFormed c) (es : List Entry) (m : Merged) (
       let (g, g_is, s) = instance_there v (listed_in m.types it.exports n) item (kind.Instance l) sub in
       let one : l ≡ g = cc in
       let (o, b, l_place) = found_place (interface_exports c j) n (kind.Instance l) l_find in
-      (listed_held c wf j o (b, kind.Instance l) l_place, subst (λ (z : InterfaceId). Sub (type_tree m.types (ty.Interface v)) (type_tree c (ty.Interface z))) (sym one) s, plain)))
+      (listed-held c wf (ty.Interface j) o (b, kind.Instance l) l_place, subst (λ (z : InterfaceId). Sub (type_tree m.types (ty.Interface v)) (type_tree c (ty.Interface z))) (sym one) s, plain)))
 
   united_plain : (d : ℕ) → IsSoTo d
-  united_plain zero w is u before under = absurd (never (slice_get m.types.interfaces w.0) before)
+  united_plain zero w is u before under = absurd (none-first (slice_get m.types.interfaces w.0) before)
   united_plain (suc d) w is u before under = by (united_plain d) (slice_get m.types.interfaces w.0) refl before where
     of_name : IsSoTo d → (it : Interface) → item_at m.types.interfaces w.0 ≡ Some it → type_tree m.types (ty.Interface w) ≡ instance (listed_in m.types it.exports) → (n : Name) → (k : ItemKind) × (find_name it.exports n ≡ Some k) × (listed_in m.types it.exports n ≡ kind_tree m.types k)
         → IsIn [] n ⊎ ListsHave (map (interface_exports c) is) n → IsPlainItem (listed_in m.types it.exports n)

@@ -25,7 +25,8 @@ use Rattle.wac_subtyping.proofs.Resolved.{resolved_held}
 use Rattle.wac_subtyping.proofs.Trees.{aliases_agree}
 use Rattle.wac_reach.specs.Reach.{IsIn, mentions, Reaches, at_once, further}
 use Rattle.wac_reach.proofs.Reaching.{mentioned_held}
-use Rattle.wac_listing.specs.Made.{parts, MadeOf, itself, part, some_of, second_of, some_second_of}
+use Rattle.wac_listing.specs.Made.{MadeOf, itself, part}
+use Rattle.wac_listing.proofs.Reached.{part-in}
 use Rattle.wac_defining.specs.Written.{IsHandle, HasHandle, PartOf, IsOfFunc}
 use Rattle.wac_meaning.specs.Importable.{HasNoHandle, IsDefinable}
 use Rattle.wac_importing.specs.Looked.{IsOfValues}
@@ -120,61 +121,7 @@ module _ {L : Type 0} (t : ValueType → TypeTree L) where
   free_func : (f : FuncType) → HasNoHandle (func_tree t f) → AllByRecursion (λ v. HasNoHandle (t v)) (func_values f)
   free_func f h = maybe_first f.result (seconds f.params) h.1 (free_fields f.params h.0)
 
--- ---- the parts of a definition are what it mentions
-same_value : (v w : ValueType) → Some (Some v) ≡ Some (Some w) → ty.Value w ≡ ty.Value v
-same_value v w e = let same : v ≡ w = cc in ap ty.Value (sym same)
-
-none_at : {P : Type 0} (w : ValueType) → Some None ≡ Some (Some w) → P
-none_at w e = cc
-
-past_end : {P : Type 0} (w : Option ValueType) → None ≡ Some w → P
-past_end w e = cc
-
-in_values : (vs : List ValueType) (k : ℕ) (w : ValueType) → slice_get (map some_of vs) k ≡ Some (Some w) → IsIn (ty.Value w) (value_types vs)
-in_values [] k w at = past_end (Some w) at
-in_values (v ∷ vs) zero w at = inl (same_value v w at)
-in_values (v ∷ vs) (suc k) w at = inr (in_values vs k w at)
-
-in_fields : (es : List (Name × ValueType)) (k : ℕ) (w : ValueType) → slice_get (map some_second_of es) k ≡ Some (Some w) → IsIn (ty.Value w) (value_types (seconds es))
-in_fields [] k w at = past_end (Some w) at
-in_fields (e ∷ es) zero w at = inl (same_value e.1 w at)
-in_fields (e ∷ es) (suc k) w at = inr (in_fields es k w at)
-
-in_maybe : (os : Option ValueType) (vs : List ValueType) (w : ValueType) → IsIn (ty.Value w) (value_types vs) → IsIn (ty.Value w) (value_types (and_maybe os vs))
-in_maybe None vs w h = h
-in_maybe (Some v) vs w h = inr h
-
-at_maybe : (o : Option ValueType) (vs : List ValueType) (w : ValueType) → Some o ≡ Some (Some w) → IsIn (ty.Value w) (value_types (and_maybe o vs))
-at_maybe None vs w at = none_at w at
-at_maybe (Some v) vs w at = inl (same_value v w at)
-
-in_cases : (es : List (Name × Option ValueType)) (k : ℕ) (w : ValueType) → slice_get (map second_of es) k ≡ Some (Some w) → IsIn (ty.Value w) (value_types (case_values es))
-in_cases [] k w at = past_end (Some w) at
-in_cases (e ∷ es) zero w at = at_maybe e.1 (case_values es) w at
-in_cases (e ∷ es) (suc k) w at = in_maybe e.1 (case_values es) w (in_cases es k w at)
-
-in_one : (o : Option ValueType) (k : ℕ) (w : ValueType) → slice_get (o ∷ []) k ≡ Some (Some w) → IsIn (ty.Value w) (value_types (and_maybe o []))
-in_one o zero w at = at_maybe o [] w at
-in_one o (suc k) w at = past_end (Some w) at
-
-in_two : (o p : Option ValueType) (k : ℕ) (w : ValueType) → slice_get (o ∷ p ∷ []) k ≡ Some (Some w) → IsIn (ty.Value w) (value_types (and_maybe o (and_maybe p [])))
-in_two o p zero w at = at_maybe o (and_maybe p []) w at
-in_two o p (suc k) w at = in_maybe o (and_maybe p []) w (in_one p k w at)
-
-part_mentioned : (x : DefinedType) (k : ℕ) (w : ValueType) → slice_get (parts x) k ≡ Some (Some w) → IsIn (ty.Value w) (defined_mentions x)
-part_mentioned (def.Tuple vs) k w at = in_values vs k w at
-part_mentioned (def.List v) k w at = in_one (Some v) k w at
-part_mentioned (def.FixedSizeList v n) k w at = in_one (Some v) k w at
-part_mentioned (def.Option v) k w at = in_one (Some v) k w at
-part_mentioned (def.Result ok err) k w at = in_two ok err k w at
-part_mentioned (def.Variant v) k w at = in_cases v.cases k w at
-part_mentioned (def.Record r) k w at = in_fields r.fields k w at
-part_mentioned (def.Flags names) k w at = past_end (Some w) at
-part_mentioned (def.Enum names) k w at = past_end (Some w) at
-part_mentioned (def.Alias v) k w at = in_one (Some v) k w at
-part_mentioned (def.Stream v) k w at = in_one v k w at
-part_mentioned (def.Future v) k w at = in_one v k w at
-
+-- what holds of value types holds of each of them as a type
 one_in : (P : ValueType → Type 0) (vs : List ValueType) (b : AnyType) → AllByRecursion P vs → IsIn b (value_types vs) → (v : ValueType) × (b ≡ ty.Value v) × P v
 one_in P [] b all w = absurd w
 one_in P (v ∷ vs) b all (inl e) = (v, e, all.0)
@@ -295,7 +242,7 @@ module _ (c : Collection) (wf : IsWellFormed c) where
   made_free v _ itself held free = (held, free)
   made_free v _ (part d x k w made at is) held free =
       let (there, now) = made_free v (val.Defined d) made held free in
-      let within : IsIn (ty.Value w) (mentions c (ty.Value (val.Defined d))) = subst (λ o. IsIn (ty.Value w) (option_case o [] defined_mentions)) (sym at) (part_mentioned x k w is) in
+      let within : IsIn (ty.Value w) (mentions c (ty.Value (val.Defined d))) = subst (λ o. IsIn (ty.Value w) (option_case o [] defined_mentions)) (sym at) (part-in x k w is) in
       let held_part = mentioned_held c wf (ty.Value (val.Defined d)) (ty.Value w) there within in
       let (u, e, part_free) = mentions_free (ty.Value (val.Defined d)) (ty.Value w) tt there now within in
       (end_is_held c wf w (holds_value c w) refl ∙ held_part, end_free (size c) w (subst (Free c) (sym e) part_free))

@@ -1,5 +1,5 @@
 -- An interface that is defined so far is no fault to the writer of definitions, and what is written is its definition.
-use Rattle.std.proofs.Common.{◌≡◌, ◌≤◌, ℕ, zero, suc, true, false, arith, length, List, [], ◌∷◌, refl, ap, ◌∙◌, sym, subst, Option, Some, None, IsSome}
+use Rattle.std.proofs.Common.{◌≡◌, ◌≤◌, ℕ, zero, suc, true, false, length, List, [], ◌∷◌, refl, ap, ◌∙◌, sym, subst, Option, Some, None, IsSome}
 use Rattle.std.specs.Prelude.{slice_get}
 use Rattle.std.proofs.Math.Path.{fun_ext}
 use Rattle.wac_primitives.specs.Name.{Name, option_case}
@@ -22,29 +22,25 @@ use Rattle.wac_meaning.specs.Definition.{definition_tree, uses_of, reached_to, r
 use Rattle.wac_meaning.specs.Importable.{IsPlainTo, IsDefinableKind}
 use Rattle.wac_sorting.specs.declared.worlds.Worlds.{Worlds}
 use Rattle.wac_worlds.specs.Nested.{AllWritten}
-use Rattle.wac_worlds.proofs.TypesInside.{inside-holder}
+use Rattle.wac_worlds.proofs.Each.{none-long}
+use Rattle.wac_worlds.proofs.TypesInside.{inside-holder, exports-named}
 use Rattle.wac_importing.specs.Looked.{ArePlainInside}
-use Rattle.wac_importing.proofs.Items.{exports_are}
 use Rattle.wac_importing.proofs.Nested.{to_inside, inside_to}
 use Rattle.wac_importing.proofs.Refusing.{is_held, lists, instance_fault}
 
-the_id : (o : Option Name) → IsSome o → (id : Name) × (o ≡ Some id)
+pub the_id : (o : Option Name) → IsSome o → (id : Name) × (o ≡ Some id)
 the_id None h = let both : false ≡ true = h in cc
 the_id (Some id) h = (id, refl)
 
 module _ (c : Collection) (wf : IsWellFormed c) (i : InterfaceId) where
   pub lists_plain_items : IsDefinableKind c (kind.TypeItem (ty.Interface i)) → ArePlainInside c (ty.Interface i)
-  lists_plain_items so = to_inside c (ty.Interface i) (subst (λ (es : List (Name × ItemKind)). (k : ℕ) (e : Name × ItemKind) → slice_get es k ≡ Some e → (d : ℕ) × IsPlainTo d c e.1) (sym (exports_are c i so.interface so.found)) so.plain)
+  lists_plain_items so = to_inside c (ty.Interface i) (subst (λ (es : List (Name × ItemKind)). (k : ℕ) (e : Name × ItemKind) → slice_get es k ≡ Some e → (d : ℕ) × IsPlainTo d c e.1) (sym (exports-named c i so.interface so.found)) so.plain)
 
   pub plain_to_some : (it : Interface) → item_at c.interfaces i.0 ≡ Some it → ArePlainInside c (ty.Interface i) → (k : ℕ) (e : Name × ItemKind) → slice_get it.exports k ≡ Some e → (d : ℕ) × IsPlainTo d c e.1
-  plain_to_some it at all k e here = inside_to c wf (ty.Interface i) all (inside-holder c (kind.Instance i) (ty.Interface i) refl (is_held c wf i it at)) k e (ap (λ (es : List (Name × ItemKind)). slice_get es k) (exports_are c i it at) ∙ here)
-
-  none_long : {A : Type 0} (xs : List A) → length xs ≤ 0 → xs ≡ []
-  none_long [] few = refl
-  none_long (x ∷ xs) few = absurd (omega (arith, few))
+  plain_to_some it at all k e here = inside_to c wf (ty.Interface i) all (inside-holder c (kind.Instance i) (ty.Interface i) refl (is_held c wf i it at)) k e (ap (λ (es : List (Name × ItemKind)). slice_get es k) (exports-named c i it at) ∙ here)
 
   pub definable : (it : Interface) → item_at c.interfaces i.0 ≡ Some it → IsSome it.id → length it.uses ≤ 0 → ArePlainInside c (ty.Interface i) → IsDefinableKind c (kind.TypeItem (ty.Interface i))
-  definable it at id few all = record { interface = it; found = at; id = id; uses = none_long it.uses few; plain = plain_to_some it at all }
+  definable it at id few all = record { interface = it; found = at; id = id; uses = none-long it.uses few; plain = plain_to_some it at all }
 
   pub interface_writable : (ws : Worlds) → AllWritten c (ty.Interface i ∷ []) ws → IsDefinableKind c (kind.TypeItem (ty.Interface i)) → IsWritable ws c (ty.Interface i)
   interface_writable ws written so =

@@ -19,7 +19,7 @@ use Rattle.wac_shapes.specs.declared.component.«Type».{«Type» as AnyType}
 use Rattle.wac_shapes.specs.declared.component.«Type».TheVariants as ty
 use Rattle.wac_collection.specs.declared.collection.Held.{Held}
 use Rattle.wac_primitives.specs.Tree.{TypeTree, absent, resource, instance, component, type_equal, instance_item, component_item, module_item}
-use Rattle.wac_collection.specs.Collection.{Collection, IsWellFormed, AddedBefore, size, holds_type, item_at, item_of, interface_exports, world_imports, world_exports}
+use Rattle.wac_collection.specs.Collection.{Collection, IsWellFormed, AddedBefore, size, holds_type, item_at, item_of}
 use Rattle.wac_collection.specs.Held.{resolved, func_tree, interface_tree, world_tree, module_tree, of_held, unfolded}
 use Rattle.wac_subtyping.specs.Subtype.{IsPlain, by_name, resource_names, type_tree, kind_tree, listed_in}
 use Rattle.wac_subtyping.proofs.Unfolding.{type_before, unfolded_step, type_step, held_item}
@@ -27,7 +27,7 @@ use Rattle.wac_comparison.proofs.Subtyping.{func_plain}
 use Rattle.wac_comparison.proofs.Values.{value_plain as value_tree_plain}
 use Rattle.wac_meaning.specs.Importable.{HasNoHandle, IsPlainItem, IsPlainWhereThere, IsImportable, IsImportableKind, IsDefinable, IsDefinableKind}
 use Rattle.wac_importing.specs.Looked.{IsOfValues, ArePlain, ListsPlain}
-use Rattle.wac_importing.proofs.Handles.{free_reached, reached_none}
+use Rattle.wac_importing.proofs.Handles.{there_free, free_reached, reached_none}
 
 -- an item that is there
 plain_there : {L : Type 0} (t : TypeTree L) → IsPlainItem t → IsPlainWhereThere t
@@ -71,9 +71,6 @@ interface_is c wf i it held at =
     unfolded_step by_name c wf (resource_names c) (ty.Interface i) held
     ∙ ap (of_held (interface_tree by_name c (unfolded by_name c) (resource_names c))) is ∙ ap (λ (x : Interface). instance (listed_in c x.exports)) same
 
-pub exports_are : (c : Collection) (i : InterfaceId) (it : Interface) → item_at c.interfaces i.0 ≡ Some it → interface_exports c i ≡ it.exports
-exports_are c i it at = ap (λ o. option_case o [] (λ (x : Interface). x.exports)) at
-
 pub instance_importable : (c : Collection) → IsWellFormed c → (i : InterfaceId) (it : Interface) → holds_type c (ty.Interface i) ≡ true → item_at c.interfaces i.0 ≡ Some it → ArePlain c it.exports → IsImportableKind c (kind.Instance i)
 instance_importable c wf i it held at all = subst (λ t. IsImportable (instance_item t)) (sym (interface_is c wf i it held at)) (all_there c it.exports all)
 
@@ -95,19 +92,6 @@ importable_instance c wf i it held at once h = there_all c it.exports once (subs
 pub interface_there : (c : Collection) → IsWellFormed c → (i : InterfaceId) → holds_type c (ty.Interface i) ≡ true → (it : Interface) × (item_at c.interfaces i.0 ≡ Some it)
 interface_there c wf i held = by (slice_get c.interfaces i.0) refl (type_before c wf (ty.Interface i) held) where
   by : (o : Option (Held Interface)) → slice_get c.interfaces i.0 ≡ o → AddedBefore (size c) o → (it : Interface) × (item_at c.interfaces i.0 ≡ Some it)
-  by None is b = absurd b
-  by (Some h) is b = (h.item, ap item_of is)
-
--- what a world lists
-pub imports_are : (c : Collection) (w : WorldId) (x : World) → item_at c.worlds w.0 ≡ Some x → world_imports c w ≡ x.imports
-imports_are c w x at = ap (λ o. option_case o [] (λ (y : World). y.imports)) at
-
-pub world_exports_are : (c : Collection) (w : WorldId) (x : World) → item_at c.worlds w.0 ≡ Some x → world_exports c w ≡ x.exports
-world_exports_are c w x at = ap (λ o. option_case o [] (λ (y : World). y.exports)) at
-
-pub world_there : (c : Collection) → IsWellFormed c → (w : WorldId) → holds_type c (ty.World w) ≡ true → (x : World) × (item_at c.worlds w.0 ≡ Some x)
-world_there c wf w held = by (slice_get c.worlds w.0) refl (type_before c wf (ty.World w) held) where
-  by : (o : Option (Held World)) → slice_get c.worlds w.0 ≡ o → AddedBefore (size c) o → (x : World) × (item_at c.worlds w.0 ≡ Some x)
   by None is b = absurd b
   by (Some h) is b = (h.item, ap item_of is)
 
@@ -283,13 +267,9 @@ free_definable c wf (ty.Value v) of held free = value_there c wf v held free
 free_definable c wf (ty.Func f) of held free = func_definable c wf f held free
 free_definable c wf a of held free = absurd of
 
-definable_free : {L : Type 0} (t : TypeTree L) → IsDefinable (type_equal t) → HasNoHandle t
-definable_free absent h = absurd h
-definable_free t h = h
-
 pub values_free : (c : Collection) (a : AnyType) → IsOfValues a → IsDefinableKind c (kind.TypeItem a) → HasNoHandle (type_tree c a)
-values_free c (ty.Value v) of h = definable_free (type_tree c (ty.Value v)) h
-values_free c (ty.Func f) of h = definable_free (type_tree c (ty.Func f)) h
+values_free c (ty.Value v) of h = there_free (type_tree c (ty.Value v)) h
+values_free c (ty.Func f) of h = there_free (type_tree c (ty.Func f)) h
 values_free c a of h = absurd of
 
 -- a value type and a function type without handles are imported so far as type items, and no others of these

@@ -31,9 +31,10 @@ use Rattle.wac_stacks.specs.Instances.{Exports, HoldsValue}
 use Rattle.wac_meaning.specs.Importable.{HasNoHandle, IsImportableKind}
 use Rattle.wac_meaning.specs.MergedImports.{ExportsOnce}
 use Rattle.wac_meaning.proofs.MergedCover.{value_exported, exports_sub, instance_sub, type_item_sub}
+use Rattle.wac_worlds.proofs.TypesInside.{exports-named}
 use Rattle.wac_importing.proofs.Bare.{bare, moved_bare, free_tree, free_held, end_tree}
 use Rattle.wac_importing.proofs.Handles.{tree}
-use Rattle.wac_importing.proofs.Items.{exports_are, importable_instance, interface_there, plain_value}
+use Rattle.wac_importing.proofs.Items.{importable_instance, interface_there, plain_value}
 
 -- a subtype of a value type without handles is that type
 sub_free : {L : Type 0} (a b : TypeTree L) → Sub a b → HasNoHandle b → a ≡ b
@@ -99,7 +100,7 @@ module _ (m c : Collection) (wm : IsWellFormed m) (wc : IsWellFormed c) (once_m 
   free : (p : ℕ) (n : Name) (v : ValueType) → slice_get (interface_exports c i) p ≡ Some (n, kind.TypeItem (ty.Value v)) → HasNoHandle (type_tree c (ty.Value v))
   free p n v at =
       let (it, found) = interface_there c wc i held in
-      plain_value c (ty.Value v) tt (importable_instance c wc i it held found (once_c i it found) importable p (n, kind.TypeItem (ty.Value v)) (ap (λ es. slice_get es p) (sym (exports_are c i it found)) ∙ at))
+      plain_value c (ty.Value v) tt (importable_instance c wc i it held found (once_c i it found) importable p (n, kind.TypeItem (ty.Value v)) (ap (λ es. slice_get es p) (sym (exports-named c i it found)) ∙ at))
 
   -- and the item exports each, as it is held, wherever it is bound
   pub exports_value : (p : ℕ) (n : Name) (v : ValueType) (d : DefinedTypeId) → slice_get (interface_exports c i) p ≡ Some (n, kind.TypeItem (ty.Value v)) → value_resolved c v ≡ val.Defined d

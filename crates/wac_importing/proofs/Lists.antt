@@ -1,5 +1,5 @@
--- Loops that look at each of a list.
-use Rattle.std.proofs.Common.{◌≡◌, ℕ, zero, suc, ◌+◌, ◌≤◌, List, [], ◌∷◌, ◌++◌, take, length, ap, ◌∙◌, sym, subst, add-one, Some, ◌⊎◌, inl, inr}
+-- Types among which there is no resource.
+use Rattle.std.proofs.Common.{◌≡◌, ℕ, ◌+◌, ◌≤◌, List, [], ◌∷◌, ◌++◌, take, length, ap, ◌∙◌, sym, subst, add-one, Some, ◌⊎◌, inl, inr}
 use Rattle.std.specs.Prelude.{slice_get}
 use Rattle.std.proofs.lemmas.List.{take_all}
 use Rattle.wac_shapes.proofs.Names.{take_at}
@@ -7,25 +7,9 @@ use Rattle.wac_shapes.specs.declared.component.ResourceId.{ResourceId}
 use Rattle.wac_shapes.specs.declared.component.«Type».{«Type» as AnyType}
 use Rattle.wac_shapes.specs.declared.component.«Type».TheVariants as ty
 use Rattle.wac_reach.specs.Reach.{IsIn}
+use Rattle.wac_reach.proofs.Lists.{in_at}
 use Rattle.wac_importing.specs.Looked.{HasNoResource}
 
--- each of the first so many
-abbrev pub Each : {A : Type 0} → (A → Type 0) → List A → Type 0
-Each P xs = (i : ℕ) (x : _) → slice_get xs i ≡ Some x → P x
-
-each_push : {A : Type 0} (P : A → Type 0) (xs : List A) (y : A) → Each P xs → P y → Each P (xs ++ y ∷ [])
-each_push P [] y each here zero x at = let same : y ≡ x = cc in subst P same here
-each_push P [] y each here (suc i) x at = cc
-each_push P (z ∷ xs) y each here zero x at = each 0 x at
-each_push P (z ∷ xs) y each here (suc i) x at = each_push P xs y (λ j w there. each (suc j) w there) here i x at
-
-pub each_next : {A : Type 0} (P : A → Type 0) (xs : List A) (i : ℕ) (x : A) → slice_get xs i ≡ Some x → P x → Each P (take i xs) → Each P (take (i + 1) xs)
-each_next P xs i x at here each = subst (λ n. Each P (take n xs)) (sym (add-one i)) (subst (Each P) (sym (take_at xs i x at)) (each_push P (take i xs) x each here))
-
-pub each_end : {A : Type 0} (P : A → Type 0) (xs : List A) (i : ℕ) → length xs ≤ i → Each P (take i xs) → Each P xs
-each_end P xs i le each = subst (Each P) (take_all i xs le) each
-
--- the same of what is in it
 in_push : (t : AnyType) (xs : List AnyType) (y : AnyType) → IsIn t (xs ++ y ∷ []) → IsIn t xs ⊎ (t ≡ y)
 in_push t [] y (inl e) = inr e
 in_push t [] y (inr w) = absurd w
@@ -34,11 +18,6 @@ in_push t (x ∷ xs) y (inr w) = later (in_push t xs y w) where
   later : IsIn t xs ⊎ (t ≡ y) → IsIn t (x ∷ xs) ⊎ (t ≡ y)
   later (inl w) = inl (inr w)
   later (inr e) = inr e
-
-in_at : (t : AnyType) (xs : List AnyType) (i : ℕ) → slice_get xs i ≡ Some t → IsIn t xs
-in_at t [] i at = cc
-in_at t (x ∷ xs) zero at = let same : x ≡ t = cc in inl (sym same)
-in_at t (x ∷ xs) (suc i) at = inr (in_at t xs i at)
 
 pub none_next : (xs : List AnyType) (i : ℕ) (x : AnyType) → slice_get xs i ≡ Some x → ((r : ResourceId) → x ≡ ty.Resource r → ⊥) → HasNoResource (take i xs) → HasNoResource (take (i + 1) xs)
 none_next xs i x at other none r w = by (in_push (ty.Resource r) (take i xs) x (subst (IsIn (ty.Resource r)) (take_at xs i x at) (subst (λ n. IsIn (ty.Resource r) (take n xs)) (add-one i) w))) where

@@ -1,5 +1,5 @@
 -- Which worlds are defined so far.
-use Rattle.std.proofs.Common.{◌≡◌, ◌<◌, ◌≤◌, true, ℕ, arith, length, List, [], ◌∷◌, refl, ap, ◌∙◌, sym, subst, Option, Some, None, IsSome}
+use Rattle.std.proofs.Common.{◌≡◌, ◌<◌, ◌≤◌, true, ℕ, arith, length, List, [], ◌∷◌, refl, ap, ◌∙◌, sym, subst, Option, Some, IsSome}
 use Rattle.std.specs.Prelude.{slice_get}
 use Rattle.wac_primitives.specs.Name.{Name, option_case}
 use Rattle.wac_shapes.specs.declared.component.Interface.{Interface}
@@ -15,12 +15,14 @@ use Rattle.wac_subtyping.proofs.Unfolding.{held_item}
 use Rattle.wac_meaning.specs.Importable.{UsesNothing, IsPlainTo, IsDefinableItem, IsDefinableKind}
 use Rattle.wac_components.specs.Definitions.{IsDefinableWorld}
 use Rattle.wac_importing.specs.Looked.{HasPlainItems, UseNothing}
-use Rattle.wac_importing.proofs.Items.{imports_are, world_exports_are}
-use Rattle.wac_importing.proofs.Nested.{inside_to, to_inside, in_left, in_right, of_both}
+use Rattle.wac_importing.proofs.Interfaces.{the_id}
+use Rattle.wac_importing.proofs.Nested.{inside_to, to_inside}
 use Rattle.wac_importing.proofs.Refusing.{world_written}
 use Rattle.wac_sorting.specs.declared.worlds.Worlds.{Worlds}
-use Rattle.wac_worlds.specs.Nested.{listed_in, IsHolder, AllWritten}
-use Rattle.wac_worlds.proofs.TypesInside.{inside-holder}
+use Rattle.wac_worlds.specs.Nested.{IsHolder, AllWritten}
+use Rattle.wac_worlds.proofs.Each.{none-long}
+use Rattle.wac_worlds.proofs.Earlier.{of-both, import-listed, export-listed}
+use Rattle.wac_worlds.proofs.TypesInside.{inside-holder, imports-named, outside-named}
 
 -- a world that is there is held
 pub world_is_held : (c : Collection) → IsWellFormed c → (w : WorldId) (x : World) → item_at c.worlds w.0 ≡ Some x → holds_type c (ty.World w) ≡ true
@@ -31,15 +33,11 @@ world_is_held c wf w x at =
 
 -- what an interface uses
 
-none_long : {A : Type 0} (xs : List A) → length xs ≤ 0 → xs ≡ []
-none_long [] few = refl
-none_long (x ∷ xs) few = absurd (omega (arith, few))
-
 uses_are : (c : Collection) (i : InterfaceId) (it : Interface) → item_at c.interfaces i.0 ≡ Some it → option_case (item_at c.interfaces i.0) [] (λ x. x.uses) ≡ it.uses
 uses_are c i it at = ap (λ (o : Option Interface). option_case o [] (λ x. x.uses)) at
 
 pub none_used : (c : Collection) (k : ItemKind) (i : InterfaceId) (it : Interface) → k ≡ kind.Instance i → item_at c.interfaces i.0 ≡ Some it → length it.uses ≤ 0 → UsesNothing c k
-none_used c k i it is at few = subst (UsesNothing c) (sym is) (uses_are c i it at ∙ none_long it.uses few)
+none_used c k i it is at few = subst (UsesNothing c) (sym is) (uses_are c i it at ∙ none-long it.uses few)
 
 pub few_used : (c : Collection) (k : ItemKind) (i : InterfaceId) (it : Interface) → k ≡ kind.Instance i → item_at c.interfaces i.0 ≡ Some it → UsesNothing c k → length it.uses ≡ 0
 few_used c k i it is at h = let nothing = subst (UsesNothing c) is h in ap length (sym (uses_are c i it at) ∙ nothing)
@@ -59,35 +57,24 @@ module _ (c : Collection) (wf : IsWellFormed c) (w : WorldId) where
   holder : (x : World) → item_at c.worlds w.0 ≡ Some x → IsHolder c (ty.World w)
   holder x at = inside-holder c (kind.TypeItem (ty.World w)) (ty.World w) refl (world_is_held c wf w x at)
 
-  -- an import and an export among what the world lists
-  here_left : (x : World) → item_at c.worlds w.0 ≡ Some x → (k : ℕ) (e : Name × ItemKind) → slice_get x.imports k ≡ Some e → (p : ℕ) × (slice_get (listed_in c (ty.World w)) p ≡ Some e)
-  here_left x at k e here = (k, in_left (world_imports c w) (world_exports c w) k e (ap (λ (es : List (Name × ItemKind)). slice_get es k) (imports_are c w x at) ∙ here))
-
-  here_right : (x : World) → item_at c.worlds w.0 ≡ Some x → (k : ℕ) (e : Name × ItemKind) → slice_get x.exports k ≡ Some e → (p : ℕ) × (slice_get (listed_in c (ty.World w)) p ≡ Some e)
-  here_right x at k e here = in_right (world_imports c w) (world_exports c w) k e (ap (λ (es : List (Name × ItemKind)). slice_get es k) (world_exports_are c w x at) ∙ here)
-
   pub definable_world : (x : World) → item_at c.worlds w.0 ≡ Some x → IsSome x.id → length x.uses ≤ 0 → UseNothing c x.imports → UseNothing c x.exports → HasPlainItems c w → IsDefinableKind c (kind.TypeItem (ty.World w))
   definable_world x at id few ins outs all = record {
     world = x;
     found = at;
     id = id;
-    uses = none_long x.uses few;
-    imports = λ k e here. item c e.1 (ins k e here) (inside_to c wf (ty.World w) all (holder x at) (here_left x at k e here).0 e (here_left x at k e here).1);
-    exports = λ k e here. item c e.1 (outs k e here) (inside_to c wf (ty.World w) all (holder x at) (here_right x at k e here).0 e (here_right x at k e here).1);
+    uses = none-long x.uses few;
+    imports = λ k e here. item c e.1 (ins k e here) (inside_to c wf (ty.World w) all (holder x at) (import-listed c w x at k e here).0 e (import-listed c w x at k e here).1);
+    exports = λ k e here. item c e.1 (outs k e here) (inside_to c wf (ty.World w) all (holder x at) (export-listed c w x at k e here).0 e (export-listed c w x at k e here).1);
   }
 
   pub plain_items : IsDefinableKind c (kind.TypeItem (ty.World w)) → HasPlainItems c w
-  plain_items so = to_inside c (ty.World w) (of_both (λ e. (d : ℕ) × IsPlainTo d c e.1) (world_imports c w) (world_exports c w)
-      (λ k e here. let h = so.imports k e (ap (λ (es : List (Name × ItemKind)). slice_get es k) (sym (imports_are c w so.world so.found)) ∙ here) in (h.1, h.2))
-      (λ k e here. let h = so.exports k e (ap (λ (es : List (Name × ItemKind)). slice_get es k) (sym (world_exports_are c w so.world so.found)) ∙ here) in (h.1, h.2)))
+  plain_items so = to_inside c (ty.World w) (of-both (λ e. (d : ℕ) × IsPlainTo d c e.1) (world_imports c w) (world_exports c w)
+      (λ k e here. let h = so.imports k e (ap (λ (es : List (Name × ItemKind)). slice_get es k) (sym (imports-named c w so.world so.found)) ∙ here) in (h.1, h.2))
+      (λ k e here. let h = so.exports k e (ap (λ (es : List (Name × ItemKind)). slice_get es k) (sym (outside-named c w so.world so.found)) ∙ here) in (h.1, h.2)))
 
   -- and it is one that is written
-  named : (o : Option Name) → IsSome o → (id : Name) × (o ≡ Some id)
-  named None h = cc
-  named (Some id) h = (id, refl)
-
   pub world_definable : (ws : Worlds) → AllWritten c (ty.World w ∷ []) ws → holds_type c (ty.World w) ≡ true → IsDefinableKind c (kind.TypeItem (ty.World w)) → IsDefinableWorld ws c w
-  world_definable ws written held so = let (id, is) = named so.world.id so.id in ((id, (so.world, so.found, is)), world_written c wf ws w held (plain_items so) written)
+  world_definable ws written held so = let (id, is) = the_id so.world.id so.id in ((id, (so.world, so.found, is)), world_written c wf ws w held (plain_items so) written)
 
   -- of a world that is held
   same_world : (x : World) → item_at c.worlds w.0 ≡ Some x → (so : IsDefinableKind c (kind.TypeItem (ty.World w))) → so.world ≡ x

@@ -1,3 +1,5 @@
+pub mod Grown
+pub mod Listing
 pub mod Edging
 pub mod Below
 pub mod Taking

@@ -23,7 +23,6 @@ use Rattle.wac_shapes.specs.declared.component.ValueType.{ValueType}
 use Rattle.wac_shapes.specs.declared.component.ValueType.TheVariants as val
 use Rattle.wac_shapes.specs.declared.component.«Type».{«Type» as AnyType}
 use Rattle.wac_shapes.specs.declared.component.«Type».TheVariants as ty
-use Rattle.wac_collection.specs.declared.collection.Held.{Held}
 use Rattle.wac_collection.specs.Collection.{Collection, IsWellFormed, HasDefined, and_maybe, func_values, func_mentions, holds_type, holds_value, item_at, seconds, used_types, kind_types, value_types, interface_exports, interface_mentions, defined_mentions}
 use Rattle.wac_collection.specs.Aliases.{value_resolved}
 use Rattle.wac_collection.proofs.Ends.{end_is_held}
@@ -33,7 +32,9 @@ use Rattle.wac_reach.proofs.Lists.{in_at, at_in, in_right, all_old, all_new, all
 use Rattle.wac_reach.proofs.Reaching.{mentioned_held}
 use Rattle.wac_listing.specs.Made.{parts, MadeOf, itself, part, interface_of, item_values, IsItemIn, listed, nested, OneItemIsMadeOf, AreMadeOf}
 use Rattle.wac_listing.specs.Found.{somes, and_end, ends, with_ends, func_ends, item_ends, items_ends, found_ends, definition_in, definitions_in}
+use Rattle.wac_listing.proofs.Grown.{same-place, lower-place, below-or-last}
 use Rattle.wac_listing.proofs.Interfaces.{type-of}
+use Rattle.wac_listing.proofs.Listing.{exports-are, held-there}
 use Rattle.wac_listing.proofs.Reached.{kind-in, part-in}
 
 of_definition : DefinedTypeId → AnyType
@@ -355,25 +356,6 @@ further : (c : Collection) (es : List (Name × ItemKind)) (d : DefinedTypeId) (x
     → OneItemIsMadeOf c es (val.Defined d) → OneItemIsMadeOf c es (val.Defined e)
 further c es d x k v e found at is (item, within, (j, w, value, made)) = (item, within, (j, w, value, subst (MadeOf c (value_resolved c w)) is (part d x k v made found at)))
 
--- positions of a list that has grown
-
-earlier : (xs added : List AnyType) (i : ℕ) (a b : AnyType) → slice_get xs i ≡ Some a → slice_get (xs ++ added) i ≡ Some b → b ≡ a
-earlier [] added i a b is also = cc
-earlier (z ∷ xs) added zero a b is also = cc
-earlier (z ∷ xs) added (suc i) a b is also = earlier xs added i a b is also
-
-before : (xs added : List AnyType) (i n : ℕ) (a b : AnyType) → i < n → slice_get xs n ≡ Some a → slice_get (xs ++ added) i ≡ Some b → slice_get xs i ≡ Some b
-before [] added i n a b l is also = cc
-before (z ∷ xs) added zero n a b l is also = also
-before (z ∷ xs) added (suc i) zero a b l is also = absurd (omega (arith, l))
-before (z ∷ xs) added (suc i) (suc n) a b l is also = before xs added i n a b (omega (arith, l)) is also
-
-order : (i n : ℕ) → i < n + 1 → (i < n) ⊎ (i ≡ n)
-order zero zero l = inr refl
-order zero (suc n) l = inl (omega arith)
-order (suc i) zero l = absurd (omega (arith, l))
-order (suc i) (suc n) l = elim (order i n (omega (arith, l))) [ inl k ↦ inl (omega (arith, k)) | inr e ↦ inr (ap suc e) ]
-
 -- what the type at the next position mentions is put, and that alone
 record PutsNext (c : Collection) (es : List (Name × ItemKind)) (t : AnyType) (ts new : List AnyType) : Type 0 where
   pub old_in : (u : AnyType) → IsIn u ts → IsIn u new
@@ -388,18 +370,18 @@ module _ (c : Collection) (es : List (Name × ItemKind)) (ts new : List AnyType)
   there n u is = ap (λ (xs : List AnyType). slice_get xs n) (sym puts.grown) ∙ is
 
   next-is : (n : ℕ) (u : AnyType) → n ≡ next → slice_get new n ≡ Some u → u ≡ t
-  next-is n u same is = earlier ts puts.more next t u at (ap (slice_get (ts ++ puts.more)) (sym same) ∙ there n u is)
+  next-is n u same is = same-place ts puts.more next t u at (ap (slice_get (ts ++ puts.more)) (sym same) ∙ there n u is)
 
   found-on : AreFound c es new (next + 1)
   found-on = record {
     made = λ u h. elim (puts.only u h) [ inl k ↦ f.made u k | inr m ↦ m ];
     items = λ p e h. found-more c e.1 ts new puts.old_in (f.items p e h);
-    closed = λ i b y k v e l is of part_ end. elim (order i next l) [
-      | inl less ↦ puts.old_in (ty.Value (val.Defined e)) (f.closed i b y k v e less (before ts puts.more i next t (ty.Value (val.Defined b)) less at (there i (ty.Value (val.Defined b)) is)) of part_ end)
+    closed = λ i b y k v e l is of part_ end. elim (below-or-last i next l) [
+      | inl less ↦ puts.old_in (ty.Value (val.Defined e)) (f.closed i b y k v e less (lower-place ts puts.more i next t (ty.Value (val.Defined b)) less at (there i (ty.Value (val.Defined b)) is)) of part_ end)
       | inr same ↦ puts.parts_put b y k v e (next-is i (ty.Value (val.Defined b)) same is) of part_ end
     ];
-    inner = λ n i p e l is of. elim (order n next l) [
-      | inl less ↦ found-more c e.1 ts new puts.old_in (f.inner n i p e less (before ts puts.more n next t (ty.Interface i) less at (there n (ty.Interface i) is)) of)
+    inner = λ n i p e l is of. elim (below-or-last n next l) [
+      | inl less ↦ found-more c e.1 ts new puts.old_in (f.inner n i p e less (lower-place ts puts.more n next t (ty.Interface i) less at (there n (ty.Interface i) is)) of)
       | inr same ↦ puts.items_put i p e (next-is n (ty.Interface i) same is) of
     ];
   }
@@ -442,19 +424,13 @@ puts-inner c wf es held ts i k within here = record {
     puts : PutsItems c (interface_exports c i) ts (items_ends c ts (interface_exports c i))
     puts = puts-items c (interface_exports c i) ts
 
--- a definition that is held is there
-there-is : {A : Type 0} (xs : List (Held A)) (n : ℕ) → n < length xs → (x : A) × (item_at xs n ≡ Some x)
-there-is [] n less = absurd (omega (arith, less))
-there-is (x ∷ xs) zero less = (x.item, refl)
-there-is (x ∷ xs) (suc n) less = there-is xs n (omega (arith, less))
-
 -- one more type was looked at
 pub found-next : (c : Collection) → IsWellFormed c → (es : List (Name × ItemKind)) → AreHeld c es → (ts : List AnyType) (next : ℕ) (t : AnyType) → slice_get ts next ≡ Some t → AreFound c es ts next → AreFound c es (found_ends c ts t) (next + 1)
 found-next c wf es held ts next t at f = found-on c es ts (found_ends c ts t) next t at f (by_made (f.made t (in_at t ts next at)))
   where
     by_made : IsMade c es t → PutsNext c es t ts (found_ends c ts t)
     by_made (definition_made d is made there_) =
-        let x = there-is c.defined d.0 there_ in
+        let x = held-there c.defined d.0 there_ in
         let ends_are : with_ends c ts (somes (parts x.0)) ≡ found_ends c ts (ty.Value (val.Defined d)) = sym (ap (λ (o : Option DefinedType). option_case o ts (λ y. with_ends c ts (somes (parts y)))) x.1) in
         subst (λ (u : AnyType). PutsNext c es u ts (found_ends c ts u)) (sym is) (subst (PutsNext c es (ty.Value (val.Defined d)) ts) ends_are (puts-parts c wf es ts d x.0 x.1 made there_))
     by_made (interface_made i is k within here there_) = subst (λ (u : AnyType). PutsNext c es u ts (found_ends c ts u)) (sym is) (puts-inner c wf es held ts i k within here)
@@ -576,9 +552,6 @@ definition-passed ts i t o old less is none was =
     nothing (Some d) other = absurd (other d refl)
 
 -- of the interface that is there
-pub exports-are : (c : Collection) (i : InterfaceId) (it : Interface) → item_at c.interfaces i.0 ≡ Some it → interface_exports c i ≡ it.exports
-exports-are c i it at = ap (λ (o : Option Interface). option_case o [] (λ (x : Interface). x.exports)) at
-
 pub listed-held : (c : Collection) → IsWellFormed c → (i : InterfaceId) (it : Interface) → item_at c.interfaces i.0 ≡ Some it → i.0 < length c.interfaces → AreHeld c it.exports
 listed-held c wf i it found less =
     let held : holds_type c (ty.Interface i) ≡ true = (let low : nat_lt i.0 (length c.interfaces) ≡ true = grind (arith, less) in low) in
@@ -609,10 +582,7 @@ if-ok (Err e) P Q ok h = tt
 pub all-held : (c : Collection) (es : List (Name × ItemKind)) (ts : List AnyType) (next : ℕ) → AreFound c es ts next → (k : ℕ) (d : DefinedTypeId) → slice_get (definitions_in ts) k ≡ Some d → HasDefined c d
 all-held c es ts next f k d at = (made-of c es d (f.made (ty.Value (val.Defined d)) (at-definition ts k d at))).1
 
--- the type at the next position, of a slice that shows what is found
-pub shown-at : (shown ts : List AnyType) (next : ℕ) (t : AnyType) → shown ≡ ts → next < length shown → slice_get ts next ≡ Some (get_or shown next t)
-shown-at shown ts next t same less = ap (λ (xs : List AnyType). slice_get xs next) (sym same) ∙ slice_get-get_or shown next t less
-
+-- the type at the next position is held
 pub here-held : (c : Collection) (es : List (Name × ItemKind)) (ts : List AnyType) (next : ℕ) (t : AnyType) → AreFound c es ts next → slice_get ts next ≡ Some t → holds_type c t ≡ true
 here-held c es ts next t f at = found-held c es ts next f t (in_at t ts next at)
 
@@ -626,5 +596,5 @@ defined-held c d held = let low : nat_lt d.0 (length c.defined) ≡ true = held 
 -- what a definition's parts are put as
 pub parts-put : (c : Collection) (d : DefinedTypeId) (t : AnyType) (old new : List AnyType) → t ≡ ty.Value (val.Defined d) → HasDefined c d → ((x : DefinedType) → item_at c.defined d.0 ≡ Some x → new ≡ with_ends c old (somes (parts x))) → new ≡ found_ends c old t
 parts-put c d t old new is held put =
-    let x = there-is c.defined d.0 held in
+    let x = held-there c.defined d.0 held in
     put x.0 x.1 ∙ sym (ap (found_ends c old) is ∙ ap (λ (o : Option DefinedType). option_case o old (λ y. with_ends c old (somes (parts y)))) x.1)

@@ -22,16 +22,11 @@ use Rattle.wac_edges.specs.Order.{Edges, IsEdge}
 use Rattle.wac_listing.specs.Made.{parts}
 use Rattle.wac_listing.specs.Order.{definition, listed, Lists, Names}
 use Rattle.wac_listing.specs.Before.{IsAt, EndsAt, HasPartAt, ComesBefore, part, item, AreSound, AreKept, HasEdge, IsFirst, AreNamed, HaveItems, HavePart, HaveDefinitions, items_of}
+use Rattle.wac_listing.proofs.Grown.{below-or-last}
 use Rattle.wac_listing.proofs.Taking.{AreExact, one-definition, one-listed, within}
 
 some-is : {A : Type 0} (x y : A) → Some x ≡ Some y → x ≡ y
 some-is x y e = cc
-
-below-next : (q n : ℕ) → q < n + 1 → (q < n) ⊎ (q ≡ n)
-below-next zero zero l = inr refl
-below-next zero (suc n) l = inl (omega arith)
-below-next (suc q) zero l = absurd (omega (arith, l))
-below-next (suc q) (suc n) l = elim (below-next q n (omega (arith, l))) [ inl k ↦ inl (omega (arith, k)) | inr e ↦ inr (ap suc e) ]
 
 there-is : {A : Type 0} (xs : List A) (k : ℕ) → k < length xs → (x : A) × (slice_get xs k ≡ Some x)
 there-is [] k l = absurd (omega (arith, l))
@@ -117,14 +112,14 @@ module _ (c : Collection) (es : List (Name × ItemKind)) (ts : List AnyType) whe
   lists-here n k o d is found some = let entry = second-is es n k is in (entry.0, entry.1, ap (listed c) entry.2 ∙ sym found ∙ some)
 
   first-on : (n : ℕ) (d : DefinedTypeId) (o : Option ℕ) → (Lists c es n d → ⊥) → IsFirst c es n d o → IsFirst c es (n + 1) d o
-  first-on n d None none first = λ q less lists. elim (below-next q n less) [ inl before ↦ first q before lists | inr same ↦ none (subst (λ (r : ℕ). Lists c es r d) same lists) ]
+  first-on n d None none first = λ q less lists. elim (below-or-last q n less) [ inl before ↦ first q before lists | inr same ↦ none (subst (λ (r : ℕ). Lists c es r d) same lists) ]
   first-on n d (Some q) none first = first
 
   pub unlisted-named : (n : ℕ) (named : List (Option ℕ)) → ((d : DefinedTypeId) → Lists c es n d → ⊥) → AreNamed c es ts n named → AreNamed c es ts (n + 1) named
   unlisted-named n named none a = record { long = a.long; first = λ k d o at is. first-on n d o (none d) (a.first k d o at is) }
 
   pub unlisted-put : (n : ℕ) (edges : Edges) → ((d : DefinedTypeId) → Lists c es n d → ⊥) → HaveItems c es ts n edges → HaveItems c es ts (n + 1) edges
-  unlisted-put n edges none put p k d less lists at = elim (below-next p n less) [ inl before ↦ put p k d before lists at | inr same ↦ absurd (none d (subst (λ (r : ℕ). Lists c es r d) same lists)) ]
+  unlisted-put n edges none put p k d less lists at = elim (below-or-last p n less) [ inl before ↦ put p k d before lists at | inr same ↦ absurd (none d (subst (λ (r : ℕ). Lists c es r d) same lists)) ]
 
   -- an item is put
   pub listed-named : (n : ℕ) (d : DefinedTypeId) (k : ℕ) (old new : List (Option ℕ)) → Lists c es n d → IsAt ts k d → ((j : ℕ) → IsAt ts j d → j ≡ k) → AreNamed c es ts n old
@@ -151,7 +146,7 @@ module _ (c : Collection) (es : List (Name × ItemKind)) (ts : List AnyType) whe
               first-on n e o (λ lists_. apart (alone j (subst (IsAt ts j) (one-listed c es n e d lists_ lists) there))) (a.first j e o there (sym (others j apart) ∙ is))
 
   pub listed-put : (n : ℕ) (d : DefinedTypeId) (k : ℕ) (old new : Edges) → Lists c es n d → ((j : ℕ) → IsAt ts j d → j ≡ k) → HaveItems c es ts n old → AreKept old new → HasEdge new k (length ts + n) → HaveItems c es ts (n + 1) new
-  listed-put n d k old new lists alone put kept edge p j e less lists_ at = elim (below-next p n less) [ inl before ↦ kept _ _ (put p j e before lists_ at) | inr same ↦ last same ]
+  listed-put n d k old new lists alone put kept edge p j e less lists_ at = elim (below-or-last p n less) [ inl before ↦ kept _ _ (put p j e before lists_ at) | inr same ↦ last same ]
     where
       last : p ≡ n → HasEdge new j (length ts + p)
       last same =
@@ -247,7 +242,7 @@ module _ (c : Collection) (es : List (Name × ItemKind)) (ts : List AnyType) whe
       (λ x y edge. kept x y (before.0 x y edge), part-sound d n v b now new at has before.1 only, further)
     where
       further : (i : ℕ) (w : ValueType) → i < n + 1 → HasPartAt c d i w → HavePart c es ts new w b
-      further i w less there = elim (below-next i n less) [
+      further i w less there = elim (below-or-last i n less) [
         | inl low ↦ part-kept w b now new kept (before.2 i w low there)
         | inr same ↦ subst (λ (u : ValueType). HavePart c es ts new u b) (one-part d n v w has (subst (λ (j : ℕ). HasPartAt c d j w) same there)) put
       ]
@@ -263,7 +258,7 @@ module _ (c : Collection) (es : List (Name × ItemKind)) (ts : List AnyType) whe
           cc
 
       further : (i : ℕ) (w : ValueType) → i < n + 1 → HasPartAt c d i w → HavePart c es ts now w b
-      further i w less there = elim (below-next i n less) [ inl low ↦ before.2 i w low there | inr same ↦ absurd (absent w (subst (λ (j : ℕ). HasPartAt c d j w) same there)) ]
+      further i w less there = elim (below-or-last i n less) [ inl low ↦ before.2 i w low there | inr same ↦ absurd (absent w (subst (λ (j : ℕ). HasPartAt c d j w) same there)) ]
 
   pub parts-all : (d : DefinedTypeId) (x : DefinedType) (n b : ℕ) (old now : Edges) → item_at c.defined d.0 ≡ Some x → slice_get (parts x) n ≡ None → ArePut d b old n now → (i : ℕ) (v : ValueType) → HasPartAt c d i v → HavePart c es ts now v b
   parts-all d x n b old now found none before i v has =
@@ -276,13 +271,13 @@ module _ (c : Collection) (es : List (Name × ItemKind)) (ts : List AnyType) whe
 
   -- one more definition
   pub definitions-step : (n : ℕ) (d : DefinedTypeId) (old new : Edges) → IsAt ts n d → HaveDefinitions c es ts n old → AreKept old new → ((i : ℕ) (v : ValueType) → HasPartAt c d i v → HavePart c es ts new v n) → HaveDefinitions c es ts (n + 1) new
-  definitions-step n d old new at before kept put b i e v less there has = elim (below-next b n less) [
+  definitions-step n d old new at before kept put b i e v less there has = elim (below-or-last b n less) [
     | inl low ↦ part-kept v b old new kept (before b i e v low there has)
     | inr same ↦ let one : e ≡ d = one-definition ts n e d (subst (λ (j : ℕ). IsAt ts j e) same there) at in subst (λ (j : ℕ). HavePart c es ts new v j) (sym same) (put i v (subst (λ (x : DefinedTypeId). HasPartAt c x i v) one has))
   ]
 
   pub definitions-skip : (n : ℕ) (edges : Edges) → ((d : DefinedTypeId) → IsAt ts n d → ⊥) → HaveDefinitions c es ts n edges → HaveDefinitions c es ts (n + 1) edges
-  definitions-skip n edges none before b i e v less there has = elim (below-next b n less) [ inl low ↦ before b i e v low there has | inr same ↦ absurd (none e (subst (λ (j : ℕ). IsAt ts j e) same there)) ]
+  definitions-skip n edges none before b i e v less there has = elim (below-or-last b n less) [ inl low ↦ before b i e v low there has | inr same ↦ absurd (none e (subst (λ (j : ℕ). IsAt ts j e) same there)) ]
 
   pub empty-sound : (edges : Edges) → edges ≡ set.empty → AreSound c es ts edges
   empty-sound edges is a b edge = let none : set.contains edges edge.0 ≡ false = ap (λ (s : Edges). set.contains s edge.0) is ∙ set.contains-empty edge_cmp edge.0 in let there = edge.1 in cc

@@ -10,6 +10,7 @@ use Rattle.wac_shapes.specs.declared.component.ItemKind.{ItemKind}
 use Rattle.wac_collection.specs.Collection.{Collection, HasInterface, IsWellFormed, holds_type, interface_exports}
 use Rattle.wac_listing.specs.Made.{interface_of}
 use Rattle.wac_listing.proofs.Interfaces.{type-of}
+use Rattle.wac_listing.proofs.Listing.{exports-are, held-there, held-items}
 use Rattle.wac_scopes.specs.declared.scope.Scope.{Scope}
 use Rattle.wac_scopes.specs.Scoped.{named_at}
 use Rattle.wac_planning.specs.declared.growing.Growing.{Growing}
@@ -20,8 +21,6 @@ use Rattle.wac_planning.specs.Plans.{IsPlan, HasName, inside_at}
 use Rattle.wac_planning.specs.Planning.{source_of, name_at, innermost, lists, IsListedIn, IsSourceAlong, IsTakenAt, ListsInterface, IsOutward, IsPlaceAt, IsGrown, IsGoing, IsStack, Waits, Enters, enters}
 use Rattle.wac_planning.proofs.Adding.{grown-same}
 use Rattle.wac_planning.proofs.Finished.{is-plan}
-use Rattle.wac_planning.proofs.Listing.{held-items}
-use Rattle.wac_planning.proofs.Looking.{exports-of, held-item}
 use Rattle.wac_planning.proofs.Waiting.{stack-split, stack-join, stack-enters, waits-first, waits-second, waits-either, enters-wait}
 use Rattle.wac_planning.proofs.Ways.{at-once}
 
@@ -71,8 +70,8 @@ grown-none c s g none names = record {
 
 pub listed-held : (c : Collection) → IsWellFormed c → (j : InterfaceId) → HasInterface c j → (p : ℕ) (e : Name × ItemKind) (x : InterfaceId) → slice_get (interface_exports c j) p ≡ Some e → interface_of e.1 ≡ Some x → HasInterface c x
 listed-held c wf j held p e x there is =
-    let it = held-item c.interfaces j.0 held in
-    let holds : holds_type c (kind_type e.1) ≡ true = held-items c wf j it.0 it.1 p e (ap (λ es. slice_get es p) (sym (exports-of c j it.0 it.1)) ∙ there) in
+    let it = held-there c.interfaces j.0 held in
+    let holds : holds_type c (kind_type e.1) ≡ true = held-items c wf j it.0 it.1 p e (ap (λ es. slice_get es p) (sym (exports-are c j it.0 it.1)) ∙ there) in
     let inside : nat_lt x.0 (length c.interfaces) ≡ true = ap (holds_type c) (sym (type-of e.1 x is)) ∙ holds in
     grind (arith, inside)
 

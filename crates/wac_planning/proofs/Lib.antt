@@ -7,6 +7,5 @@ pub mod Looking
 pub mod Adding
 pub mod Finished
 pub mod Waiting
-pub mod Listing
 pub mod Going
 pub mod Steps

@@ -1,9 +1,8 @@
 -- The loops over what an interface lists and is made of, while a plan is made.
-use Rattle.std.specs.Prelude.{ℕ, zero, suc, ◌≡◌, ◌⊎◌, ◌+◌, ◌<◌, ◌≤◌, ◌↔◌, nat_eq, Bool, true, false, List, [], ◌∷◌, ◌++◌, length, Option, Some, None, slice_get, drop}
+use Rattle.std.specs.Prelude.{ℕ, suc, ◌≡◌, ◌⊎◌, ◌+◌, ◌<◌, ◌≤◌, ◌↔◌, nat_eq, Bool, true, false, List, [], ◌∷◌, ◌++◌, length, Option, Some, None, slice_get, drop}
 use Rattle.std.specs.Option.{option_map}
 use Rattle.std.specs.HashMap.{Updates}
 use Rattle.std.proofs.Common.{refl, ap, sym, subst, ◌∙◌, inl, inr, arith, append_assoc, get_or}
-use Rattle.std.proofs.lemmas.Bool.Decides.{nat_tests}
 use Rattle.std.proofs.lemmas.List.{append-nil}
 use Rattle.std.proofs.lemmas.Option.{slice_get_within, get_or_from_slice_get}
 use Rattle.wac_primitives.specs.Name.{Name, option_case}
@@ -12,9 +11,10 @@ use Rattle.wac_shapes.specs.declared.component.DefinedTypeId.{DefinedTypeId}
 use Rattle.wac_shapes.specs.declared.component.Interface.{Interface}
 use Rattle.wac_shapes.specs.declared.component.InterfaceId.{InterfaceId}
 use Rattle.wac_shapes.specs.declared.component.ItemKind.{ItemKind}
-use Rattle.wac_collection.specs.declared.collection.Held.{Held}
 use Rattle.wac_collection.specs.Collection.{Collection, HasDefined, HasInterface, interface_exports, item_at}
 use Rattle.wac_listing.specs.Made.{AreMadeOf, interface_of, own_items}
+use Rattle.wac_listing.proofs.Grown.{below-or-last}
+use Rattle.wac_listing.proofs.Listing.{exports-are, held-there}
 use Rattle.wac_scopes.specs.declared.scope.Scope.{Scope}
 use Rattle.wac_planning.specs.declared.growing.Growing.{Growing}
 use Rattle.wac_planning.specs.declared.growing.Visit.{Visit}
@@ -26,26 +26,11 @@ use Rattle.wac_planning.proofs.Along.{all-more}
 use Rattle.wac_planning.proofs.Entering.{same-id, other-id, same-places, same-then, IsTaken, none-at, entering-take}
 use Rattle.wac_planning.proofs.Leaving.{IsNaming, NamesOne, names-one}
 
-pub held-item : {A : Type 0} (xs : List (Held A)) (n : ℕ) → n < length xs → (x : A) × (item_at xs n ≡ Some x)
-held-item [] n less = absurd (omega (arith, less))
-held-item (x ∷ xs) zero less = (x.item, refl)
-held-item (x ∷ xs) (suc n) less = held-item xs n (omega (arith, less))
-
-pub exports-of : (c : Collection) (i : InterfaceId) (it : Interface) → item_at c.interfaces i.0 ≡ Some it → interface_exports c i ≡ it.exports
-exports-of c i it at = ap (λ (o : Option Interface). option_case o [] (λ x. x.exports)) at
-
 -- these are its own
 pub own-in : (c : Collection) (i : InterfaceId) (ds : List DefinedTypeId) → HasInterface c i → ((it : Interface) → item_at c.interfaces i.0 ≡ Some it → AreMadeOf c (own_items it.exports) ds) → (d : DefinedTypeId) → (IsOneOf d ds ↔ IsOwn c i d)
 own-in c i ds held made d =
-    let it = held-item c.interfaces i.0 held in
-    subst (λ (es : List (Name × ItemKind)). AreMadeOf c (own_items es) ds) (sym (exports-of c i it.0 it.1)) (made it.0 it.1) d
-
-low-or : (j n : ℕ) → j < n + 1 → (j < n) ⊎ (j ≡ n)
-low-or j n less = by_test (nat_eq j n) refl
-  where
-    by_test : (b : Bool) → nat_eq j n ≡ b → (j < n) ⊎ (j ≡ n)
-    by_test true is = inr (grind (arith, nat_tests, is))
-    by_test false is = inl (let apart : j ≡ n → ⊥ = λ e. grind (arith, nat_tests, is, e) in omega (arith, less, apart))
+    let it = held-there c.interfaces i.0 held in
+    subst (λ (es : List (Name × ItemKind)). AreMadeOf c (own_items es) ds) (sym (exports-are c i it.0 it.1)) (made it.0 it.1) d
 
 get-once : {A : Type 0} (xs : List A) (j n : ℕ) (x y : A) → j ≡ n → slice_get xs j ≡ Some x → slice_get xs n ≡ Some y → x ≡ y
 get-once xs j n x y same a b = let both : Some x ≡ Some y = sym a ∙ ap (slice_get xs) same ∙ b in cc
@@ -66,7 +51,7 @@ taking-on c s k ks ds n d old now new at own held takes h = record {
   visits = t.visits ∙ h.visits;
   same = same-then old.places.items now.places.items new.places.items h.same t.same;
   entering = t.entering;
-  done = λ j e less there. by_place j e there (low-or j n less);
+  done = λ j e less there. by_place j e there (below-or-last j n less);
 }
   where
     t : IsTaken c s k ks d now new
@@ -100,7 +85,7 @@ naming-starts c s k ks old h = record { sources = h.sources; here = λ p e d les
 
 -- an item that lists nothing
 pub naming-past : (c : Collection) (s : Scope) (k : ℕ × InterfaceId) (ks : List (ℕ × InterfaceId)) (n : ℕ) (x : ItemKind) (old now : Growing) → option_map (λ e. e.1) (slice_get (interface_exports c k.1) n) ≡ Some x → listed_definition c x ≡ None → IsNaming c s k ks n old now → IsNaming c s k ks (n + 1) old now
-naming-past c s k ks n x old now at none h = record { sources = h.sources; here = λ p e d less there is. by_place p e d there is (low-or p n less) }
+naming-past c s k ks n x old now at none h = record { sources = h.sources; here = λ p e d less there is. by_place p e d there is (below-or-last p n less) }
   where
     by_place : (p : ℕ) (e : Name × ItemKind) (d : DefinedTypeId) → slice_get (interface_exports c k.1) p ≡ Some e → listed_definition c e.1 ≡ Some d → (p < n) ⊎ (p ≡ n) → source_at s now d ≡ Some (Some k.0)
     by_place p e d there is (inl low) = h.here p e d low there is
@@ -115,7 +100,7 @@ item-there c i n x None at is = let no_some : None ≡ Some x = is in cc
 item-there c i n x (Some e) at is = let both : Some e.1 ≡ Some x = is in let one : e.1 ≡ x = cc in (e, at, one)
 
 pub naming-on : (c : Collection) (s : Scope) (k : ℕ × InterfaceId) (ks : List (ℕ × InterfaceId)) (n : ℕ) (x : ItemKind) (d : DefinedTypeId) (old now new : Growing) → option_map (λ e. e.1) (slice_get (interface_exports c k.1) n) ≡ Some x → listed_definition c x ≡ Some d → Serves c s old.places.items k ks → NamesFirst s d k.0 now new → IsNaming c s k ks n old now → IsNaming c s k ks (n + 1) old new
-naming-on c s k ks n x d old now new at is serves names h = record { sources = one.sources; here = λ p e y less there lists_it. by_place p e y there lists_it (low-or p n less) }
+naming-on c s k ks n x d old now new at is serves names h = record { sources = one.sources; here = λ p e y less there lists_it. by_place p e y there lists_it (below-or-last p n less) }
   where
     item : (e : Name × ItemKind) × (slice_get (interface_exports c k.1) n ≡ Some e) × (e.1 ≡ x)
     item = item-there c k.1 n x (slice_get (interface_exports c k.1) n) refl at
@@ -146,7 +131,7 @@ listed-more : (c : Collection) (i : InterfaceId) (n : ℕ) (d : DefinedTypeId) �
 listed-more c i n d (p, e, less, at, is) = (p, e, (let l : p < n + 1 = omega (arith, less) in l), at, is)
 
 listed-less : (c : Collection) (i : InterfaceId) (n : ℕ) (x : ItemKind) (d : DefinedTypeId) → option_map (λ e. e.1) (slice_get (interface_exports c i) n) ≡ Some x → IsListedTo c i (n + 1) d → IsListedTo c i n d ⊎ (listed_definition c x ≡ Some d)
-listed-less c i n x d at (p, e, less, there, is) = by_place (low-or p n less)
+listed-less c i n x d at (p, e, less, there, is) = by_place (below-or-last p n less)
   where
     by_place : (p < n) ⊎ (p ≡ n) → IsListedTo c i n d ⊎ (listed_definition c x ≡ Some d)
     by_place (inl low) = inl (p, e, low, there, is)
@@ -202,7 +187,7 @@ rename-on ds o n e old now new at u d h = by_id (nat_eq e.0 d.0) refl h
         inl ((n, (let l : n < n + 1 = omega arith in l), at ∙ ap (λ (z : DefinedTypeId). Some z) id), subst (λ (z : DefinedTypeId). name_at new z ≡ Some o) id u.1)
     by_id false apart (inl w) = inl ((w.0.0, (let low = w.0.1 in let l : w.0.0 < n + 1 = omega (arith, low) in l), w.0.2), u.2 d apart ∙ w.1)
     by_id false apart (inr w) = inr (
-      λ l. elim (low-or l.0 n l.1) [
+      λ l. elim (below-or-last l.0 n l.1) [
         | inl low ↦ w.0 (l.0, low, l.2)
         | inr same ↦ other-id e d apart (get-once ds n l.0 e d (sym same) at l.2)
       ],
@@ -255,11 +240,11 @@ kept-one a b x is = is ∙ ap (λ (g : Growing). let y : Growing = record a { na
 
 -- an item that is read, among the interface's
 pub item-read : (c : Collection) (i : InterfaceId) (it : Interface) (n : ℕ) (x : ItemKind) → item_at c.interfaces i.0 ≡ Some it → option_map (λ e. e.1) (slice_get it.exports n) ≡ Some x → option_map (λ e. e.1) (slice_get (interface_exports c i) n) ≡ Some x
-item-read c i it n x found at = ap (λ (es : List (Name × ItemKind)). option_map (λ e. e.1) (slice_get es n)) (exports-of c i it found) ∙ at
+item-read c i it n x found at = ap (λ (es : List (Name × ItemKind)). option_map (λ e. e.1) (slice_get es n)) (exports-are c i it found) ∙ at
 
 -- all were looked at
 pub all-read : (c : Collection) (i : InterfaceId) (it : Interface) (n m : ℕ) → item_at c.interfaces i.0 ≡ Some it → n ≡ length it.exports → n ≤ m → length (interface_exports c i) ≤ m
-all-read c i it n m found is past = let long = ap (λ (es : List (Name × ItemKind)). length es) (exports-of c i it found) in omega (arith, long, is, past)
+all-read c i it n m found is past = let long = ap (λ (es : List (Name × ItemKind)). length es) (exports-are c i it found) in omega (arith, long, is, past)
 
 -- what is written with no instance type has nothing looked at
 pub enters-not : (k : ℕ) (x : ItemKind) → interface_of x ≡ None → [] ≡ enter_of k x

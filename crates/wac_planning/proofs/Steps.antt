@@ -3,22 +3,19 @@ use Rattle.std.specs.Prelude.{ℕ, zero, suc, true, length, ◌+◌, ◌<◌, �
 use Rattle.std.proofs.Common.{refl, ap, ◌∙◌, sym, subst, arith, inl, inr, nat_lt}
 use Rattle.std.proofs.lemmas.List.Sums.{sum_by-append, sum_by-cons, sum_by_push}
 use Rattle.wac_primitives.specs.Name.{Name, option_case}
-use Rattle.wac_shapes.specs.Kinds.{kind_type}
 use Rattle.wac_shapes.specs.declared.component.Interface.{Interface}
 use Rattle.wac_shapes.specs.declared.component.InterfaceId.{InterfaceId}
 use Rattle.wac_shapes.specs.declared.component.ItemKind.{ItemKind}
 use Rattle.wac_shapes.specs.declared.component.«Type».TheVariants as ty
-use Rattle.wac_collection.specs.declared.collection.Held.{Held}
-use Rattle.wac_collection.specs.Collection.{Collection, HasInterface, IsWellFormed, AddedBefore, IsBefore, interface_exports, item_at, size}
+use Rattle.wac_collection.specs.Collection.{Collection, HasInterface, IsWellFormed, IsBefore, interface_exports, item_at, size}
 use Rattle.wac_collection.proofs.Growth.{type_before}
 use Rattle.wac_listing.specs.Made.{interface_of}
 use Rattle.wac_listing.proofs.Interfaces.{type-of}
+use Rattle.wac_listing.proofs.Listing.{exports-are, held-there, none-first, listed-before}
 use Rattle.wac_planning.specs.declared.growing.Visit.{Visit}
 use Rattle.wac_planning.specs.declared.growing.Visit.TheVariants.{Enter, Leave}
 use Rattle.wac_planning.specs.Planning.{LeavesWaiting, enter_of, enters}
 use Rattle.wac_planning.proofs.Going.{listed-held}
-use Rattle.wac_planning.proofs.Listing.{listed-before}
-use Rattle.wac_planning.proofs.Looking.{exports-of, held-item}
 
 -- how many an item takes, where this tells of the interfaces inside, and an interface, to a depth
 abbrev pub kind_steps : (InterfaceId → ℕ) → ItemKind → ℕ
@@ -58,10 +55,6 @@ no-more a b none = omega (arith, none)
 one-more : (a b x y : ℕ) → a ≡ suc x → b ≡ suc y → x ≤ y → a ≤ b
 one-more a b x y is too less = omega (arith, is, too, less)
 
-before-none : (o : Option (Held Interface)) → AddedBefore 0 o → ⊥
-before-none None low = low
-before-none (Some h) low = let less : h.before < 0 = low in omega (arith, less)
-
 fewer-by : (c : Collection) → IsWellFormed c → (d : ℕ) → ((j : InterfaceId) → IsBefore c d (ty.Interface j) → steps_to (suc d) c j ≤ steps_to d c j) → (i : InterfaceId) → IsBefore c (suc d) (ty.Interface i) → (o : Option Interface) → item_at c.interfaces i.0 ≡ o → steps_to (suc (suc d)) c i ≤ steps_to (suc d) c i
 fewer-by c wf d inside i low None at = no-more (steps_to (suc (suc d)) c i) (steps_to (suc d) c i) (steps-none (suc d) c i at)
 fewer-by c wf d inside i low (Some it) at =
@@ -70,7 +63,7 @@ fewer-by c wf d inside i low (Some it) at =
     inside j (subst (IsBefore c d) (type-of e.1 j is) (listed-before c wf d i it low at p e there)))))
 
 pub fewer : (c : Collection) → IsWellFormed c → (d : ℕ) (i : InterfaceId) → IsBefore c d (ty.Interface i) → steps_to (suc d) c i ≤ steps_to d c i
-fewer c wf zero i low = absurd (before-none (slice_get c.interfaces i.0) low)
+fewer c wf zero i low = absurd (none-first (slice_get c.interfaces i.0) low)
 fewer c wf (suc d) i low = fewer-by c wf d (fewer c wf d) i low (item_at c.interfaces i.0) refl
 
 -- of what waits
@@ -120,8 +113,8 @@ less-by-visit c wf v old new (inr g) =
     let j = g.0 in
     let k = g.1 in
     let n = g.2 in
-    let it = held-item c.interfaces j.0 g.4 in
-    let es : interface_exports c j ≡ it.0.exports = exports-of c j it.0 it.1 in
+    let it = held-there c.interfaces j.0 g.4 in
+    let es : interface_exports c j ≡ it.0.exports = exports-are c j it.0 it.1 in
     subst (λ (x : Visit). weigh c new < weigh c (old ++ x ∷ [])) (sym g.3)
     (subst (λ (vs : List Visit). weigh c vs < weigh c (old ++ Enter j k ∷ [])) (sym g.5)
     (opened-less (weigh c old) (weigh c (old ++ Leave n ∷ [])) (steps_to (suc (size c)) c j) (weigh c (old ++ Enter j k ∷ [])) (weigh c ((old ++ Leave n ∷ []) ++ enters n (interface_exports c j))) (weigh c (enters n (interface_exports c j))) (sum_by (item_steps (steps_to (size c) c)) (interface_exports c j))

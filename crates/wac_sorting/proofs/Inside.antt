@@ -2,8 +2,7 @@
 use Rattle.std.specs.Prelude.{ℕ, zero, suc, ◌+◌, ◌<◌, ◌≤◌, ◌≡◌, ◌⊎◌, Bool, true, false, List, [], ◌∷◌, ◌++◌, length, Option, Some, None, slice_get, drop}
 use Rattle.std.specs.List.{IsDistinct}
 use Rattle.std.specs.Option.{option_map}
-use Rattle.std.proofs.Common.{refl, ap, ◌∙◌, sym, subst, arith, inl, inr, nat_lt, get_or, add-one, append_assoc}
-use Rattle.std.proofs.lemmas.Option.{slice_get-get_or}
+use Rattle.std.proofs.Common.{refl, ap, ◌∙◌, sym, subst, arith, inl, inr, nat_lt, add-one, append_assoc}
 use Rattle.std.proofs.lemmas.List.{append-nil}
 use Rattle.wac_primitives.specs.Name.{Name, option_case}
 use Rattle.wac_shapes.specs.Named.{NoNameTwice}
@@ -18,7 +17,9 @@ use Rattle.wac_collection.specs.declared.collection.Held.{Held}
 use Rattle.wac_collection.specs.Collection.{Collection, IsWellFormed, AddedBefore, IsBefore, holds_type, interface_exports, item_at, item_of, size}
 use Rattle.wac_collection.proofs.Growth.{type_before}
 use Rattle.wac_listing.specs.Made.{interface_of}
+use Rattle.wac_listing.proofs.Grown.{same-place, lower-place, below-or-last}
 use Rattle.wac_listing.proofs.Interfaces.{type-of}
+use Rattle.wac_listing.proofs.Listing.{exports-are, held-there, none-first, listed-before, held-items}
 use Rattle.wac_reach.specs.Found.{with_all}
 use Rattle.wac_reach.specs.Reach.{IsIn}
 use Rattle.wac_reach.proofs.Lists.{in_at, at_in, all_old, all_new, all_only, all_grown}
@@ -26,7 +27,6 @@ use Rattle.wac_reach.proofs.Universe.{types_of, found_few}
 use Rattle.wac_sorting.specs.declared.worlds.Worlds.{Worlds}
 use Rattle.wac_sorting.specs.Sorts.{is_plain, lists_plain, lists_plain_to}
 use Rattle.wac_sorting.specs.Inside.{IsInsideBy, IsInside, AreInside, are_plain_alone, lists_plain_alone, and_inside, with_inside, IsHeldInterface, PutsInside}
-use Rattle.wac_planning.proofs.Listing.{listed-before, held-items}
 use Rattle.wac_sorting.proofs.Plain.{one-plain, plain-each, each-plain, plain-of, plain-alone, plain-inside}
 
 -- what is put of items
@@ -118,28 +118,6 @@ pub of-plain : (ws : Worlds) (c : Collection) (d : ℕ) (i : InterfaceId) (it : 
 of-plain ws c zero i it at all k e here = let both : false ≡ true = all in cc
 of-plain ws c (suc d) i it at all k e here = (d, plain-each ws (lists_plain_to d ws c) it.exports (sym (plain-of ws c d i it at) ∙ all) k e here)
 
--- positions of a list that has grown
-
-same-place : (xs more : List AnyType) (n : ℕ) (a b : AnyType) → slice_get xs n ≡ Some a → slice_get (xs ++ more) n ≡ Some b → b ≡ a
-same-place [] more n a b is also = let none_some : None ≡ Some a = is in cc
-same-place (x ∷ xs) more zero a b is also = let one : Some x ≡ Some a = is in let two : Some x ≡ Some b = also in let left : x ≡ a = cc in let right : x ≡ b = cc in sym right ∙ left
-same-place (x ∷ xs) more (suc n) a b is also = same-place xs more n a b is also
-
-lower-place : (xs more : List AnyType) (m n : ℕ) (a b : AnyType) → m < n → slice_get xs n ≡ Some a → slice_get (xs ++ more) m ≡ Some b → slice_get xs m ≡ Some b
-lower-place [] more m n a b less is also = let none_some : None ≡ Some a = is in cc
-lower-place (x ∷ xs) more zero n a b less is also = also
-lower-place (x ∷ xs) more (suc m) zero a b less is also = absurd (omega (arith, less))
-lower-place (x ∷ xs) more (suc m) (suc n) a b less is also = lower-place xs more m n a b (omega (arith, less)) is also
-
-split : (i n : ℕ) → i < n + 1 → (i < n) ⊎ (i ≡ n)
-split zero zero less = inr refl
-split zero (suc n) less = inl (omega arith)
-split (suc i) zero less = absurd (omega (arith, less))
-split (suc i) (suc n) less = elim (split i n (omega (arith, less))) [ inl k ↦ inl (omega (arith, k)) | inr e ↦ inr (ap suc e) ]
-
-exports-are : (c : Collection) (i : InterfaceId) (it : Interface) → item_at c.interfaces i.0 ≡ Some it → interface_exports c i ≡ it.exports
-exports-are c i it at = ap (λ (o : Option Interface). option_case o [] (λ (x : Interface). x.exports)) at
-
 -- what is listed inside is inside
 pub inside-further : (c : Collection) (i j k : InterfaceId) (p : ℕ) (e : Name × ItemKind) → IsInside c i j → slice_get (interface_exports c j) p ≡ Some e → interface_of e.1 ≡ Some k → IsInside c i k
 inside-further c i j k p e h at of = (suc h.0, (j, h.1, p, e, at, of))
@@ -176,11 +154,11 @@ module _ (c : Collection) (wf : IsWellFormed c) (i : InterfaceId) (ts : List Any
   found-next = record {
     first = p.old_in (ty.Interface i) f.first;
     only = λ t h. member t (p.only t h);
-    once = λ n k less is. elim (split n next less) [
+    once = λ n k less is. elim (below-or-last n next less) [
       | inl low ↦ f.once n k low (earlier n k low is)
       | inr same ↦ subst NoNameTwice (sym (this n k same is)) once
     ];
-    found = λ n k q x l less is here of. elim (split n next less) [
+    found = λ n k q x l less is here of. elim (below-or-last n next less) [
       | inl low ↦ p.old_in (ty.Interface l) (f.found n k q x l low (earlier n k low is) here of)
       | inr same ↦ p.put q x l (ap (λ (es : List (Name × ItemKind)). slice_get es q) (sym (this n k same is)) ∙ here) of
     ];
@@ -204,11 +182,7 @@ module _ (c : Collection) (i : InterfaceId) (ts : List AnyType) (next : ℕ) (pa
 -- where all inside are plain as far as they go alone
 module _ (ws : Worlds) (c : Collection) (wf : IsWellFormed c) (i : InterfaceId) (alone : (j : InterfaceId) → IsInside c i j → are_plain_alone ws (interface_exports c j) ≡ true) where
   plain-to : (d : ℕ) (j : InterfaceId) → IsInside c i j → IsBefore c d (ty.Interface j) → lists_plain_to d ws c j ≡ true
-  plain-to zero j h before = absurd (never (slice_get c.interfaces j.0) before)
-    where
-      never : (o : Option (Held Interface)) → AddedBefore 0 o → ⊥
-      never None low = low
-      never (Some x) low = omega (arith, low)
+  plain-to zero j h before = absurd (none-first (slice_get c.interfaces j.0) before)
   plain-to (suc d) j h before = by_interface (plain-to d) (slice_get c.interfaces j.0) refl before
     where
       by_interface : ((l : InterfaceId) → IsInside c i l → IsBefore c d (ty.Interface l) → lists_plain_to d ws c l ≡ true) → (o : Option (Held Interface)) → slice_get c.interfaces j.0 ≡ o → AddedBefore (suc d) o → lists_plain_to (suc d) ws c j ≡ true
@@ -256,26 +230,17 @@ one-not-plain ws c i j it h found alone = by_all (lists_plain ws c i) refl
 pub few-found : (c : Collection) (i : InterfaceId) (ts : List AnyType) (next : ℕ) → IsDistinct (TypeEq.ghosts).eq ts → AreFound c i ts next → length ts ≤ length (types_of c)
 few-found c i ts next once f = found_few c ts once (λ t h. (f.only t h).2)
 
--- the type at the next position, of a slice that shows what is found
-pub shown-at : (shown ts : List AnyType) (next : ℕ) (t : AnyType) → shown ≡ ts → next < length shown → slice_get ts next ≡ Some (get_or shown next t)
-shown-at shown ts next t same less = ap (λ (xs : List AnyType). slice_get xs next) (sym same) ∙ slice_get-get_or shown next t less
-
 pub here-is : (c : Collection) (i : InterfaceId) (ts : List AnyType) (next : ℕ) (t : AnyType) → AreFound c i ts next → slice_get ts next ≡ Some t → IsHeldInterface c t
 here-is c i ts next t f at =
     let here = f.only t (in_at t ts next at) in
     let low : nat_lt here.0.0 (length c.interfaces) ≡ true = subst (λ (u : AnyType). holds_type c u ≡ true) here.1 here.2 in
     subst (IsHeldInterface c) (sym here.1) (let less : here.0.0 < length c.interfaces = grind (arith, low) in less)
 
-there-is : {A : Type 0} (xs : List (Held A)) (n : ℕ) → n < length xs → (x : A) × (item_at xs n ≡ Some x)
-there-is [] n less = absurd (omega (arith, less))
-there-is (x ∷ xs) zero less = (x.item, refl)
-there-is (x ∷ xs) (suc n) less = there-is xs n (omega (arith, less))
-
 pub found-on : (c : Collection) → IsWellFormed c → (i : InterfaceId) (ts new : List AnyType) (next : ℕ) (t : AnyType) → slice_get ts next ≡ Some t → AreFound c i ts next → PutsInside c t ts new → AreFound c i new (next + 1)
 found-on c wf i ts new next t at f put =
     let here = f.only t (in_at t ts next at) in
     let low : nat_lt here.0.0 (length c.interfaces) ≡ true = subst (λ (u : AnyType). holds_type c u ≡ true) here.1 here.2 in
-    let x = there-is c.interfaces here.0.0 (grind (arith, low)) in
+    let x = held-there c.interfaces here.0.0 (grind (arith, low)) in
     let p = put here.0 x.0 here.1 x.1 in
     subst (λ (xs : List AnyType). AreFound c i xs (next + 1)) (sym p.1) (found-next c wf i ts next here.0 x.0 (at ∙ ap (λ (u : AnyType). Some u) here.1) x.1 p.0 f)
 
@@ -291,7 +256,7 @@ inside-held c i ts next t a at =
     subst (IsHeldInterface c) (sym here.1) (let less : here.0.0 < length c.interfaces = grind (arith, low) in less)
 
 pub plain-next : (ws : Worlds) (c : Collection) (ts : List AnyType) (next : ℕ) (t : AnyType) → slice_get ts next ≡ Some t → lists_plain_alone ws c t ≡ true → ArePlainBefore ws c ts next → ArePlainBefore ws c ts (next + 1)
-plain-next ws c ts next t at plain before n u less is = elim (split n next less) [
+plain-next ws c ts next t at plain before n u less is = elim (below-or-last n next less) [
   | inl low ↦ before n u low is
   | inr same ↦ (
       let both : Some u ≡ Some t = sym is ∙ ap (slice_get ts) same ∙ at in
@@ -306,7 +271,7 @@ pub not-all : (ws : Worlds) (c : Collection) (i : InterfaceId) (ts : List AnyTyp
 not-all ws c i ts next t a at none =
     let here = a.only t (in_at t ts next at) in
     let low : nat_lt here.0.0 (length c.interfaces) ≡ true = subst (λ (u : AnyType). holds_type c u ≡ true) here.1 here.2 in
-    let x = there-is c.interfaces here.0.0 (grind (arith, low)) in
+    let x = held-there c.interfaces here.0.0 (grind (arith, low)) in
     one-not-plain ws c i here.0 x.0 here.3 x.1 (ap (are_plain_alone ws) (sym (exports-are c here.0 x.0 x.1)) ∙ ap (lists_plain_alone ws c) (sym here.1) ∙ none)
 
 -- one more item was looked at

@@ -11,15 +11,13 @@ use Rattle.wac_scopes.specs.declared.scope.Scope.{Scope}
 use Rattle.wac_scopes.specs.Contents.{IsRoot, items_of, count}
 use Rattle.wac_scopes.specs.Rooted.{MeansBefore}
 use Rattle.wac_stacks.specs.Inside.{RootGoesOn}
+use Rattle.wac_listing.proofs.Making.{if-ok}
+use Rattle.wac_worlds.proofs.TypesInside.{on-ok}
 use Rattle.wac_state.specs.Growing.{Grows, StandsSince, IsIndexSince}
 use Rattle.wac_state.specs.Held.{IsIndexOf}
 use Rattle.wac_state.specs.Root.{items, with_item, IsRight, UnfoldsTo}
 use Rattle.wac_primitives.specs.Tree.{Tree}
 use Rattle.wac_state.proofs.Growth.{state, item-more, unfolds, index-of}
-
-pub if-ok : {A E : Type 0} (r : Result A E) (P Q : A → Type 0) → ((x : A) → P x → Q x) → IfOk r P → IfOk r Q
-if-ok (Ok x) P Q f h = f x h
-if-ok (Err e) P Q f h = tt
 
 if-some : {A : Type 0} (o : Option A) (P Q : A → Type 0) → ((x : A) → P x → Q x) → IfSome o P → IfSome o Q
 if-some (Some x) P Q f h = f x h
@@ -27,10 +25,6 @@ if-some None P Q f h = tt
 
 pub if-there : {A E : Type 0} (r : Result (Option A) E) (P Q : A → Type 0) → ((x : A) → P x → Q x) → IfOk r (λ o. IfSome o P) → IfOk r (λ o. IfSome o Q)
 if-there r P Q f h = if-ok r (λ o. IfSome o P) (λ o. IfSome o Q) (λ o. if-some o P Q f) h
-
-pub on-ok : {A E : Type 0} (r : Result A E) (P Q : Type 0) → (P → Q) → OnOk r P → OnOk r Q
-on-ok (Ok x) P Q f h = f h
-on-ok (Err e) P Q f h = tt
 
 pub on-err : {A E : Type 0} (r : Result A E) (P Q : Type 0) → (P → Q) → OnErr r P → OnErr r Q
 on-err (Ok x) P Q f h = tt

@@ -1,6 +1,3 @@
-pub mod Before
-pub mod Plain
-pub mod Ahead
 pub mod Lists
 pub mod Growth
 pub mod Indexes

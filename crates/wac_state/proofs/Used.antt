@@ -1,5 +1,5 @@
 -- What interfaces and worlds use.
-use Rattle.std.proofs.Common.{◌≡◌, ◌≤◌, List, [], ◌∷◌, length, refl, ap, ◌∙◌, sym, arith, Option, Some}
+use Rattle.std.proofs.Common.{◌≡◌, ◌≤◌, [], length, refl, ap, ◌∙◌, sym, Option, Some}
 use Rattle.wac_primitives.specs.Name.{option_case}
 use Rattle.wac_shapes.specs.declared.component.Interface.{Interface}
 use Rattle.wac_shapes.specs.declared.component.InterfaceId.{InterfaceId}
@@ -8,11 +8,8 @@ use Rattle.wac_shapes.specs.declared.component.WorldId.{WorldId}
 use Rattle.wac_collection.specs.Collection.{Collection, item_at}
 use Rattle.wac_shapes.specs.declared.component.ItemKind.{ItemKind}
 use Rattle.wac_shapes.specs.declared.component.ItemKind.TheVariants as kind
+use Rattle.wac_worlds.proofs.Each.{none-long}
 use Rattle.wac_state.specs.Defined.{uses_of, world_uses, ItemUsesNothing}
-
-none-long : {A : Type 0} (xs : List A) → length xs ≤ 0 → xs ≡ []
-none-long [] few = refl
-none-long (x ∷ xs) few = absurd (omega (arith, few))
 
 uses-are : (c : Collection) (i : InterfaceId) (it : Interface) → item_at c.interfaces i.0 ≡ Some it → uses_of c i ≡ it.uses
 uses-are c i it at = ap (λ (o : Option Interface). option_case o [] (λ x. x.uses)) at

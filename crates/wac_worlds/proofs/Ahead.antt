@@ -1,5 +1,5 @@
 -- Worlds that are written ahead, one after the other.
-use Rattle.std.specs.Prelude.{ℕ, zero, suc, ◌+◌, ◌<◌, ◌≤◌, ◌≡◌, ◌⊎◌, ◌||◌, cond, nat_eq, Bool, true, false, is_some, List, [], ◌∷◌, length, Option, Some, None, slice_get, Err}
+use Rattle.std.specs.Prelude.{ℕ, zero, suc, ◌+◌, ◌<◌, ◌≤◌, ◌≡◌, ◌||◌, cond, nat_eq, Bool, true, false, is_some, List, [], ◌∷◌, length, Option, Some, None, slice_get, Err}
 use Rattle.std.proofs.Common.{refl, ap, ◌∙◌, sym, subst, arith, inl, inr}
 use Rattle.wac_shapes.specs.declared.component.WorldId.{WorldId}
 use Rattle.wac_shapes.specs.declared.component.«Type».{«Type» as AnyType}
@@ -10,6 +10,7 @@ use Rattle.wac_scopes.specs.declared.fault.EncodeFault.{EncodeFault}
 use Rattle.wac_scopes.specs.declared.fault.EncodeFault.TheVariants as fault
 use Rattle.wac_sorting.specs.declared.worlds.Worlds.{Worlds}
 use Rattle.wac_sorting.specs.Worlds.{declarations_of, is_written, SaysWorld, SayWorlds}
+use Rattle.wac_listing.proofs.Grown.{below-or-last}
 use Rattle.wac_encode.proofs.Growing.{GrowWorlds}
 use Rattle.wac_worlds.specs.Worlds.{is_plain_world, WritesWorld, IsWorldRefused}
 use Rattle.wac_worlds.specs.Nested.{AreTypesInside, AreWorldsAmong, AreWorlds, AllWritten, AreWorldsRefused}
@@ -115,17 +116,11 @@ passes-written c vs i w old now new false at h t =
     let less : unwritten_of new vs < unwritten_of now vs = fewer-left now new w t vs i at in
     subst (λ (s : Worlds). unwritten_of new vs < unwritten_of s vs) h.0 less
 
-split : (i n : ℕ) → i < n + 1 → (i < n) ⊎ (i ≡ n)
-split zero zero less = inr refl
-split zero (suc n) less = inl (omega arith)
-split (suc i) zero less = absurd (omega (arith, less))
-split (suc i) (suc n) less = elim (split i n (omega (arith, less))) [ inl k ↦ inl (omega (arith, k)) | inr e ↦ inr (ap suc e) ]
-
 pub passes-over : (c : Collection) (vs : List WorldId) (i : ℕ) (w : WorldId) (old now new : Worlds) (more : Bool) → slice_get vs i ≡ Some w → PassesTo c vs i old now more → TriesWorld c now new w false → PassesTo c vs (i + 1) old new more
 passes-over c vs i w old now new true at h t = subst (λ (s : Worlds). unwritten_of s vs < unwritten_of old vs) (sym t.same) h
 passes-over c vs i w old now new false at h t = (
   t.same ∙ h.0,
-  λ p v less here plain. elim (split p i less) [
+  λ p v less here plain. elim (below-or-last p i less) [
     | inl low ↦ subst (λ (s : Worlds). is_written s v ≡ true) (sym t.same) (h.1 p v low here (subst (λ (s : Worlds). is_plain_world s c v ≡ true) t.same plain))
     | inr last ↦ (
         let both : Some v ≡ Some w = sym here ∙ ap (slice_get vs) last ∙ at in

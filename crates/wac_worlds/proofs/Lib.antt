@@ -1,7 +1,10 @@
+pub mod Each
 pub mod Declared
 pub mod Ordered
 pub mod Together
 pub mod Whole
 pub mod Growing
 pub mod TypesInside
+pub mod Earlier
+pub mod NoResource
 pub mod Ahead

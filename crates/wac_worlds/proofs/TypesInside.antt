@@ -24,7 +24,8 @@ use Rattle.wac_reach.specs.Found.{with_all}
 use Rattle.wac_reach.specs.Reach.{IsIn}
 use Rattle.wac_reach.proofs.Lists.{in_at, at_in, all_old, all_new, all_only, all_grown}
 use Rattle.wac_reach.proofs.Universe.{types_of, found_few}
-use Rattle.wac_planning.proofs.Listing.{held-items}
+use Rattle.wac_listing.proofs.Grown.{same-place, lower-place, below-or-last}
+use Rattle.wac_listing.proofs.Listing.{held-items}
 use Rattle.wac_worlds.specs.Nested.{type_inside, listed_in, IsInsideBy, IsInsideOne, IsHolder, NamesOnce, AreTypesInside, and_type_inside, with_types_inside, AreWorldsAmong}
 use Rattle.wac_sorting.proofs.Ordered.{stands-there}
 use Rattle.wac_worlds.specs.Ahead.{ArePut, world_of}
@@ -209,35 +210,16 @@ pub put-further : (starts old now new : List AnyType) (i : ℕ) (u : AnyType) �
 put-further starts old now new i u at is w =
     subst (λ (us : List AnyType). ArePut us old new) (sym (ap (λ (k : ℕ). take k starts) (add-one i) ∙ take_at starts i u at)) (one-put (take i starts) old now new u w is)
 
--- positions of a list that has grown
-
-same-place : (xs more : List AnyType) (n : ℕ) (a b : AnyType) → slice_get xs n ≡ Some a → slice_get (xs ++ more) n ≡ Some b → b ≡ a
-same-place [] more n a b is also = let none_some : None ≡ Some a = is in cc
-same-place (x ∷ xs) more zero a b is also = let one : Some x ≡ Some a = is in let two : Some x ≡ Some b = also in let left : x ≡ a = cc in let right : x ≡ b = cc in sym right ∙ left
-same-place (x ∷ xs) more (suc n) a b is also = same-place xs more n a b is also
-
-lower-place : (xs more : List AnyType) (m n : ℕ) (a b : AnyType) → m < n → slice_get xs n ≡ Some a → slice_get (xs ++ more) m ≡ Some b → slice_get xs m ≡ Some b
-lower-place [] more m n a b less is also = let none_some : None ≡ Some a = is in cc
-lower-place (x ∷ xs) more zero n a b less is also = also
-lower-place (x ∷ xs) more (suc m) zero a b less is also = absurd (omega (arith, less))
-lower-place (x ∷ xs) more (suc m) (suc n) a b less is also = lower-place xs more m n a b (omega (arith, less)) is also
-
-split : (i n : ℕ) → i < n + 1 → (i < n) ⊎ (i ≡ n)
-split zero zero less = inr refl
-split zero (suc n) less = inl (omega arith)
-split (suc i) zero less = absurd (omega (arith, less))
-split (suc i) (suc n) less = elim (split i n (omega (arith, less))) [ inl k ↦ inl (omega (arith, k)) | inr e ↦ inr (ap suc e) ]
-
 -- one more was looked at
 pub found-next : (c : Collection) → IsWellFormed c → (starts ts new : List AnyType) (next : ℕ) (v : AnyType) → slice_get ts next ≡ Some v → new ≡ with_types_inside ts (listed_in c v) → NamesOnce c v → AreFound c starts ts next → AreFound c starts new (next + 1)
 found-next c wf starts ts new next v at put names f = subst (λ (us : List AnyType). AreFound c starts us (next + 1)) (sym put) (record {
   first = λ t h. p.old_in t (f.first t h);
   only = λ u h. member u (p.only u h);
-  once = λ n x less is. elim (split n next less) [
+  once = λ n x less is. elim (below-or-last n next less) [
     | inl low ↦ f.once n x low (lower-place ts p.more n next v x low at (there n x is))
     | inr same ↦ subst (NamesOnce c) (sym (this n x same is)) names
   ];
-  found = λ n x q e u less is here of. elim (split n next less) [
+  found = λ n x q e u less is here of. elim (below-or-last n next less) [
     | inl low ↦ p.old_in u (f.found n x q e u low (lower-place ts p.more n next v x low at (there n x is)) here of)
     | inr same ↦ p.put q e u (ap (λ (y : AnyType). slice_get (listed_in c y) q) (sym (this n x same is)) ∙ here) of
   ];
@@ -276,10 +258,7 @@ all-found c starts ts next past f = record {
 pub few-found : (c : Collection) (starts ts : List AnyType) (next : ℕ) → IsDistinct (TypeEq.ghosts).eq ts → AreFound c starts ts next → length ts ≤ length (types_of c)
 few-found c starts ts next once f = found_few c ts once (λ u h. holder-held c u (f.only u h).0)
 
--- the type at the next position, of a slice that shows what is found
-pub shown-at : (shown ts : List AnyType) (next : ℕ) (t : AnyType) → shown ≡ ts → next < length shown → slice_get ts next ≡ Some (get_or shown next t)
-shown-at shown ts next t same less = ap (λ (xs : List AnyType). slice_get xs next) (sym same) ∙ slice_get-get_or shown next t less
-
+-- the type at the next position
 pub here-is : (c : Collection) (starts ts : List AnyType) (next : ℕ) (u : AnyType) → AreFound c starts ts next → slice_get ts next ≡ Some u → IsHolder c u
 here-is c starts ts next u f at = (f.only u (in_at u ts next at)).0
 

@@ -7,15 +7,15 @@ use Rattle.wac_primitives.specs.Name.{Name, option_case}
 use Rattle.wac_shapes.specs.Kinds.{kind_type}
 use Rattle.wac_shapes.proofs.Names.{take_at}
 use Rattle.wac_shapes.specs.declared.component.ItemKind.{ItemKind}
-use Rattle.wac_shapes.specs.declared.component.UsedType.{UsedType}
 use Rattle.wac_shapes.specs.declared.component.World.{World}
 use Rattle.wac_shapes.specs.declared.component.WorldId.{WorldId}
 use Rattle.wac_shapes.specs.declared.component.«Type».{«Type» as AnyType}
 use Rattle.wac_collection.specs.declared.collection.Held.{Held}
 use Rattle.wac_primitives.specs.Tree.{imported, exported, Tree, component}
-use Rattle.wac_collection.specs.Collection.{Collection, IsWellFormed, IsBefore, holds_type, item_at, item_of, kind_types, used_types}
+use Rattle.wac_collection.specs.Collection.{Collection, IsWellFormed, IsBefore, holds_type, item_at, item_of, kind_types}
 use Rattle.wac_collection.specs.Bound.{Bindings, bound_by_imports, bound_in_world}
 use Rattle.wac_collection.proofs.Growth.{type_within}
+use Rattle.wac_listing.proofs.Listing.{of-kinds, behind-uses}
 use Rattle.wac_binary.specs.Items.{Decl}
 use Rattle.wac_scopes.specs.declared.encodable.Encodable.TheVariants.{Component}
 use Rattle.wac_scopes.specs.declared.fault.EncodeFault.{EncodeFault}
@@ -70,21 +70,12 @@ plain-parts ws c x plain = both-true (are_declarable ws c x.imports) (are_declar
 
 -- what a world lists is held
 
-of-kinds : (c : Collection) (n : ℕ) (es : List (Name × ItemKind)) (ts : List AnyType) → AllByRecursion (IsBefore c n) (kind_types es ++ ts) → (k : ℕ) (e : Name × ItemKind) → slice_get es k ≡ Some e → IsBefore c n (kind_type e.1)
-of-kinds c n [] ts a k e at = let none_some : None ≡ Some e = at in cc
-of-kinds c n (x ∷ es) ts a zero e at = let both : Some x ≡ Some e = at in let same : x ≡ e = cc in subst (λ (y : Name × ItemKind). IsBefore c n (kind_type y.1)) same a.0
-of-kinds c n (x ∷ es) ts a (suc k) e at = of-kinds c n es ts a.1 k e at
+pub of-first-kinds : (c : Collection) (n : ℕ) (es : List (Name × ItemKind)) (ts : List AnyType) → AllByRecursion (IsBefore c n) (kind_types es ++ ts) → (k : ℕ) (e : Name × ItemKind) → slice_get es k ≡ Some e → IsBefore c n (kind_type e.1)
+of-first-kinds c n [] ts a k e at = let none_some : None ≡ Some e = at in cc
+of-first-kinds c n (x ∷ es) ts a zero e at = let both : Some x ≡ Some e = at in let same : x ≡ e = cc in subst (λ (y : Name × ItemKind). IsBefore c n (kind_type y.1)) same a.0
+of-first-kinds c n (x ∷ es) ts a (suc k) e at = of-first-kinds c n es ts a.1 k e at
 
-of-last-kinds : (c : Collection) (n : ℕ) (es : List (Name × ItemKind)) → AllByRecursion (IsBefore c n) (kind_types es) → (k : ℕ) (e : Name × ItemKind) → slice_get es k ≡ Some e → IsBefore c n (kind_type e.1)
-of-last-kinds c n [] a k e at = let none_some : None ≡ Some e = at in cc
-of-last-kinds c n (x ∷ es) a zero e at = let both : Some x ≡ Some e = at in let same : x ≡ e = cc in subst (λ (y : Name × ItemKind). IsBefore c n (kind_type y.1)) same a.0
-of-last-kinds c n (x ∷ es) a (suc k) e at = of-last-kinds c n es a.1 k e at
-
-behind-uses : (c : Collection) (n : ℕ) (us : List (Name × UsedType)) (ts : List AnyType) → AllByRecursion (IsBefore c n) (used_types us ++ ts) → AllByRecursion (IsBefore c n) ts
-behind-uses c n [] ts a = a
-behind-uses c n (u ∷ us) ts a = behind-uses c n us ts a.1
-
-behind-kinds : (c : Collection) (n : ℕ) (es : List (Name × ItemKind)) (ts : List AnyType) → AllByRecursion (IsBefore c n) (kind_types es ++ ts) → AllByRecursion (IsBefore c n) ts
+pub behind-kinds : (c : Collection) (n : ℕ) (es : List (Name × ItemKind)) (ts : List AnyType) → AllByRecursion (IsBefore c n) (kind_types es ++ ts) → AllByRecursion (IsBefore c n) ts
 behind-kinds c n [] ts a = a
 behind-kinds c n (e ∷ es) ts a = behind-kinds c n es ts a.1
 
@@ -101,8 +92,8 @@ held-sides c wf w x at = by_item (slice_get c.worlds w.0) refl at
         let same : h.item ≡ x = cc in
         let listed = behind-uses c h.before h.item.uses (kind_types h.item.imports ++ kind_types h.item.exports) (wf.worlds w.0 h is).1 in
         subst (λ (y : World). ListsHeld c y.imports × ListsHeld c y.exports) same (
-          (λ k e here. type_within c h.before (kind_type e.1) (of-kinds c h.before h.item.imports (kind_types h.item.exports) listed k e here)),
-          (λ k e here. type_within c h.before (kind_type e.1) (of-last-kinds c h.before h.item.exports (behind-kinds c h.before h.item.imports (kind_types h.item.exports) listed) k e here)),
+          (λ k e here. type_within c h.before (kind_type e.1) (of-first-kinds c h.before h.item.imports (kind_types h.item.exports) listed k e here)),
+          (λ k e here. type_within c h.before (kind_type e.1) (of-kinds c h.before h.item.exports (behind-kinds c h.before h.item.imports (kind_types h.item.exports) listed) k e here)),
         )
 
 pub held-imports : (c : Collection) → IsWellFormed c → (w : WorldId) (x : World) → item_at c.worlds w.0 ≡ Some x → ListsHeld c x.imports

@@ -3,9 +3,10 @@ use Rattle.wac_shapes.specs.declared.component.«Type».{«Type» as AnyType}
 use Rattle.wac_reach.specs.Reach.{IsIn}
 use Rattle.wac_reach.proofs.Lists.{in_at}
 use Rattle.wac_worlds.specs.Nested.{AreTypesInside}
+use Rattle.wac_worlds.proofs.Earlier.{found-held}
 use Rattle.wac_importing.specs.Written.{holders_of}
 use Rattle.wac_importing.proofs.Ahead.{holders_held}
-use Rattle.wac_importing.proofs.Nested.{found_held, all_inside}
+use Rattle.wac_importing.proofs.Nested.{all_inside}
 use Rattle.wac_importing.proofs.Beside.{not_yet}
 use Rattle.wac_importing.proofs.importable.have_plain_items.Goals as goal
 
@@ -17,7 +18,7 @@ list_plain_alone-requires-clause-held c =
     let t = c.args.types.now in
     let hs = holders_of c.args.items.now in
     let a : AreTypesInside t hs c.as_slice-2.result.now = subst (λ (ts : List AnyType). AreTypesInside t ts c.as_slice-2.result.now) (c.as_slice.ensures.value ∙ c.in_ok-holders.ensures) (subst (AreTypesInside t c.as_slice.result.now) (sym c.as_slice-2.ensures.keys) c.in_ok-inside.ensures) in
-    found_held t hs c.as_slice-2.result.now a
+    found-held t hs c.as_slice-2.result.now a
 
 pub returns-clause-plain : goal.returns-clause-plain
 returns-clause-plain c h =

@@ -1,7 +1,7 @@
 use Rattle.std.proofs.Common.{Ok, arith, ap, ◌∙◌}
 use Rattle.std.proofs.lemmas.Option.{slice_get-get_or}
+use Rattle.wac_worlds.proofs.Each.{each-next, each-end}
 use Rattle.wac_importing.specs.Looked.{ListsPlainAlone}
-use Rattle.wac_importing.proofs.Lists.{each_next, each_end}
 use Rattle.wac_importing.proofs.importable.list_plain_alone.Goals as goal
 
 pub lists_plain_alone-requires-clause-held : goal.lists_plain_alone-requires-clause-held
@@ -19,12 +19,12 @@ returns-then-not-branch-clause-not c h =
 
 pub loop-i-preserved : goal.loop-i-preserved
 loop-i-preserved c = let less = c.loop-i-test.true in (
-  each_next (ListsPlainAlone c.args.types.now) c.args.inside.now c.loop-i.i _ (slice_get-get_or c.args.inside.now c.loop-i.i _ (omega (arith, less))) (c.lists_plain_alone.ensures.plain (c.in_ok-lists_plain_alone.was ∙ ap Ok c.if-not-branch.false)) c.loop-i.invariant.0,
+  each-next (ListsPlainAlone c.args.types.now) c.args.inside.now c.loop-i.i _ (slice_get-get_or c.args.inside.now c.loop-i.i _ (omega (arith, less))) (c.lists_plain_alone.ensures.plain (c.in_ok-lists_plain_alone.was ∙ ap Ok c.if-not-branch.false)) c.loop-i.invariant.0,
   c.lists_plain_alone.ensures.free (c.in_ok-lists_plain_alone.was ∙ ap Ok c.if-not-branch.false),
 )
 
 pub returns-clause-plain : goal.returns-clause-plain
-returns-clause-plain c h = let past = c.loop-i-test.false in each_end (ListsPlainAlone c.args.types.now) c.args.inside.now c.loop-i.i (omega (arith, past)) c.loop-i.invariant.0
+returns-clause-plain c h = let past = c.loop-i-test.false in each-end (ListsPlainAlone c.args.types.now) c.args.inside.now c.loop-i.i (omega (arith, past)) c.loop-i.invariant.0
 
 pub returns-clause-free : goal.returns-clause-free
 returns-clause-free c h = c.loop-i.invariant.1

@@ -5,7 +5,8 @@ use Rattle.wac_shapes.specs.declared.component.«Type».{«Type» as AnyType}
 use Rattle.wac_reach.proofs.Universe.{types_of}
 use Rattle.wac_listing.specs.Made.{AreMadeOf}
 use Rattle.wac_listing.specs.Found.{items_ends, definitions_in}
-use Rattle.wac_listing.proofs.Making.{AreFound, listed-held, found-first, found-all, found-next, shown-at, here-held, of-one, few-found, if-ok, all-held}
+use Rattle.wac_listing.proofs.Grown.{shown-at}
+use Rattle.wac_listing.proofs.Making.{AreFound, listed-held, found-first, found-all, found-next, here-held, of-one, few-found, if-ok, all-held}
 use Rattle.wac_listing.proofs.made.definitions_of.Goals as goal
 
 pub put_items-requires : goal.put_items-requires

@@ -3,7 +3,8 @@ use Rattle.std.proofs.Common.{arith, ap, sym, subst, ◌∙◌, ◌<◌, ◌≤�
 use Rattle.wac_shapes.specs.declared.component.«Type».{«Type» as AnyType}
 use Rattle.wac_reach.proofs.Universe.{types_of}
 use Rattle.wac_listing.specs.Found.{items_ends, items_among}
-use Rattle.wac_listing.proofs.Making.{AreFound, found-first, found-all, found-next, shown-at, here-held, few-found, all-held, definition-at}
+use Rattle.wac_listing.proofs.Grown.{shown-at}
+use Rattle.wac_listing.proofs.Making.{AreFound, found-first, found-all, found-next, here-held, few-found, all-held, definition-at}
 use Rattle.wac_listing.proofs.Owning.{own-held}
 use Rattle.wac_listing.proofs.made.found_among.Goals as goal
 

@@ -5,7 +5,8 @@ use Rattle.wac_shapes.specs.declared.component.ValueType.TheVariants as val
 use Rattle.wac_shapes.specs.declared.component.«Type».{«Type» as AnyType}
 use Rattle.wac_shapes.specs.declared.component.«Type».TheVariants as ty
 use Rattle.wac_collection.specs.Collection.{holds_type}
-use Rattle.wac_listing.proofs.Making.{AreHeld, exports-held, exports-are, parts-put, defined-held, on-ok}
+use Rattle.wac_listing.proofs.Listing.{exports-are}
+use Rattle.wac_listing.proofs.Making.{AreHeld, exports-held, parts-put, defined-held, on-ok}
 use Rattle.wac_listing.proofs.made.put_type.Goals as goal
 
 pub put_items-requires : goal.put_items-requires

@@ -3,7 +3,7 @@ use Rattle.std.specs.List.{AllZip}
 use Rattle.std.proofs.Common.{subst, ◌≡◌, Some, ℕ, List}
 use Rattle.wac_shapes.specs.Named.{named_pairs}
 use Rattle.wac_listing.specs.Order.{is_value_type_at}
-use Rattle.wac_planning.proofs.Listing.{held-items}
+use Rattle.wac_listing.proofs.Listing.{held-items}
 use Rattle.wac_sorting.proofs.Ordered.{Stand, taken-within, type-within, order-of}
 use Rattle.wac_sorting.proofs.order.item_order.Goals as goal
 

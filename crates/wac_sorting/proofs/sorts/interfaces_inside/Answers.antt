@@ -1,6 +1,7 @@
 use Rattle.std.proofs.Common.{arith, ap, ◌<◌, ◌≤◌, length}
 use Rattle.wac_reach.proofs.Universe.{types_of}
-use Rattle.wac_sorting.proofs.Inside.{found-on, all-found, few-found, shown-at, here-is}
+use Rattle.wac_listing.proofs.Grown.{shown-at}
+use Rattle.wac_sorting.proofs.Inside.{found-on, all-found, few-found, here-is}
 use Rattle.wac_sorting.proofs.sorts.interfaces_inside.Goals as goal
 
 pub put_inside-requires : goal.put_inside-requires

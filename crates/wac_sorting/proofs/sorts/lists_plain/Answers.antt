@@ -2,9 +2,10 @@ use Rattle.std.specs.Prelude.{◌≡◌, true}
 use Rattle.std.proofs.Common.{refl, arith, sym, subst, ◌∙◌, ◌<◌, ◌≤◌, List, length, nat_lt}
 use Rattle.std.proofs.lemmas.Bool.{OnTrue_at}
 use Rattle.wac_shapes.specs.declared.component.«Type».{«Type» as AnyType}
+use Rattle.wac_listing.proofs.Grown.{shown-at}
 use Rattle.wac_sorting.specs.Inside.{AreInside}
 use Rattle.wac_sorting.proofs.Flat.{flat-plain}
-use Rattle.wac_sorting.proofs.Inside.{shown-at, inside-held, plain-next, plain-all, not-all}
+use Rattle.wac_sorting.proofs.Inside.{inside-held, plain-next, plain-all, not-all}
 use Rattle.wac_sorting.proofs.sorts.lists_plain.Goals as goal
 
 pub returns-then-is_flat : goal.returns-then-is_flat

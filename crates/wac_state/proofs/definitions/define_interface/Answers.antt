@@ -10,13 +10,14 @@ use Rattle.wac_sorting.specs.Sorts.{lists_plain}
 use Rattle.wac_root.specs.Components.{HasId, component_tree, SaysComponent, WritesComponent, IsComponentRefused}
 use Rattle.wac_root.proofs.ComponentTypes.{ends-with-component}
 use Rattle.wac_worlds.specs.Nested.{IsHolder}
+use Rattle.wac_worlds.proofs.Ahead.{as-held, of-held, say}
+use Rattle.wac_worlds.proofs.Each.{one-start}
+use Rattle.wac_worlds.proofs.NoResource.{interface-plain}
 use Rattle.wac_worlds.proofs.TypesInside.{holder-held}
-use Rattle.wac_state.proofs.Ahead.{as-held, of-held, say}
 use Rattle.wac_state.proofs.Growth.{grows-same}
 use Rattle.wac_state.proofs.Indexes.{component-index, component-grows}
-use Rattle.wac_state.proofs.Lists.{one_start}
+use Rattle.wac_state.proofs.Lists.{not-listed}
 use Rattle.wac_state.proofs.Named.{is-named-interface, unnamed-interface}
-use Rattle.wac_state.proofs.Plain.{lists}
 use Rattle.wac_state.proofs.Refusals.{unnamed-refused, inside-refused, component-refused, component-too-large}
 use Rattle.wac_state.proofs.definitions.define_interface.Goals as goal
 
@@ -86,7 +87,7 @@ returns-then-listed-clause-grows c = grows-same c.still_law.ensures c.args.types
 
 -- where a world inside is refused
 pub worlds_inside-requires : goal.worlds_inside-requires
-worlds_inside-requires c = one_start (IsHolder c.args.types.now) (ty.Interface c.args.interface) c.requires
+worlds_inside-requires c = one-start (IsHolder c.args.types.now) (ty.Interface c.args.interface) c.requires
 
 pub returns-in_err-worlds-clause-unnamed : goal.returns-in_err-worlds-clause-unnamed
 returns-in_err-worlds-clause-unnamed c never = is-named-interface c.args.types.now c.args.interface c.index.result.now c.in-Some.id c.index.ensures c.in-Some.is never
@@ -117,7 +118,7 @@ interface_component-requires-clause-say c = as-held SayWorlds c.args.types.now c
 pub interface_component-requires-clause-plain : goal.interface_component-requires-clause-plain
 interface_component-requires-clause-plain c =
     as-held (λ types ws. lists_plain ws types c.args.interface ≡ true) c.args.types.now c.new.result.types.now c.in_ok-worlds.worlds c.new.result.worlds.now c.new.ensures.types c.new.ensures.worlds
-    (lists c.args.types.now c.law.ensures c.in_ok-worlds.worlds c.args.interface (holder-held c.args.types.now (ty.Interface c.args.interface) c.requires) (c.in_ok-listed.ensures.none c.if-listed.false) c.in_ok-worlds.ensures.all)
+    (interface-plain c.args.types.now c.law.ensures c.in_ok-worlds.worlds c.args.interface (holder-held c.args.types.now (ty.Interface c.args.interface) c.requires) (not-listed c.args.types.now (ty.Interface c.args.interface) (c.in_ok-listed.ensures.none c.if-listed.false)) c.in_ok-worlds.ensures.all)
 
 pub interface_component-requires-clause-id : goal.interface_component-requires-clause-id
 interface_component-requires-clause-id c = subst (λ (t : Collection). HasId t c.args.interface c.as_str.result.now) (sym c.new.ensures.types) (c.index.result.now, c.index.ensures, c.in-Some.is ∙ ap Some (sym c.as_str.ensures))

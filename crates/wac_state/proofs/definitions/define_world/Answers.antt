@@ -10,13 +10,14 @@ use Rattle.wac_root.specs.Components.{world_component_tree}
 use Rattle.wac_worlds.specs.Worlds.{is_plain_world}
 use Rattle.wac_components.specs.Definitions.{HasWorldId, SaysUnderId, WritesUnderId, IsUnderIdRefused}
 use Rattle.wac_worlds.specs.Nested.{IsHolder}
+use Rattle.wac_worlds.proofs.Ahead.{as-held, of-held, say}
+use Rattle.wac_worlds.proofs.Each.{one-start}
+use Rattle.wac_worlds.proofs.NoResource.{world-plain}
 use Rattle.wac_worlds.proofs.TypesInside.{holder-held}
-use Rattle.wac_state.proofs.Ahead.{as-held, of-held, say}
 use Rattle.wac_state.proofs.Growth.{grows-same}
 use Rattle.wac_state.proofs.Indexes.{component-index, component-grows}
-use Rattle.wac_state.proofs.Lists.{one_start}
+use Rattle.wac_state.proofs.Lists.{not-listed}
 use Rattle.wac_state.proofs.Named.{is-named-world, unnamed-world}
-use Rattle.wac_state.proofs.Plain.{world_written}
 use Rattle.wac_state.proofs.Refusals.{unnamed-refused, inside-refused, under-id-refused, under-id-too-large}
 use Rattle.wac_state.proofs.definitions.define_world.Goals as goal
 
@@ -86,7 +87,7 @@ returns-then-listed-clause-grows c = grows-same c.still_law.ensures c.args.types
 
 -- where a world inside is refused
 pub worlds_inside-requires : goal.worlds_inside-requires
-worlds_inside-requires c = one_start (IsHolder c.args.types.now) (ty.World c.args.world) c.requires
+worlds_inside-requires c = one-start (IsHolder c.args.types.now) (ty.World c.args.world) c.requires
 
 pub returns-in_err-worlds-clause-unnamed : goal.returns-in_err-worlds-clause-unnamed
 returns-in_err-worlds-clause-unnamed c never = is-named-world c.args.types.now c.args.world c.index.result.now c.in-Some.id c.index.ensures c.in-Some.is never
@@ -117,7 +118,7 @@ world_component-requires-clause-say c = as-held SayWorlds c.args.types.now c.new
 pub world_component-requires-clause-plain : goal.world_component-requires-clause-plain
 world_component-requires-clause-plain c =
     as-held (λ types ws. is_plain_world ws types c.args.world ≡ true) c.args.types.now c.new.result.types.now c.in_ok-worlds.worlds c.new.result.worlds.now c.new.ensures.types c.new.ensures.worlds
-    (world_written c.args.types.now c.law.ensures c.in_ok-worlds.worlds c.args.world (holder-held c.args.types.now (ty.World c.args.world) c.requires) (c.in_ok-listed.ensures.none c.if-listed.false) c.in_ok-worlds.ensures.all)
+    (world-plain c.args.types.now c.law.ensures c.in_ok-worlds.worlds c.args.world (holder-held c.args.types.now (ty.World c.args.world) c.requires) (not-listed c.args.types.now (ty.World c.args.world) (c.in_ok-listed.ensures.none c.if-listed.false)) c.in_ok-worlds.ensures.all)
 
 pub world_component-requires-clause-id : goal.world_component-requires-clause-id
 world_component-requires-clause-id c = subst (λ (t : Collection). HasWorldId t c.args.world c.as_str.result.now) (sym c.new.ensures.types) (c.index.result.now, c.index.ensures, c.in-Some.is ∙ ap Some (sym c.as_str.ensures))

@@ -2,8 +2,8 @@ use Rattle.std.proofs.Common.{arith}
 use Rattle.std.proofs.lemmas.Option.{slice_get-get_or}
 use Rattle.wac_shapes.specs.declared.component.«Type».{«Type» as AnyType}
 use Rattle.wac_worlds.specs.Nested.{listed_in}
+use Rattle.wac_worlds.proofs.Each.{each-next, each-end}
 use Rattle.wac_state.specs.Held.{AreNoResources}
-use Rattle.wac_state.proofs.Lists.{each_next, each_end}
 use Rattle.wac_state.proofs.resources.list_resource.Goals as goal
 
 pub lists_resource_alone-requires : goal.lists_resource_alone-requires
@@ -13,7 +13,7 @@ pub returns-then-lists_resource_alone-clause-some : goal.returns-then-lists_reso
 returns-then-lists_resource_alone-clause-some c h all = let less = c.loop-i-test.true in c.lists_resource_alone.ensures.some c.if-lists_resource_alone.true (all c.loop-i.i _ (slice_get-get_or c.args.inside.now c.loop-i.i _ (omega (arith, less))))
 
 pub loop-i-preserved : goal.loop-i-preserved
-loop-i-preserved c = let less = c.loop-i-test.true in each_next (λ (t : AnyType). AreNoResources (listed_in c.args.types.now t)) c.args.inside.now c.loop-i.i _ (slice_get-get_or c.args.inside.now c.loop-i.i _ (omega (arith, less))) (c.lists_resource_alone.ensures.none c.if-lists_resource_alone.false) c.loop-i.invariant
+loop-i-preserved c = let less = c.loop-i-test.true in each-next (λ (t : AnyType). AreNoResources (listed_in c.args.types.now t)) c.args.inside.now c.loop-i.i _ (slice_get-get_or c.args.inside.now c.loop-i.i _ (omega (arith, less))) (c.lists_resource_alone.ensures.none c.if-lists_resource_alone.false) c.loop-i.invariant
 
 pub returns-clause-none : goal.returns-clause-none
-returns-clause-none c h = let past = c.loop-i-test.false in each_end (λ (t : AnyType). AreNoResources (listed_in c.args.types.now t)) c.args.inside.now c.loop-i.i (omega (arith, past)) c.loop-i.invariant
+returns-clause-none c h = let past = c.loop-i-test.false in each-end (λ (t : AnyType). AreNoResources (listed_in c.args.types.now t)) c.args.inside.now c.loop-i.i (omega (arith, past)) c.loop-i.invariant

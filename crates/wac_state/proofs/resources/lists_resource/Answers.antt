@@ -1,15 +1,17 @@
 use Rattle.std.proofs.Common.{[], ◌∷◌, sym, subst}
 use Rattle.wac_worlds.specs.Nested.{IsHolder, AreTypesInside}
-use Rattle.wac_state.proofs.Lists.{one_start, found-held, none-inside, all-inside, holder-none, none-holder}
+use Rattle.wac_worlds.proofs.Each.{one-start}
+use Rattle.wac_worlds.proofs.Earlier.{found-held}
+use Rattle.wac_state.proofs.Lists.{none-inside, all-inside, holder-none, none-holder}
 use Rattle.wac_state.proofs.resources.lists_resource.Goals as goal
 
 pub types_inside-requires : goal.types_inside-requires
-types_inside-requires c = one_start (IsHolder c.args.types.now) c.args.ty c.requires
+types_inside-requires c = one-start (IsHolder c.args.types.now) c.args.ty c.requires
 
 pub list_resource-requires : goal.list_resource-requires
 list_resource-requires c =
     let t = c.args.types.now in
-    found-held t c.args.ty c.as_slice.result.now (subst (AreTypesInside t (c.args.ty ∷ [])) (sym c.as_slice.ensures.keys) c.in_ok-inside.ensures)
+    found-held t (c.args.ty ∷ []) c.as_slice.result.now (subst (AreTypesInside t (c.args.ty ∷ [])) (sym c.as_slice.ensures.keys) c.in_ok-inside.ensures)
 
 pub returns-clause-none : goal.returns-clause-none
 returns-clause-none c h =

@@ -13,24 +13,25 @@ use Rattle.wac_sorting.specs.Sorts.{lists_plain}
 use Rattle.wac_encode.specs.Instances.{AddsHeldInterface, IsInterfaceAt, IsInstanceRefused}
 use Rattle.wac_root.proofs.Importing.{nothing-of}
 use Rattle.wac_worlds.specs.Nested.{IsHolder}
+use Rattle.wac_worlds.proofs.Ahead.{as-held, of-held, say}
+use Rattle.wac_worlds.proofs.Each.{one-start}
+use Rattle.wac_worlds.proofs.NoResource.{interface-plain}
 use Rattle.wac_worlds.proofs.TypesInside.{holder-held}
-use Rattle.wac_state.proofs.Ahead.{as-held, of-held, say}
 use Rattle.wac_state.proofs.Growth.{grows-same, grows-written}
 use Rattle.wac_state.proofs.Indexes.{held-index}
-use Rattle.wac_state.proofs.Lists.{one_start}
-use Rattle.wac_state.proofs.Plain.{lists}
+use Rattle.wac_state.proofs.Lists.{not-listed}
 use Rattle.wac_state.proofs.Refusals.{worlds-refused, instance-refused}
 use Rattle.wac_state.proofs.types.write_interface.Goals as goal
 
 pub worlds_inside-requires : goal.worlds_inside-requires
-worlds_inside-requires c = one_start (IsHolder c.args.types.now) (ty.Interface c.args.interface) c.requires
+worlds_inside-requires c = one-start (IsHolder c.args.types.now) (ty.Interface c.args.interface) c.requires
 
 pub instance-requires-clause-say : goal.instance-requires-clause-say
 instance-requires-clause-say c = as-held SayWorlds c.args.types.now c.new.result.types.now c.in_ok-worlds.worlds c.new.result.worlds.now c.new.ensures.types c.new.ensures.worlds (say c.args.types.now c.in_ok-worlds.worlds c.in_ok-worlds.ensures.are)
 
 pub instance-requires-clause-plain : goal.instance-requires-clause-plain
 instance-requires-clause-plain c = as-held (λ types ws. lists_plain ws types c.args.interface ≡ true) c.args.types.now c.new.result.types.now c.in_ok-worlds.worlds c.new.result.worlds.now c.new.ensures.types c.new.ensures.worlds
-    (lists c.args.types.now c.law.ensures c.in_ok-worlds.worlds c.args.interface (holder-held c.args.types.now (ty.Interface c.args.interface) c.requires) (c.in_ok-listed.ensures.none c.if-listed.false) c.in_ok-worlds.ensures.all)
+    (interface-plain c.args.types.now c.law.ensures c.in_ok-worlds.worlds c.args.interface (holder-held c.args.types.now (ty.Interface c.args.interface) c.requires) (not-listed c.args.types.now (ty.Interface c.args.interface) (c.in_ok-listed.ensures.none c.if-listed.false)) c.in_ok-worlds.ensures.all)
 
 -- where resources could not be looked for
 pub returns-in_err-listed-clause-refused : goal.returns-in_err-listed-clause-refused

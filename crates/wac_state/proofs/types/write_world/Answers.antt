@@ -12,24 +12,25 @@ use Rattle.wac_defining.specs.Written.{WritesFor}
 use Rattle.wac_encode.specs.Listing.{NeededBy}
 use Rattle.wac_root.proofs.Importing.{nothing-of}
 use Rattle.wac_worlds.specs.Nested.{IsHolder}
+use Rattle.wac_worlds.proofs.Ahead.{as-held, of-held, say}
+use Rattle.wac_worlds.proofs.Each.{one-start}
+use Rattle.wac_worlds.proofs.NoResource.{world-ahead}
 use Rattle.wac_worlds.proofs.TypesInside.{holder-held}
-use Rattle.wac_state.proofs.Ahead.{as-held, of-held, say}
 use Rattle.wac_state.proofs.Growth.{grows-same, grows-written}
 use Rattle.wac_state.proofs.Indexes.{held-index}
-use Rattle.wac_state.proofs.Lists.{one_start}
-use Rattle.wac_state.proofs.Plain.{world_ahead}
+use Rattle.wac_state.proofs.Lists.{not-listed}
 use Rattle.wac_state.proofs.Refusals.{worlds-refused, world-refused}
 use Rattle.wac_state.proofs.types.write_world.Goals as goal
 
 pub worlds_inside-requires : goal.worlds_inside-requires
-worlds_inside-requires c = one_start (IsHolder c.args.types.now) (ty.World c.args.world) c.requires
+worlds_inside-requires c = one-start (IsHolder c.args.types.now) (ty.World c.args.world) c.requires
 
 pub world-requires-clause-say : goal.world-requires-clause-say
 world-requires-clause-say c = as-held SayWorlds c.args.types.now c.new.result.types.now c.in_ok-worlds.worlds c.new.result.worlds.now c.new.ensures.types c.new.ensures.worlds (say c.args.types.now c.in_ok-worlds.worlds c.in_ok-worlds.ensures.are)
 
 pub world-requires-clause-ahead : goal.world-requires-clause-ahead
 world-requires-clause-ahead c = as-held (λ types ws. is_written ws c.args.world ≡ true) c.args.types.now c.new.result.types.now c.in_ok-worlds.worlds c.new.result.worlds.now c.new.ensures.types c.new.ensures.worlds
-    (world_ahead c.args.types.now c.law.ensures c.in_ok-worlds.worlds c.args.world (holder-held c.args.types.now (ty.World c.args.world) c.requires) (c.in_ok-listed.ensures.none c.if-listed.false) c.in_ok-worlds.ensures.all)
+    (world-ahead c.args.types.now c.law.ensures c.in_ok-worlds.worlds c.args.world (holder-held c.args.types.now (ty.World c.args.world) c.requires) (not-listed c.args.types.now (ty.World c.args.world) (c.in_ok-listed.ensures.none c.if-listed.false)) c.in_ok-worlds.ensures.all)
 
 -- where resources could not be looked for
 pub returns-in_err-listed-clause-refused : goal.returns-in_err-listed-clause-refused

@@ -1,7 +1,7 @@
 use Rattle.std.proofs.Common.{arith, ◌≤◌, length, sym, subst}
+use Rattle.wac_worlds.proofs.TypesInside.{imports-named, outside-named}
 use Rattle.wac_worlds.proofs.Whole.{held-imports, held-exports}
 use Rattle.wac_state.specs.Defined.{ItemsUseNothing}
-use Rattle.wac_state.proofs.Before.{imports_are, world_exports_are}
 use Rattle.wac_state.proofs.Used.{none-by-world, few-by-world}
 use Rattle.wac_state.proofs.uses.world_uses.Goals as goal
 
@@ -19,15 +19,15 @@ returns-then-len-gt0-clause-some c h so =
     omega (arith, some, l, none)
 
 pub returns-then-items_use-clause-some : goal.returns-then-items_use-clause-some
-returns-then-items_use-clause-some c h so = c.items_use.ensures.some c.if-items_use.true (subst (ItemsUseNothing c.args.types.now) (imports_are c.args.types.now c.args.world c.index-held.result.now c.index-held.ensures) so.1)
+returns-then-items_use-clause-some c h so = c.items_use.ensures.some c.if-items_use.true (subst (ItemsUseNothing c.args.types.now) (imports-named c.args.types.now c.args.world c.index-held.result.now c.index-held.ensures) so.1)
 
 pub returns-clause-nothing : goal.returns-clause-nothing
 returns-clause-nothing c h =
     let few : length c.index-held.result.now.uses ≤ 0 = (let l = c.len.ensures in let f = c.if-len-gt0.false in omega (arith, l, f)) in (
       none-by-world c.args.types.now c.args.world c.index-held.result.now c.index-held.ensures few,
-      subst (ItemsUseNothing c.args.types.now) (sym (imports_are c.args.types.now c.args.world c.index-held.result.now c.index-held.ensures)) (c.items_use.ensures.nothing c.if-items_use.false),
-      subst (ItemsUseNothing c.args.types.now) (sym (world_exports_are c.args.types.now c.args.world c.index-held.result.now c.index-held.ensures)) (c.items_use-2.ensures.nothing h),
+      subst (ItemsUseNothing c.args.types.now) (sym (imports-named c.args.types.now c.args.world c.index-held.result.now c.index-held.ensures)) (c.items_use.ensures.nothing c.if-items_use.false),
+      subst (ItemsUseNothing c.args.types.now) (sym (outside-named c.args.types.now c.args.world c.index-held.result.now c.index-held.ensures)) (c.items_use-2.ensures.nothing h),
     )
 
 pub returns-clause-some : goal.returns-clause-some
-returns-clause-some c h so = c.items_use-2.ensures.some h (subst (ItemsUseNothing c.args.types.now) (world_exports_are c.args.types.now c.args.world c.index-held.result.now c.index-held.ensures) so.2)
+returns-clause-some c h so = c.items_use-2.ensures.some h (subst (ItemsUseNothing c.args.types.now) (outside-named c.args.types.now c.args.world c.index-held.result.now c.index-held.ensures) so.2)

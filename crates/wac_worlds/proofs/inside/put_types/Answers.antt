@@ -2,8 +2,9 @@ use Rattle.std.specs.Prelude.{◌≡◌, List, length}
 use Rattle.std.proofs.Common.{arith, refl, subst}
 use Rattle.wac_shapes.specs.declared.component.«Type».{«Type» as AnyType}
 use Rattle.wac_sorting.proofs.Ordered.{all-of}
+use Rattle.wac_listing.proofs.Grown.{shown-at}
 use Rattle.wac_worlds.specs.Ahead.{ArePut}
-use Rattle.wac_worlds.proofs.TypesInside.{put-none, put-further, shown-at}
+use Rattle.wac_worlds.proofs.TypesInside.{put-none, put-further}
 use Rattle.wac_worlds.proofs.inside.put_types.Goals as goal
 
 pub loop-i-init : goal.loop-i-init

@@ -2,8 +2,9 @@ use Rattle.std.specs.Prelude.{List}
 use Rattle.std.proofs.Common.{arith, ap, subst, ◌<◌, ◌≤◌, length}
 use Rattle.wac_shapes.specs.declared.component.«Type».{«Type» as AnyType}
 use Rattle.wac_reach.proofs.Universe.{types_of}
+use Rattle.wac_listing.proofs.Grown.{shown-at}
 use Rattle.wac_worlds.specs.Ahead.{ArePut}
-use Rattle.wac_worlds.proofs.TypesInside.{found-first, found-next, all-found, few-found, shown-at, here-is}
+use Rattle.wac_worlds.proofs.TypesInside.{found-first, found-next, all-found, few-found, here-is}
 use Rattle.wac_worlds.proofs.inside.types_inside.Goals as goal
 
 pub loop-next-init : goal.loop-next-init

@@ -4,17 +4,18 @@ use Rattle.std.proofs.lemmas.List.{append-nil}
 use Rattle.wac_collection.specs.Collection.{interface_exports}
 use Rattle.wac_primitives.specs.Name.{option_case}
 use Rattle.wac_shapes.specs.declared.component.InterfaceId.{InterfaceId}
+use Rattle.wac_listing.proofs.Listing.{exports-are}
 use Rattle.wac_planning.specs.declared.growing.Growing.{Growing}
 use Rattle.wac_planning.specs.declared.growing.Visit.TheVariants.{Enter}
 use Rattle.wac_planning.specs.Planning.{enters}
-use Rattle.wac_planning.proofs.Looking.{exports-of, item-read, enters-more, enters-none, enters-all, enters-not}
+use Rattle.wac_planning.proofs.Looking.{item-read, enters-more, enters-none, enters-all, enters-not}
 use Rattle.wac_planning.proofs.planner.Planner.put_inside.Goals as goal
 
 pub loop-i-init : goal.loop-i-init
 loop-i-init c = record {
   kept = refl;
   within = omega (arith, c.len-i.ensures);
-  waits = enters-none c.args.place (interface_exports c.args.self.now.types.now c.args.interface) c.len-i.result c.args.growing.now.visits.items (c.len-i.ensures ∙ sym (ap length (exports-of c.args.self.now.types.now c.args.interface c.index.result.now c.index.ensures)));
+  waits = enters-none c.args.place (interface_exports c.args.self.now.types.now c.args.interface) c.len-i.result c.args.growing.now.visits.items (c.len-i.ensures ∙ sym (ap length (exports-are c.args.self.now.types.now c.args.interface c.index.result.now c.index.ensures)));
 }
 
 pub loop-i-preserved-in-Continue-1 : goal.loop-i-preserved-in-Continue-1

@@ -1,6 +1,6 @@
+use Rattle.wac_listing.proofs.Making.{if-ok}
 use Rattle.wac_defining.specs.Written.{Says}
 use Rattle.wac_state.specs.Root.{SaysHeld}
-use Rattle.wac_state.proofs.Answering.{if-ok}
 use Rattle.wac_state.proofs.Growth.{state, right-on, continues, says-held}
 use Rattle.wac_state.proofs.state.State.value_type.Goals as goal
 

@@ -1,8 +1,8 @@
 -- What an interface lists is held, and was added before it.
-use Rattle.std.specs.Prelude.{ℕ, zero, suc, ◌<◌, ◌≤◌, ◌≡◌, true, List, [], ◌∷◌, ◌++◌, Option, Some, None, slice_get}
+use Rattle.std.specs.Prelude.{ℕ, zero, suc, ◌<◌, ◌≤◌, ◌≡◌, true, List, [], ◌∷◌, ◌++◌, length, Option, Some, None, slice_get}
 use Rattle.std.specs.List.{AllByRecursion}
 use Rattle.std.proofs.Common.{refl, ap, ◌∙◌, subst, arith}
-use Rattle.wac_primitives.specs.Name.{Name}
+use Rattle.wac_primitives.specs.Name.{Name, option_case}
 use Rattle.wac_shapes.specs.Kinds.{kind_type}
 use Rattle.wac_shapes.specs.declared.component.Interface.{Interface}
 use Rattle.wac_shapes.specs.declared.component.InterfaceId.{InterfaceId}
@@ -11,19 +11,34 @@ use Rattle.wac_shapes.specs.declared.component.UsedType.{UsedType}
 use Rattle.wac_shapes.specs.declared.component.«Type».{«Type» as AnyType}
 use Rattle.wac_shapes.specs.declared.component.«Type».TheVariants as ty
 use Rattle.wac_collection.specs.declared.collection.Held.{Held}
-use Rattle.wac_collection.specs.Collection.{Collection, IsWellFormed, AddedBefore, IsBefore, holds_type, item_at, item_of, kind_types, used_types}
+use Rattle.wac_collection.specs.Collection.{Collection, IsWellFormed, AddedBefore, IsBefore, holds_type, interface_exports, item_at, item_of, kind_types, used_types}
 use Rattle.wac_collection.proofs.Growth.{added_more, value_more, type_within}
 
-of-kinds : (c : Collection) (n : ℕ) (es : List (Name × ItemKind)) → AllByRecursion (IsBefore c n) (kind_types es) → (k : ℕ) (e : Name × ItemKind) → slice_get es k ≡ Some e → IsBefore c n (kind_type e.1)
+-- what is there
+pub exports-are : (c : Collection) (i : InterfaceId) (it : Interface) → item_at c.interfaces i.0 ≡ Some it → interface_exports c i ≡ it.exports
+exports-are c i it at = ap (λ (o : Option Interface). option_case o [] (λ (x : Interface). x.exports)) at
+
+pub held-there : {A : Type 0} (xs : List (Held A)) (n : ℕ) → n < length xs → (x : A) × (item_at xs n ≡ Some x)
+held-there [] n less = absurd (omega (arith, less))
+held-there (x ∷ xs) zero less = (x.item, refl)
+held-there (x ∷ xs) (suc n) less = held-there xs n (omega (arith, less))
+
+-- nothing was added before all
+pub none-first : {A : Type 0} (o : Option (Held A)) → AddedBefore 0 o → ⊥
+none-first None low = low
+none-first (Some x) low = omega (arith, low)
+
+pub of-kinds : (c : Collection) (n : ℕ) (es : List (Name × ItemKind)) → AllByRecursion (IsBefore c n) (kind_types es) → (k : ℕ) (e : Name × ItemKind) → slice_get es k ≡ Some e → IsBefore c n (kind_type e.1)
 of-kinds c n [] a k e at = let none_some : None ≡ Some e = at in cc
 of-kinds c n (x ∷ es) a zero e at = let both : Some x ≡ Some e = at in let same : x ≡ e = cc in subst (λ (y : Name × ItemKind). IsBefore c n (kind_type y.1)) same a.0
 of-kinds c n (x ∷ es) a (suc k) e at = of-kinds c n es a.1 k e at
 
-behind-uses : (c : Collection) (n : ℕ) (us : List (Name × UsedType)) (ts : List AnyType) → AllByRecursion (IsBefore c n) (used_types us ++ ts) → AllByRecursion (IsBefore c n) ts
+pub behind-uses : (c : Collection) (n : ℕ) (us : List (Name × UsedType)) (ts : List AnyType) → AllByRecursion (IsBefore c n) (used_types us ++ ts) → AllByRecursion (IsBefore c n) ts
 behind-uses c n [] ts a = a
 behind-uses c n (u ∷ us) ts a = behind-uses c n us ts a.1
 
-type-more : (c : Collection) (m n : ℕ) (t : AnyType) → m ≤ n → IsBefore c m t → IsBefore c n t
+-- what was added before was added before what comes later
+pub type-more : (c : Collection) (m n : ℕ) (t : AnyType) → m ≤ n → IsBefore c m t → IsBefore c n t
 type-more c m n (ty.Resource r) le b = added_more m n (slice_get c.resources r.0) le b
 type-more c m n (ty.Func r) le b = added_more m n (slice_get c.funcs r.0) le b
 type-more c m n (ty.Value v) le b = value_more c m n v le b
