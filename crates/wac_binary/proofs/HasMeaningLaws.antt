@@ -1,5 +1,5 @@
 -- What has a meaning keeps it where scopes only grow, and so does its tree; one more item or declaration.
-use Rattle.std.proofs.Common.{◌≡◌, ℕ, zero, suc, ◌+◌, ◌<◌, Bool, List, [], ◌∷◌, ◌++◌, length, map, refl, ap, sym, ◌∙◌, subst, arith, Option, Some, None}
+use Rattle.std.proofs.Common.{◌≡◌, ℕ, zero, suc, ◌<◌, Bool, List, [], ◌∷◌, ◌++◌, length, map, refl, ap, sym, ◌∙◌, subst, arith, Option, Some, None}
 use Rattle.std.specs.List.{AllByRecursion}
 use Rattle.wac_primitives.specs.Name.{Name}
 use Rattle.wac_primitives.specs.Tree.{Tree, absent, function, instance, component, record_of, variant_of, list_of, fixed_list_of, tuple_of, option_of, result_of, stream_of, future_of, own_of, borrow_of, items_in}
@@ -14,7 +14,7 @@ use Rattle.wac_binary.specs.Unfold.{Scope, Bound, empty, type_at, bound_at, scop
 use Rattle.wac_binary.specs.Growth.{Grows, AllGrow, IsThere, TypeReaches, Reach, Reaches}
 use Rattle.wac_binary.specs.Meaning.{Root, start, read, read_all, meaning}
 use Rattle.wac_binary.specs.HasMeaning.{IsValue, IsResource, IsFunction, IsInstance, IsComponent, IsModule, IsType, IsOfSort, ValHasMeaning, OptionHasMeaning, ValueHasMeaning, DescriptionHasMeaning, OuterHasMeaning, ImportNothing, TypeHasMeaning, DeclsHaveMeaning, DeclHasMeaning, ItemHasMeaning, AllHaveMeaning, HasMeaning}
-use Rattle.wac_binary.proofs.ScopeLaws.{same_scope, scopes_grow, after_kept, decl_kept, type_kept}
+use Rattle.wac_binary.proofs.ScopeLaws.{same_scope, scopes_grow, after_kept, decl_kept}
 
 -- one more item
 

@@ -1,16 +1,16 @@
 -- Worked examples of what has a meaning and what has none, each decided by computing.
 use Rattle.std.specs.Prelude.{◌≡◌, List, [], ◌∷◌, None, Some, true, false, refl}
 use Rattle.std.proofs.Common.{arith, rules}
-use Rattle.wac_primitives.specs.Core.{core_function, no_item}
+use Rattle.wac_primitives.specs.Core.{core_function}
 use Rattle.wac_primitives.specs.declared.component.PrimitiveType.TheVariants as p
-use Rattle.wac_primitives.specs.Tree.{Tree, imported, position, named, absent, resource, primitive, own, function, instance, type_equal, result_of, stream_of, items_in}
-use Rattle.wac_binary.specs.declared.types.ComponentValType.TheVariants.{Primitive, Index}
+use Rattle.wac_primitives.specs.Tree.{Tree, imported, position, named, absent, resource, primitive, function, type_equal, result_of, stream_of, items_in}
+use Rattle.wac_binary.specs.declared.types.ComponentValType.TheVariants.{Index}
 use Rattle.wac_binary.specs.declared.sorts.Sort.TheVariants as s
 use Rattle.wac_binary.specs.declared.sorts.Description.TheVariants as e
 use Rattle.wac_binary.specs.declared.core_types.EntityType.TheVariants as t
-use Rattle.wac_binary.specs.Items.{primitive_def, own_def, result_def, stream_def, value_def, TypeDef, func_def, component_def, instance_def, ModuleDecl, module_func, module_import, module_export, Decls, end, next, core_type_decl, type_decl, alias_decl, import_decl, export_decl, export_alias, outer_alias, Item, core_type, nested, instantiate, alias_item, type_item, import_item, export_item}
+use Rattle.wac_binary.specs.Items.{primitive_def, own_def, result_def, stream_def, value_def, TypeDef, func_def, component_def, instance_def, ModuleDecl, module_func, module_import, module_export, Decls, end, next, type_decl, alias_decl, import_decl, export_decl, export_alias, outer_alias, Item, core_type, nested, instantiate, alias_item, type_item, import_item, export_item}
 use Rattle.wac_binary.specs.Bytes.{preamble}
-use Rattle.wac_binary.specs.Unfold.{type_at, bound_at, module_tree, no_module, module_after}
+use Rattle.wac_binary.specs.Unfold.{type_at, bound_at, no_module, module_after}
 use Rattle.wac_binary.specs.Meaning.{import_at, instance_at, projection, nothing, meaning, stands_for}
 use Rattle.wac_binary.specs.HasMeaning.{HasMeaning}
 use Rattle.wac_binary.specs.Customs.{AreRising}

@@ -1,6 +1,6 @@
 -- Worked examples of bytes and meanings, each decided by computing.
 use Rattle.std.specs.Prelude.{◌≡◌, List, [], ◌∷◌, ◌++◌, None, Some, true, false, refl}
-use Rattle.std.proofs.Common.{arith, rules}
+use Rattle.std.proofs.Common.{rules}
 use Rattle.wac_primitives.specs.Name.{Name}
 use Rattle.wac_primitives.specs.Tree.{Tree, imported, exported, position, named, own, absent, function, function_item, type_in, items_in, type_equal, enum_of}
 use Rattle.wac_primitives.specs.Core.{core_function, core_memory}

@@ -1,15 +1,12 @@
 -- What a builder has written, after one more item.
 use Rattle.std.proofs.Common.{◌≡◌, ℕ, ◌+◌, ◌<◌, ◌^◌, List, [], ◌∷◌, ◌++◌, length, refl, ap, sym, ◌∙◌, arith, append_assoc, append-nil, true}
-use Rattle.std.specs.Prelude.{Result, Ok, Err, OnErr, IfSome, slice_index, slice_set, Option, Some, None, Bool, false, IsTrue, IsErrAnd, ◌↔◌}
-use Rattle.std.proofs.lemmas.Bool.{true≢false}
+use Rattle.std.specs.Prelude.{IfSome, slice_index, slice_set, Option, Some, None, false}
 use Rattle.std.specs.List.{flat_map}
 use Rattle.std.proofs.lemmas.Grind.{common_steps}
 use Rattle.wac_binary.specs.Items.{Item}
 use Rattle.wac_binary.specs.Bytes.{Section, alone, section_bytes, section_id, preamble, bytes_of, is_shared}
 use Rattle.wac_binary.specs.Indexes.{adds, indexes, is_in}
-use Rattle.wac_binary.specs.Fits.{SectionFits, Fits, TooLargeUnless}
-use Rattle.wac_binary.specs.declared.fault.BinaryFault.{BinaryFault}
-use Rattle.wac_binary.specs.declared.fault.BinaryFault.TheVariants.{TooLarge, OutOfMemory}
+use Rattle.wac_binary.specs.Fits.{SectionFits, Fits}
 use Rattle.wac_binary.specs.Sections.{one, before, next_section, closed, open_section}
 use Rattle.wac_sections.specs.OpenSection.{section, section_of, begun}
 use Rattle.wac_builder.specs.Written.{whole, Written, items, items_are, State}

@@ -1,6 +1,6 @@
 //! A component, item by item.
 
-ghost use Rattle.std.specs.Prelude.{◌≡◌, List, ℕ, ◌+◌, ◌<◌, ◌≤◌, ◌^◌, ◌++◌, ◌∷◌, [], length, OnOk, OnErr, IfOk, IfErr, IfSome, Some, None};
+ghost use Rattle.std.specs.Prelude.{◌≡◌, List, ◌++◌, ◌∷◌, [], OnOk, OnErr, IfOk, IfErr, Some};
 ghost use Rattle.wac_binary.specs.Items.{Item as OfItem, decls, value_def, component_def, instance_def, core_type, custom, nested, instantiate, alias_item, export_alias, outer_alias, type_item, import_item, export_item};
 ghost use Rattle.wac_binary.specs.Bytes.{bytes_of};
 ghost use Rattle.wac_binary.specs.Indexes.{space, core_types, described_sort, adds, indexes};

@@ -1,8 +1,7 @@
 //! The contents of the custom sections that have a meaning: the names of indexes, and the processor.
 
-ghost use Rattle.std.specs.Prelude.{◌≡◌, List, ℕ, ◌+◌, ◌<◌, ◌≤◌, ◌++◌, ◌∷◌, [], length, OnOk, OnErr, IfOk, IfErr};
+ghost use Rattle.std.specs.Prelude.{◌≡◌, ◌++◌, length, OnOk, IfOk, IfErr};
 ghost use Rattle.std.specs.List.{flat_map};
-ghost use Rattle.wac_binary.specs.Bytes.{text};
 ghost use Rattle.wac_binary.specs.Customs.{naming, of_sort, subsection, AreRising, names_bytes, producers_bytes};
 ghost use Rattle.wac_binary.specs.Views.{names_of};
 ghost use Rattle.wac_binary.specs.declared.fault.BinaryFault.TheVariants.{OutOfMemory};

@@ -1,6 +1,6 @@
 //! The bytes of the parts of items, each put at the end of a buffer.
 
-ghost use Rattle.std.specs.Prelude.{◌≡◌, List, ℕ, ◌+◌, ◌<◌, ◌≤◌, ◌++◌, ◌∷◌, [], length, OnOk, vec_len, vec_capacity};
+ghost use Rattle.std.specs.Prelude.{◌≡◌, List, ℕ, ◌+◌, ◌<◌, ◌≤◌, ◌++◌, ◌∷◌, OnOk, vec_len, vec_capacity};
 ghost use Rattle.wac_binary.specs.Leb.{leb, unsigned};
 ghost use Rattle.wac_binary.specs.Bytes.{text, value, primitive, vector, argument, alias_bytes, sort, described};
 ghost use Rattle.wac_binary.specs.Items.{export_alias, outer_alias};

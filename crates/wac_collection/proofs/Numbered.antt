@@ -1,8 +1,7 @@
 -- The interfaces that are left of a collection's.
-use Rattle.std.proofs.Common.{ℕ, zero, suc, List, [], ◌∷◌, ◌≡◌, ◌∙◌, ◌+◌, Some, slice_get, ap, arith}
+use Rattle.std.proofs.Common.{ℕ, zero, suc, List, [], ◌∷◌, ◌≡◌, ◌∙◌, ◌+◌, Some, ap, arith}
 use Rattle.std.specs.Prelude.{drop}
 use Rattle.wac_shapes.specs.declared.component.Interface.{Interface}
-use Rattle.wac_shapes.specs.declared.component.InterfaceId.{InterfaceId}
 use Rattle.wac_collection.specs.declared.collection.Held.{Held}
 use Rattle.wac_collection.specs.Collection.{item_at}
 use Rattle.wac_collection.specs.Interfaces.{numbered}

@@ -280,7 +280,8 @@ impl Types {
         Ok(id)
     }
 
-    /// Adds an interface. Answers the first error, in the order of [`AddTypeError`], that stands against it, and `OutOfMemory` where memory ran out; then nothing has changed.
+    /// Adds an interface. Answers the first error, in the order of [`AddTypeError`], that stands against it, and `OutOfMemory`
+    /// where memory ran out; then nothing has changed.
     pub fn add_interface(&mut self, interface: Interface) -> Result<InterfaceId, AddTypeError>
         ensures added { IfOk result (λ id. (id.0 ≡ length self.old.interfaces) × (self.new ≡ with_interface self.old interface)) }
         ensures refused { OnErr result (self.new ≡ self.old) }
@@ -295,7 +296,8 @@ impl Types {
         Ok(InterfaceId(id))
     }
 
-    /// Adds a world. Answers the first error, in the order of [`AddTypeError`], that stands against it, and `OutOfMemory` where memory ran out; then nothing has changed.
+    /// Adds a world. Answers the first error, in the order of [`AddTypeError`], that stands against it, and `OutOfMemory` where
+    /// memory ran out; then nothing has changed.
     pub fn add_world(&mut self, world: World) -> Result<WorldId, AddTypeError>
         ensures added { IfOk result (λ id. (id.0 ≡ length self.old.worlds) × (self.new ≡ with_world self.old world)) }
         ensures refused { OnErr result (self.new ≡ self.old) }

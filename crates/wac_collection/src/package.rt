@@ -2,12 +2,11 @@
 ghost use Rattle.std.specs.Prelude.{◌≡◌, ◌↔◌, Some, true, length, IfOk, OnErr, IsTrue, string_bytes};
 ghost use Rattle.std.proofs.Common.{refl};
 ghost use Rattle.std.specs.Cmp.{partial_equiv_from_equiv};
-ghost use Rattle.std.specs.Hash as fed;
 ghost use Rattle.std.specs.Option.{option_map};
 ghost use Rattle.semver.specs.Identifiers.{parts_of};
-ghost use Rattle.wac_collection.specs.Collection.{holds_type};
+ghost use Rattle.wac_collection.specs.Collection.{holds_type, world_exports};
 ghost use Rattle.wac_collection.specs.Uses.{AnswersBy, same_item};
-ghost use Rattle.wac_collection.specs.Package.{with_instance_of, package_fault, same_key, key_cmp, key_writes, key_text, HoldsPackage};
+ghost use Rattle.wac_collection.specs.Package.{instance_with, with_instance_of, package_fault, same_key, key_cmp, key_writes, key_text, HoldsPackage};
 ghost use Rattle.wac_collection.specs.KeyLaws.{same_key_equiv, key_total, key_ties, key_po, same_key_writes};
 ghost use Rattle.wac_shapes.specs.declared.component.«Type».TheVariants.{World as world_type};
 
@@ -59,7 +58,9 @@ impl Model for Package {
 }
 
 impl Package {
-    /// A package of a held world. Adds the interface of its instances: one without an id, with the world's exports. Answers `ResourceMisnamed` where the world exports a resource under another name than its own, unless it is an alias, and `OutOfMemory` where memory ran out; then the collection is as it was.
+    /// A package of a held world. Adds the interface of its instances: one without an id, with the world's exports. Answers
+    /// `ResourceMisnamed` where the world exports a resource under another name than its own, unless it is an alias, and
+    /// `OutOfMemory` where memory ran out; then the collection is as it was.
     pub fn new(
         name: &str,
         version: Option<&Version>,
@@ -81,26 +82,14 @@ impl Package {
         ensures held { IfOk result (λ p. HoldsPackage types.new p) }
     {
         types.law();
-        let alloc = types.allocator();
-        let uses = Named::new(alloc);
-        let named_right = types.named_right(&uses, &types[world].exports);
-        if !named_right {
-            return Err(AddTypeError::ResourceMisnamed);
-        }
-        let Ok(name) = String::from_str(alloc, name) else {
+        let interface = instance_of(types, world)?;
+        let Ok(name) = String::from_str(types.allocator(), name) else {
             return Err(AddTypeError::OutOfMemory);
         };
         let Ok(version) = cloned(version) else {
             return Err(AddTypeError::OutOfMemory);
         };
-        let Ok(exports) = types[world].exports.copied(alloc) else {
-            return Err(AddTypeError::OutOfMemory);
-        };
-        match types.add_interface(Interface {
-            id: None,
-            uses,
-            exports,
-        }) {
+        match types.add_interface(interface) {
             Ok(instance_type) => Ok(Package {
                 name,
                 version,
@@ -172,6 +161,29 @@ impl Clone for Package {
             world: self.world,
             instance_type: self.instance_type,
         })
+    }
+}
+
+// The interface of an instance of a component of a held world.
+fn instance_of(types: &Types, world: WorldId) -> Result<Interface, AddTypeError>
+    requires { holds_type types.now (world_type world) ≡ true }
+    ensures built { IfOk result (λ i. i ≡ instance_with (world_exports types.now world)) }
+    ensures fault { AnswersBy (package_fault types.now world) result }
+{
+    let alloc = types.allocator();
+    let uses = Named::new(alloc);
+    let items = &types[world].exports;
+    let named_right = types.named_right(&uses, items);
+    if !named_right {
+        return Err(AddTypeError::ResourceMisnamed);
+    }
+    match items.copied(alloc) {
+        Ok(exports) => Ok(Interface {
+            id: None,
+            uses,
+            exports,
+        }),
+        Err(_) => Err(AddTypeError::OutOfMemory),
     }
 }
 

@@ -1,5 +1,5 @@
 -- What the answers for two value types rest on.
-use Rattle.std.proofs.Common.{ℕ, zero, suc, Bool, true, List, [], ◌∷◌, ◌≡◌, ◌+◌, length, refl, ap, sym, ◌∙◌, subst, Option, Some, None, ◌⊎◌, inl, inr, arith, nat_lt}
+use Rattle.std.proofs.Common.{ℕ, zero, suc, Bool, true, List, [], ◌∷◌, ◌≡◌, length, refl, ap, sym, ◌∙◌, subst, Option, Some, None, arith, nat_lt}
 use Rattle.wac_primitives.specs.Name.{Name, option_case}
 use Rattle.wac_comparison.specs.declared.questions.Asked.{Asked}
 use Rattle.wac_collection.specs.declared.collection.Held.{Held}
@@ -15,7 +15,7 @@ use Rattle.wac_collection.specs.Collection.{Collection, size, IsWellFormed, IsVa
 use Rattle.wac_primitives.specs.Tree.{TypeTree, absent, primitive, own, borrow, resource}
 use Rattle.wac_collection.specs.Held.{resolved, defined_tree}
 use Rattle.wac_collection.specs.Aliases.{aliased, target_of, value_resolved_in, value_resolved}
-use Rattle.wac_subtyping.specs.Subtype.{resource_names, type_tree}
+use Rattle.wac_subtyping.specs.Subtype.{resource_names}
 use Rattle.wac_comparison.specs.Compare.{value_in, defined_in}
 use Rattle.wac_comparison.specs.Questions.{Refutes}
 use Rattle.wac_subtyping.specs.Ranks.{type_rank}

@@ -1,5 +1,5 @@
 -- Questions that settle a statement, from those that settle its parts.
-use Rattle.std.proofs.Common.{cond, Result, Ok, Err, IfOk, ℕ, zero, suc, Bool, true, false, not, List, [], ◌∷◌, ◌++◌, ◌+◌, ◌≡◌, ◌<◌, ◌≤◌, length, refl, ap, sym, ◌∙◌, subst, arith, append_assoc, slice_index_or, ◌⊎◌, inl, inr}
+use Rattle.std.proofs.Common.{cond, Result, Ok, Err, IfOk, ℕ, zero, suc, Bool, true, false, List, [], ◌∷◌, ◌++◌, ◌≡◌, ◌<◌, ◌≤◌, length, refl, ap, sym, ◌∙◌, subst, arith, append_assoc, slice_index_or, ◌⊎◌, inl, inr}
 use Rattle.std.proofs.lemmas.List.{append-nil}
 use Rattle.std.specs.List.{AllByRecursion, Contains, list_any}
 use Rattle.indexmap.specs.IndexSet.{insert_key}
@@ -9,12 +9,12 @@ use Rattle.wac_comparison.specs.declared.questions.Asked.{Asked}
 use Rattle.wac_shapes.specs.declared.component.«Type».{«Type» as AnyType}
 use Rattle.wac_primitives.specs.Name.{Name}
 use Rattle.wac_primitives.specs.Tree.{TypeTree}
-use Rattle.wac_collection.specs.Collection.{Collection, holds_type}
+use Rattle.wac_collection.specs.Collection.{Collection}
 use Rattle.wac_subtyping.specs.Subtype.{Sub, type_tree}
 use Rattle.wac_comparison.specs.Weights.{type_weight}
-use Rattle.wac_comparison.specs.Questions.{in_order, first_of_pair, second_of_pair, IsAskable, IsAskableQuestion, IsYes, IsYesBelow, AreHeld, AreBelow, Puts}
+use Rattle.wac_comparison.specs.Questions.{in_order, first_of_pair, second_of_pair, IsAskable, IsAskableQuestion, IsYes, IsYesBelow, AreBelow, Puts}
 use Rattle.wac_comparison.specs.Classes.{AreLinked, AreSame}
-use Rattle.wac_comparison.specs.Settling.{AreJoined, Settles, Asks, RestsOn}
+use Rattle.wac_comparison.specs.Settling.{Settles, Asks, RestsOn}
 use Rattle.wac_subtyping.proofs.Unfolding.{all_map, all_left, all_both}
 use Rattle.wac_comparison.proofs.Lighter.{Lowers}
 

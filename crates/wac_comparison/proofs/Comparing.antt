@@ -8,7 +8,7 @@ use Rattle.wac_collection.specs.Collection.{Collection, holds_type}
 use Rattle.wac_shapes.specs.Kinds.{kind_type}
 use Rattle.wac_subtyping.specs.Subtype.{Sub, IsSubtype, type_tree, kind_tree}
 use Rattle.wac_comparison.specs.Weights.{type_weight}
-use Rattle.wac_comparison.specs.Questions.{in_order, first_of_pair, second_of_pair, IsAskable, IsAskableQuestion, IsYes, IsYesBelow}
+use Rattle.wac_comparison.specs.Questions.{first_of_pair, second_of_pair, IsAskableQuestion, IsYes, IsYesBelow}
 use Rattle.wac_comparison.specs.Classes.{AreLinked}
 use Rattle.wac_comparison.specs.Settling.{AreJoined, Settles, Asks, RestsOn}
 use Rattle.wac_subtyping.proofs.Unfolding.{all_map, all_left, all_right, all_both}

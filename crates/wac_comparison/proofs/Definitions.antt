@@ -183,9 +183,15 @@ module _ {t : Bool} {x y : Collection} {o k : Asked} where
       → Asks t x y (ty.Value v ∷ []) (ty.Value w ∷ []) o k (value_in x v ≡ value_in y w) → Asks t x y (defined_mentions d) (defined_mentions e) o k (defined_in x d ≡ defined_in y e)
   asks_lists d e v w p q s = along d e (def.List v) (def.List w) p q (asks_iff (λ h. ap list_of h) (list_inj _ _) s)
 
-  pub asks_fixed : (d e : DefinedType) (v w : ValueType) (m n : ℕ) → d ≡ def.FixedSizeList v m → e ≡ def.FixedSizeList w n → m ≡ n
-      → Asks t x y (ty.Value v ∷ []) (ty.Value w ∷ []) o k (value_in x v ≡ value_in y w) → Asks t x y (defined_mentions d) (defined_mentions e) o k (defined_in x d ≡ defined_in y e)
-  asks_fixed d e v w m n p q a s = along d e (def.FixedSizeList v n) (def.FixedSizeList w n) (p ∙ ap (def.FixedSizeList v) a) q (asks_iff (λ h. ap (fixed_list_of n) h) (fixed_inj n _ _) s)
+  pub fixed_asked : (v w : ValueType) (m n : ℕ) → m ≡ n
+      → Asks t x y (ty.Value v ∷ []) (ty.Value w ∷ []) o k (value_in x v ≡ value_in y w) → Asks t x y (ty.Value v ∷ []) (ty.Value w ∷ []) o k (fixed_list_of m (value_in x v) ≡ fixed_list_of n (value_in y w))
+  fixed_asked v w m n a s =
+      let P : ℕ → Type 0 = λ j. Asks t x y (ty.Value v ∷ []) (ty.Value w ∷ []) o k (fixed_list_of j (value_in x v) ≡ fixed_list_of n (value_in y w)) in
+      subst P (sym a) (asks_iff (λ h. ap (fixed_list_of n) h) (fixed_inj n _ _) s)
+
+  pub asks_fixed : (d e : DefinedType) (v w : ValueType) (m n : ℕ) → d ≡ def.FixedSizeList v m → e ≡ def.FixedSizeList w n
+      → Asks t x y (ty.Value v ∷ []) (ty.Value w ∷ []) o k (fixed_list_of m (value_in x v) ≡ fixed_list_of n (value_in y w)) → Asks t x y (defined_mentions d) (defined_mentions e) o k (defined_in x d ≡ defined_in y e)
+  asks_fixed d e v w m n p q s = along d e (def.FixedSizeList v m) (def.FixedSizeList w n) p q s
 
   pub asks_options : (d e : DefinedType) (v w : ValueType) → d ≡ def.Option v → e ≡ def.Option w
       → Asks t x y (ty.Value v ∷ []) (ty.Value w ∷ []) o k (value_in x v ≡ value_in y w) → Asks t x y (defined_mentions d) (defined_mentions e) o k (defined_in x d ≡ defined_in y e)

@@ -1,11 +1,11 @@
 -- Types that are joined are the same, where the answers to the questions are yes.
-use Rattle.std.proofs.Common.{Result, Ok, Err, OnOk, IfOk, ℕ, zero, suc, Bool, true, false, not, List, [], ◌∷◌, ◌++◌, map, ◌≡◌, ◌<◌, ◌⊎◌, if◌then◌else◌, inl, inr, length, refl, ap, sym, ◌∙◌, subst, Option, Some, None, arith, slice_get, length-append}
+use Rattle.std.proofs.Common.{Result, Ok, Err, OnOk, IfOk, ℕ, zero, suc, Bool, true, false, List, [], ◌∷◌, ◌++◌, ◌≡◌, ◌<◌, ◌⊎◌, if◌then◌else◌, inl, inr, length, refl, ap, sym, ◌∙◌, subst, Some, arith, slice_get}
 use Rattle.std.proofs.lemmas.List.{append-nil}
 use Rattle.std.proofs.lemmas.Bool.{cases_Bool}
 use Rattle.std.specs.Map.{lookup_key}
-use Rattle.std.specs.List.{AllByRecursion, Contains}
+use Rattle.std.specs.List.{Contains}
 use Rattle.indexmap.specs.IndexMap.{set_value_at}
-use Rattle.wac_primitives.specs.Name.{Name, option_case}
+use Rattle.wac_primitives.specs.Name.{Name}
 use Rattle.wac_shapes.specs.declared.component.«Type».{«Type» as AnyType}
 use Rattle.wac_shapes.specs.declared.component.«Type».TheVariants as ty
 use Rattle.wac_comparison.specs.declared.classes.Node.{Node}
@@ -13,13 +13,13 @@ use Rattle.wac_comparison.specs.declared.classes.Link.{Link}
 use Rattle.wac_comparison.specs.declared.questions.Question.{Question}
 use Rattle.wac_comparison.specs.declared.questions.Asked.{Asked}
 use Rattle.wac_collection.specs.Collection.{Collection, holds_type}
-use Rattle.wac_primitives.specs.Tree.{TypeTree, absent, resource}
+use Rattle.wac_primitives.specs.Tree.{TypeTree}
 use Rattle.wac_collection.specs.Held.{resolved}
 use Rattle.wac_subtyping.specs.Subtype.{Sub, IsPlain, resource_names, type_tree}
 use Rattle.wac_comparison.specs.Weights.{weight, type_weight}
-use Rattle.wac_comparison.specs.Questions.{in_order, first_of_pair, second_of_pair, IsPlainType, IsAskableQuestion, IsYes, IsYesBelow, AreHeld, AreBelow, Puts}
+use Rattle.wac_comparison.specs.Questions.{in_order, IsPlainType, IsAskableQuestion, IsYes, IsYesBelow, AreHeld, AreBelow, Puts}
 use Rattle.wac_comparison.specs.Classes.{nodes, node_tree, AreSame, AreLinked, LeadsTo, HasLink, AddsNode, PutsBelow, Joins}
-use Rattle.wac_comparison.specs.Settling.{AreJoined, Settles, Asks, HasEnd, first_node, second_node, PutsPlain}
+use Rattle.wac_comparison.specs.Settling.{Settles, Asks, HasEnd, first_node, second_node, PutsPlain}
 use Rattle.wac_subtyping.proofs.Unfolding.{all_map}
 use Rattle.wac_comparison.proofs.Lighter.{resource_in}
 use Rattle.wac_comparison.proofs.Asking.{all_at, ordered, asks_put, linked_more, settles_iff}

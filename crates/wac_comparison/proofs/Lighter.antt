@@ -1,5 +1,5 @@
 -- Types are heavier than what they mention.
-use Rattle.std.proofs.Common.{ℕ, zero, suc, Bool, true, List, [], ◌∷◌, map, ◌≡◌, ◌<◌, ◌≤◌, ◌+◌, length, refl, ap, sym, ◌∙◌, subst, Option, Some, None, arith, nat_lt}
+use Rattle.std.proofs.Common.{ℕ, zero, suc, true, List, [], ◌∷◌, map, ◌≡◌, ◌<◌, ◌≤◌, ◌+◌, length, refl, ap, ◌∙◌, Option, Some, None, arith, nat_lt}
 use Rattle.std.specs.List.{AllByRecursion}
 use Rattle.wac_primitives.specs.Name.{Name, option_case}
 use Rattle.wac_shapes.specs.declared.component.FuncType.{FuncType}
@@ -7,9 +7,7 @@ use Rattle.wac_shapes.specs.declared.component.FuncTypeId.{FuncTypeId}
 use Rattle.wac_shapes.specs.declared.component.DefinedType.{DefinedType}
 use Rattle.wac_shapes.specs.declared.component.DefinedType.TheVariants as def
 use Rattle.wac_shapes.specs.declared.component.DefinedTypeId.{DefinedTypeId}
-use Rattle.wac_shapes.specs.declared.component.Interface.{Interface}
 use Rattle.wac_shapes.specs.declared.component.InterfaceId.{InterfaceId}
-use Rattle.wac_shapes.specs.declared.component.World.{World}
 use Rattle.wac_shapes.specs.declared.component.WorldId.{WorldId}
 use Rattle.wac_shapes.specs.declared.component.ResourceId.{ResourceId}
 use Rattle.wac_shapes.specs.declared.component.ValueType.{ValueType}
@@ -17,8 +15,8 @@ use Rattle.wac_shapes.specs.declared.component.ValueType.TheVariants as val
 use Rattle.wac_shapes.specs.declared.component.«Type».{«Type» as AnyType}
 use Rattle.wac_shapes.specs.declared.component.«Type».TheVariants as ty
 use Rattle.wac_collection.specs.Aliases.{aliased}
-use Rattle.wac_collection.specs.Collection.{Collection, seconds, and_maybe, case_values, defined_values, func_values, value_types, func_mentions, defined_mentions, kind_types, world_mentions, IsWellFormed, IsBefore, AreBefore, holds_type, item_at}
-use Rattle.wac_primitives.specs.Tree.{TypeTree, absent, own, borrow, resource, primitive}
+use Rattle.wac_collection.specs.Collection.{Collection, seconds, and_maybe, case_values, defined_values, func_values, value_types, func_mentions, defined_mentions, IsWellFormed, IsBefore, AreBefore, holds_type, item_at}
+use Rattle.wac_primitives.specs.Tree.{TypeTree, absent, own, borrow, resource}
 use Rattle.wac_collection.specs.Held.{part_at, option_tree, func_tree, defined_tree, resolved}
 use Rattle.wac_subtyping.specs.Subtype.{resource_names, type_tree}
 use Rattle.wac_comparison.specs.Compare.{value_in, func_in, defined_in}
@@ -26,7 +24,7 @@ use Rattle.wac_subtyping.specs.Ranks.{type_rank}
 use Rattle.wac_comparison.specs.Weights.{total, weight, heaviest, type_weight}
 use Rattle.wac_comparison.specs.Questions.{AreHeld, AreBelow}
 use Rattle.wac_subtyping.proofs.Unfolding.{all_map, before_held, before_rank}
-use Rattle.wac_comparison.proofs.Opens.{Opens, opens_func, opens_defined, opens_interface, opens_world, primitive_in}
+use Rattle.wac_comparison.proofs.Opens.{Opens, opens_func, opens_defined, primitive_in}
 
 pub own_in : (c : Collection) (r : ResourceId) → value_in c (val.Own r) ≡ option_case (resource_names c (resolved c r)) absent own
 unfolding type_tree

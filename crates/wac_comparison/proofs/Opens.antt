@@ -1,13 +1,10 @@
 -- What the types that a comparison opens are made of.
-use Rattle.std.proofs.Common.{ℕ, zero, suc, Bool, true, false, List, [], ◌∷◌, ◌++◌, map, ◌≡◌, ◌<◌, ◌≤◌, length, refl, ap, ◌∙◌, subst, Option, Some, None, arith, nat_lt, slice_get}
-use Rattle.std.specs.List.{AllByRecursion}
+use Rattle.std.proofs.Common.{ℕ, suc, List, ◌≡◌, refl, ap, ◌∙◌, subst, Some}
 use Rattle.wac_primitives.specs.Name.{Name}
-use Rattle.wac_collection.specs.declared.collection.Held.{Held}
 use Rattle.wac_primitives.specs.declared.component.PrimitiveType.{PrimitiveType}
 use Rattle.wac_shapes.specs.declared.component.FuncType.{FuncType}
 use Rattle.wac_shapes.specs.declared.component.FuncTypeId.{FuncTypeId}
 use Rattle.wac_shapes.specs.declared.component.DefinedType.{DefinedType}
-use Rattle.wac_shapes.specs.declared.component.DefinedType.TheVariants as def
 use Rattle.wac_shapes.specs.declared.component.DefinedTypeId.{DefinedTypeId}
 use Rattle.wac_shapes.specs.declared.component.Interface.{Interface}
 use Rattle.wac_shapes.specs.declared.component.InterfaceId.{InterfaceId}
@@ -15,17 +12,13 @@ use Rattle.wac_shapes.specs.declared.component.World.{World}
 use Rattle.wac_shapes.specs.declared.component.WorldId.{WorldId}
 use Rattle.wac_shapes.specs.declared.component.ModuleTypeId.{ModuleTypeId}
 use Rattle.wac_shapes.specs.declared.core_types.ModuleType.{ModuleType}
-use Rattle.wac_shapes.specs.declared.component.ValueType.{ValueType}
 use Rattle.wac_shapes.specs.declared.component.ValueType.TheVariants as val
 use Rattle.wac_shapes.specs.declared.component.«Type».{«Type» as AnyType}
 use Rattle.wac_shapes.specs.declared.component.«Type».TheVariants as ty
-use Rattle.wac_shapes.specs.declared.component.ItemKind.{ItemKind}
-use Rattle.wac_shapes.specs.declared.component.ItemKind.TheVariants as kind
-use Rattle.wac_collection.specs.Collection.{Collection, size, seconds, and_maybe, case_values, func_values, defined_values, value_types, func_mentions, defined_mentions, interface_mentions, world_mentions, used_types, kind_types, IsWellFormed, IsBefore, IsValueBefore, AreBefore, AddedBefore, holds_type, item_of, item_at}
-use Rattle.wac_shapes.specs.Kinds.{kind_type}
-use Rattle.wac_primitives.specs.Tree.{imported, exported, TypeTree, primitive, record_of, variant_of, list_of, fixed_list_of, tuple_of, option_of, result_of, stream_of, future_of, function, instance, component, type_equal, function_item, instance_item, component_item, module_item, value_item}
-use Rattle.wac_collection.specs.Held.{Naming, Names, Unfolding, part_at, items_under, option_tree, func_tree, defined_tree, item_tree, module_tree, of_held, step, unfolded_to, unfolded}
-use Rattle.wac_subtyping.specs.Subtype.{by_name, resource_names, type_tree}
+use Rattle.wac_collection.specs.Collection.{Collection, func_mentions, defined_mentions, interface_mentions, world_mentions, used_types, kind_types, IsWellFormed, IsBefore, AreBefore, item_at}
+use Rattle.wac_primitives.specs.Tree.{TypeTree, primitive, instance}
+use Rattle.wac_collection.specs.Held.{module_tree, of_held}
+use Rattle.wac_subtyping.specs.Subtype.{type_tree}
 use Rattle.wac_subtyping.specs.Subtype.{listed_in}
 use Rattle.wac_comparison.specs.Compare.{value_in, func_in, defined_in, world_in}
 use Rattle.wac_subtyping.specs.Ranks.{rank_of_held, type_rank}

@@ -1,5 +1,5 @@
 -- `==` tells questions apart.
-use Rattle.std.proofs.Common.{eq-eqb, Bool, true, false, not, ◌&&◌, ◌≡◌, refl, ap, sym, ◌∙◌, subst, rules}
+use Rattle.std.proofs.Common.{eq-eqb, Bool, true, false, ◌&&◌, ◌≡◌, refl, ap, sym, subst, rules}
 use Rattle.std.proofs.lemmas.Bool.{eqb-true}
 use denote.Enum.Bare.{same_true, true_same}
 use Rattle.std.specs.Cmp.{IsEquivalence}

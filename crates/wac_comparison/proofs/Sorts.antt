@@ -3,7 +3,6 @@ use Rattle.std.proofs.Common.{ℕ, zero, suc, true, List, [], ◌∷◌, ◌≡�
 use Rattle.wac_primitives.specs.Name.{Name, option_case}
 use Rattle.wac_collection.specs.declared.collection.Held.{Held}
 use Rattle.wac_shapes.specs.declared.component.Resource.{Resource}
-use Rattle.wac_shapes.specs.declared.component.ResourceAlias.{ResourceAlias}
 use Rattle.wac_shapes.specs.declared.component.ResourceId.{ResourceId}
 use Rattle.wac_shapes.specs.declared.component.DefinedType.{DefinedType}
 use Rattle.wac_shapes.specs.declared.component.DefinedType.TheVariants as def
@@ -13,10 +12,10 @@ use Rattle.wac_shapes.specs.declared.component.«Type».{«Type» as AnyType}
 use Rattle.wac_shapes.specs.declared.component.«Type».TheVariants as ty
 use Rattle.wac_shapes.specs.declared.component.ItemKind.{ItemKind}
 use Rattle.wac_shapes.specs.declared.component.ItemKind.TheVariants as kind
-use Rattle.wac_collection.specs.Collection.{Collection, size, item_of, item_at, alias_types, defined_mentions, IsWellFormed, IsBefore, IsValueBefore, AreBefore, AddedBefore, holds_type}
+use Rattle.wac_collection.specs.Collection.{Collection, size, item_of, item_at, defined_mentions, IsWellFormed, IsBefore, IsValueBefore, AreBefore, AddedBefore, holds_type}
 use Rattle.wac_primitives.specs.Tree.{TypeTree, absent, own, borrow, resource, function, instance, component, module_of, fresh, type_equal, function_item, instance_item, component_item, module_item, value_item}
-use Rattle.wac_collection.specs.Held.{of_held, defined_tree, resolved, resolved_in, source_of, unfolded_to}
-use Rattle.wac_subtyping.specs.Subtype.{Sub, by_name, held_name, resource_names, type_tree, kind_tree}
+use Rattle.wac_collection.specs.Held.{of_held, defined_tree, resolved, unfolded_to}
+use Rattle.wac_subtyping.specs.Subtype.{Sub, by_name, held_name, resource_names, type_tree}
 use Rattle.wac_comparison.specs.Questions.{AreThere}
 use Rattle.wac_subtyping.proofs.Unfolding.{all_map, before_more, before_held, type_before}
 use Rattle.wac_subtyping.proofs.Resolved.{resolved_held}

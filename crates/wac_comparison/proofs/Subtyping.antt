@@ -1,5 +1,5 @@
 -- Subtyping of items from that of their types, and of what is listed name by name.
-use Rattle.std.proofs.Common.{ℕ, suc, not, Bool, true, false, cond, List, [], ◌∷◌, ◌≡◌, ◌≢◌, ◌≤◌, ◌+◌, length, refl, ap, sym, ◌∙◌, subst, Option, Some, None, arith, slice_get, ◌⊎◌, inl, inr, below_more}
+use Rattle.std.proofs.Common.{ℕ, not, Bool, true, false, cond, List, [], ◌∷◌, ◌≡◌, ◌≢◌, ◌≤◌, ◌+◌, length, refl, ap, sym, ◌∙◌, subst, Option, Some, None, arith, slice_get, ◌⊎◌, inl, inr, below_more}
 use Rattle.std.proofs.lemmas.Bool.{cases_Bool}
 use Rattle.std.specs.List.{AllByRecursion}
 use Rattle.wac_primitives.specs.Name.{Name, same_name, find_name}

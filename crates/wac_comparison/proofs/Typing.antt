@@ -1,5 +1,5 @@
 -- What the answer to a question rests on, by the sort of its types.
-use Rattle.std.proofs.Common.{Bool, true, false, IsTrue, List, ◌≡◌, ◌+◌, ◌↔◌, refl, ap, sym, ◌∙◌, subst, Option, Some, None}
+use Rattle.std.proofs.Common.{Bool, true, false, IsTrue, List, ◌≡◌, ◌↔◌, refl, ap, sym, ◌∙◌, subst, Option, Some, None}
 use Rattle.wac_primitives.specs.Name.{Name, option_case}
 use Rattle.wac_comparison.specs.declared.questions.Asked.{Asked}
 use Rattle.wac_shapes.specs.declared.component.ResourceId.{ResourceId}

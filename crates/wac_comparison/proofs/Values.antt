@@ -1,5 +1,5 @@
 -- Trees of value types, and what is asked of them.
-use Rattle.std.proofs.Common.{ℕ, zero, suc, Bool, true, ◌<◌, ◌⊎◌, inl, inr, List, [], ◌∷◌, ◌≡◌, refl, ap, sym, ◌∙◌, subst, Option, Some, None, slice_get}
+use Rattle.std.proofs.Common.{ℕ, zero, suc, Bool, true, ◌<◌, ◌⊎◌, inl, inr, List, [], ◌∷◌, ◌≡◌, ap, sym, ◌∙◌, subst, Option, Some, None, slice_get}
 use Rattle.std.specs.List.{AllByRecursion}
 use Rattle.wac_primitives.specs.Name.{Name, option_case}
 use Rattle.wac_comparison.specs.declared.questions.Asked.{Asked}

@@ -10,7 +10,6 @@ use Rattle.wac_subtyping.specs.Subtype.{Sub, IsCoreSubtype, type_tree, listed_in
 use Rattle.wac_shapes.specs.declared.core_types.CoreExtern.{CoreExtern}
 use Rattle.wac_shapes.specs.declared.component.FuncType.{FuncType}
 use Rattle.wac_shapes.specs.declared.component.DefinedType.{DefinedType}
-use Rattle.wac_shapes.specs.declared.component.DefinedType.TheVariants as def
 use Rattle.wac_shapes.specs.declared.component.World.{World}
 use Rattle.wac_shapes.specs.declared.component.ValueType.{ValueType}
 use Rattle.wac_shapes.specs.declared.component.ValueType.TheVariants as val

@@ -1,5 +1,5 @@
 -- What was asked settles statements: they hold only where the answers to the new questions are yes, and do where all are.
-use Rattle.std.specs.Prelude.{ℕ, ◌<◌, ◌≤◌, ◌≡◌, Bool, true, not, List, ◌++◌, ◌⊎◌}
+use Rattle.std.specs.Prelude.{ℕ, ◌≤◌, ◌≡◌, Bool, true, not, List, ◌++◌, ◌⊎◌}
 use Rattle.std.specs.List.{AllByRecursion}
 use Rattle.wac_comparison.specs.declared.questions.Question.{Question}
 use Rattle.wac_comparison.specs.declared.questions.Asked.{Asked}
@@ -8,7 +8,7 @@ use Rattle.wac_shapes.specs.declared.component.«Type».{«Type» as AnyType}
 use Rattle.wac_collection.specs.Collection.{Collection, holds_type}
 use Rattle.wac_subtyping.specs.Subtype.{type_tree}
 use Rattle.wac_comparison.specs.Weights.{type_weight}
-use Rattle.wac_comparison.specs.Questions.{in_order, IsEnd, IsYes, IsYesBelow, IsPlainType, IsAskableQuestion, AreHeld, AreBelow, Puts}
+use Rattle.wac_comparison.specs.Questions.{in_order, IsEnd, IsYes, IsYesBelow, IsPlainType, IsAskableQuestion, AreHeld, AreBelow}
 use Rattle.wac_comparison.specs.Classes.{AreLinked, AreSame}
 
 -- the types that are joined are the same, where the answers are yes

@@ -1,7 +1,8 @@
 //! What a comparison asks: types part by part, listed items name by name.
-ghost use Rattle.std.specs.Prelude.{◌≡◌, ◌≢◌, ◌+◌, ◌↔◌, [], ◌∷◌, map, not, true, None, Err, IfOk, IsTrue};
+ghost use Rattle.std.specs.Prelude.{◌≡◌, ◌≢◌, ◌↔◌, [], ◌∷◌, map, not, true, None, Err, IfOk, IsTrue};
 ghost use Rattle.std.specs.Option.{option_copied};
 ghost use Rattle.wac_primitives.specs.Name.{find_name};
+ghost use Rattle.wac_primitives.specs.Tree.{fixed_list_of};
 ghost use Rattle.wac_collection.specs.Collection.{kind_types, value_types, and_maybe, seconds, case_values, func_mentions, defined_mentions, holds_type};
 ghost use Rattle.wac_shapes.specs.Kinds.{kind_type};
 ghost use Rattle.wac_collection.specs.Held.{resolved};
@@ -191,6 +192,24 @@ impl<'a> Comparison<'a> {
         self.ask_func(asked, f, g)
     }
 
+    // Asks whether lists of fixed lengths have the same length, and the same value type.
+    fn ask_fixed(
+        self,
+        asked: &mut Asked,
+        v: ValueType,
+        m: u32,
+        w: ValueType,
+        n: u32,
+    ) -> Result<(), TypeFault>
+        ensures asked { IfOk result (λ _. Asks self.entry.turned self.entry.first.now self.entry.second.now (ty.Value v ∷ []) (ty.Value w ∷ []) asked.old asked.new (fixed_list_of m (value_in self.entry.first.now v) ≡ fixed_list_of n (value_in self.entry.second.now w))) }
+        ensures mismatch { result ≡ Err TypeFault.Mismatch → fixed_list_of m (value_in self.entry.first.now v) ≡ fixed_list_of n (value_in self.entry.second.now w) → ⊥ }
+    {
+        if m != n {
+            return Err(TypeFault::Mismatch);
+        }
+        self.ask_value(asked, v, w)
+    }
+
     // Asks whether one definition is the other; neither is an alias.
     fn ask_defined(
         self,
@@ -209,10 +228,7 @@ impl<'a> Comparison<'a> {
             }
             (DefinedType::List(v), DefinedType::List(w)) => self.ask_value(asked, *v, *w),
             (DefinedType::FixedSizeList(v, m), DefinedType::FixedSizeList(w, n)) => {
-                if *m != *n {
-                    return Err(TypeFault::Mismatch);
-                }
-                self.ask_value(asked, *v, *w)
+                self.ask_fixed(asked, *v, *m, *w, *n)
             }
             (DefinedType::Option(v), DefinedType::Option(w)) => self.ask_value(asked, *v, *w),
             (DefinedType::Result { ok: v, err: f }, DefinedType::Result { ok: w, err: g }) => {

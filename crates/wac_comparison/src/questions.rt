@@ -1,5 +1,5 @@
 //! The questions of a comparison.
-ghost use Rattle.std.specs.Prelude.{◌≡◌, ◌≢◌, [], Err, IfOk, OnOk};
+ghost use Rattle.std.specs.Prelude.{◌≡◌, ◌≢◌, [], Err, OnOk};
 ghost use Rattle.wac_comparison.specs.Questions.{Puts};
 ghost use Rattle.wac_comparison.specs.Settling.{PutsPlain};
 

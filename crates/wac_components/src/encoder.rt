@@ -1,6 +1,6 @@
 //! The writer of worlds at the root, and what it takes from the writer of worlds.
 
-ghost use Rattle.std.specs.Prelude.{◌≡◌, ◌⊎◌, true, false, None, Ok as Answers, Err as Refused, IfOk};
+ghost use Rattle.std.specs.Prelude.{◌≡◌, ◌⊎◌, false, None, Ok as Answers, Err as Refused, IfOk};
 ghost use Rattle.wac_collection.specs.Collection.{HasWorld};
 ghost use Rattle.wac_scopes.specs.declared.fault.EncodeFault.TheVariants.{OutOfMemory};
 ghost use Rattle.wac_sorting.specs.Worlds.{SayWorlds};

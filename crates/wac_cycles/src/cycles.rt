@@ -1,5 +1,5 @@
 //! Cycles of steps between numbers.
-ghost use Rattle.std.specs.Prelude.{◌≡◌, ◌<◌, ◌≤◌, ◌↔◌, ◌⊎◌, ℕ, true, length, fold, slice_index, IfOk, OnOk, MatchOption};
+ghost use Rattle.std.specs.Prelude.{◌≡◌, ◌<◌, ◌≤◌, ◌↔◌, ◌⊎◌, ℕ, length, fold, slice_index, IfOk, OnOk, MatchOption};
 ghost use Rattle.std.specs.Bool.{OnTrue, OnFalse};
 ghost use Rattle.wac_cycles.specs.CycleSearch.{AreUpTo, Descends, marked};
 ghost use Rattle.wac_cycles.specs.Numbers.{AreBelow};

@@ -1,7 +1,7 @@
 //! The bytes of core module types, each put at the end of a buffer.
 
-ghost use Rattle.std.specs.Prelude.{◌≡◌, List, ℕ, ◌+◌, ◌*◌, ◌<◌, ◌≤◌, ◌++◌, ◌∷◌, [], length, OnOk, Option, None};
-ghost use Rattle.wac_binary.specs.Bytes.{text, vector, core_ref, core_value, core_val, bit, there, number, limits, table_bytes, memory_bytes, global_bytes, entity, module_decl_bytes};
+ghost use Rattle.std.specs.Prelude.{◌≡◌, List, ℕ, ◌+◌, ◌*◌, ◌++◌, OnOk};
+ghost use Rattle.wac_binary.specs.Bytes.{vector, core_ref, core_value, core_val, bit, there, number, table_bytes, memory_bytes, global_bytes, entity, module_decl_bytes};
 ghost use Rattle.wac_declarations.specs.ModuleView.{module_decl_of};
 
 use std::alloc::AllocError;

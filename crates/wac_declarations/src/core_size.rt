@@ -1,6 +1,6 @@
 //! How many bytes the declarations of core module types have, counted before they are written.
 
-ghost use Rattle.std.specs.Prelude.{◌≡◌, List, ℕ, ◌+◌, ◌*◌, ◌<◌, ◌≤◌, ◌^◌, ◌++◌, ◌∷◌, [], length, Option, None};
+ghost use Rattle.std.specs.Prelude.{◌≡◌, ◌≤◌, ◌^◌, length};
 ghost use Rattle.wac_binary.specs.Bytes.{vector, core_val, number, table_bytes, memory_bytes, entity, module_decl_bytes};
 ghost use Rattle.wac_declarations.specs.ModuleView.{module_decl_of};
 

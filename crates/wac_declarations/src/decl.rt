@@ -1,6 +1,6 @@
 //! A declaration that is about to be written, and the types and aliases that stand in one.
 
-ghost use Rattle.std.specs.Prelude.{◌≡◌, List, ℕ, ◌++◌, ◌∷◌, [], OnOk};
+ghost use Rattle.std.specs.Prelude.{◌≡◌, List, ℕ, ◌++◌, ◌∷◌, OnOk};
 ghost use Rattle.wac_binary.specs.Leb.{unsigned};
 ghost use Rattle.wac_binary.specs.Bytes.{alias_bytes, type_bytes, decl_bytes};
 ghost use Rattle.wac_declarations.specs.DeclView.{alias_of, type_of, decl_of, scope_byte as byte_of};

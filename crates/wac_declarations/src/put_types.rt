@@ -1,7 +1,7 @@
 //! The bytes of types, each put at the end of a buffer.
 
-ghost use Rattle.std.specs.Prelude.{◌≡◌, List, ℕ, ◌<◌, ◌≤◌, ◌++◌, ◌∷◌, [], length, OnOk};
-ghost use Rattle.wac_binary.specs.Bytes.{text, value, optional, field, case, vector, outcome, value_def_bytes, type_bytes};
+ghost use Rattle.std.specs.Prelude.{◌≡◌, List, ℕ, ◌++◌, ◌∷◌, OnOk};
+ghost use Rattle.wac_binary.specs.Bytes.{text, value, optional, field, case, vector, value_def_bytes, type_bytes};
 ghost use Rattle.wac_binary.specs.Views.{named, texts_of, func_of, defined_of};
 
 use std::alloc::AllocError;
@@ -129,6 +129,14 @@ fn put_optional_part(
     put_optional(out, t)
 }
 
+fn put_names(out: &mut Vec<u8>, byte: u8, names: &[&str]) -> Result<(), AllocError>
+    ensures written { OnOk result (out.new.items ≡ out.old.items ++ byte ∷ vector text (texts_of names.now)) }
+    ensures grows { (more : List ℕ) × (out.new.items ≡ out.old.items ++ more) }
+{
+    out.push(byte)?;
+    put_texts(out, names)
+}
+
 /// Appends the definition of a value type.
 pub fn put_defined(out: &mut Vec<u8>, t: &DefinedType<'_>) -> Result<(), AllocError>
     ensures written { OnOk result (out.new.items ≡ out.old.items ++ value_def_bytes (defined_of t.now)) }
@@ -153,14 +161,8 @@ pub fn put_defined(out: &mut Vec<u8>, t: &DefinedType<'_>) -> Result<(), AllocEr
             out.push(0x6f)?;
             put_values(out, types)
         }
-        DefinedType::Flags(names) => {
-            out.push(0x6e)?;
-            put_texts(out, names)
-        }
-        DefinedType::Enum(names) => {
-            out.push(0x6d)?;
-            put_texts(out, names)
-        }
+        DefinedType::Flags(names) => put_names(out, 0x6e, names),
+        DefinedType::Enum(names) => put_names(out, 0x6d, names),
         DefinedType::Option(t) => put_part(out, 0x6b, t),
         DefinedType::Result { ok, err } => {
             put_optional_part(out, 0x6a, ok)?;

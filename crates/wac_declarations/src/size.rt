@@ -1,6 +1,6 @@
 //! How many bytes the parts of items have: what is appended, counted before it is.
 
-ghost use Rattle.std.specs.Prelude.{◌≡◌, List, ℕ, ◌+◌, ◌<◌, ◌≤◌, ◌^◌, ◌++◌, ◌∷◌, [], length};
+ghost use Rattle.std.specs.Prelude.{◌≡◌, ◌+◌, ◌<◌, ◌≤◌, ◌^◌, ◌++◌, ◌∷◌, length};
 ghost use Rattle.wac_binary.specs.Leb.{leb, unsigned};
 ghost use Rattle.wac_binary.specs.Bytes.{text, value, optional, field, case, vector, argument, alias_bytes, sort, described};
 ghost use Rattle.wac_binary.specs.Items.{export_alias, outer_alias};

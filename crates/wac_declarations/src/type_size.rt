@@ -1,6 +1,6 @@
 //! How many bytes types and declarations have, counted before they are written.
 
-ghost use Rattle.std.specs.Prelude.{◌≡◌, List, ℕ, ◌+◌, ◌<◌, ◌≤◌, ◌^◌, length, Option};
+ghost use Rattle.std.specs.Prelude.{◌≡◌, ◌+◌, ◌<◌, ◌≤◌, ◌^◌, length};
 ghost use Rattle.wac_binary.specs.Bytes.{alias_bytes, value_def_bytes, type_bytes, decl_bytes, outcome};
 ghost use Rattle.wac_binary.specs.Views.{func_of, defined_of};
 ghost use Rattle.wac_declarations.specs.DeclView.{alias_of, type_of, decl_of};

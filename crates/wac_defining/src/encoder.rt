@@ -269,8 +269,8 @@ impl<'a> DefinitionEncoder<'a> {
         }
     }
 
-    /// Does a step of a task: aliases its definition where it is listed; writes it where all parts are written; else looks at the next part, and puts the task off
-    /// behind that part's definition where it is not written.
+    /// Does a step of a task: aliases its definition where it is listed; writes it where all parts are written; else looks at the
+    /// next part, and puts the task off behind that part's definition where it is not written.
     fn step(&self, scope: &mut Scope, task: Task, tasks: &mut Vec<Task>) -> Result<(), EncodeFault>
         requires { IsReady self.now.types.now scope.old task }
         ensures did { OnOk result (Did self.now.types.now task scope.old scope.new tasks.old.items tasks.new.items) }

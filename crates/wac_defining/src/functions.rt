@@ -1,6 +1,6 @@
 //! The writer of function types.
 
-ghost use Rattle.std.specs.Prelude.{◌≡◌, true, ℕ, List, [], Option, Some, None, IfOk, OnOk, slice_get};
+ghost use Rattle.std.specs.Prelude.{◌≡◌, true, ℕ, List, [], Some, None, IfOk, OnOk, slice_get};
 ghost use Rattle.wac_shapes.specs.declared.component.ValueType.{ValueType as AnyValue};
 ghost use Rattle.wac_shapes.specs.declared.component.«Type».TheVariants as ty;
 ghost use Rattle.wac_collection.specs.Collection.{HasFunc, and_maybe, holds_value, item_at, seconds};

@@ -1,4 +1,5 @@
-//! Tests of open scopes, of the writers of types, of worlds and of the root, of a root that is written by hand, and of the imports of a merge, through what they make public.
+//! Tests of open scopes, of the writers of types, of worlds and of the root, of a root that is written by hand, and of the imports
+//! of a merge, through what they make public.
 #![tactic(auto)]
 
 #[cfg(test)]

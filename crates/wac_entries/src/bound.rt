@@ -14,7 +14,7 @@ use crate::scopes::Opener;
 use indexmap::IndexMap;
 use std::alloc::{AllocError, Global};
 use std::marker::Model;
-use wac_collection::{InterfaceId, ItemKind, Named, ResourceId, Type, Types, UsedType};
+use wac_collection::{ItemKind, Named, ResourceId, Type, Types, UsedType};
 
 /// Where a resource is bound: on a side, under a path of names.
 pub struct Place {

@@ -2,9 +2,9 @@
 //!
 //! A class is known by a key: that of the track where its name is one of an instance, else `-` and the name. Keys are equal
 //! exactly where names are of one class, so classes are numbered by look-ups, and a name that was seen is not read again.
-ghost use Rattle.std.specs.Prelude.{◌≡◌, ◌+◌, ◌<◌, ℕ, List, [], length, Some, IfOk, OnOk, slice_get, take, string_bytes, is_some};
+ghost use Rattle.std.specs.Prelude.{◌≡◌, ◌+◌, ◌<◌, ℕ, [], length, Some, IfOk, OnOk, slice_get, take, string_bytes, is_some};
 ghost use Rattle.std.specs.Option.{option_and_then};
-ghost use Rattle.wac_primitives.specs.Name.{Name, find_name};
+ghost use Rattle.wac_primitives.specs.Name.{find_name};
 ghost use Rattle.wac_entries.specs.Classes.{by_names, class_names, AreClasses};
 ghost use Rattle.wac_entries.specs.Classes as classes;
 ghost use Rattle.wac_entries.specs.Numbering.{AreFound, AreInstances, AreKeyed, AreNewest, HasMore, HaveNumbers, IsNumbered, Places, class_names_to, key_for};

@@ -13,7 +13,6 @@ use Rattle.wac_edges.specs.Edge.{argument_edge}
 use Rattle.wac_edges.specs.declared.node.NodeId.{NodeId}
 use Rattle.wac_nodes.specs.declared.node.Node.{Node}
 use Rattle.wac_nodes.specs.declared.packages.PackageId.{PackageId}
-use Rattle.wac_nodes.specs.declared.packages.Slot.{Slot}
 use Rattle.wac_nodes.specs.Graph.{Graph, GraphNode, node_at, IsImportOf}
 use Rattle.wac_nodes.proofs.NodeLemmas.{get-nodes_of}
 use Rattle.wac_fields.specs.Told.{tells}

@@ -1,5 +1,5 @@
 -- The step of `export`.
-use Rattle.std.proofs.Common.{◌≡◌, ℕ, true, ap, ◌∙◌, sym, refl, subst, Option, Some, None, IsSome, is_some, Ok, String, Global, string_bytes, List, [], ◌∷◌, ◌++◌, map as map_list}
+use Rattle.std.proofs.Common.{◌≡◌, ℕ, true, ap, ◌∙◌, refl, subst, Option, Some, None, IsSome, is_some, Ok, String, Global, string_bytes, List, [], ◌∷◌, ◌++◌, map as map_list}
 use Rattle.std.specs.Borrow.{Bor}
 use Rattle.std.specs.Map.{lookup}
 use Rattle.std.specs.Str.{bytes_eq}

@@ -2,7 +2,7 @@
 //!
 //! An interface whose uses aren't asked for yet waits in a list of tasks, below them, so that no chain of uses is too
 //! long. What an instance uses is asked for before it, so one that is asked for already needs no walk.
-ghost use Rattle.std.specs.Prelude.{ℕ, ◌≡◌, ◌++◌, List, [], map, IfOk, OnOk};
+ghost use Rattle.std.specs.Prelude.{ℕ, ◌≡◌, ◌++◌, List, [], map, OnOk};
 ghost use Rattle.wac_collection.specs.Collection.{HasInterface};
 ghost use Rattle.wac_shapes.specs.declared.component.ItemKind.TheVariants.{Instance};
 ghost use Rattle.wac_fields.specs.declared.asked.Task.{Task as ATask};

@@ -1,5 +1,5 @@
 //! The edges between a new definition and those that are there.
-ghost use Rattle.std.specs.Prelude.{◌≡◌, ◌↔◌, ◌⊎◌, ℕ, true, OnOk, OnErr, IfOk, IsTrue, Contains};
+ghost use Rattle.std.specs.Prelude.{◌≡◌, ◌↔◌, ◌⊎◌, true, OnOk, OnErr, IfOk, IsTrue, Contains};
 ghost use Rattle.std.specs.FinSet as set;
 ghost use Rattle.wac_collection.specs.Collection.{holds_type};
 ghost use Rattle.wac_reach.specs.Reach.{IsIn, Reaches};

@@ -1,10 +1,9 @@
 //! Nodes of a package that are taken out of the nodes and edges of a graph, and the exports that go with them.
-ghost use Rattle.std.specs.Prelude.{◌≡◌, ◌≤◌, not, ℕ, Bool, true, false, filter, if◌then◌else◌};
+ghost use Rattle.std.specs.Prelude.{◌≡◌, ◌≤◌, not, ℕ, true, false, filter, if◌then◌else◌};
 ghost use Rattle.std.specs.Option.{option_map};
 ghost use Rattle.std.specs.FinSet as set;
 ghost use Rattle.slab.specs.Slab.{get};
 ghost use Rattle.wac_edges.specs.declared.edges.Edge.{Edge as AnEdge};
-ghost use Rattle.wac_edges.specs.declared.node.NodeId.{NodeId as AnId};
 ghost use Rattle.wac_nodes.specs.Nodes.{node_of, names_of};
 ghost use Rattle.wac_fields.specs.Lost.{is_again};
 ghost use Rattle.wac_fields.specs.Owned.{is_of_at};

@@ -1,5 +1,5 @@
 //! What `set_instantiation_argument` looks up, tests and changes.
-ghost use Rattle.std.specs.Prelude.{◌≡◌, true, false, IsSome, IsTrue, OnOk, OnErr, IfOk, IfErr, Err, ◌||◌, ◌&&◌, ◌==◌, not, ℕ};
+ghost use Rattle.std.specs.Prelude.{◌≡◌, true, IsSome, IsTrue, OnOk, OnErr, IfOk, IfErr, Err, ◌||◌, ◌&&◌, ◌==◌, ℕ};
 ghost use Rattle.std.specs.FinSet as set;
 ghost use Rattle.std.specs.Option.{option_map};
 ghost use Rattle.slab.specs.Slab.{get};

@@ -1,5 +1,5 @@
 //! Whether the definitions among a graph's nodes can be written so far.
-ghost use Rattle.std.specs.Prelude.{◌≡◌, true, false, Ok as Answers, IfSome, IsSomeAnd, None};
+ghost use Rattle.std.specs.Prelude.{◌≡◌, true, false, Ok as Answers, IfSome, IsSomeAnd};
 ghost use Rattle.wac_causes.specs.NotYet.{AllDefinable};
 ghost use Rattle.wac_collection.specs.Collection.{holds_type};
 ghost use Rattle.wac_shapes.specs.Kinds.{kind_type};
@@ -12,9 +12,9 @@ ghost use Rattle.wac_nodes.specs.Nodes.{kind_of};
 use crate::graph::CompositionGraph;
 use std::alloc::AllocError;
 use wac_importing::is_definable;
-use wac_nodes::{Node, NodeId, NodeKind};
+use wac_nodes::{Node, NodeKind};
 use wac_reach::Reached;
-use wac_types::{ItemKind, Types};
+use wac_types::Types;
 
 impl CompositionGraph {
     /// Whether each definition is of a type that is defined so far. What their types reach together is looked at once.

@@ -1,5 +1,5 @@
 //! The composition graph.
-ghost use Rattle.std.specs.Prelude.{◌≡◌, ◌==◌, ◌↔◌, ℕ, true, false, IsSome, IsTrue, is_some, IfOk, OnOk, OnErr, IfSome, IfNone, Some, None, Ok, Err, length, slice_get};
+ghost use Rattle.std.specs.Prelude.{◌≡◌, ◌==◌, ◌↔◌, ℕ, true, IsSome, IsTrue, IfOk, OnOk, OnErr, IfSome, IfNone, Some, None, Ok, length, slice_get};
 ghost use Rattle.std.specs.Option.{option_map};
 ghost use Rattle.slab.specs.Slab.{ContainsKey};
 ghost use Rattle.semver.specs.Identifiers.{parts_of};

@@ -7,7 +7,6 @@ ghost use Rattle.wac_validation.specs.Valid.{AreValid};
 ghost use Rattle.wac_places.specs.Places.{names_of};
 
 use crate::graph::CompositionGraph;
-use std::alloc::AllocError;
 use wac_causes::EncodeError;
 use wac_merge::TypeAggregator;
 use wac_nodes::NodeId;

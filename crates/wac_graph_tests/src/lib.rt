@@ -1,7 +1,8 @@
 //! Tests of composition graphs, through what `wac_graph` makes public: calls, as tables of calls each with what it answers, types that
 //! are defined and imported, names, packages, `plug`, and what `encode` answers then.
 //!
-//! They stand in a crate of their own so that no library is proved once more for them, and in one, since each crate over `wac_graph` reads what was proved below.
+//! They stand in a crate of their own so that no library is proved once more for them, and in one, since each crate over
+//! `wac_graph` reads what was proved below.
 #![tactic(auto)]
 
 #[cfg(test)]

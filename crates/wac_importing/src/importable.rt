@@ -6,10 +6,10 @@ ghost use Rattle.wac_shapes.specs.declared.component.ItemKind.{ItemKind as AnyIt
 ghost use Rattle.wac_shapes.specs.declared.component.ItemKind.TheVariants as kind;
 ghost use Rattle.wac_shapes.specs.declared.component.«Type».TheVariants as ty;
 ghost use Rattle.wac_collection.specs.Collection.{HasInterface, HasWorld, holds_type};
-ghost use Rattle.wac_subtyping.specs.Subtype.{type_tree, kind_tree};
+ghost use Rattle.wac_subtyping.specs.Subtype.{type_tree};
 ghost use Rattle.wac_shapes.specs.declared.component.«Type».{«Type» as AnyType};
 ghost use Rattle.wac_worlds.specs.Nested.{IsHolder};
-ghost use Rattle.wac_meaning.specs.Importable.{HasNoHandle, IsPlainItem, IsImportableKind, UsesNothing, IsDefinableKind};
+ghost use Rattle.wac_meaning.specs.Importable.{HasNoHandle, IsImportableKind, UsesNothing, IsDefinableKind};
 ghost use Rattle.wac_importing.specs.Written.{holder_of as holder_that};
 ghost use Rattle.wac_importing.specs.Looked.{IsOfValues, HasNoResource, IsPlainAlone, ArePlainAlone, ListsPlainAlone, ListPlainAlone, ListsOther, ArePlainInside, HavePlainItems, IsHeldBy, AreFree, UseNothing, ListsPlain, AreImportable, HasNotYet};
 

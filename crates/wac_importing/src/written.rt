@@ -47,10 +47,11 @@ pub struct WrittenImports {
 /// Writes the imports of a finished merge, in order, each under its name, behind the types that it is made of, each of which is
 /// written once; but the type of a core module, and the component type of a world, are written for each import of one.
 ///
-/// Answers none exactly where an import is not importable so far: it is no core module, no function, no type item of a value type, a
-/// function type, an interface or a world, and no instance or component, or one of an interface or a world that lists other items than
-/// functions, type items of value types and function types, instances of such, and type items of interfaces and worlds of such, or it is
-/// made of a handle; memory may be refused before that is known. Answers `TooLarge` where an import does not fit behind those before it; `OutOfMemory` where memory was refused.
+/// Answers none exactly where an import is not importable so far: it is no core module, no function, no type item of a value type,
+/// a function type, an interface or a world, and no instance or component, or one of an interface or a world that lists other items
+/// than functions, type items of value types and function types, instances of such, and type items of interfaces and worlds of
+/// such, or it is made of a handle; memory may be refused before that is known. Answers `TooLarge` where an import does not fit
+/// behind those before it; `OutOfMemory` where memory was refused.
 pub fn write_imports(
     alloc: Global,
     merge: &TypeAggregator,

@@ -1,6 +1,6 @@
 //! The definitions that the items of an interface are made of.
 
-ghost use Rattle.std.specs.Prelude.{◌≡◌, ◌++◌, ◌∷◌, ℕ, [], List, Some, true, IfOk, OnOk, slice_get};
+ghost use Rattle.std.specs.Prelude.{◌≡◌, ◌∷◌, ℕ, [], List, Some, true, IfOk, OnOk, slice_get};
 ghost use Rattle.wac_shapes.specs.declared.component.DefinedType.{DefinedType as AnyDefined};
 ghost use Rattle.wac_shapes.specs.declared.component.DefinedTypeId.{DefinedTypeId as AnId};
 ghost use Rattle.wac_shapes.specs.declared.component.Interface.{Interface as AnInterface};
@@ -203,8 +203,9 @@ fn definitions_among(alloc: Global, types: &[Type]) -> Result<Vec<DefinedTypeId>
     Ok(definitions)
 }
 
-/// The definitions that the items of an interface are made of, those of instances and of type items of interfaces among them too, each once: those in which the value
-/// types end that they mention, and those in which the parts of these end, and so on. Linear, without recursion.
+/// The definitions that the items of an interface are made of, those of instances and of type items of interfaces among them too,
+/// each once: those in which the value types end that they mention, and those in which the parts of these end, and so on. Linear,
+/// without recursion.
 ///
 /// Answers `AllocError` where memory ran out.
 pub fn definitions_of(

@@ -1,6 +1,6 @@
 //! The parts of a definition, by their positions.
 
-ghost use Rattle.std.specs.Prelude.{◌≡◌, ◌+◌, ◌<◌, ◌^◌, ◌∷◌, [], Some, length, map, slice_get};
+ghost use Rattle.std.specs.Prelude.{◌≡◌, ◌+◌, ◌<◌, ◌^◌, ◌∷◌, [], map, slice_get};
 ghost use Rattle.std.specs.Option.{OnSome};
 ghost use Rattle.wac_listing.specs.Made.{parts, some_of, second_of, some_second_of};
 

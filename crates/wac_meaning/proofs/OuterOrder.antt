@@ -7,7 +7,7 @@ use Rattle.wac_terms.specs.ClassOrder.{RestsOn, Selects, none, takes, leaves, Ar
 use Rattle.wac_nodes.specs.Graph.{Graph}
 use Rattle.wac_nodes.specs.OuterImports.{outer_entries, IsOuterOrder, IsImportPlace}
 use Rattle.wac_meaning.specs.Listing.{IsDefined}
-use Rattle.wac_binary.specs.Meaning.{Thing, import_at, projection, written}
+use Rattle.wac_binary.specs.Meaning.{Thing, import_at, projection}
 use Rattle.wac_primitives.specs.Name.{Name}
 use Rattle.wac_shapes.specs.declared.component.«Type».{«Type» as AnyType}
 

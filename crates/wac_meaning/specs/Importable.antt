@@ -8,7 +8,7 @@ use Rattle.wac_shapes.specs.declared.component.ItemKind.TheVariants as kind
 use Rattle.wac_shapes.specs.declared.component.World.{World}
 use Rattle.wac_shapes.specs.declared.component.WorldId.{WorldId}
 use Rattle.wac_shapes.specs.declared.component.«Type».TheVariants as ty
-use Rattle.wac_primitives.specs.Tree.{TypeTree, absent, resource, primitive, record_of, variant_of, list_of, fixed_list_of, tuple_of, flags_of, enum_of, option_of, result_of, stream_of, future_of, function, instance, component, module_of, type_equal, function_item, instance_item, component_item, module_item}
+use Rattle.wac_primitives.specs.Tree.{TypeTree, absent, primitive, record_of, variant_of, list_of, fixed_list_of, tuple_of, flags_of, enum_of, option_of, result_of, stream_of, future_of, function, instance, component, module_of, type_equal, function_item, instance_item, component_item, module_item}
 use Rattle.wac_collection.specs.Collection.{Collection, interface_exports, world_imports, world_exports, item_at}
 use Rattle.wac_subtyping.specs.Subtype.{kind_tree}
 use Rattle.wac_meaning.specs.Definition.{uses_of}

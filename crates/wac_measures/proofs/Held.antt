@@ -1,5 +1,5 @@
 -- What is asked for is held, also with one more entry.
-use Rattle.std.proofs.Common.{◌≡◌, true, false, List, [], ◌∷◌, ◌++◌, slice_get, inl, inr, ap, sym, ◌∙◌}
+use Rattle.std.proofs.Common.{◌≡◌, true, List, [], ◌∷◌, ◌++◌, slice_get, inl, inr, ap, sym, ◌∙◌}
 use Rattle.wac_primitives.specs.Name.{Name}
 use Rattle.wac_collection.specs.Collection.{Collection, holds_type}
 use Rattle.wac_shapes.specs.Kinds.{kind_type}

@@ -1,7 +1,8 @@
-//! How the times of a workload of graphs grow with its count, measured in two ways, in memory that is kept from round to round. Alone,
-//! one graph stands at a time: a small one fits the processor's caches and a large one does not, and that grows too. In equal memory, as many graphs of each count
-//! stand as have 100,000 parts, and each part of a step is taken in all of them before the next: so each count makes as many parts, writes
-//! to as much memory and comes to it cold, and what grows is the work for a part, and what is near within one graph.
+//! How the times of a workload of graphs grow with its count, measured in two ways, in memory that is kept from round to round.
+//! Alone, one graph stands at a time: a small one fits the processor's caches and a large one does not, and that grows too. In
+//! equal memory, as many graphs of each count stand as have 100,000 parts, and each part of a step is taken in all of them before
+//! the next: so each count makes as many parts, writes to as much memory and comes to it cold, and what grows is the work for a
+//! part, and what is near within one graph.
 
 use crate::graph::Graph;
 use crate::plan::{Plan, Sort, Stand, do_all, empty};

@@ -1,8 +1,5 @@
 //! One named type is bound by one class, under one name.
-ghost use Rattle.std.specs.Prelude.{◌≡◌, true, IfOk};
-ghost use Rattle.wac_collection.specs.Collection.{holds_type};
 ghost use Rattle.wac_entries.specs.Bindings.{AreHeld};
-ghost use Rattle.wac_shapes.specs.Kinds.{kind_type};
 
 use crate::rows::Row::{Alias, Enumeration, Instance};
 use crate::rows::{Item, Items, Row, assert_row};

@@ -1,10 +1,9 @@
 // The hash of a component: items separated by one space.
 
-ghost use Rattle.std.specs.Prelude.{◌≡◌, ◌==◌, MatchOption, true, false, drop};
-ghost use Rattle.std.specs.List.{list_all, slice_split};
+ghost use Rattle.std.specs.Prelude.{◌≡◌, MatchOption, true, false, drop};
+ghost use Rattle.std.specs.List.{list_all};
 ghost use Rattle.wac_names.specs.Grammar.{is_base64, is_option_byte};
 ghost use Rattle.wac_names.specs.Reading.{is_digest, is_padding, is_hash_item, is_hash, has_algorithm};
-ghost use Rattle.wac_names.specs.Text.{begins};
 
 use crate::text::{halves, strip};
 

@@ -1,6 +1,6 @@
 // The bytes and labels of the grammar.
 
-ghost use Rattle.std.specs.Prelude.{◌≡◌, ◌==◌, true, false};
+ghost use Rattle.std.specs.Prelude.{◌≡◌, ◌==◌};
 ghost use Rattle.std.specs.List.{list_all, slice_split};
 ghost use Rattle.wac_names.specs.Reading.{is_label, is_lower_label, is_fragment};
 ghost use Rattle.wac_names.specs.Label.{is_lower_or_digit, is_upper_or_digit, not_upper, begins_with_letter};

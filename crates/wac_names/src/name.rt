@@ -1,4 +1,4 @@
-ghost use Rattle.std.specs.Prelude.{◌≡◌, ◌≢◌, false, ◌⊎◌, ◌↔◌, ℕ, List, IfOk, IfErr, IsOk, IsTrue, Ok, Err, nat_eq};
+ghost use Rattle.std.specs.Prelude.{◌≡◌, ◌≢◌, false, ◌⊎◌, ℕ, List, IfOk, IfErr, IsOk, Ok, Err, nat_eq};
 ghost use Rattle.std.proofs.Common.{ap, sym};
 ghost use Rattle.std.specs.Cmp.{on_equiv, on_per, partial_equiv_from_equiv};
 ghost use Rattle.std.specs.Cmp.Lexicographic.{nat_list_eq_equiv, pointwise, same_text};

@@ -1,14 +1,14 @@
 // A text is cut once, from the left.
 
-ghost use Rattle.std.specs.Prelude.{◌≡◌, ◌≢◌, IfErr, IfOk, IfSome, IsOk, None, Ok, Err, false};
+ghost use Rattle.std.specs.Prelude.{◌≡◌, ◌≢◌, IfErr, IfOk, IfSome, IsOk, None, false};
 ghost use Rattle.wac_names.specs.Text.{has};
 ghost use Rattle.semver.specs.Identifiers.{parts_of};
 ghost use Rattle.std.specs.Option.{option_copied, option_map};
 ghost use Rattle.wac_names.specs.Track.{parts_piece};
 ghost use Rattle.wac_names.specs.Grammar.{is_version};
 ghost use Rattle.wac_names.specs.Plain.{AnswersPlain, IsPlainKind, IsPlainRange, IsPlainVersion};
-ghost use Rattle.wac_names.specs.Kind.{constructor, hash, label, method, static};
-ghost use Rattle.wac_names.specs.Reading.{Gives, GivesOrMemory, Passes, PassesOrMemory, is_interface_name, is_label, is_package, is_version_piece, named_package, package_of, read, read_bracketed, read_from, read_hash, read_interface, read_interface_parts, read_label, read_locked, read_locked_inside, read_marked, read_path, read_placed, read_plain, read_range, read_range_piece, read_tail, read_unlocked, read_unlocked_inside, read_url};
+ghost use Rattle.wac_names.specs.Kind.{method};
+ghost use Rattle.wac_names.specs.Reading.{Gives, GivesOrMemory, Passes, PassesOrMemory, is_interface_name, is_label, is_package, is_version_piece, named_package, package_of, read, read_bracketed, read_from, read_hash, read_interface, read_locked, read_marked, read_path, read_placed, read_plain, read_range, read_range_piece, read_tail, read_unlocked, read_url};
 ghost use Rattle.wac_names.specs.Views.{kind_view, dependency_view, interface_view, package_view, range_view, url_view};
 
 use crate::fault::NameFault;

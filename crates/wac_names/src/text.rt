@@ -1,6 +1,6 @@
 // Cutting a text.
 
-ghost use Rattle.std.specs.Prelude.{◌≡◌, true, false, None, Some, MatchOption, IsTrue, ◌<◌, ◌↔◌};
+ghost use Rattle.std.specs.Prelude.{◌≡◌, true, false, MatchOption, IsTrue, ◌<◌, ◌↔◌};
 ghost use Rattle.wac_names.specs.Text.{has, before, after, begins, behind, ends, front};
 ghost use Rattle.wac_names.specs.Reading.{version_piece};
 ghost use Rattle.std.specs.Option.{option_copied};

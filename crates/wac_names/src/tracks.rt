@@ -1,14 +1,14 @@
 // Tracks of names, and the order of their versions.
 
-ghost use Rattle.std.specs.Prelude.{◌≡◌, ◌↔◌, ℕ, List, Option, IfOk, IsOk, IsTrue, Some, None, false, string_bytes};
-ghost use Rattle.std.specs.Option.{option_cmp, option_copied, option_map};
+ghost use Rattle.std.specs.Prelude.{◌≡◌, ◌↔◌, Option, IfOk, IsOk, IsTrue, false, string_bytes};
+ghost use Rattle.std.specs.Option.{option_cmp, option_map};
 ghost use Rattle.semver.specs.Identifiers.{parts_of};
 ghost use Rattle.semver.specs.Parse.{Parts};
 ghost use Rattle.wac_names.specs.Plain.{IsPlainText, IsPlainVersion};
-ghost use Rattle.wac_names.specs.Reading.{is_interface_name, read_track, read_version, track_at};
+ghost use Rattle.wac_names.specs.Reading.{read_version, track_at};
 ghost use Rattle.wac_names.specs.ReadingLaws.{ReadingLaws};
-ghost use Rattle.wac_names.specs.Text.{after, has, before};
-ghost use Rattle.wac_names.specs.Track.{HasTrack, HasVersion, KeysTellTracks, OneTrack, OneTrackLaws, key_text, parts_piece, VersionLaws, series, version_cmp};
+ghost use Rattle.wac_names.specs.Text.{after, has};
+ghost use Rattle.wac_names.specs.Track.{HasTrack, HasVersion, KeysTellTracks, OneTrack, OneTrackLaws, key_text, VersionLaws, series, version_cmp};
 ghost use Rattle.wac_names.specs.Views.{track_view};
 
 use crate::reading::{is_interface_name, parse_version};

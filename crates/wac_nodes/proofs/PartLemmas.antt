@@ -17,7 +17,7 @@ use Rattle.wac_edges.specs.declared.node.NodeId.{NodeId}
 use Rattle.wac_nodes.specs.declared.packages.PackageId.{PackageId}
 use Rattle.wac_nodes.specs.declared.packages.Slot.{Slot}
 use Rattle.wac_nodes.specs.Graph as graph
-use Rattle.wac_nodes.specs.Graph.{Graph, GraphNode, node_at, package_at, exports_of, imports_of, IsAliasOf, IsRegistered, export_at}
+use Rattle.wac_nodes.specs.Graph.{Graph, GraphNode, node_at, package_at, exports_of, imports_of, IsAliasOf, export_at}
 use Rattle.wac_nodes.specs.Sound.{IsSound, IsInstance, IsAlias, IsTypeUnderName, Joins}
 use Rattle.wac_nodes.proofs.JoinLemmas.{AreAlike, alike_exports, joins_kept, imports_of_instance}
 

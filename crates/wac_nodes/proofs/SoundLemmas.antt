@@ -20,7 +20,7 @@ use Rattle.wac_nodes.specs.declared.packages.PackageId.{PackageId}
 use Rattle.wac_nodes.specs.declared.packages.Slot.{Slot}
 use Rattle.wac_edges.specs.Edge.{edge_cmp, alias_edge, argument_edge}
 use Rattle.wac_nodes.specs.Graph as graph
-use Rattle.wac_nodes.specs.Graph.{Graph, GraphNode, node_at, package_at, package_in, package_of, export_at, exports_of, imports_of, IsAliasOf, IsArgumentOf, IsRegistered}
+use Rattle.wac_nodes.specs.Graph.{Graph, GraphNode, node_at, package_at, package_in, export_at, exports_of, imports_of, IsAliasOf, IsArgumentOf, IsRegistered}
 use Rattle.wac_nodes.specs.Sound.{IsSound, IsInstance, IsAlias, IsTypeUnderName, Joins}
 use Rattle.wac_nodes.proofs.Added.{by_eq, same_id, insert_same, insert_other, some_before, some_either, ImportIn, import_before, added_edge, new_edge, kept_edge, one_more, one_edge, one_name}
 use Rattle.wac_nodes.proofs.JoinLemmas.{Extends, AreAlike, alike_itself, alike_exports, joins_kept, joins_alike, exports_same, joins_types, imports_of_instance}

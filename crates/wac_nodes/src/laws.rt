@@ -1,5 +1,5 @@
 //! Laws over the steps of graphs, given to the caller of a call that does nothing else.
-ghost use Rattle.std.specs.Prelude.{◌≡◌, ℕ, Some, Ok, Result as AResult, length};
+ghost use Rattle.std.specs.Prelude.{◌≡◌, Some, Ok, Result as AResult, length};
 ghost use Rattle.wac_primitives.specs.Name.{Name as AName};
 ghost use Rattle.wac_collection.specs.Collection.{with_resource, with_func, with_defined, with_interface, with_world, with_module};
 ghost use Rattle.wac_collection.specs.Package.{PackageParts, with_instance_of};

@@ -1,37 +1,17 @@
 -- What stands where the imports of a merge are placed: arguments that were not set, and import nodes.
-use Rattle.std.proofs.Common.{◌≡◌, ℕ, zero, suc, ◌+◌, ◌<◌, ◌≤◌, true, false, List, [], ◌∷◌, ◌++◌, length, take, drop, refl, ap, ◌∙◌, sym, subst, arith, Option, Some, None, IfSome, IfNone, IsSome, IsSomeAnd, is_some, ◌⊎◌, inl, inr, String, Global, string_bytes}
-use Rattle.std.specs.Borrow.{Bor}
-use Rattle.std.specs.Prelude.{slice_get, slice_set, slice_index_or}
-use Rattle.std.proofs.lemmas.Option.{slice_get-get_or}
-use Rattle.std.proofs.lemmas.Grind.{get_or_default_zero}
-use Rattle.std.specs.Option.{option_map}
-use Rattle.std.specs.FinSet as set
-use Rattle.std.proofs.Math.Seq.{take-length}
-use Rattle.slab.specs.Slab.{get, ContainsKey}
-use Rattle.wac_primitives.specs.Name.{Name, option_case}
-use Rattle.wac_collection.specs.Package.{PackageParts}
+use Rattle.std.proofs.Common.{◌≡◌, ℕ, ◌+◌, ◌<◌, List, [], ◌∷◌, ◌++◌, length, refl, ap, ◌∙◌, sym, subst, arith, Option, Some, None, IfSome, IsSome, IsSomeAnd, is_some}
+use Rattle.std.specs.Prelude.{slice_get}
+use Rattle.wac_primitives.specs.Name.{Name}
 use Rattle.wac_shapes.specs.declared.component.ItemKind.{ItemKind}
 use Rattle.wac_binary.specs.declared.sorts.Sort.{Sort}
-use Rattle.wac_binary.specs.declared.sorts.Sort.TheVariants as sort
-use Rattle.wac_binary.specs.Items.{Item, instantiate}
-use Rattle.wac_binary.specs.Indexes.{space, indexes}
-use Rattle.wac_binary.specs.Views.{arguments_of}
-use Rattle.wac_nodes.specs.declared.node.Node.{Node}
-use Rattle.wac_nodes.specs.declared.node.NodeKind.{NodeKind}
-use Rattle.wac_nodes.specs.declared.node.NodeKind.TheVariants as code
-use Rattle.wac_nodes.specs.declared.packages.PackageId.{PackageId}
+use Rattle.wac_binary.specs.Indexes.{indexes}
 use Rattle.wac_edges.specs.declared.node.NodeId.{NodeId}
-use Rattle.wac_edges.specs.declared.edges.Edge.{Edge}
-use Rattle.wac_edges.specs.Edge.{argument_edge}
 use Rattle.wac_nodes.specs.Graph as graph
 use Rattle.wac_edges.specs.Edge.{node_number}
-use Rattle.wac_nodes.specs.Graph.{Graph, GraphNode, node_at, imports_of, package_at, IsArgumentOf, IsUnsatisfied, IsImportOf}
-use Rattle.wac_nodes.specs.Nodes.{node_of, kind_of}
-use Rattle.wac_fields.specs.Fields.{Fields, graph_of, Invariant}
-use Rattle.wac_meaning.specs.Means.{is_import, sort_of_kind, package_bytes}
-use Rattle.wac_meaning.specs.Encoding.{index_in, HasComponent, HasRoom, Progress}
-use Rattle.wac_meaning.specs.Beginning.{Places}
-use Rattle.wac_meaning.specs.Writing.{IsArgumentItem, of_node, of_import, AreArgumentItems, WritesNode, writes_instantiation, Wrote, WroteAll}
+use Rattle.wac_nodes.specs.Graph.{Graph, GraphNode, node_at, imports_of, IsUnsatisfied, IsImportOf}
+use Rattle.wac_meaning.specs.Means.{sort_of_kind}
+use Rattle.wac_meaning.specs.Encoding.{index_in}
+use Rattle.wac_meaning.specs.Writing.{IsArgumentItem, of_import}
 use Rattle.wac_entries.specs.Classes.{Entry, ClassLaws}
 use Rattle.wac_nodes.specs.OuterImports.{outer_entries}
 use Rattle.wac_meaning.specs.MergedImports.{IsFoundAt}
@@ -43,11 +23,9 @@ use Rattle.wac_meaning.proofs.MergeLemmas.{OrderHasClasses, placed_argument}
 use Rattle.wac_places.specs.declared.places.ImportPlaces.{ImportPlaces}
 use Rattle.wac_places.specs.Places.{IsImportedName, IsPlaceOf, ArePlaced, AreFound}
 use Rattle.wac_places.proofs.OuterLemmas.{asked_imported, asked_sort, found_at}
-use Rattle.wac_writing.proofs.SourceLemmas.{source_at}
 use Rattle.wac_writing.proofs.ImportRows.{unsatisfied_false, row_node}
 use Rattle.wac_nodes.proofs.NodeLemmas.{there}
 use Rattle.wac_writing.proofs.EncodingLemmas as nodes
-use Rattle.wac_writing.proofs.EncodingLemmas.{node_is}
 
 -- one that was not
 module _ (laws : ClassLaws) (has_classes : OrderHasClasses) (g : Graph) (p : ImportPlaces) (placed : ArePlaced g p) (n : NodeId) (i : ℕ) (name : Name)

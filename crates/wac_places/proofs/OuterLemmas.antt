@@ -14,10 +14,9 @@ use Rattle.wac_entries.specs.Classes.{Entry, by_names, is_instance, same_class, 
 use Rattle.wac_merge.specs.Aggregate.{Aggregate}
 use Rattle.wac_binary.specs.declared.sorts.Sort.{Sort}
 use Rattle.wac_binary.specs.declared.sorts.Sort.TheVariants as sort
-use Rattle.wac_nodes.specs.declared.options.EncodeOptions.{EncodeOptions}
 use Rattle.wac_nodes.specs.Graph.{Graph}
 use Rattle.wac_nodes.specs.OuterImports.{outer_entries, AreOuterImports, outer_import}
-use Rattle.wac_causes.specs.NotYet.{AllImportable, AllDefinable, IsNotYet, unwritten, undefined_type, undefined_components}
+use Rattle.wac_causes.specs.NotYet.{AllImportable}
 use Rattle.wac_meaning.specs.Means.{sort_of_kind}
 use Rattle.wac_meaning.specs.Beginning.{Places}
 use Rattle.wac_meaning.specs.Importable.{IsImportable, IsImportableKind}

@@ -1,6 +1,6 @@
 //! The places of the interfaces inside an interface, and what each takes from around it.
 
-ghost use Rattle.std.specs.Prelude.{◌≡◌, ◌<◌, ◌++◌, ◌∷◌, ℕ, nat_eq, [], Some, IsSome, IfOk, OnOk, length, slice_get};
+ghost use Rattle.std.specs.Prelude.{◌≡◌, ◌<◌, nat_eq, Some, IsSome, IfOk, OnOk, length, slice_get};
 ghost use Rattle.std.specs.HashMap.{Updates};
 ghost use Rattle.wac_collection.specs.Collection.{HasInterface};
 ghost use Rattle.wac_planning.specs.declared.plan.Place.{Place as APlace};

@@ -1,5 +1,5 @@
 //! Which exports of a plug match which imports of a socket.
-ghost use Rattle.std.specs.Prelude.{◌≡◌, [], ◌<◌, ℕ, true, length, slice_get, string_bytes, IfOk, OnOk, IfSome, IsSomeAnd, MatchOption};
+ghost use Rattle.std.specs.Prelude.{◌≡◌, ◌<◌, true, length, slice_get, string_bytes, IfOk, OnOk, IfSome, IsSomeAnd, MatchOption};
 ghost use Rattle.wac_collection.specs.Collection.{holds_type, holds_all, kind_types, world_imports, world_exports};
 ghost use Rattle.wac_shapes.specs.Kinds.{kind_type};
 ghost use Rattle.wac_primitives.specs.Name.{Name};

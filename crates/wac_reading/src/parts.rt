@@ -5,7 +5,7 @@ ghost use Rattle.wac_causes.specs.Cause.{cause_of};
 ghost use Rattle.wac_edges.specs.declared.node.NodeId.{NodeId as AnId};
 ghost use Rattle.wac_meaning.specs.Beginning.{Places};
 ghost use Rattle.wac_meaning.specs.Encoding.{HasRoom, index_in};
-ghost use Rattle.wac_meaning.specs.Means.{sort_of_kind, custom_item, name_customs, AreNames, processor_customs, export_item_of, further_exports};
+ghost use Rattle.wac_meaning.specs.Means.{custom_item, name_customs, AreNames, processor_customs, export_item_of, further_exports};
 ghost use Rattle.wac_meaning.specs.Writing.{WritesNode};
 ghost use Rattle.wac_nodes.specs.Graph.{node_at, alias};
 ghost use Rattle.wac_scopes.specs.Contents.{items_of};
@@ -19,7 +19,7 @@ ghost use Rattle.wac_writing.specs.Further.{further_at};
 
 use crate::encoder::{Encoder, sort_of};
 use crate::reader::GraphReader;
-use std::alloc::{AllocError, Global};
+use std::alloc::Global;
 use wac_builder::{ComponentBuilder, component_names, producers};
 use wac_causes::EncodeError;
 use wac_nodes::{NodeId, Processor};

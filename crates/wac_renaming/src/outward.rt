@@ -1,5 +1,5 @@
 //! The way out of a part, past those around it that bind nothing.
-ghost use Rattle.std.specs.Prelude.{ℕ, ◌<◌, ◌≤◌, length, slice_get, IfOk, ◌≡◌, Some};
+ghost use Rattle.std.specs.Prelude.{◌<◌, ◌≤◌, length, slice_get, IfOk, ◌≡◌, Some};
 ghost use Rattle.wac_renaming.specs.Ways.{AreOutward, HaveWays, LeadsOut};
 ghost use Rattle.wac_terms.specs.Unions.{AreAround};
 ghost use Rattle.wac_terms.specs.declared.parts.Part.{Part as APart};

@@ -1,6 +1,6 @@
 //! An item that is about to be written.
 
-ghost use Rattle.std.specs.Prelude.{◌≡◌, List, ℕ, ◌++◌, ◌∷◌, [], ◌<◌, ◌^◌, length, OnOk, IfOk, IfErr};
+ghost use Rattle.std.specs.Prelude.{◌≡◌, List, ℕ, ◌++◌, ◌<◌, ◌^◌, length, OnOk, IfOk, IfErr};
 ghost use Rattle.wac_binary.specs.Bytes.{alone, item_bytes, section_id as id_of};
 ghost use Rattle.wac_binary.specs.Fits.{SectionFits};
 ghost use Rattle.wac_sections.specs.ItemView.{item_of, alone_of};

@@ -5,11 +5,10 @@
 //! memory is refused. Whether a section fits is clear from its count and its size alone unless their sum is near 2 ^ 32, since a
 //! number has at most one byte more than its value; the count's own length is looked at only there.
 
-ghost use Rattle.std.specs.Prelude.{◌≡◌, List, ℕ, ◌+◌, ◌<◌, ◌≤◌, ◌^◌, ◌++◌, ◌∷◌, [], length, OnOk, OnErr, IfOk, IfErr, IfSome, ◌↔◌, IsTrue};
+ghost use Rattle.std.specs.Prelude.{◌≡◌, List, ℕ, ◌+◌, ◌<◌, ◌≤◌, ◌^◌, ◌++◌, length, OnOk, OnErr, IfOk, IfSome, ◌↔◌, IsTrue};
 ghost use Rattle.std.specs.List.{flat_map};
 ghost use Rattle.wac_binary.specs.Bytes.{alone, item_bytes, section_bytes, section_id as id_of, is_shared as shared};
 ghost use Rattle.wac_binary.specs.Fits.{SectionFits};
-ghost use Rattle.wac_binary.specs.Leb.{unsigned};
 ghost use Rattle.wac_sections.specs.ItemView.{item_of, alone_of};
 ghost use Rattle.wac_binary.specs.Sections.{one, before, next_section};
 ghost use Rattle.wac_sections.specs.OpenSection.{section, section_of, begun};

@@ -1,5 +1,5 @@
 -- What `==` answers of entries, seen by their bytes, and of names alone.
-use Rattle.std.proofs.Common.{ℕ, suc, Bool, true, false, not, ◌&&◌, ◌≤◌, ◌∙◌, sym, ap, arith, List, [], ◌∷◌, map, length, slice_get, drop, Some, ◌≡◌, refl}
+use Rattle.std.proofs.Common.{ℕ, suc, Bool, true, false, not, ◌&&◌, ◌≤◌, ◌∙◌, sym, ap, List, [], ◌∷◌, map, length, slice_get, drop, Some, ◌≡◌, refl}
 use Rattle.std.specs.Cmp.Lexicographic.{pointwise}
 use Rattle.std.proofs.Math.ListN.{drop_of_length-le}
 use Rattle.wac_primitives.specs.Name.{Name}

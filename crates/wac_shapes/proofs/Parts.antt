@@ -1,5 +1,5 @@
 -- Values under names in two lists, of which the second goes behind the first.
-use Rattle.std.proofs.Common.{ℕ, zero, suc, Bool, true, false, cond, IsSome, ◌≡◌, ◌<◌, ◌≤◌, ◌+◌, ◌-◌, ◌&&◌, refl, sym, ap, ◌∙◌, subst, arith, List, [], ◌∷◌, ◌++◌, length, slice_get, get_or, take, drop, Option, Some, None, string_bytes, inl, inr, zero-add}
+use Rattle.std.proofs.Common.{ℕ, zero, suc, Bool, true, false, cond, ◌≡◌, ◌<◌, ◌≤◌, ◌+◌, refl, sym, ap, ◌∙◌, subst, arith, List, [], ◌∷◌, ◌++◌, length, slice_get, get_or, drop, Option, Some, None, inl, inr, zero-add}
 use Rattle.std.proofs.lemmas.Bool.{cases_Bool}
 use Rattle.std.specs.List.{AllZip}
 use Rattle.std.specs.Option.{option_map}

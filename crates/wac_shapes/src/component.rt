@@ -1,4 +1,5 @@
-//! The shapes of component types. An id is a position in its list of a collection. A clone is equal to its source, in memory of its own; where memory ran out, `clone` answers `AllocError`.
+//! The shapes of component types. An id is a position in its list of a collection. A clone is equal to its source, in memory of its
+//! own; where memory ran out, `clone` answers `AllocError`.
 ghost use Rattle.std.specs.Prelude.{◌≡◌, [], None, Some, Err, IfOk, OnOk};
 ghost use Rattle.std.specs.Option.{option_copied};
 ghost use Rattle.wac_shapes.specs.Named.{NoNameTwice, named_pairs, labelled, given_names, used_pairs};
@@ -484,7 +485,8 @@ impl Drop for Interface {
 }
 
 impl Interface {
-    /// An interface that uses no other, its exports in the order given. Answers `NameTwice` where a name is given twice, and `OutOfMemory` where memory ran out.
+    /// An interface that uses no other, its exports in the order given. Answers `NameTwice` where a name is given twice, and
+    /// `OutOfMemory` where memory ran out.
     pub fn new(
         alloc: Global,
         id: Option<&str>,
@@ -497,7 +499,9 @@ impl Interface {
         Interface::with_uses(alloc, id, &[], exports)
     }
 
-    /// An interface, its exports in the order given. Each use is the name that a type is used under, the interface that it is taken from, and its name there where that is another. Answers `NameTwice` where a name is given twice among the uses or among the exports, and `OutOfMemory` where memory ran out.
+    /// An interface, its exports in the order given. Each use is the name that a type is used under, the interface that it is taken
+    /// from, and its name there where that is another. Answers `NameTwice` where a name is given twice among the uses or among the
+    /// exports, and `OutOfMemory` where memory ran out.
     pub fn with_uses(
         alloc: Global,
         id: Option<&str>,
@@ -547,7 +551,8 @@ impl Drop for World {
 }
 
 impl World {
-    /// A world that uses no interface, its imports and exports in the order given. Answers `NameTwice` where a name is given twice among the imports or among the exports, and `OutOfMemory` where memory ran out.
+    /// A world that uses no interface, its imports and exports in the order given. Answers `NameTwice` where a name is given twice
+    /// among the imports or among the exports, and `OutOfMemory` where memory ran out.
     pub fn new(
         alloc: Global,
         id: Option<&str>,
@@ -561,7 +566,9 @@ impl World {
         World::with_uses(alloc, id, &[], imports, exports)
     }
 
-    /// A world, its imports and exports in the order given. Each use is the name that a type is used under, the interface that it is taken from, and its name there where that is another. Answers `NameTwice` where a name is given twice among the uses, the imports or the exports, and `OutOfMemory` where memory ran out.
+    /// A world, its imports and exports in the order given. Each use is the name that a type is used under, the interface that it
+    /// is taken from, and its name there where that is another. Answers `NameTwice` where a name is given twice among the uses, the
+    /// imports or the exports, and `OutOfMemory` where memory ran out.
     pub fn with_uses(
         alloc: Global,
         id: Option<&str>,

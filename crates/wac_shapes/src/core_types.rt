@@ -115,7 +115,8 @@ impl ModuleType {
         }
     }
 
-    /// Adds an import, behind the others. Answers `NameTwice` where the name is imported already from that module, and `OutOfMemory` where memory ran out; then nothing has changed.
+    /// Adds an import, behind the others. Answers `NameTwice` where the name is imported already from that module, and
+    /// `OutOfMemory` where memory ran out; then nothing has changed.
     pub fn import(
         &mut self,
         alloc: Global,
@@ -130,7 +131,8 @@ impl ModuleType {
         self.imports.insert(alloc, source, name, item)
     }
 
-    /// Adds an export, behind the others. Answers `NameTwice` where the name is exported already, and `OutOfMemory` where memory ran out; then nothing has changed.
+    /// Adds an export, behind the others. Answers `NameTwice` where the name is exported already, and `OutOfMemory` where memory
+    /// ran out; then nothing has changed.
     pub fn export(&mut self, alloc: Global, name: &str, item: CoreExtern) -> Result<(), ShapeError>
         ensures exported { OnOk result (self.new ≡ record self.old { exports = self.old.exports ++ (name.now, item) ∷ [] }) }
         ensures refused { OnErr result (self.new ≡ self.old) }

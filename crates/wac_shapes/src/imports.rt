@@ -265,7 +265,8 @@ impl<V> CoreImports<V> {
 }
 
 impl<V: Drop> CoreImports<V> {
-    /// Puts a value under a new name of a module, behind the others. Answers `NameTwice` where the name is there under that module, and `OutOfMemory` where memory ran out; then nothing has changed.
+    /// Puts a value under a new name of a module, behind the others. Answers `NameTwice` where the name is there under that module,
+    /// and `OutOfMemory` where memory ran out; then nothing has changed.
     pub fn insert(
         &mut self,
         alloc: Global,

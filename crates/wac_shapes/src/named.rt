@@ -1,5 +1,5 @@
 //! Texts, and values under names in order.
-ghost use Rattle.std.specs.Prelude.{◌≡◌, ◌<◌, ◌++◌, ◌∷◌, ◌↔◌, ℕ, List, [], length, slice_get, Some, None, Err, IfOk, OnOk, OnErr, IsOk, IsSome, string_bytes};
+ghost use Rattle.std.specs.Prelude.{◌≡◌, ◌<◌, ◌++◌, ◌∷◌, ◌↔◌, ℕ, List, [], length, slice_get, Some, Err, IfOk, OnOk, OnErr, IsOk, IsSome, string_bytes};
 ghost use Rattle.std.specs.Option.{option_map, option_copied};
 ghost use Rattle.std.specs.Str.{bytes_eq};
 ghost use Rattle.wac_primitives.specs.Name.{find_name};
@@ -634,7 +634,8 @@ impl<V> Named<V> {
 }
 
 impl<V: Drop> Named<V> {
-    /// Puts a value under a new name, behind the others. Answers `NameTwice` where the name is there, and `OutOfMemory` where memory ran out; then nothing has changed.
+    /// Puts a value under a new name, behind the others. Answers `NameTwice` where the name is there, and `OutOfMemory` where
+    /// memory ran out; then nothing has changed.
     pub fn insert(&mut self, alloc: Global, name: &str, value: V) -> Result<(), ShapeError>
         ensures inserted { OnOk result (self.new ≡ self.old ++ (name.now, value) ∷ []) }
         ensures refused { OnErr result (self.new ≡ self.old) }

@@ -1,5 +1,5 @@
 -- An interface that lists no item of another.
-use Rattle.std.specs.Prelude.{ℕ, zero, suc, ◌+◌, ◌<◌, ◌≡◌, Bool, true, false, List, [], ◌∷◌, Option, Some, None, slice_get}
+use Rattle.std.specs.Prelude.{ℕ, suc, ◌<◌, ◌≡◌, Bool, true, false, List, [], ◌∷◌, Option, Some, None, slice_get}
 use Rattle.std.proofs.Common.{refl, ap, ◌∙◌, sym, subst, arith}
 use Rattle.wac_primitives.specs.Name.{Name, option_case}
 use Rattle.wac_shapes.specs.Named.{NoNameTwice}
@@ -13,7 +13,7 @@ use Rattle.wac_listing.specs.Made.{interface_of}
 use Rattle.wac_reach.specs.Found.{with_all}
 use Rattle.wac_sorting.specs.declared.worlds.Worlds.{Worlds}
 use Rattle.wac_sorting.specs.Sorts.{lists_plain}
-use Rattle.wac_sorting.specs.Inside.{AreInside, HasNoneInside, lists_plain_alone, and_inside, with_inside}
+use Rattle.wac_sorting.specs.Inside.{AreInside, HasNoneInside, lists_plain_alone, with_inside}
 use Rattle.wac_sorting.proofs.Inside.{AreFound, found-first, found-next, all-found, plain-next, plain-all, not-all}
 
 -- no item before a position is of an interface

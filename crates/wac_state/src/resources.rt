@@ -1,7 +1,6 @@
 //! Which types list a resource.
 
-ghost use Rattle.std.specs.Prelude.{◌≡◌, ◌∷◌, [], ℕ, true, false, List, Some, IfOk, slice_get};
-ghost use Rattle.wac_shapes.specs.declared.component.ItemKind.{ItemKind as AnyItem};
+ghost use Rattle.std.specs.Prelude.{◌≡◌, ℕ, true, false, Some, IfOk, slice_get};
 ghost use Rattle.wac_shapes.specs.declared.component.«Type».{«Type» as AnyType};
 ghost use Rattle.wac_shapes.specs.declared.component.«Type».TheVariants as ty;
 ghost use Rattle.wac_collection.specs.Collection.{HasWorld};

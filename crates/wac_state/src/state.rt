@@ -14,7 +14,6 @@ ghost use Rattle.wac_binary.specs.Items.{nested, custom, instantiate as instanti
 ghost use Rattle.wac_binary.specs.Views.{arguments_of};
 ghost use Rattle.wac_binary.specs.declared.fault.BinaryFault.TheVariants.{OutOfMemory as NoMemory};
 ghost use Rattle.wac_binary.specs.declared.sorts.Sort.TheVariants as s;
-ghost use Rattle.wac_scopes.specs.Contents.{items_of};
 ghost use Rattle.wac_scopes.specs.Scoped.{type_index, listing, IsAsBefore};
 ghost use Rattle.wac_scopes.specs.declared.fault.EncodeFault.TheVariants.{OutOfMemory, Write};
 ghost use Rattle.wac_scopes.specs.declared.fault.WriteFault.TheVariants.{UnnamedDefinition};
@@ -31,7 +30,7 @@ use crate::types::{write_in_use, write_type, write_world};
 use std::marker::Model;
 use wac_builder::{BinaryFault, ComponentBuilder, ComponentValType, Sort};
 use wac_collection::{InterfaceId, ItemKind, Type, Types, ValueType, WorldId};
-use wac_scopes::{Encodable, EncodeFault, Scope, root_law, rooted_law, step_law, still_law};
+use wac_scopes::{Encodable, EncodeFault, Scope, root_law, rooted_law, step_law};
 
 /// The root of a component, into which types of a collection are written beside items of the caller's own. Contracts see it as the collection
 /// and the open scope of the root.

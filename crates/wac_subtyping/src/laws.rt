@@ -1,5 +1,4 @@
 //! Laws of subtyping and of the trees of held types, each given to the caller of a call that does nothing else.
-ghost use Rattle.std.specs.Prelude.{◌≡◌};
 ghost use Rattle.wac_collection.specs.Bound.{by_place};
 ghost use Rattle.wac_subtyping.specs.Called.{by_binding};
 ghost use Rattle.wac_subtyping.specs.Subtype.{IsSubtype, by_name};

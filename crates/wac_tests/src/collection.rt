@@ -1,5 +1,5 @@
 // Which items a collection takes, and what it answers of them.
-use crate::adding::{Adding, BOOL, Refusal, add};
+use crate::adding::{Adding, Refusal, add};
 use crate::rows::Row::{Adds, Holds, Interfaces, Refuses, Resource, Value};
 use crate::rows::{Table, assert_displayed, assert_tables, assert_told, made};
 use wac_collection::*;

@@ -3,7 +3,7 @@ use Rattle.std.proofs.Common.{◌≡◌, ℕ, zero, suc, ◌<◌, ◌≤◌, Boo
 use Rattle.std.proofs.lemmas.Bool.{false≢true}
 use Rattle.wac_shapes.proofs.Names.{same_name-true}
 use Rattle.wac_primitives.specs.Name.{Name, find_name, first_some, option_case, same_name}
-use Rattle.wac_primitives.specs.Tree.{TypeTree, absent, instance, instance_item, component_item, function_item, module_item, resource, type_equal, value_item}
+use Rattle.wac_primitives.specs.Tree.{TypeTree, absent, instance, component_item, function_item, module_item, resource, type_equal, value_item}
 use Rattle.wac_collection.specs.Collection.{Collection, HasResource, IsSourceBelow, IsWellFormed, holds_type, interface_mentions, item_at, item_of}
 use Rattle.wac_shapes.specs.Kinds.{kind_type}
 use Rattle.wac_collection.specs.Held.{item_tree, items_under, resolved, resolved_in, source_of}

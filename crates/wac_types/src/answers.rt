@@ -23,31 +23,20 @@ pub(crate) fn answer(
     ensures settled { IfOk result (λ _. RestsOn comparison.entry.turned comparison.entry.first.now comparison.entry.second.now a b asked.old asked.new (Sub (type_tree comparison.entry.first.now a) (type_tree comparison.entry.second.now b))) }
     ensures mismatch { result ≡ Err TypeFault.Mismatch → Sub (type_tree comparison.entry.first.now a) (type_tree comparison.entry.second.now b) → ⊥ }
 {
-    comparison.first.law();
-    comparison.second.law();
+    let first = comparison.first;
+    let second = comparison.second;
+    first.law();
+    second.law();
     match (a, b) {
         (Type::Resource(r), Type::Resource(s)) => comparison.ask_resource(r, s),
-        (Type::Func(f), Type::Func(g)) => {
-            comparison.ask_func(asked, &comparison.first[f], &comparison.second[g])
-        }
+        (Type::Func(f), Type::Func(g)) => comparison.ask_func(asked, &first[f], &second[g]),
         (Type::Value(v), Type::Value(w)) => comparison.answer_value(asked, v, w),
         (Type::Interface(i), Type::Interface(j)) => {
-            comparison.ask_items(
-                asked,
-                &comparison.first[i].exports,
-                &comparison.second[j].exports,
-            )
+            comparison.ask_items(asked, &first[i].exports, &second[j].exports)
         }
-        (Type::World(w), Type::World(v)) => {
-            ask_worlds(
-                comparison,
-                asked,
-                &comparison.first[w],
-                &comparison.second[v],
-            )
-        }
+        (Type::World(w), Type::World(v)) => ask_worlds(comparison, asked, &first[w], &second[v]),
         (Type::Module(m), Type::Module(n)) => {
-            if is_module_subtype(&comparison.first[m], &comparison.second[n]) {
+            if is_module_subtype(&first[m], &second[n]) {
                 Ok(())
             } else {
                 Err(TypeFault::Mismatch)

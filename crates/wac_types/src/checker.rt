@@ -1,5 +1,5 @@
 //! Subtyping between items of two collections.
-ghost use Rattle.std.specs.Prelude.{◌≡◌, ◌+◌, true, false, Err, IfOk};
+ghost use Rattle.std.specs.Prelude.{◌≡◌, true, false, Err, IfOk};
 ghost use Rattle.wac_comparison.specs.Questions.{first_of_pair, second_of_pair, IsAskableQuestion, IsYes};
 ghost use Rattle.wac_comparison.specs.Settling.{RestsOn};
 ghost use Rattle.wac_collection.specs.Collection.{holds_type};
@@ -20,7 +20,9 @@ impl SubtypeChecker {
         SubtypeChecker {}
     }
 
-    /// Whether an item of one collection is a subtype of an item of another; each is to be held. Answers `Mismatch` where it isn't, and `OutOfMemory` where memory ran out before that was known. Each pair of types is compared once; only small ones are compared wherever they are mentioned.
+    /// Whether an item of one collection is a subtype of an item of another; each is to be held. Answers `Mismatch` where it isn't,
+    /// and `OutOfMemory` where memory ran out before that was known. Each pair of types is compared once; only small ones are
+    /// compared wherever they are mentioned.
     pub fn is_subtype(
         &self,
         a: ItemKind,

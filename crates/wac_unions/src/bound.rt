@@ -1,5 +1,5 @@
 //! Whether a class binds a resource under a name.
-ghost use Rattle.std.specs.Prelude.{◌≡◌, ◌<◌, ◌↔◌, [], ◌∷◌, ℕ, true, Some, length};
+ghost use Rattle.std.specs.Prelude.{◌≡◌, ◌↔◌, [], ◌∷◌, true};
 ghost use Rattle.wac_collection.specs.Bound.{same_path};
 ghost use Rattle.wac_collection.specs.Collection.{holds_type};
 ghost use Rattle.wac_primitives.specs.Tree.{named};

@@ -1,5 +1,5 @@
 //! Unions as interfaces of a merged collection.
-ghost use Rattle.std.specs.Prelude.{◌+◌, ◌<◌, ◌≡◌, ◌++◌, ◌∷◌, [], List, length, map, string_bytes, true, None, Some, IfOk, IfSome, OnOk, slice_get};
+ghost use Rattle.std.specs.Prelude.{◌<◌, ◌≡◌, ◌++◌, ◌∷◌, [], List, length, map, string_bytes, true, None, Some, IfOk, IfSome, OnOk, slice_get};
 ghost use Rattle.std.specs.Option.{option_map};
 ghost use Rattle.wac_collection.specs.Collection.{Collection, HasInterface, HasResource, holds_type};
 ghost use Rattle.wac_shapes.specs.Kinds.{kind_type};

@@ -1,5 +1,5 @@
 //! Interfaces inside an import, and the same with what they use.
-ghost use Rattle.std.specs.Prelude.{List, ℕ, ◌≡◌, ◌<◌, ◌++◌, ◌∷◌, [], Some, false, true, length, map, slice_get, IfOk, OnOk};
+ghost use Rattle.std.specs.Prelude.{List, ◌≡◌, ◌<◌, ◌++◌, ◌∷◌, [], Some, false, true, length, map, slice_get, IfOk, OnOk};
 ghost use Rattle.wac_collection.specs.Collection.{HasInterface, holds_all, interface_exports, item_at, kind_types};
 ghost use Rattle.wac_shapes.specs.declared.component.Interface.{Interface as AnInterface};
 ghost use Rattle.wac_shapes.specs.declared.component.InterfaceId.{InterfaceId as AnId};
@@ -9,7 +9,6 @@ ghost use Rattle.wac_entries.specs.Classes.{by_names};
 ghost use Rattle.wac_terms.specs.Merge.{import_entries};
 ghost use Rattle.wac_terms.specs.Renaming.{IsExtended};
 ghost use Rattle.wac_uses.specs.KeptUses.{with_instance};
-ghost use Rattle.wac_uses.specs.United.{instances_of};
 ghost use Rattle.wac_uses.specs.Using.{AreAlike, AreBare, AreInside, AreInterfaces, AreKnown, HasClasses, HaveListed, HaveMore, HaveUses, IsAmong, IsItemPlaced, IsOpened, IsUsing, IsWithUses, MayHave, placed, placed_from, uses_among};
 
 use crate::imports::no_interfaces;

@@ -1,5 +1,5 @@
 //! The first two names that clash.
-ghost use Rattle.std.specs.Prelude.{◌≡◌, ℕ, ◌<◌, ◌↔◌, length, IfOk, IsTrue, MatchOption};
+ghost use Rattle.std.specs.Prelude.{ℕ, ◌<◌, ◌↔◌, length, IfOk, IsTrue, MatchOption};
 ghost use Rattle.wac_names.specs.Clash.{Clash};
 ghost use Rattle.wac_names.specs.NameView.{text_of};
 ghost use Rattle.wac_validation.specs.Earlier.{AreOrdered, HasPosition};

@@ -11,7 +11,7 @@ ghost use Rattle.wac_values.specs.NamedTypes.{AreAllOne, AreClassed, AreJoined, 
 use crate::listed::listed_value;
 use std::alloc::{AllocError, Global};
 use std::collections::HashMap;
-use wac_collection::{DefinedTypeId, ItemKind, Named, Types};
+use wac_collection::{DefinedTypeId, ItemKind, Types};
 use wac_entries::classes::Classes;
 use wac_entries::entry::Entry;
 use wac_terms::parts::{Part, Union};

@@ -1,7 +1,6 @@
 //! Where value types are listed: each by the first class.
 ghost use Rattle.std.specs.Prelude.{◌≡◌, [], IfOk, OnOk, string_bytes};
 ghost use Rattle.std.specs.Option.{option_copied, option_map};
-ghost use Rattle.wac_shapes.specs.declared.component.DefinedTypeId.{DefinedTypeId as AnId};
 ghost use Rattle.wac_terms.specs.ValueBindings.{find_value};
 ghost use Rattle.wac_values.specs.Listings.{Takes, comes_before, found, listing_view, only, path_of, stays};
 

@@ -165,17 +165,18 @@ impl<'a> WorldEncoder<'a> {
 
     /// Writes a held world as a component type: what it imports, then what it exports; each as instances, then type items of value
     /// types, of which the next is always the first listed one of those left that mentions none of those left, then type items of
-    /// function types, of interfaces and of worlds, then functions, these as they are listed. What an item is made of is written just before it, once, and the instance
-    /// type of an interface and the component type of a world once; what an instance lists is aliased from it from then on, and a definition that a type item lists is
-    /// written by the index of the first such item that is written.
+    /// function types, of interfaces and of worlds, then functions, these as they are listed. What an item is made of is written
+    /// just before it, once, and the instance type of an interface and the component type of a world once; what an instance lists
+    /// is aliased from it from then on, and a definition that a type item lists is written by the index of the first such item that
+    /// is written.
     ///
     /// It is not asked what the world uses: a type that it uses of an instance that it lists is aliased from there, as any other is.
     ///
-    /// Answers none exactly where an item is of a sort that is not written: a type item of a resource, or of a world whose component type is
-    /// not written ahead, or an instance or a type item of an interface that `interface_type` does not write; memory may be refused before that is known. Answers
-    /// `UnboundResource` for an item that is made of a handle, `ModuleAsType` and `NestedItem` for one that no component type can list,
-    /// what `interface_type` answers where it refuses an interface, and `TooLarge` where what is written next does not fit, the first in
-    /// order; `OutOfMemory` where memory was refused.
+    /// Answers none exactly where an item is of a sort that is not written: a type item of a resource, or of a world whose
+    /// component type is not written ahead, or an instance or a type item of an interface that `interface_type` does not write;
+    /// memory may be refused before that is known. Answers `UnboundResource` for an item that is made of a handle, `ModuleAsType`
+    /// and `NestedItem` for one that no component type can list, what `interface_type` answers where it refuses an interface, and
+    /// `TooLarge` where what is written next does not fit, the first in order; `OutOfMemory` where memory was refused.
     pub fn world_type(&self, world: WorldId) -> Result<Option<ComponentType>, EncodeFault>
         requires held { HasWorld self.now.types.now world }
         requires say { SayWorlds self.now.types.now self.now.worlds.now }

@@ -10,7 +10,7 @@ use Rattle.wac_nodes.specs.declared.node.Node.{Node}
 use Rattle.wac_nodes.specs.declared.node.NodeKind.{NodeKind}
 use Rattle.wac_nodes.specs.declared.node.NodeKind.TheVariants as code
 use Rattle.wac_nodes.specs.Graph as graph
-use Rattle.wac_nodes.specs.Graph.{Graph, GraphNode, node_at}
+use Rattle.wac_nodes.specs.Graph.{node_at}
 use Rattle.wac_nodes.specs.Nodes.{node_of, kind_of}
 use Rattle.wac_nodes.specs.Sound.{IsTypeUnderName}
 use Rattle.wac_fields.specs.Fields.{Fields, graph_of, Invariant}

@@ -1,4 +1,4 @@
-use Rattle.std.proofs.Common.{◌≡◌, ◌∙◌, sym, rules}
+use Rattle.std.proofs.Common.{◌∙◌, sym, rules}
 use Rattle.wac_collection.proofs.Numbered.{numbered_at}
 use Rattle.wac_collection.proofs.interfaces.InterfacesIterator.next.Goals as goal
 

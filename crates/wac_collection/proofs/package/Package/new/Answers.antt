@@ -1,11 +1,15 @@
-use Rattle.std.proofs.Common.{refl, None}
+use Rattle.wac_shapes.specs.declared.component.Interface.{Interface}
 use Rattle.wac_shapes.specs.declared.component.InterfaceId.{InterfaceId}
+use Rattle.wac_collection.specs.Package.{package_fault}
 use Rattle.wac_collection.specs.contracts.package.«Package».{the_row}
-use Rattle.wac_collection.proofs.Packages.{package_refused}
+use Rattle.wac_collection.proofs.Packages.{handed_on, package_refused}
 use Rattle.wac_collection.proofs.package.Package.new.Goals as goal
+
+pub returns-in_err-interface-clause-fault : goal.returns-in_err-interface-clause-fault
+returns-in_err-interface-clause-fault c =
+    handed_on Interface _ (package_fault c.args.types.now c.args.world) c.from_residual.result _ c.from_residual.ensures.1 c.in_err-interface.ensures.fault
 
 pub returns-in-Err-clause-fault : goal.returns-in-Err-clause-fault
 returns-in-Err-clause-fault c =
-    package_refused InterfaceId the_row.Denot c.args.types.now c.law.ensures c.args.world c.index.result.now c.index-2.result.now c.named_right-named_right.result c.new-uses.result
-    (record { id = None; uses = c.new-uses.result; exports = c.in-Ok-copied.exports }) c.in-Err.fault
-    c.index.ensures c.index-2.ensures c.new-uses.ensures c.named_right-named_right.ensures c.if-not-named_right.false refl c.in-Ok-copied.ensures c.in-Err.ensures.fault
+    package_refused InterfaceId the_row.Denot c.args.types.now c.law.ensures c.args.world c.in_ok-interface.interface c.in-Err.fault
+    c.in_ok-interface.ensures.built c.in_ok-interface.ensures.fault c.in-Err.ensures.fault

@@ -11,8 +11,8 @@ returns-in-Tuple-Tuple-clause-mismatch c = λ is. tuples_differ c.args.self.firs
 pub returns-in-List-List-clause-asked : goal.returns-in-List-List-clause-asked
 returns-in-List-List-clause-asked c = if_ok c.ask_value.result _ _ (λ _ s. asks_lists c.args.d.now c.args.e.now _ _ c.in-List-List.is-0 c.in-List-List.is-1 s) c.ask_value.ensures.asked
 
-pub returns-else-m-n-clause-asked : goal.returns-else-m-n-clause-asked
-returns-else-m-n-clause-asked c = if_ok c.ask_value-in-FixedSizeList-FixedSizeList.result _ _ (λ _ s. asks_fixed c.args.d.now c.args.e.now _ _ _ _ c.in-FixedSizeList-FixedSizeList.is-0 c.in-FixedSizeList-FixedSizeList.is-1 c.if-m-n.false s) c.ask_value-in-FixedSizeList-FixedSizeList.ensures.asked
+pub returns-in-FixedSizeList-FixedSizeList-clause-asked : goal.returns-in-FixedSizeList-FixedSizeList-clause-asked
+returns-in-FixedSizeList-FixedSizeList-clause-asked c = if_ok c.ask_fixed.result _ _ (λ _ s. asks_fixed c.args.d.now c.args.e.now _ _ _ _ c.in-FixedSizeList-FixedSizeList.is-0 c.in-FixedSizeList-FixedSizeList.is-1 s) c.ask_fixed.ensures.asked
 
 pub returns-in-Option-Option-clause-asked : goal.returns-in-Option-Option-clause-asked
 returns-in-Option-Option-clause-asked c = if_ok c.ask_value-in-Option-Option.result _ _ (λ _ s. asks_options c.args.d.now c.args.e.now _ _ c.in-Option-Option.is-0 c.in-Option-Option.is-1 s) c.ask_value-in-Option-Option.ensures.asked

@@ -1,4 +1,4 @@
-use Rattle.std.proofs.Common.{rules, ◌≡◌, map, slice_get, Some, inl, sym, ◌∙◌, subst}
+use Rattle.std.proofs.Common.{rules, ◌≡◌, slice_get, Some, inl, sym, ◌∙◌, subst}
 use Rattle.wac_entries.specs.NodeViews.{node_view}
 use Rattle.wac_entries.specs.contracts.nodes.NodePartialEq.TheImpl as NodeEq
 use Rattle.wac_entries.proofs.NodeKeys.{same_node, node_itself}

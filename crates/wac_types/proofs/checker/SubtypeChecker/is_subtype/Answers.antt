@@ -1,4 +1,4 @@
-use Rattle.std.proofs.Common.{arith, length, ap, refl, Bool, true, false, ◌+◌, ◌∙◌, ◌≡◌, sym, ◌<◌, ◌≤◌, slice_get}
+use Rattle.std.proofs.Common.{arith, length, ap, refl, Bool, true, false, ◌∙◌, ◌≡◌, sym, ◌<◌, ◌≤◌, slice_get}
 use Rattle.wac_collection.specs.Collection.{Collection}
 use Rattle.wac_comparison.specs.declared.questions.Asked.{Asked}
 use Rattle.wac_comparison.specs.declared.questions.Question.{Question}
