@@ -1,5 +1,5 @@
 //! The collection: lists of items, each of which mentions only items added before it.
-ghost use Rattle.std.specs.Prelude.{◌≡◌, length, Some, None, IfOk, IfErr, OnErr, IfSome};
+ghost use Rattle.std.specs.Prelude.{◌≡◌, ◌==◌, length, Some, None, IfOk, IfErr, OnErr, IfSome};
 ghost use Rattle.std.specs.Option.{option_copied};
 ghost use Rattle.wac_collection.specs.Collection.{IsWellFormed, empty, size, func_mentions, resource_mentions, defined_mentions, holds_value, holds_type, with_resource, with_func, with_defined, with_interface, with_world, with_module, item_at};
 ghost use Rattle.wac_collection.specs.Held.{resolved};
@@ -183,6 +183,13 @@ impl Types {
             Type::World(id) => id.0 < self.worlds.len(),
             Type::Module(id) => id.0 < self.modules.len(),
         }
+    }
+
+    /// Whether no resource is held, so that none is listed, mentioned or bound by what is.
+    pub fn holds_no_resource(&self) -> bool
+        ensures { result ≡ (length self.now.resources == 0) }
+    {
+        self.resources.len() == 0
     }
 
     // Whether the ids in a value type are held.

@@ -1,5 +1,5 @@
 -- What one more item binds, behind what was known.
-use Rattle.std.proofs.Common.{◌≡◌, ℕ, zero, suc, nat_eq, Bool, true, false, not, cond, ◌&&◌, ◌==◌, List, [], ◌∷◌, ◌++◌, map, filter, take, slice_get, Option, Some, None, is_some, is_none, refl, sym, ap, ◌∙◌, subst, inl, inr}
+use Rattle.std.proofs.Common.{◌≡◌, ℕ, zero, suc, ◌<◌, arith, nat_eq, Bool, true, false, not, cond, ◌&&◌, ◌==◌, List, [], ◌∷◌, ◌++◌, length, map, filter, take, slice_get, Option, Some, None, is_some, is_none, refl, sym, ap, ◌∙◌, subst, inl, inr}
 use Rattle.std.specs.Borrow.{Bor}
 use Rattle.std.specs.List.{AllByRecursion}
 use Rattle.std.specs.Map.{lookup}
@@ -7,7 +7,7 @@ use Rattle.std.specs.Option.{option_map, option_copied}
 use Rattle.std.specs.Prelude.{string_bytes}
 use Rattle.std.specs.declared.string.String.{String}
 use Rattle.std.proofs.lemmas.List.{map-append}
-use Rattle.std.proofs.lemmas.Bool.{cases_Bool, eqb-true, false≢true}
+use Rattle.std.proofs.lemmas.Bool.{cases_Bool, eqb-true, ltb-true, false≢true}
 use Rattle.std.proofs.lemmas.List.Elements.{filter-append}
 use Rattle.wac_primitives.specs.Name.{Name, same_name, find_name, option_case, first_some}
 use Rattle.wac_primitives.specs.Tree.{Side, named, Leaf}
@@ -292,6 +292,29 @@ held_at c (x ∷ es) zero e h at =
     let same : x ≡ e = cc in
     ap (λ (y : Name × ItemKind). holds_type c (kind_type y.1)) (sym same) ∙ (both (holds_type c (kind_type x.1)) (holds_all c (kind_types es)) h).0
 held_at c (x ∷ es) (suc i) e h at = held_at c es i e (both (holds_type c (kind_type x.1)) (holds_all c (kind_types es)) h).1 at
+
+-- where no resource is held, held items list none as their own
+module _ (c : Collection) (uses : List (Name × UsedType)) (empty : length c.resources ≡ 0) where
+  own-nothing : (es : List (Name × ItemKind)) → holds_all c (kind_types es) ≡ true → (r : ResourceId) → own_name c uses es r ≡ None
+  own-nothing [] held r = refl
+  own-nothing ((n, kind.TypeItem (ty.Resource q)) ∷ es) held r =
+      let within : q.0 < length c.resources = ltb-true q.0 (length c.resources) (both (holds_type c (ty.Resource q)) (holds_all c (kind_types es)) held).0 in
+      absurd (omega (arith, empty, within))
+  own-nothing ((n, kind.TypeItem (ty.Func x)) ∷ es) held r = own-nothing es (both (holds_type c (ty.Func x)) (holds_all c (kind_types es)) held).1 r
+  own-nothing ((n, kind.TypeItem (ty.Value x)) ∷ es) held r = own-nothing es (both (holds_type c (ty.Value x)) (holds_all c (kind_types es)) held).1 r
+  own-nothing ((n, kind.TypeItem (ty.Interface x)) ∷ es) held r = own-nothing es (both (holds_type c (ty.Interface x)) (holds_all c (kind_types es)) held).1 r
+  own-nothing ((n, kind.TypeItem (ty.World x)) ∷ es) held r = own-nothing es (both (holds_type c (ty.World x)) (holds_all c (kind_types es)) held).1 r
+  own-nothing ((n, kind.TypeItem (ty.Module x)) ∷ es) held r = own-nothing es (both (holds_type c (ty.Module x)) (holds_all c (kind_types es)) held).1 r
+  own-nothing ((n, kind.Func x) ∷ es) held r = own-nothing es (both (holds_type c (kind_type (kind.Func x))) (holds_all c (kind_types es)) held).1 r
+  own-nothing ((n, kind.Instance x) ∷ es) held r = own-nothing es (both (holds_type c (kind_type (kind.Instance x))) (holds_all c (kind_types es)) held).1 r
+  own-nothing ((n, kind.Component x) ∷ es) held r = own-nothing es (both (holds_type c (kind_type (kind.Component x))) (holds_all c (kind_types es)) held).1 r
+  own-nothing ((n, kind.Module x) ∷ es) held r = own-nothing es (both (holds_type c (kind_type (kind.Module x))) (holds_all c (kind_types es)) held).1 r
+  own-nothing ((n, kind.Value x) ∷ es) held r = own-nothing es (both (holds_type c (kind_type (kind.Value x))) (holds_all c (kind_types es)) held).1 r
+
+  -- and so nothing comes behind what is known
+  pub adds-no-own : (side : Side) (outer : Option Name) (es : List (Name × ItemKind)) (m : List (ResourceId × Leaf)) → holds_all c (kind_types es) ≡ true → Adds m (own_at c uses side outer es) m
+  adds-no-own side outer es m held =
+      adds-nothing m (own_at c uses side outer es) (λ r. ap (λ o. option_case o None (λ n. Some (leaf_at side (under outer n)))) (own-nothing es held r))
 
 behind : {A : Type 0} (P : A → Type 0) (xs ys : List A) → AllByRecursion P (xs ++ ys) → AllByRecursion P ys
 behind P [] ys h = h

@@ -191,7 +191,7 @@ impl Bound {
         }
     }
 
-    /// Puts the own resources of listed items.
+    /// Puts the own resources of listed items; none is looked at where the collection holds no resource.
     pub fn put_own(
         &mut self,
         alloc: Global,
@@ -204,6 +204,9 @@ impl Bound {
         requires { holds_all types.now (kind_types listed.now) ≡ true }
         ensures { OnOk result (Adds self.old (own_at types.now uses.now (side_view side) (option_copied outer.entry) listed.now) self.new) }
     {
+        if types.holds_no_resource() {
+            return Ok(());
+        }
         for i in 0..listed.len() {
             let name = listed.name_at(i);
             if let Some(resource) = own_resource(types, uses, name, *listed.value_at(i)) {

@@ -1,6 +1,6 @@
 -- What a value type or a function type reaches where it is made of no handle.
 use Rattle.std.proofs.Common.{◌≡◌, ℕ, zero, suc, true, List, [], ◌∷◌, map, refl, ap, ◌∙◌, sym, subst, arith, Option, Some, None, inl, inr}
-use Rattle.std.specs.Prelude.{slice_get}
+use Rattle.std.specs.Prelude.{length, nat_lt, slice_get}
 use Rattle.std.specs.List.{AllByRecursion}
 use Rattle.wac_primitives.specs.Name.{Name, option_case}
 use Rattle.wac_shapes.specs.declared.component.DefinedType.{DefinedType}
@@ -279,6 +279,11 @@ module _ (c : Collection) (wf : IsWellFormed c) where
 
   pub free_reached : (v : ValueType) → holds_value c v ≡ true → ((r : ResourceId) → Reaches c (ty.Value v) (ty.Resource r) → ⊥) → IsDefinable (type_equal (type_tree c (ty.Value v)))
   free_reached v held none = subst (λ x. IsDefinable (type_equal x)) (unfolded_is c (ty.Value v)) (free_value (size c) v (type_before c wf (ty.Value v) held) none)
+
+  -- where no resource is held, none is reached
+  pub none_held : length c.resources ≡ 0 → (a : AnyType) (r : ResourceId) → holds_type c a ≡ true → Reaches c a (ty.Resource r) → ⊥
+  none_held none a r held (at_once _ _ w) = let there : nat_lt r.0 (length c.resources) ≡ true = mentioned_held c wf a (ty.Resource r) held w in grind (arith, there, none)
+  none_held none a r held (further _ b _ w rest) = none_held none b r (mentioned_held c wf a b held w) rest
 
   pub reached_none : (a : AnyType) → IsOfValues a → holds_type c a ≡ true → HasNoHandle (type_tree c a) → (r : ResourceId) → Reaches c a (ty.Resource r) → ⊥
   reached_none a of held free r reached = reaches_none a (ty.Resource r) reached of held (subst HasNoHandle (sym (unfolded_is c a)) free) r refl

@@ -20,7 +20,7 @@ use wac_reach::Reached;
 use wac_worlds::types_inside;
 
 /// Whether a held value type or function type is made of no handle. What types reach that were looked at before is known to be free of
-/// them, and is not looked at again; where the answer is yes, so is what this one reaches.
+/// them, and is not looked at again; where the answer is yes, so is what this one reaches. Where no resource is held, none is looked at.
 fn has_no_handle(types: &Types, looked: &mut Reached, ty: Type) -> Result<bool, AllocError>
     requires held { holds_type types.now ty ≡ true }
     requires of_values { IsOfValues ty }
@@ -30,13 +30,16 @@ fn has_no_handle(types: &Types, looked: &mut Reached, ty: Type) -> Result<bool, 
     ensures free { result ≡ Answers true → AreFree types.now looked.new }
 {
     types.law();
+    if types.holds_no_resource() {
+        return Ok(true);
+    }
     let known = looked.as_slice().len();
     looked.reach_from(types, ty)?;
-    Ok(holds_no_resource(looked.as_slice(), known))
+    Ok(none_is_resource(looked.as_slice(), known))
 }
 
 /// Whether no type is a resource, where so many of the first are none.
-fn holds_no_resource(types: &[Type], known: usize) -> bool
+fn none_is_resource(types: &[Type], known: usize) -> bool
     requires { HasNoResource (take known types.now) }
     ensures none { result ≡ true → HasNoResource types.now }
     ensures some { result ≡ false → HasNoResource types.now → ⊥ }

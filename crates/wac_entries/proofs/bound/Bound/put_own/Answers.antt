@@ -1,14 +1,20 @@
 use Rattle.std.proofs.Common.{◌≡◌, suc, List, take, length, Some, sym, subst, ◌∙◌, arith, add-one}
 use Rattle.std.specs.Option.{option_copied}
+use Rattle.std.proofs.lemmas.Bool.{eqb-true}
 use Rattle.std.proofs.lemmas.List.{take_all}
 use Rattle.wac_primitives.specs.Name.{Name}
 use Rattle.wac_shapes.specs.declared.component.ItemKind.{ItemKind}
 use Rattle.wac_shapes.proofs.Loops.{entry_at}
 use Rattle.wac_entries.specs.CalledViews.{side_view}
 use Rattle.wac_entries.specs.Places.{Adds, own_at}
-use Rattle.wac_entries.proofs.Places.{held_at, own-stays, own-step}
+use Rattle.wac_entries.proofs.Places.{adds-no-own, held_at, own-stays, own-step}
 use Rattle.wac_entries.proofs.bound.Bound.put_own.Goals as goal
 use Rattle.wac_entries.proofs.bound.Bound.put_own.Goals.{in-Some+in_ok-put_under, in_default}
+
+pub returns-then-holds_no_resource : goal.returns-then-holds_no_resource
+returns-then-holds_no_resource c =
+    let empty : length c.args.types.now.resources ≡ 0 = eqb-true (length c.args.types.now.resources) 0 (sym c.holds_no_resource.ensures ∙ c.if-holds_no_resource.true) in
+    adds-no-own c.args.types.now c.args.uses.now empty (side_view c.args.side) (option_copied c.args.outer) c.args.listed.now c.args.self.now c.requires
 
 pub own_resource-requires : goal.own_resource-requires
 own_resource-requires c =

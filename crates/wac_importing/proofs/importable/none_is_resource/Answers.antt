@@ -1,6 +1,6 @@
 use Rattle.std.proofs.Common.{arith}
 use Rattle.wac_importing.proofs.Lists.{none_next, none_end, one_there}
-use Rattle.wac_importing.proofs.importable.holds_no_resource.Goals as goal
+use Rattle.wac_importing.proofs.importable.none_is_resource.Goals as goal
 
 pub returns-in-Resource-clause-some : goal.returns-in-Resource-clause-some
 returns-in-Resource-clause-some c h = one_there c.args.types.now c.loop-i.i c.type_at.result c.in-Resource.field-0 c.type_at.ensures c.in-Resource.is
