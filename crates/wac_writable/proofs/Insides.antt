@@ -147,6 +147,11 @@ faulty_scope c r t (ty.Func g) f (inr h) = absurd h.0
 faulty_scope c r t (ty.Value v) f (inr h) = absurd h.0
 faulty_scope c r t (ty.Module m) f (inr h) = absurd h.0
 
+-- inside what is neither and lists nothing there is none
+no_scope_inside : (c : Collection) (s t : AnyType) → (listed_items c t ≡ []) × (scope_of t ≡ []) → IsInside c s t → IsIn s (scope_of s) → ⊥
+no_scope_inside c s t none (itself _ _ e) w = subst (IsIn s) none.1 (subst (λ z. IsIn s (scope_of z)) e w)
+no_scope_inside c s t none (listed _ _ k h _) w = subst (IsListed k) none.0 h
+
 -- all was looked at
 pub fault_inside_all : (c : Collection) (r : Role) (root : AnyType) (ts : List AnyType) (next : ℕ) → length ts ≤ next → AreInside c root ts next → (f : WriteFault) → IsFaultBefore c r root ts next f ↔ IsFaultInside c r root f
 fault_inside_all c r root ts next past all f = (to, from)
@@ -155,18 +160,28 @@ fault_inside_all c r root ts next past all f = (to, from)
     inner a s here (itself _ _ e) w = subst (λ z. IsIn z ts) (sym e) here
     inner a s here (listed _ _ j h r) w = elim (scope_or_nothing c (kind_type j)) [
       | inl is ↦ inner (kind_type j) s (let (i, l, at) = at_in a ts here in all.closed i a (kind_type j) (omega (arith, l, past)) at (inner_of_listed c a j (kind_type j) h is)) r w
-      | inr none ↦ absurd (alone j none r)
+      | inr none ↦ absurd (no_scope_inside c s (kind_type j) none r w)
     ]
-      where
-        alone : (j : ItemKind) → (listed_items c (kind_type j) ≡ []) × (scope_of (kind_type j) ≡ []) → IsInside c s (kind_type j) → ⊥
-        alone j none (itself _ _ e) = subst (IsIn s) none.1 (subst (λ z. IsIn s (scope_of z)) e w)
-        alone j none (listed _ _ i h _) = subst (IsListed i) none.0 h
 
     to : IsFaultBefore c r root ts next f → IsFaultInside c r root f
     to h = (h.type_there, all.inside h.type_there (in_at h.type_there ts h.position h.there), h.fault)
 
     from : IsFaultInside c r root f → IsFaultBefore c r root ts next f
     from (s, is, fault) = let (i, low, at) = at_in s ts (inner root s all.first is (faulty_scope c r root s f fault)) in record { position = i; type_there = s; before = omega (arith, low, past); there = at; fault = fault }
+
+-- where a type lists no interface and no world, what is inside it has the faults of that type alone
+fault_at_alone : (c : Collection) (r : Role) (t : AnyType) → inner_scopes c t ≡ [] → (f : WriteFault) → IsFaultAt c r t t f ↔ IsFaultInside c r t f
+fault_at_alone c r t none f = (λ fault. (t, itself t t refl, fault), from)
+  where
+    from : IsFaultInside c r t f → IsFaultAt c r t t f
+    from (s, itself _ _ e, fault) = subst (λ z. IsFaultAt c r t z f) e fault
+    from (s, listed _ _ k h is, fault) = elim (scope_or_nothing c (kind_type k)) [
+      | inl w ↦ absurd (subst (IsIn (kind_type k)) none (inner_of_listed c t k (kind_type k) h w))
+      | inr empty ↦ absurd (no_scope_inside c s (kind_type k) empty is (faulty_scope c r t s f fault))
+    ]
+
+pub lowest_alone : (c : Collection) (r : Role) (t : AnyType) (o : Option WriteFault) → inner_scopes c t ≡ [] → IsLowest (IsFaultAt c r t t) o → IsLowest (IsFaultInside c r t) o
+lowest_alone c r t o none = lowest_same (IsFaultAt c r t t) (IsFaultInside c r t) o (fault_at_alone c r t none)
 
 -- a type that is neither has no fault inside it
 pub no_fault_inside : (c : Collection) (r : Role) (t : AnyType) (f : WriteFault) → listed_items c t ≡ [] → ((w : WorldId) → t ≡ ty.World w → ⊥) → IsFaultInside c r t f → ⊥

@@ -1,5 +1,5 @@
 -- What is listed, and the interfaces and worlds among it.
-use Rattle.std.proofs.Common.{ℕ, zero, suc, ◌+◌, ◌≤◌, ◌≡◌, ◌⊎◌, inl, inr, refl, ap, sym, ◌∙◌, subst, List, [], ◌∷◌, ◌++◌, Option, Some, None, length, take, arith}
+use Rattle.std.proofs.Common.{ℕ, zero, suc, ◌+◌, ◌≤◌, ◌≡◌, ◌⊎◌, inl, inr, refl, ap, sym, ◌∙◌, subst, List, [], ◌∷◌, ◌++◌, Option, Some, None, length, take, drop, arith}
 use Rattle.std.specs.Prelude.{◌↔◌, slice_get}
 use Rattle.std.specs.Option.{option_map}
 use Rattle.std.proofs.lemmas.List.{take_all}
@@ -15,7 +15,7 @@ use Rattle.wac_shapes.specs.declared.component.WorldId.{WorldId}
 use Rattle.wac_collection.specs.Collection.{Collection, item_at, kind_types, used_types, interface_exports, world_imports, world_exports}
 use Rattle.wac_reach.specs.Reach.{IsIn, mentions}
 use Rattle.wac_reach.specs.Found.{with_all}
-use Rattle.wac_reach.proofs.Lists.{in_left, in_right, in_either}
+use Rattle.wac_reach.proofs.Lists.{in_left, in_right, in_either, drop_second}
 use Rattle.wac_scopes.specs.declared.fault.WriteFault.{WriteFault}
 use Rattle.wac_writable.specs.Faults.{listed_items, IsListed, listed_fault, IsLowest, IsFaultOfListed}
 use Rattle.wac_writable.specs.Search.{scope_of, scopes_of, inner_scopes}
@@ -88,6 +88,9 @@ nothing_listed c (ty.Func r) not_interface not_world = refl
 nothing_listed c (ty.Value r) not_interface not_world = refl
 nothing_listed c (ty.Module r) not_interface not_world = refl
 
+pub inner_world : (c : Collection) (t : AnyType) (i : WorldId) (it : World) → t ≡ ty.World i → item_at c.worlds i.0 ≡ Some it → inner_scopes c t ≡ scopes_of it.imports ++ scopes_of it.exports
+inner_world c t i it is at = ap (inner_scopes c) is ∙ ap (λ (o : Option World). scopes_of (option_case o [] (λ x. x.imports)) ++ scopes_of (option_case o [] (λ x. x.exports))) at
+
 -- those of all of them
 pub fault_of_taken : (es : List (Name × ItemKind)) (i : ℕ) (o : Option WriteFault) → length es ≤ i → IsLowest (IsFaultOfListed (take i es)) o → IsLowest (IsFaultOfListed es) o
 fault_of_taken es i o past low = subst (λ xs. IsLowest (IsFaultOfListed xs) o) (take_all i es past) low
@@ -100,6 +103,16 @@ scope_first ts (ty.Resource r) us = refl
 scope_first ts (ty.Func r) us = refl
 scope_first ts (ty.Value r) us = refl
 scope_first ts (ty.Module r) us = refl
+
+-- two lists of which nothing is left are empty
+pub both_none : {A : Type 0} (xs ys : List A) → ((xs ≡ []) × (ys ≡ [])) ↔ (xs ++ ys ≡ [])
+both_none [] ys = (λ h. h.1, λ h. (refl, h))
+both_none (x ∷ xs) ys = (λ h. cc, λ h. cc)
+
+-- the scopes of listed items, where those before one have none
+pub scopes_past : (es : List (Name × ItemKind)) (i : ℕ) (v : ItemKind) → option_map (λ e. e.1) (slice_get es i) ≡ Some v → scopes_of (drop i es) ≡ scopes_of es
+    → scopes_of es ≡ scope_of (kind_type v) ++ scopes_of (drop (i + 1) es)
+scopes_past es i v at before = let (_, is) = drop_second es i v at in sym before ∙ ap scopes_of is
 
 -- the scope of a type is that type, and what lists nothing has none
 in_scope : (s t : AnyType) → IsIn s (scope_of t) → s ≡ t

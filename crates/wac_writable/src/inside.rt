@@ -1,5 +1,5 @@
 //! What is written inside a type: the interfaces and worlds that it lists, and so on, and what faults these have.
-ghost use Rattle.std.specs.Prelude.{◌≡◌, true, IfOk, OnOk};
+ghost use Rattle.std.specs.Prelude.{◌≡◌, ◌↔◌, [], true, false, IfOk, OnOk};
 ghost use Rattle.wac_collection.specs.Collection.{holds_type};
 ghost use Rattle.wac_reach.specs.Found.{with_all};
 ghost use Rattle.wac_writable.specs.Faults.{listed_items, listed_fault as listed_fault_of, IsLowest, IsFaultOfListed, IsFaultAt, IsFaultInside};
@@ -107,6 +107,43 @@ fn fault_at(
     Ok(lower(fault_in(types, ty), lacking))
 }
 
+/// Whether a type is an interface or a world.
+fn is_scope(ty: Type) -> bool
+    ensures { (result ≡ false) ↔ (scope_of ty ≡ []) }
+{
+    match ty {
+        Type::Interface(_) | Type::World(_) => true,
+        _ => false,
+    }
+}
+
+/// Whether one of listed items is of an interface or a world.
+fn list_scopes(items: &Named<ItemKind>) -> bool
+    ensures { (result ≡ false) ↔ (scopes_of items.now ≡ []) }
+{
+    for i in 0..items.len() {
+        if is_scope(items.value_at(i).ty()) {
+            return true;
+        }
+    }
+    false
+}
+
+/// Whether a held type lists an interface or a world.
+fn lists_scopes(types: &Types, ty: Type) -> bool
+    requires { holds_type types.now ty ≡ true }
+    ensures { (result ≡ false) ↔ (inner_scopes types.now ty ≡ []) }
+{
+    match ty {
+        Type::Interface(id) => list_scopes(&types[id].exports),
+        Type::World(id) => {
+            let world = &types[id];
+            list_scopes(&world.imports) || list_scopes(&world.exports)
+        }
+        _ => false,
+    }
+}
+
 /// The lowest fault of what is written inside a held type, itself too. Linear, without recursion.
 pub(crate) fn fault_inside(
     types: &Types,
@@ -117,6 +154,9 @@ pub(crate) fn fault_inside(
     ensures { IfOk result (IsLowest (IsFaultInside types.now role ty)) }
 {
     types.law();
+    if !lists_scopes(types, ty) {
+        return fault_at(types, ty, role, ty);
+    }
     let mut found = IndexSet::new(types.allocator());
     found.insert(ty)?;
     let mut lowest = None;

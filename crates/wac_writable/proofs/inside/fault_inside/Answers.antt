@@ -1,10 +1,11 @@
 use Rattle.std.proofs.Common.{◌≡◌, [], ◌∷◌, ap, sym, ◌∙◌, ◌≤◌, length, arith, refl, subst}
+use Rattle.std.proofs.lemmas.Result.{IfOk-weaker}
 use Rattle.wac_reach.specs.Found.{with_all}
 use Rattle.wac_reach.proofs.Lists.{in_at, read_at}
 use Rattle.wac_reach.proofs.Universe.{types_of, found_few}
-use Rattle.wac_writable.specs.Faults.{IsFaultInside}
+use Rattle.wac_writable.specs.Faults.{IsLowest, IsFaultAt, IsFaultInside}
 use Rattle.wac_writable.proofs.Lowest.{lowest_same}
-use Rattle.wac_writable.proofs.Insides.{AreInside, IsFaultBefore, inside_first, looked_next, no_fault_before, fault_inside_all}
+use Rattle.wac_writable.proofs.Insides.{AreInside, IsFaultBefore, inside_first, lowest_alone, looked_next, no_fault_before, fault_inside_all}
 use Rattle.wac_writable.proofs.inside.fault_inside.Goals as goal
 
 pub loop-next-init : goal.loop-next-init
@@ -15,8 +16,8 @@ loop-next-init c =
       lowest = λ f h. no_fault_before c.args.types.now c.args.role c.args.ty c.insert.new.self.keys f h;
     }
 
-pub fault_at-requires : goal.fault_at-requires
-fault_at-requires c =
+pub fault_at-requires-in-loop-next : goal.fault_at-requires-in-loop-next
+fault_at-requires-in-loop-next c =
     c.loop-next.invariant.inside.held _ (in_at _ c.loop-next.found.keys c.loop-next.next
     (read_at c.as_slice.result.now c.loop-next.found.keys c.loop-next.found.keys c.loop-next.next c.len.result _ c.loop-next-test.true c.len.ensures.len c.as_slice.ensures.keys refl))
 
@@ -44,3 +45,10 @@ returns c =
     let past : length c.loop-next.found.keys ≤ c.loop-next.next = let l = c.len.ensures.len in let f = c.loop-next-test.false in omega (arith, l, f) in
     lowest_same (IsFaultBefore c.args.types.now c.args.role c.args.ty c.loop-next.found.keys c.loop-next.next) (IsFaultInside c.args.types.now c.args.role c.args.ty) c.loop-next.lowest
     (fault_inside_all c.args.types.now c.args.role c.args.ty c.loop-next.found.keys c.loop-next.next past c.loop-next.invariant.inside) c.loop-next.invariant.lowest
+
+pub returns-then-not-lists_scopes : goal.returns-then-not-lists_scopes
+returns-then-not-lists_scopes c =
+    let types = c.args.types.now in
+    let here = IsFaultAt types c.args.role c.args.ty c.args.ty in
+    let inside = IsFaultInside types c.args.role c.args.ty in
+    IfOk-weaker c.fault_at.result (IsLowest here) (IsLowest inside) (λ low. lowest_alone types c.args.role c.args.ty low (c.lists_scopes.ensures.0 c.if-not-lists_scopes.true)) c.fault_at.ensures
