@@ -194,7 +194,7 @@ fn definition_in(ty: Type) -> Option<DefinedTypeId>
 fn definitions_among(alloc: Global, types: &[Type]) -> Result<Vec<DefinedTypeId>, AllocError>
     ensures { IfOk result (λ ds. ds.items ≡ definitions_in types.now) }
 {
-    let mut definitions = Vec::new(alloc);
+    let mut definitions = Vec::with_capacity(alloc, types.len())?;
     for ty in types {
         if let Some(id) = definition_in(*ty) {
             definitions.push(id)?;
@@ -218,8 +218,13 @@ pub fn definitions_of(
 {
     types.law();
     let alloc = types.allocator();
-    let mut found = IndexSet::with_hasher(alloc, BuildHasherDefault::new());
-    put_items(types, &mut found, &types[interface].exports)?;
+    let exports = &types[interface].exports;
+    let mut found = IndexSet::with_capacity_and_hasher(
+        alloc,
+        exports.len(),
+        BuildHasherDefault::new(),
+    )?;
+    put_items(types, &mut found, exports)?;
     let mut next = 0;
     while next < found.len() {
         let ty = found.as_slice()[next];
@@ -240,7 +245,11 @@ pub(crate) fn found_among(
     ensures made { IfOk result (λ found. AreMadeOf types.now (items_among among items.now) (definitions_in found.keys)) }
 {
     types.law();
-    let mut found = IndexSet::with_hasher(types.allocator(), BuildHasherDefault::new());
+    let mut found = IndexSet::with_capacity_and_hasher(
+        types.allocator(),
+        items.len(),
+        BuildHasherDefault::new(),
+    )?;
     put_among(types, &mut found, items, among)?;
     let mut place = 0;
     while place < found.len() {

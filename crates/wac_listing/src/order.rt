@@ -51,6 +51,8 @@ fn ordered(places: &Places<'_>) -> Result<Vec<usize>, AllocError>
     places.types.law();
     let alloc = places.types.allocator();
     let mut edges = Edges::new(alloc);
+    // From each definition an edge leads: to an item that lists it, or to what it is a part of.
+    edges.reserve(places.count())?;
     let named = places.put_items(&mut edges)?;
     places.put_definitions(named.as_slice(), &mut edges)?;
     let left = places.left()?;
@@ -64,7 +66,7 @@ fn ordered(places: &Places<'_>) -> Result<Vec<usize>, AllocError>
 fn items_behind(alloc: Global, count: usize, nodes: &[NodeId]) -> Result<Vec<usize>, AllocError>
     ensures { IfOk result (λ items. items.items ≡ items_of count nodes.now) }
 {
-    let mut items = Vec::new(alloc);
+    let mut items = Vec::with_capacity(alloc, nodes.len())?;
     for node in nodes {
         if node.0 >= count {
             items.push(node.0 - count)?;

@@ -201,8 +201,10 @@ impl<'a> Places<'a> {
     pub(crate) fn left(&self) -> Result<Vec<bool>, AllocError>
         ensures { IfOk result (λ left. left.items ≡ flags self.now.items.now self.now.reached.now) }
     {
-        let mut left = Vec::new(self.types.allocator());
-        left.resize(self.count(), true)?;
+        let count = self.count();
+        let nodes = count.saturating_add(self.items.len());
+        let mut left = Vec::with_capacity(self.types.allocator(), nodes)?;
+        left.resize(count, true)?;
         for i in 0..self.items.len() {
             left.push(is_value_type(*self.items.value_at(i)))?;
         }

@@ -21,7 +21,7 @@ pub fn no_interfaces(alloc: Global, count: usize) -> Result<Vec<Vec<InterfaceId>
     ensures counted { IfOk result (λ v. length v.items ≡ count) }
     ensures empty { IfOk result (λ v. (k : ℕ) (is : List AnId) → slice_get (map (λ is. is.items) v.items) k ≡ Some is → is ≡ []) }
 {
-    let mut lists = Vec::new(alloc);
+    let mut lists = Vec::with_capacity(alloc, count)?;
     for _ in 0..count {
         lists.push(Vec::new(alloc))?;
     }

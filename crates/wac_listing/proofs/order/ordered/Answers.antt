@@ -1,4 +1,4 @@
-use Rattle.std.proofs.Common.{rules, sym, length, subst}
+use Rattle.std.proofs.Common.{rules, sym, length, subst, ◌∙◌}
 use Rattle.wac_edges.specs.Edge.{is_left}
 use Rattle.wac_edges.specs.Order.{Writes}
 use Rattle.wac_listing.specs.Before.{AreNamed}
@@ -14,7 +14,10 @@ pub put_items-requires-clause-reached : goal.put_items-requires-clause-reached
 put_items-requires-clause-reached c = c.requires.reached
 
 pub put_items-requires-clause-sound : goal.put_items-requires-clause-sound
-put_items-requires-clause-sound c = empty-sound c.args.places.now.types.now c.args.places.now.items.now c.args.places.now.reached.now c.new-edges.result c.new-edges.ensures
+put_items-requires-clause-sound c = empty-sound c.args.places.now.types.now c.args.places.now.items.now c.args.places.now.reached.now c.reserve.new.self (c.reserve.ensures ∙ c.new-edges.ensures)
+
+pub returns-in_err-reserve : goal.returns-in_err-reserve
+returns-in_err-reserve c = search rules
 
 pub returns-in_err-named : goal.returns-in_err-named
 returns-in_err-named c = search rules
@@ -43,6 +46,9 @@ put_definitions-requires-clause-sound c = c.in_ok-named.ensures.sound
 pub same-edges : goal.same-edges
 same-edges c = search rules
 
+pub same-edges-2 : goal.same-edges-2
+same-edges-2 c = search rules
+
 pub unreachable-requires : goal.unreachable-requires
 unreachable-requires c = let cycle = none-of c.in_ok-nodes.field-0 c.in_default.is c.in_ok-nodes.ensures.cycle in no-cycle c.args.places.now.types.now c.law.ensures c.args.places.now.items.now c.args.places.now.reached.now c.put_definitions.new.edges c.in_ok-put_definitions.ensures.sound cycle.0 cycle.1
 
@@ -52,4 +58,4 @@ unreachable-unreachable c = c.unreachable.result
 pub returns : goal.returns
 returns c =
     let exact = are-exact c.args.places.now.types.now c.args.places.now.items.now c.args.places.now.reached.now c.put_definitions.new.edges c.in_ok-put_definitions.ensures.sound (more-items c.args.places.now.types.now c.args.places.now.items.now c.args.places.now.reached.now (length c.args.places.now.items.now) c.put_items.new.edges c.put_definitions.new.edges c.in_ok-named.ensures.put c.in_ok-put_definitions.ensures.kept) c.in_ok-put_definitions.ensures.put in
-    ordered-ok c.args.places.now.types.now c.law.ensures c.args.places.now.items.now c.args.places.now.reached.now c.put_definitions.new.edges exact c.requires.reached c.items_behind.result c.count.result c.in_ok-left.left.items c.as_slice-2.result.now c.count.ensures c.in_ok-left.ensures (subst (λ ns. Writes c.put_definitions.new.edges (is_left c.in_ok-left.left.items) ns) (sym c.as_slice-2.ensures.value) (some-of (λ ns. Writes c.put_definitions.new.edges (is_left c.in_ok-left.left.items) ns.items) c.in_ok-nodes.field-0 c.in-Some.nodes c.in-Some.is c.in_ok-nodes.ensures.whole)) c.items_behind.ensures
+    ordered-ok c.args.places.now.types.now c.law.ensures c.args.places.now.items.now c.args.places.now.reached.now c.put_definitions.new.edges exact c.requires.reached c.items_behind.result c.count-2.result c.in_ok-left.left.items c.as_slice-2.result.now c.count-2.ensures c.in_ok-left.ensures (subst (λ ns. Writes c.put_definitions.new.edges (is_left c.in_ok-left.left.items) ns) (sym c.as_slice-2.ensures.value) (some-of (λ ns. Writes c.put_definitions.new.edges (is_left c.in_ok-left.left.items) ns.items) c.in_ok-nodes.field-0 c.in-Some.nodes c.in-Some.is c.in_ok-nodes.ensures.whole)) c.items_behind.ensures

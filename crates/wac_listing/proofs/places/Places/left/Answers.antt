@@ -7,8 +7,8 @@ use Rattle.wac_listing.proofs.places.Places.left.Goals as goal
 
 pub loop-i-init : goal.loop-i-init
 loop-i-init c =
-    resized true c.count.result _ c.new-left.result.items c.resize.new.self.items c.new-left.ensures.items c.new-left.ensures.len c.in_ok-resize.ensures.items
-    ∙ ap (λ n. replicate n true) c.count.ensures ∙ sym (append-nil (replicate (length c.args.self.now.reached.now) true))
+    resized true c.count-count.result _ c.in_ok-left.left.items c.resize.new.self.items c.in_ok-left.ensures.items c.in_ok-left.ensures.len c.in_ok-resize.ensures.items
+    ∙ ap (λ n. replicate n true) c.count-count.ensures ∙ sym (append-nil (replicate (length c.args.self.now.reached.now) true))
 
 pub loop-i-preserved : goal.loop-i-preserved
 loop-i-preserved c = flags-more (length c.args.self.now.reached.now) c.args.self.now.items.now c.loop-i.i c.value_at.result.now c.loop-i.left.items c.push.new.self.items c.is_value_type.result c.value_at.ensures c.is_value_type.ensures c.loop-i.invariant c.in_ok-push.ensures.items
