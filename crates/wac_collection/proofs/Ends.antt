@@ -1,7 +1,9 @@
 -- The ends of aliases, as the collection grows.
-use Rattle.std.proofs.Common.{ℕ, zero, suc, Bool, true, false, List, [], ◌∷◌, ◌++◌, ◌≡◌, ◌<◌, ◌≤◌, length, refl, ap, sym, ◌∙◌, subst, Option, Some, None, arith, length-append, nat_lt, slice_get, inl, inr}
+use Rattle.std.proofs.Common.{ℕ, zero, suc, Bool, true, false, List, [], ◌∷◌, ◌++◌, ◌≡◌, ◌<◌, ◌≤◌, ◌+◌, ◌-◌, length, set, refl, ap, sym, ◌∙◌, subst, Option, Some, None, arith, length-append, nat_lt, slice_get, inl, inr}
 use Rattle.std.proofs.Math.ListN.{get_or}
-use Rattle.std.proofs.lemmas.Option.{slice_get-get_or, slice_get_past}
+use Rattle.std.proofs.lemmas.Bool.{cases_Bool}
+use Rattle.std.proofs.lemmas.Option.{slice_get_past}
+use Rattle.std.proofs.lemmas.List.{get_or_past, get_or_default, get_or_append_left, get_or-append_right, get_or-set_same, get_or-set_other}
 use Rattle.wac_primitives.specs.Name.{option_case}
 use Rattle.wac_collection.specs.declared.collection.Held.{Held}
 use Rattle.wac_shapes.specs.declared.component.Resource.{Resource}
@@ -20,7 +22,7 @@ use Rattle.wac_shapes.specs.declared.component.ValueType.TheVariants as val
 use Rattle.wac_collection.specs.Collection.{Collection, size, IsWellFormed, IsValueBefore, IsSourceBelow, holds_value, holds_all, resource_mentions, defined_mentions, alias_types, value_types, func_mentions, with_resource, with_defined, with_func, with_interface, with_world, with_module, item_of}
 use Rattle.wac_collection.specs.Held.{resolved, resolved_in, source_of}
 use Rattle.wac_collection.specs.Aliases.{aliased, target_of, value_resolved, value_resolved_in}
-use Rattle.wac_collection.specs.Ends.{AreEnds, HasEnds}
+use Rattle.wac_collection.specs.Ends.{AreEnds, HasEnds, end_at}
 use Rattle.wac_collection.proofs.Growth.{Grows, get_where, get_new, grows_resource, grows_defined, grows_func, grows_interface, grows_world, grows_module, value_before}
 use Rattle.wac_collection.proofs.Steady.{resource_same, resource_same_in, value_same, value_same_in}
 use Rattle.wac_collection.proofs.Adding.{resource_added, defined_added, func_added, interface_added, world_added, module_added}
@@ -40,24 +42,29 @@ less_is i n h = grind arith
 pub past : (i n : ℕ) → false ≡ nat_lt i n → n ≤ i
 past i n h = grind arith
 
+-- what is not held is its own end
+unheld_value : (c : Collection) (i : ℕ) → length c.defined ≤ i → value_resolved c (val.Defined (record { 0 = i })) ≡ val.Defined (record { 0 = i })
+unheld_value c i le = value_ends (size c) c (val.Defined (record { 0 = i })) (ap (λ o. option_case (item_of o) None aliased) (slice_get_past c.defined i le))
+
 module _ (c d : Collection) (wf : IsWellFormed c) (g : Grows c d) (rs : List ResourceId) (vs : List ValueType) (are : AreEnds c rs vs) where
   old_resource : (i : ℕ) (e : ResourceId) → slice_get rs i ≡ Some e → e ≡ resolved d (record { 0 = i })
   old_resource i e is =
       let lt = there rs i e is in
       are.resource_end i e is ∙ sym (resource_same c d wf g (record { 0 = i }) (is_less i (length c.resources) (omega (arith, lt, are.resources_counted))))
 
-  old_value : (i : ℕ) (e : ValueType) → slice_get vs i ≡ Some e → e ≡ value_resolved d (val.Defined (record { 0 = i }))
-  old_value i e is =
-      let lt = there vs i e is in
-      are.value_end i e is ∙ sym (value_same c d wf g (val.Defined (record { 0 = i })) (is_less i (length c.defined) (omega (arith, lt, are.values_counted))))
+  -- a definition that is not added has the end that it had
+  old_value : (i : ℕ) → (length c.defined ≤ i → length d.defined ≤ i) → end_at vs i ≡ value_resolved d (val.Defined (record { 0 = i }))
+  old_value i not = are.value_end i ∙ elim (cases_Bool (nat_lt i (length c.defined))) [
+    | inl t ↦ sym (value_same c d wf g (val.Defined (record { 0 = i })) t)
+    | inr f ↦ let p = past i (length c.defined) (sym f) in unheld_value c i p ∙ sym (unheld_value d i (not p))
+  ]
 
   -- where neither a resource nor a definition is added
   pub ends_stay : length d.resources ≡ length c.resources → length d.defined ≡ length c.defined → AreEnds d rs vs
   ends_stay same also = record {
     resources_counted = are.resources_counted ∙ sym same;
-    values_counted = are.values_counted ∙ sym also;
     resource_end = old_resource;
-    value_end = old_value;
+    value_end = λ i. old_value i (λ p. omega (arith, p, also));
   }
 
 -- the end of a new resource
@@ -77,12 +84,11 @@ pub resource_ends_pushed : (c : Collection) (x : Resource) → IsWellFormed c �
     → e ≡ new_end c (length c.resources) x.alias → AreEnds (with_resource c x) (rs ++ e ∷ []) vs
 resource_ends_pushed c x wf held rs vs e are is = record {
   resources_counted = omega (arith, length-append rs (e ∷ []), length-append c.resources (y ∷ []), are.resources_counted);
-  values_counted = are.values_counted;
   resource_end = λ i f at. elim (get_where rs e i f at) [
     | inl old ↦ old_resource c d wf g rs vs are i f old
     | inr new ↦ sym new.1 ∙ is ∙ end i (new.0 ∙ are.resources_counted)
   ];
-  value_end = old_value c d wf g rs vs are;
+  value_end = λ i. old_value c d wf g rs vs are i (λ p. p);
 } where
   d : Collection
   d = with_resource c x
@@ -116,15 +122,19 @@ new_value_by c d wf g x v n (Some t) at held is =
     let b = value_before c wf t here in
     sym (value_same_in c d wf g (size c) (size c) t b b)
 
-pub defined_ends_pushed : (c : Collection) (x : DefinedType) → IsWellFormed c → holds_all c (defined_mentions x) ≡ true → (rs : List ResourceId) (vs : List ValueType) (e : ValueType) → AreEnds c rs vs
-    → e ≡ new_value_end c (length c.defined) (aliased x) → AreEnds (with_defined c x) rs (vs ++ e ∷ [])
-defined_ends_pushed c x wf held rs vs e are is = record {
+pub defined_ends_kept : (c : Collection) (x : DefinedType) → IsWellFormed c → holds_all c (defined_mentions x) ≡ true → (rs : List ResourceId) (vs es : List ValueType) → AreEnds c rs vs
+    → ((i : ℕ) → (i ≡ length c.defined → ⊥) → end_at es i ≡ end_at vs i) → end_at es (length c.defined) ≡ new_value_end c (length c.defined) (aliased x) → AreEnds (with_defined c x) rs es
+defined_ends_kept c x wf held rs vs es are others is = record {
   resources_counted = are.resources_counted;
-  values_counted = omega (arith, length-append vs (e ∷ []), length-append c.defined (y ∷ []), are.values_counted);
   resource_end = old_resource c d wf g rs vs are;
-  value_end = λ i f at. elim (get_where vs e i f at) [
-    | inl old ↦ old_value c d wf g rs vs are i f old
-    | inr new ↦ sym new.1 ∙ is ∙ end i (new.0 ∙ are.values_counted)
+  value_end = λ i. elim (cases_Bool (nat_lt i (length c.defined))) [
+    | inl t ↦ old i (λ h. let lt = less_is i (length c.defined) t in omega (arith, lt, h)) (λ p. let lt = less_is i (length c.defined) t in absurd (omega (arith, lt, p)))
+    | inr f ↦ elim (cases_Bool (nat_lt (length c.defined) i)) [
+      | inl t ↦ let lt = less_is (length c.defined) i t in old i (λ h. omega (arith, lt, h)) (λ p. omega (arith, lt, count))
+      | inr n ↦
+          let at : i ≡ length c.defined = let p = past i (length c.defined) (sym f) in let q = past (length c.defined) i (sym n) in omega (arith, p, q) in
+          ap (end_at es) at ∙ is ∙ end i at
+    ]
   ];
 } where
   d : Collection
@@ -136,12 +146,18 @@ defined_ends_pushed c x wf held rs vs e are is = record {
   y : Held DefinedType
   y = record { item = x; before = size c }
 
+  count : length d.defined ≡ suc (length c.defined)
+  count = omega (arith, length-append c.defined (y ∷ []))
+
+  old : (i : ℕ) → (i ≡ length c.defined → ⊥) → (length c.defined ≤ i → length d.defined ≤ i) → end_at es i ≡ value_resolved d (val.Defined (record { 0 = i }))
+  old i other not = others i other ∙ old_value c d wf g rs vs are i not
+
   end : (i : ℕ) → i ≡ length c.defined → new_value_end c (length c.defined) (aliased x) ≡ value_resolved d (val.Defined (record { 0 = i }))
   end i at =
       let v : ValueType = val.Defined (record { 0 = length c.defined }) in
-      let count : size d ≡ suc (size c) = omega (arith, length-append c.defined (y ∷ [])) in
+      let more : size d ≡ suc (size c) = omega (arith, count) in
       new_value_by c d wf g x v (length c.defined) _ refl held refl
-      ∙ sym (ap (λ n. value_resolved_in n d v) count ∙ ap (λ o. option_case (option_case (item_of o) None aliased) v (λ t. value_resolved_in (size c) d t)) (get_new c.defined y))
+      ∙ sym (ap (λ n. value_resolved_in n d v) more ∙ ap (λ o. option_case (option_case (item_of o) None aliased) v (λ t. value_resolved_in (size c) d t)) (get_new c.defined y))
       ∙ sym (ap (λ n. value_resolved d (val.Defined (record { 0 = n }))) at)
 
 -- what is at the end is no alias
@@ -166,9 +182,6 @@ held_in c wf (suc n) v h = held_by c wf n v _ refl h (λ t a. held_in c wf n t a
 unheld_by : (c : Collection) → IsWellFormed c → (v : ValueType) (o : Option ValueType) → target_of c v ≡ o → (holds_value c v ≡ true → ⊥) → target_of c v ≡ None
 unheld_by c wf v None e not = e
 unheld_by c wf v (Some t) e not = absurd (not (leads c wf v t e).from_held)
-
-pub unheld_value : (c : Collection) → IsWellFormed c → (i : ℕ) → length c.defined ≤ i → value_resolved c (val.Defined (record { 0 = i })) ≡ val.Defined (record { 0 = i })
-unheld_value c wf i le = value_ends (size c) c (val.Defined (record { 0 = i })) (unheld_by c wf (val.Defined (record { 0 = i })) _ refl (λ h. absurd (let lt = less_is i (length c.defined) h in omega (arith, lt, le))))
 
 pub end_no_alias : (c : Collection) → IsWellFormed c → (v : ValueType) → (b : Bool) → holds_value c v ≡ b → target_of c (value_resolved c v) ≡ None
 end_no_alias c wf v true h = end_in c wf (size c) v (value_before c wf v h)
@@ -261,31 +274,51 @@ resource_kept c s x n xs rs es vs e has same at held is more end =
       ends = subst P (sym all) (subst Q (sym more) (resource_ends_pushed c x has.lawful.ordered here rs vs e has.ends last));
     }
 
-pub defined_kept : (c s : Collection) (x : DefinedType) (n : ℕ) (xs : List (Held DefinedType)) (rs : List ResourceId) (vs es : List ValueType) (e : ValueType) → HasEnds c rs vs → c ≡ s → n ≡ size s
-    → holds_all s (defined_mentions x) ≡ true → xs ≡ c.defined ++ record { item = x; before = n } ∷ [] → es ≡ vs ++ e ∷ [] → e ≡ new_value_end s (length s.defined) (aliased x)
-    → HasEnds (record c { defined = xs }) rs es
-defined_kept c s x n xs rs vs es e has same at held is more end =
+pub defined_kept : (c s : Collection) (x : DefinedType) (n : ℕ) (xs : List (Held DefinedType)) (rs : List ResourceId) (vs es : List ValueType) → HasEnds c rs vs → c ≡ s → n ≡ size s
+    → holds_all s (defined_mentions x) ≡ true → xs ≡ c.defined ++ record { item = x; before = n } ∷ [] → ((i : ℕ) → (i ≡ length c.defined → ⊥) → end_at es i ≡ end_at vs i)
+    → end_at es (length c.defined) ≡ new_value_end s (length s.defined) (aliased x) → HasEnds (record c { defined = xs }) rs es
+defined_kept c s x n xs rs vs es has same at held is others end =
     let count : n ≡ size c = at ∙ sym (ap size same) in
     let here : holds_all c (defined_mentions x) ≡ true = ap (λ y. holds_all y (defined_mentions x)) same ∙ held in
     let all : xs ≡ c.defined ++ record { item = x; before = size c } ∷ [] = is ∙ ap (λ k. c.defined ++ record { item = x; before = k } ∷ []) count in
-    let last : e ≡ new_value_end c (length c.defined) (aliased x) = end ∙ sym (ap (λ y. new_value_end y (length y.defined) (aliased x)) same) in
+    let last : end_at es (length c.defined) ≡ new_value_end c (length c.defined) (aliased x) = end ∙ sym (ap (λ y. new_value_end y (length y.defined) (aliased x)) same) in
     let P : List (Held DefinedType) → Type 0 = λ ys. AreEnds (record c { defined = ys }) rs es in
-    let Q : List ValueType → Type 0 = λ ys. AreEnds (with_defined c x) rs ys in
     record {
       lawful = defined_added c s x n xs has.lawful same at held is;
-      ends = subst P (sym all) (subst Q (sym more) (defined_ends_pushed c x has.lawful.ordered here rs vs e has.ends last));
+      ends = subst P (sym all) (defined_ends_kept c x has.lawful.ordered here rs vs es has.ends others last);
     }
 
-pub looked_up : {A : Type 0} (xs ys : List A) (i : ℕ) (x : A) → xs ≡ ys → true ≡ nat_lt i (length xs) → x ≡ get_or xs i x → slice_get ys i ≡ Some x
-looked_up xs ys i x same low is = ap (λ zs. slice_get zs i) (sym same) ∙ slice_get-get_or xs i x (less_is i (length xs) (sym low)) ∙ ap Some (sym is)
+-- the end of what is not yet held
+pub own_end_before : (c : Collection) (rs : List ResourceId) (vs : List ValueType) (n : ℕ) → HasEnds c rs vs → length c.defined ≡ n → end_at vs (length c.defined) ≡ val.Defined (record { 0 = n })
+own_end_before c rs vs n has at = has.ends.value_end (length c.defined) ∙ unheld_value c (length c.defined) (omega arith) ∙ ap (λ k. val.Defined (record { 0 = k })) at
+
+-- an alias's end is put in the place of its own: no other end changes
+pub end_others : (vs ws : List ValueType) (n k : ℕ) (e : ValueType) → ((i : ℕ) → end_at ws i ≡ end_at vs i) → n ≡ k → (i : ℕ) → (i ≡ k → ⊥) → end_at (set ws n e) i ≡ end_at vs i
+end_others vs ws n k e same at i other = get_or-set_other ws n i e (val.Defined (record { 0 = i })) (λ h. other (h ∙ at)) ∙ same i
+
+pub end_put : (ws : List ValueType) (n k : ℕ) (e : ValueType) → n ≡ k → n < length ws → end_at (set ws n e) k ≡ e
+end_put ws n k e at low = ap (λ j. end_at (set ws n e) j) (sym at) ∙ get_or-set_same ws n e (val.Defined (record { 0 = n })) low
+
+-- a definition put behind the ends is its own, as it was before
+pub own_end : (vs : List ValueType) (i : ℕ) → end_at (vs ++ val.Defined (record { 0 = length vs }) ∷ []) i ≡ end_at vs i
+own_end vs i = elim (cases_Bool (nat_lt i (length vs))) [
+  | inl t ↦ get_or_append_left vs (val.Defined (record { 0 = length vs }) ∷ []) (val.Defined (record { 0 = i })) i (less_is i (length vs) t)
+  | inr f ↦
+      let p = past i (length vs) (sym f) in
+      get_or-append_right vs (val.Defined (record { 0 = length vs }) ∷ []) (length vs) i (val.Defined (record { 0 = i })) refl p ∙ own i (i - length vs) (omega (arith, p)) ∙ sym (get_or_past vs i (val.Defined (record { 0 = i })) p)
+]
+  where
+    own : (j k : ℕ) → j ≡ length vs + k → get_or (val.Defined (record { 0 = length vs }) ∷ []) k (val.Defined (record { 0 = j })) ≡ val.Defined (record { 0 = j })
+    own j zero at = ap (λ n. val.Defined (record { 0 = n })) (let e : length vs ≡ j = omega (arith, at) in e)
+    own j (suc k) at = refl
 
 pub definition_there : (c s : Collection) (rs : List ResourceId) (vs ws : List ValueType) (i : ℕ) (e : ValueType) → HasEnds c rs vs → c ≡ s → ws ≡ vs → true ≡ nat_lt i (length ws) → e ≡ get_or ws i e → e ≡ value_resolved s (val.Defined (record { 0 = i }))
-definition_there c s rs vs ws i e has same read low is = has.ends.value_end i e (looked_up ws vs i e read low is) ∙ ap (λ x. value_resolved x (val.Defined (record { 0 = i }))) same
+definition_there c s rs vs ws i e has same read low is =
+    is ∙ get_or_default ws i e (val.Defined (record { 0 = i })) (less_is i (length ws) (sym low)) ∙ ap (λ xs. end_at xs i) read ∙ has.ends.value_end i ∙ ap (λ x. value_resolved x (val.Defined (record { 0 = i }))) same
 
 pub definition_past : (c s : Collection) (rs : List ResourceId) (vs ws : List ValueType) (i : ℕ) → HasEnds c rs vs → c ≡ s → ws ≡ vs → length ws ≤ i → val.Defined (record { 0 = i }) ≡ value_resolved s (val.Defined (record { 0 = i }))
 definition_past c s rs vs ws i has same read past =
-    let count : length ws ≡ length vs = ap length read in
-    sym (unheld_value c has.lawful.ordered i (omega (arith, past, count, has.ends.values_counted))) ∙ ap (λ x. value_resolved x (val.Defined (record { 0 = i }))) same
+    sym (get_or_past ws i (val.Defined (record { 0 = i })) past) ∙ ap (λ xs. end_at xs i) read ∙ has.ends.value_end i ∙ ap (λ x. value_resolved x (val.Defined (record { 0 = i }))) same
 
 pub func_kept : (c s : Collection) (x : FuncType) (n : ℕ) (xs : List (Held FuncType)) (rs : List ResourceId) (vs : List ValueType) → HasEnds c rs vs → c ≡ s → n ≡ size s → holds_all s (func_mentions x) ≡ true
     → xs ≡ c.funcs ++ record { item = x; before = n } ∷ [] → HasEnds (record c { funcs = xs }) rs vs

@@ -1,9 +1,10 @@
 //! The collection: lists of items, each of which mentions only items added before it.
-ghost use Rattle.std.specs.Prelude.{◌≡◌, ◌==◌, length, Some, None, IfOk, IfErr, OnErr, IfSome};
+ghost use Rattle.std.specs.Prelude.{ℕ, ◌≡◌, ◌<◌, ◌==◌, length, vec_len, Some, None, IfOk, IfErr, OnErr, OnOk, IfSome};
 ghost use Rattle.std.specs.Option.{option_copied};
 ghost use Rattle.wac_collection.specs.Collection.{IsWellFormed, empty, size, func_mentions, resource_mentions, defined_mentions, holds_value, holds_type, with_resource, with_func, with_defined, with_interface, with_world, with_module, item_at};
 ghost use Rattle.wac_collection.specs.Held.{resolved};
 ghost use Rattle.wac_collection.specs.Aliases.{value_resolved};
+ghost use Rattle.wac_collection.specs.Ends.{end_at};
 ghost use Rattle.wac_shapes.specs.declared.component.ValueType.TheVariants as val;
 ghost use Rattle.wac_collection.specs.declared.collection.AddTypeError.TheVariants.{OutOfMemory};
 ghost use Rattle.wac_collection.specs.Uses.{AnswersBy, mention_fault, interface_fault, world_fault, IsSound};
@@ -58,7 +59,7 @@ pub struct Types {
     resource_ends: Vec<ResourceId>,
     funcs: Items<FuncType>,
     defined: Items<DefinedType>,
-    /// For each definition the value type at the end of its aliases.
+    /// For each definition up to the last alias the value type at the end of its aliases; those behind are their own.
     value_ends: Vec<ValueType>,
     interfaces: Items<Interface>,
     worlds: Items<World>,
@@ -132,6 +133,18 @@ impl Clone for Types {
             modules,
         })
     }
+}
+
+/// Keeps the ends of all definitions through one; those that were not kept are their own. No end changes where memory ran out either.
+fn fill_ends(ends: &mut Vec<ValueType>, last: usize) -> Result<(), AllocError>
+    ensures same { (i : ℕ) → end_at ends.new.items i ≡ end_at ends.old.items i }
+    ensures through { OnOk result (last < vec_len ends.new) }
+{
+    while ends.len() <= last {
+        let next = DefinedTypeId(ends.len());
+        ends.push(ValueType::Defined(next))?;
+    }
+    Ok(())
 }
 
 impl Types {
@@ -275,15 +288,16 @@ impl Types {
         }
         let id = DefinedTypeId(self.defined.len());
         let before = self.count()?;
-        let end = match &defined {
-            DefinedType::Alias(target) => self.value_end(*target),
-            _ => ValueType::Defined(id),
+        let DefinedType::Alias(target) = &defined else {
+            hold(self.alloc, &mut self.defined, defined, before)?;
+            return Ok(id);
         };
-        if self.value_ends.reserve(1).is_err() {
+        let end = self.value_end(*target);
+        let Ok(()) = fill_ends(&mut self.value_ends, id.0) else {
             return Err(AddTypeError::OutOfMemory);
-        }
+        };
         hold(self.alloc, &mut self.defined, defined, before)?;
-        self.value_ends.push(end).unwrap();
+        self.value_ends[id.0] = end;
         Ok(id)
     }
 
