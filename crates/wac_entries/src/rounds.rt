@@ -11,8 +11,8 @@ use std::marker::Model;
 /// A number, and the round in which it was put.
 #[derive(Clone, Copy)]
 struct Put {
-    round: usize,
-    number: usize,
+    round: u32,
+    number: u32,
 }
 
 /// Numbers at positions.
@@ -20,7 +20,7 @@ struct Put {
 pub struct Numbers {
     puts: Vec<Put>,
     /// This round. No number was put in a later one, and none in the round 0.
-    round: usize,
+    round: u32,
 }
 
 /// How many numbers there is to be room for up to a position: as many as there is memory for, if that is enough.
@@ -59,10 +59,11 @@ impl Numbers {
     pub fn clear(&mut self)
         ensures { (k : ℕ) → number_at self.new k ≡ None }
     {
-        if self.round < usize::MAX {
+        if self.round < u32::MAX {
             self.round += 1;
         } else {
             self.puts.clear();
+            self.round = 1;
         }
     }
 
@@ -75,7 +76,7 @@ impl Numbers {
         }
         let put = self.puts[position];
         if put.round == self.round {
-            Some(put.number)
+            Some(put.number as usize)
         } else {
             None
         }
@@ -102,11 +103,14 @@ impl Numbers {
         Ok(())
     }
 
-    /// Puts a number at a position. Where memory runs out nothing has changed.
+    /// Puts a number at a position. Where memory runs out nothing has changed; a number of 2 ^ 32 or more is refused in the same way.
     pub fn put(&mut self, position: usize, number: usize) -> Result<(), AllocError>
         ensures put { OnOk result ((k : ℕ) → number_at self.new k ≡ cond (nat_eq position k) (Some number) (number_at self.old k)) }
         ensures refused { OnErr result ((k : ℕ) → number_at self.new k ≡ number_at self.old k) }
     {
+        let Ok(number) = u32::try_from(number) else {
+            return Err(AllocError);
+        };
         self.make_room(position)?;
         self.puts[position] = Put {
             round: self.round,
