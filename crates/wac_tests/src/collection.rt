@@ -1,15 +1,19 @@
 // Which items a collection takes, and what it answers of them.
 use crate::adding::{Adding, Refusal, add};
-use crate::rows::Row::{Adds, Holds, Interfaces, Refuses, Resource, Value};
+use crate::rows::Row::{Adds, Holds, Interfaces, NoResource, Refuses, Resource, Value};
 use crate::rows::{Table, assert_displayed, assert_tables, assert_told, made};
 use wac_collection::*;
 
-// The first enumeration or alias, the second and the third.
+// The definitions, by their places.
 const T: ValueType = ValueType::Defined(DefinedTypeId(0));
 
 const OTHER: ValueType = ValueType::Defined(DefinedTypeId(1));
 
 const SECOND: ValueType = ValueType::Defined(DefinedTypeId(2));
+
+const THIRD: ValueType = ValueType::Defined(DefinedTypeId(3));
+
+const FOURTH: ValueType = ValueType::Defined(DefinedTypeId(4));
 
 const F: Type = Type::Func(FuncTypeId(0));
 
@@ -58,6 +62,7 @@ const TABLES: &[Table] = &[
         "an item of a foreign id is refused",
         &[
             Holds(F, false),
+            NoResource(true),
             Refuses(Adding::Interface(None, LISTS_F), AddTypeError::NotHeld),
             Refuses(
                 Adding::World(Some("n:p/w"), LISTS_F, &[]),
@@ -107,9 +112,27 @@ const TABLES: &[Table] = &[
         ],
     ),
     (
+        "aliases end where others begin",
+        &[
+            Adds(Adding::Enum("a"), Type::Value(T)),
+            Adds(Adding::Alias(T), Type::Value(OTHER)),
+            Adds(Adding::List(OTHER), Type::Value(SECOND)),
+            Adds(Adding::Alias(OTHER), Type::Value(THIRD)),
+            Adds(Adding::Enum("b"), Type::Value(FOURTH)),
+            Value(T, T),
+            Value(OTHER, T),
+            Value(SECOND, SECOND),
+            Value(THIRD, T),
+            Value(FOURTH, FOURTH),
+        ],
+    ),
+    (
         "a resource is listed under its own name",
         &[
+            Adds(Adding::Enum("a"), Type::Value(T)),
+            NoResource(true),
             Adds(Adding::Resource("r"), R0),
+            NoResource(false),
             Refuses(
                 Adding::Interface(Some("n:p/i"), LISTS_R),
                 AddTypeError::ResourceMisnamed,

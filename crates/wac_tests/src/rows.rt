@@ -23,6 +23,8 @@ pub enum Row {
     Interfaces(&'static [InterfaceId]),
     // A type reaches these, in the order in which they are found.
     Reaches(Type, &'static [Type]),
+    // Whether no resource is held.
+    NoResource(bool),
     // Whether the first is a subtype of the second.
     Subtype(ItemKind, ItemKind, bool),
 }
@@ -50,6 +52,7 @@ fn holds(types: &mut Types, row: Row) -> bool {
         Row::Resource(alias, source) => types.resolve_resource(alias) == source,
         Row::Interfaces(wanted) => has_interfaces(types, wanted),
         Row::Reaches(ty, wanted) => reaches(types, ty, wanted),
+        Row::NoResource(none) => types.holds_no_resource() == none,
         Row::Subtype(a, b, want) => is_subtype(a, types, b, types) == Some(want),
     }
 }
