@@ -12,4 +12,5 @@ pub mod FindLemmas
 pub mod SetLemmas
 pub mod AliasLemmas
 pub mod RisingLemmas
+pub mod FallLemmas
 pub mod CountLemmas

@@ -1,5 +1,5 @@
 -- Edges as records of a table, in lists by their ends. Private functions alone cite this.
-use Rattle.std.specs.Prelude.{ℕ, zero, suc, ◌≡◌, ◌<◌, ◌==◌, if◌then◌else◌, List, [], ◌∷◌, length, Option, Some, None, slice_get}
+use Rattle.std.specs.Prelude.{ℕ, zero, suc, ◌≡◌, ◌<◌, ◌==◌, if◌then◌else◌, Bool, false, List, [], ◌∷◌, length, Option, Some, None, slice_get}
 use Rattle.std.specs.Option.{option_map}
 use Rattle.slab.specs.Slab.{Slab, get}
 use Rattle.wac_edges.specs.declared.edges.End.{End}
@@ -94,6 +94,10 @@ pub record AreLinked (at : ℕ → Option Place) (first : ℕ → Option ℕ) : 
 pub record AreListed (t : Table) (firsts : List Firsts) : Type 0 where
   pub linked : (end : End) → AreLinked (places end t) (first_at end firsts)
   pub once : (j k : ℕ) (e : Edge) → edge_at t j ≡ Some e → edge_at t k ≡ Some e → j ≡ k
+
+-- unless an edge is known to fall, the edge of each record leads to a node of a higher number
+pub record RiseUnless (falls : Bool) (t : Table) : Type 0 where
+  pub up : falls ≡ false → (e : Edge) → HasEdge t e → e.source.0 < e.target.0
 
 -- the edges of all records
 abbrev pub all_edges : List (Option Record) → List Edge

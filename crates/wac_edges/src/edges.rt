@@ -76,6 +76,8 @@ pub struct Edges {
     crowded: Vec<bool>,
     // The aliases of exports of these.
     aliases: Aliases,
+    // Whether an edge was added, once, that leads to no higher number.
+    falls: bool,
 }
 
 /// So many edges from a node are looked through for an alias.
@@ -90,12 +92,12 @@ impl Model for Edges {
     ghost coded = { set.code edge_code };
 
     ghost use Rattle.slab.specs.Slab.{get};
-    ghost use Rattle.wac_edges.specs.Records.{all_edges, AreListed};
+    ghost use Rattle.wac_edges.specs.Records.{all_edges, AreListed, RiseUnless};
     ghost use Rattle.wac_edges.specs.Aliases.{AreNoted};
 
     ghost view = { λ a. set.from_list (all_edges a.records.slots) };
 
-    ghost invariant = { λ a. AreListed (get a.records) a.firsts.items × AreNoted a.crowded.items a.aliases (get a.records) };
+    ghost invariant = { λ a. AreListed (get a.records) a.firsts.items × AreNoted a.crowded.items a.aliases (get a.records) × RiseUnless a.falls (get a.records) };
 }
 
 /// The clone is the same set, and both change on their own. This takes as many steps as there are edges, and nodes up to the
@@ -113,6 +115,7 @@ impl Clone for Edges {
             firsts,
             crowded,
             aliases,
+            falls: self.falls,
         })
     }
 }
@@ -127,6 +130,7 @@ impl Edges {
             firsts: Vec::new(alloc),
             crowded: Vec::new(alloc),
             aliases: Aliases::new(alloc),
+            falls: false,
         }
     }
 
@@ -155,6 +159,7 @@ impl Edges {
         }
         note(&self.crowded, &mut self.aliases, edge)?;
         put(&mut self.records, &mut self.firsts, edge);
+        self.falls |= edge.target.0 <= edge.source.0;
         Ok(())
     }
 
@@ -280,10 +285,13 @@ impl Edges {
         }
     }
 
-    /// Whether each edge leads to a node of a higher number.
+    /// Whether each edge leads to a node of a higher number. Where none that does not was added, this reads no edge.
     pub(crate) fn rise(&self) -> bool
         ensures { OnTrue result (AllRise self.now) }
     {
+        if !self.falls {
+            return true;
+        }
         all_rise(&self.records)
     }
 

@@ -14,6 +14,7 @@ invariant_of-self c =
       noted_some s.records s.firsts.items c.self.invariant.0 s.crowded.items s.aliases c.note_all.new.aliases c.self.invariant.1 c.args.node c.new.result.left
           (c.new.ensures.left ∙ ap (map (λ (x : ℕ × Edge). x.1)) (c.records_at-records.ensures.list ∙ ap (λ (f : List Firsts). list_at s.records Outgoing (first_at Outgoing f c.args.node.0)) c.deref-2.ensures.value))
           c.in_err-note_all.ensures.more c.in_err-note_all.ensures.kept,
+      c.self.invariant.2,
     )
 
 pub invariant_of-self-in_err-mark : goal.invariant_of-self-in_err-mark
@@ -25,6 +26,7 @@ invariant_of-self-in_err-mark c =
           (c.new.ensures.left ∙ ap (map (λ (x : ℕ × Edge). x.1)) (c.records_at-records.ensures.list ∙ ap (λ (f : List Firsts). list_at s.records Outgoing (first_at Outgoing f c.args.node.0)) c.deref-2.ensures.value))
           c.in_ok-note_all.ensures.more c.in_ok-note_all.ensures.kept)
           (λ source target i. refl),
+      c.self.invariant.2,
     )
 
 pub invariant_of-self-2 : goal.invariant_of-self-2
@@ -35,4 +37,5 @@ invariant_of-self-2 c =
           (c.new.ensures.left ∙ ap (map (λ (x : ℕ × Edge). x.1)) (c.records_at-records.ensures.list ∙ ap (λ (f : List Firsts). list_at s.records Outgoing (first_at Outgoing f c.args.node.0)) c.deref-2.ensures.value))
           c.in_ok-note_all.ensures.more c.in_ok-note_all.ensures.kept c.in_ok-note_all.ensures.all c.mark.new.crowded.items
           (crowded_more s.crowded.items c.mark.new.crowded.items c.args.node c.in_ok-mark.ensures.others),
+      c.self.invariant.2,
     )

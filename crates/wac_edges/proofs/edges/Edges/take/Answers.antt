@@ -3,6 +3,7 @@ use Rattle.slab.specs.Slab.{get}
 use Rattle.wac_edges.specs.declared.records.Firsts.{Firsts}
 use Rattle.wac_edges.specs.Records.{AreListed}
 use Rattle.wac_edges.proofs.AliasLemmas.{noted_without, listed_back}
+use Rattle.wac_edges.proofs.FallLemmas.{rise_without}
 use Rattle.std.proofs.lemmas.Bool.{false_from_ne_true}
 use Rattle.std.specs.FinSet as set
 use Rattle.wac_edges.specs.Order.{Edges}
@@ -38,4 +39,5 @@ pub invariant_of-self : goal.invariant_of-self
 invariant_of-self c = (
   listed_back (get c.take.new.records) c.take.new.firsts c.self.inside.firsts.items c.self.inside.firsts.len (c.take.auto.firsts ∙ c.deref_mut.ensures.len) c.take.ensures.listed,
   noted_without c.self.inside.crowded.items c.self.inside.aliases c.forget_alias.new.aliases (get c.self.inside.records) (get c.take.new.records) c.args.edge c.in-Some.key c.in-Some.ensures.some c.self.invariant.1 c.forget_alias.ensures c.take.ensures.edges,
+  rise_without c.self.inside.falls (get c.self.inside.records) (get c.take.new.records) c.in-Some.key c.self.invariant.2 c.take.ensures.edges,
 )

@@ -23,7 +23,11 @@ invariant_of-result c =
     let records = same_slots _ _ c.in_ok-records.ensures.cases.slots in
     let firsts = same_from_all_zip (λ a b. b ≡ a) _ _ c.in_ok-firsts.ensures.cases.0 (λ x y r. r) in
     let marks = same_from_all_zip (λ a b. b ≡ a) _ _ c.in_ok-crowded.ensures.cases.0 (λ x y r. r) in
-    rw (records, firsts) (c.self.invariant.0, noted_with_same c.self.inside.crowded.items c.in_ok-crowded.crowded.items c.self.inside.aliases c.in_ok-aliases.aliases (get c.self.inside.records) (λ n. ap (λ l. is_crowded l n) marks) c.self.invariant.1 c.in_ok-aliases.ensures.cases)
+    rw (records, firsts) (
+      c.self.invariant.0,
+      noted_with_same c.self.inside.crowded.items c.in_ok-crowded.crowded.items c.self.inside.aliases c.in_ok-aliases.aliases (get c.self.inside.records) (λ n. ap (λ l. is_crowded l n) marks) c.self.invariant.1 c.in_ok-aliases.ensures.cases,
+      c.self.invariant.2,
+    )
 
 pub returns : goal.returns
 returns c =
