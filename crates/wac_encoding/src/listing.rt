@@ -1,5 +1,5 @@
 //! What the imports of a graph list, as it is recorded in the root.
-ghost use Rattle.std.specs.Prelude.{◌≡◌, ℕ, OnOk, None, Some, IsSomeAnd, slice_get};
+ghost use Rattle.std.specs.Prelude.{◌≡◌, ℕ, false, OnOk, None, Some, IsSomeAnd, slice_get};
 ghost use Rattle.wac_causes.specs.NotYet.{AllImportable};
 ghost use Rattle.wac_encoding.specs.Listed.{IsListedFor};
 ghost use Rattle.wac_encode.specs.Instances.{listed_definitions};
@@ -32,10 +32,12 @@ pub(crate) fn list_imports(
     reader: &GraphReader<'_>,
     imports: &ImportPlaces,
     root: &mut Scope,
+    defined: bool,
 ) -> Result<(), AllocError>
     requires placed { ArePlaced reader.now imports.now }
     requires importable { AllImportable reader.now }
     requires begins { Begins (merged_imports imports.now.merge.merge) imports.now.places.items (items_of root.old.content) }
+    requires definitions { defined ≡ false → (n : AnId) → IsSomeAnd (node_at reader.now n) (λ node. node.kind ≡ definition) → ⊥ }
     requires right { IsRightRoot reader.now.types root.old }
     requires types { (a : AnyType) → type_index root.old a ≡ None }
     requires unlisted { (a : AnyType) → listing root.old a ≡ None }
@@ -43,7 +45,7 @@ pub(crate) fn list_imports(
     ensures listed { OnOk result ((n : AnId) → IsSomeAnd (node_at reader.now n) (λ node. node.kind ≡ definition) → IsListedFor reader.now imports.now.places.items root.new) }
     ensures kept { OnOk result (root.new.content ≡ root.old.content) }
 {
-    if !reader.has_definition() {
+    if !defined {
         return Ok(());
     }
     let entries = imports.merge.entries();

@@ -37,7 +37,8 @@ use wac_reading::{Encoder, GraphReader, sort_of, write_processor};
 use wac_scopes::rooted_law;
 
 /// The bytes of one component that is what the graph composes, behind items that import what it asks for: these nodes in
-/// order, which are those that are no imports, the exports, the names of nodes where any is named, and the processor.
+/// order, which are those that are no imports, the exports, the names of nodes where any is named, and the processor. It is
+/// told whether any node has a name, and whether any is a definition.
 ///
 /// Answers `TooLarge` where a size does not fit 32 bits, and `OutOfMemory` where memory ran out.
 pub fn write(
@@ -46,12 +47,14 @@ pub fn write(
     imports: &ImportPlaces,
     order: &[NodeId],
     named: bool,
+    defined: bool,
     options: EncodeOptions<'_>,
 ) -> Result<Vec<u8>, EncodeError>
     requires begins { Begins (merged_imports imports.now.merge.merge) imports.now.places.items root }
     requires placed { ArePlaced reader.now imports.now }
     requires whole { Writes reader.now.edges (is_written reader.now) order.now }
     requires named { named ≡ false → (sort : ASort) (n : AnId) → IsNamed reader.now sort n → ⊥ }
+    requires definitions { defined ≡ false → (n : AnId) → IsSomeAnd (node_at reader.now n) (λ node. node.kind ≡ definition) → ⊥ }
     requires definable { AllDefinable reader.now }
     requires importable { AllImportable reader.now }
     requires ordered { HasNoCircle by_names reader.now.types (outer_entries reader.now) }
@@ -65,7 +68,7 @@ pub fn write(
     reader.law();
     let indexes = import_indexes(reader, imports)?;
     let mut encoder = Encoder::new(reader.allocator(), root, indexes);
-    list_imports(reader, imports, &mut encoder.root)?;
+    list_imports(reader, imports, &mut encoder.root, defined)?;
     write_nodes(reader, &mut encoder, imports, order)?;
     let (mut component, indexes) = encoder.finish();
     reader.write_exports(&mut component, &indexes)?;

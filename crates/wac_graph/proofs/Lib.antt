@@ -3,6 +3,7 @@ pub mod DefiningLemmas
 mod CheckedLemmas
 mod FittingLemmas
 mod NothingLemmas
+mod OpenLemmas
 mod PositionLemmas
 pub mod ConflictFreeLemmas
 pub mod WantedAskedLemmas

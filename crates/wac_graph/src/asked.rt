@@ -1,6 +1,7 @@
 //! All that a graph asks for: with each import the interfaces that it uses, each instance once under a name.
 ghost use Rattle.std.specs.Prelude.{◌≡◌, ◌++◌, [], map, IfOk, OnOk};
 ghost use Rattle.wac_nodes.specs.Entries.{asked_entries};
+ghost use Rattle.wac_reading.specs.Seen.{open_numbers};
 ghost use Rattle.wac_fields.specs.EntriesLeft.{entry_view, entries_of, IsRight, AreSettled, AsksAlike, asked_at, all_with_used, all_asked_by, all_imported_by};
 
 use crate::graph::CompositionGraph;
@@ -8,26 +9,36 @@ use std::alloc::AllocError;
 use wac_fields::{AskedEntry, Asking};
 
 impl CompositionGraph {
-    /// What the graph asks for, the interfaces that an asked instance uses before it, each instance once under a name.
-    pub(crate) fn asked_entries(&self) -> Result<Vec<AskedEntry<'_>>, AllocError>
+    /// What the graph asks for, the interfaces that an asked instance uses before it, each instance once under a name. These are
+    /// the instantiations that have an import which no argument satisfies.
+    pub(crate) fn asked_entries(
+        &self,
+        instantiations: &[usize],
+    ) -> Result<Vec<AskedEntry<'_>>, AllocError>
+        requires { instantiations.now ≡ open_numbers self.now }
         ensures { IfOk result (λ v. map entry_view v.items ≡ asked_entries self.now) }
     {
         let mut asking = Asking::new(self.alloc);
-        self.ask_instantiations(&mut asking)?;
+        self.ask_instantiations(&mut asking, instantiations)?;
         self.ask_nodes(&mut asking)?;
         Ok(asking.into_entries())
     }
 
-    /// Asks for the imports of instantiations that no argument satisfies.
-    fn ask_instantiations<'a>(&'a self, asking: &mut Asking<'a>) -> Result<(), AllocError>
+    /// Asks for the imports of instantiations that no argument satisfies. These are all that have any.
+    fn ask_instantiations<'a>(
+        &'a self,
+        asking: &mut Asking<'a>,
+        instantiations: &[usize],
+    ) -> Result<(), AllocError>
+        requires instantiations { instantiations.now ≡ open_numbers self.now }
         requires right { IsRight asking.old }
         requires settled { AreSettled self.now.types [] (entries_of asking.old) }
         ensures right { OnOk result (IsRight asking.new) }
         ensures settled { OnOk result (AreSettled self.now.types [] (entries_of asking.new)) }
         ensures stands { OnOk result (AsksAlike self.now.types (entries_of asking.old ++ all_with_used self.now.types (all_asked_by self.now)) (entries_of asking.new)) }
     {
-        for n in 0..self.nodes.capacity() {
-            self.ask_unset(asking, n)?;
+        for n in instantiations {
+            self.ask_unset(asking, *n)?;
         }
         Ok(())
     }

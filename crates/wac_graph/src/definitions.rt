@@ -4,6 +4,7 @@ ghost use Rattle.wac_causes.specs.NotYet.{AllDefinable};
 ghost use Rattle.wac_collection.specs.Collection.{holds_type};
 ghost use Rattle.wac_shapes.specs.Kinds.{kind_type};
 ghost use Rattle.wac_edges.specs.Edge.{node_number};
+ghost use Rattle.wac_edges.specs.declared.node.NodeId.{NodeId as AnId};
 ghost use Rattle.wac_importing.specs.Looked.{AreFree};
 ghost use Rattle.wac_meaning.specs.Importable.{IsDefinableKind};
 ghost use Rattle.wac_nodes.specs.Graph.{node_at, definition};
@@ -17,12 +18,14 @@ use wac_reach::Reached;
 use wac_types::Types;
 
 impl CompositionGraph {
-    /// Whether each definition is of a type that is defined so far. What their types reach together is looked at once.
-    pub(crate) fn are_definable(&self) -> Result<bool, AllocError>
+    /// Whether each definition is of a type that is defined so far; it is told whether there is any. What their types reach
+    /// together is looked at once.
+    pub(crate) fn are_definable(&self, defined: bool) -> Result<bool, AllocError>
+        requires { defined ≡ false → (n : AnId) → IsSomeAnd (node_at self.now n) (λ node. node.kind ≡ definition) → ⊥ }
         ensures all { result ≡ Answers true → AllDefinable self.now }
         ensures not { result ≡ Answers false → AllDefinable self.now → ⊥ }
     {
-        if !self.has_definition() {
+        if !defined {
             return Ok(true);
         }
         let mut looked = Reached::new(self.alloc);

@@ -1,5 +1,5 @@
 //! From a graph to the bytes of one component.
-ghost use Rattle.std.specs.Prelude.{◌≡◌, true, IsTrue, OnOk, IfOk, IfErr, IfSome, List};
+ghost use Rattle.std.specs.Prelude.{◌≡◌, true, false, IsSomeAnd, IsTrue, OnOk, IfOk, IfErr, IfSome, List};
 ghost use Rattle.wac_binary.specs.Bytes.{bytes_of};
 ghost use Rattle.wac_binary.specs.Items.{Item as AnItem};
 ghost use Rattle.wac_meaning.specs.Means.{Means};
@@ -12,6 +12,8 @@ ghost use Rattle.wac_causes.specs.OuterNames.{export_names, import_names};
 ghost use Rattle.wac_causes.specs.NotYet.{AllDefinable, AllImportable, IsNotYet};
 ghost use Rattle.wac_causes.specs.TypeFaults.{HasNoTypeFault};
 ghost use Rattle.wac_edges.specs.Order.{IsAcyclic};
+ghost use Rattle.wac_edges.specs.declared.node.NodeId.{NodeId as AnId};
+ghost use Rattle.wac_nodes.specs.Graph.{node_at, definition};
 ghost use Rattle.wac_nodes.specs.declared.options.EncodeOptions.{EncodeOptions as Asked};
 ghost use Rattle.wac_validation.specs.Valid.{AreValid};
 ghost use Rattle.wac_writing.specs.Refused.{IsRefusedBefore};
@@ -52,20 +54,29 @@ impl CompositionGraph {
         order_law();
         self.law();
         let reader = self.reader();
-        let (order, named) = reader.ordered()?;
+        let ordered = reader.ordered()?;
         self.check_conflicts()?;
-        let (merge, entries) = self.merged()?;
-        self.check_types(entries)?;
-        let (root, imports) = self.begin(options.define_components, merge)?;
-        let bytes = write(&reader, root, &imports, &order, named, options)?;
-        self.check_names(&imports.merge, &order, options.validate)?;
+        let (merge, entries) = self.merged(ordered.open.as_slice())?;
+        self.check_types(entries, ordered.defined)?;
+        let (root, imports) = self.begin(options.define_components, ordered.defined, merge)?;
+        let bytes = write(
+            &reader,
+            root,
+            &imports,
+            &ordered.order,
+            ordered.named,
+            ordered.defined,
+            options,
+        )?;
+        self.check_names(&imports.merge, &ordered.order, options.validate)?;
         Ok(bytes)
     }
 
-    /// The items that import what the graph asks for, and where each import stands.
+    /// The items that import what the graph asks for, and where each import stands. It is told whether any node is a definition.
     fn begin(
         &self,
         define_components: bool,
+        defined: bool,
         merge: TypeAggregator,
     ) -> Result<(ComponentBuilder, ImportPlaces), EncodeError>
         requires acyclic { IsAcyclic self.now.edges }
@@ -73,6 +84,7 @@ impl CompositionGraph {
         requires merges { HasMerge self.now }
         requires writable { HasNoTypeFault self.now }
         requires merged { IsMergedFor self.now merge }
+        requires definitions { defined ≡ false → (n : AnId) → IsSomeAnd (node_at self.now n) (λ node. node.kind ≡ definition) → ⊥ }
         ensures begins { IfOk result (λ b. Begins (merged_imports b.1.merge.merge) b.1.places.items b.0) }
         ensures placed { IfOk result (λ b. ArePlaced self.now b.1) }
         ensures definable { OnOk result (AllDefinable self.now) }
@@ -83,7 +95,7 @@ impl CompositionGraph {
     {
         class_laws();
         order_law();
-        if !define_components || !self.are_definable()? {
+        if !define_components || !self.are_definable(defined)? {
             return Err(EncodeError::NotYet);
         }
         match self.written_imports(&merge)? {

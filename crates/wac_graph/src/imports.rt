@@ -1,17 +1,13 @@
 //! What a graph asks for: the imports of its instantiations that no argument satisfies, and its import nodes.
 ghost use Rattle.std.specs.Prelude.{◌≡◌, ◌<◌, ◌-◌, ◌+◌, ◌∷◌, [], IfSome, MatchOption, Some, None};
-ghost use Rattle.std.specs.BTreeSet as positions;
-ghost use Rattle.std.specs.Ordering.{nat_cmp};
 ghost use Rattle.wac_edges.specs.Edge.{node_number};
-ghost use Rattle.wac_nodes.specs.Graph.{node_at};
 ghost use Rattle.wac_nodes.specs.Imports.{asked_rows};
-ghost use Rattle.wac_fields.specs.ImportsLeft.{unset_from, node_left, instantiations_left, nodes_left};
+ghost use Rattle.wac_fields.specs.ImportsLeft.{instantiations_left, nodes_left};
 
 use crate::graph::CompositionGraph;
-use std::collections::BTreeSet;
 use std::marker::Model;
-use wac_nodes::{NodeId, NodeKind, first_gap};
-use wac_types::{ItemKind, Named};
+use wac_nodes::NodeId;
+use wac_types::ItemKind;
 
 /// The imports that a graph asks for and that are still to come, each with its name, its kind and, where it is an
 /// import node, the node's id.
@@ -105,18 +101,6 @@ impl CompositionGraph {
         None
     }
 
-    /// The first import of a node from a position on that no argument satisfies: the position behind it, its name and
-    /// its kind.
-    pub(crate) fn unset_at(&self, n: usize, from: usize) -> Option<(usize, &str, ItemKind)>
-        ensures { MatchOption result (node_left self.now n from (node_at self.now (node_number n)) ≡ []) (λ r. node_left self.now n from (node_at self.now (node_number n)) ≡ (r.1.now, r.2, None) ∷ node_left self.now n r.0 (node_at self.now (node_number n))) }
-    {
-        let node = self.nodes.get(n)?;
-        let NodeKind::Instantiation(satisfied) = &node.kind else {
-            return None;
-        };
-        first_unset(satisfied, self.imports_at(n), from)
-    }
-
     /// The first import node from a number on and below an end: its number, its name and its kind.
     fn next_import_node(&self, from: usize, end: usize) -> Option<(usize, &str, ItemKind)>
         ensures below { IfSome result (λ r. r.0 < end) }
@@ -129,16 +113,4 @@ impl CompositionGraph {
         }
         None
     }
-}
-
-/// The first import from a position on whose position is not in the set: the position behind it, its name and its kind.
-fn first_unset<'a>(
-    satisfied: &BTreeSet<usize>,
-    imports: &'a Named<ItemKind>,
-    from: usize,
-) -> Option<(usize, &'a str, ItemKind)>
-    ensures { MatchOption result (unset_from (positions.contains nat_cmp satisfied.now) imports.now from ≡ []) (λ r. unset_from (positions.contains nat_cmp satisfied.now) imports.now from ≡ (r.1.now, r.2) ∷ unset_from (positions.contains nat_cmp satisfied.now) imports.now r.0) }
-{
-    let i = first_gap(satisfied, from, imports.len())?;
-    Some((i + 1, imports.name_at(i), *imports.value_at(i)))
 }

@@ -1,8 +1,8 @@
 //! What is looked up of a graph by what encodes it.
-ghost use Rattle.std.specs.Prelude.{◌≡◌, ◌∷◌, [], false, IsSomeAnd, IfSome, MatchOption, Some};
+ghost use Rattle.std.specs.Prelude.{◌≡◌, ◌∷◌, [], IsSomeAnd, IfSome, MatchOption, None, Some};
 ghost use Rattle.wac_edges.specs.Edge.{node_number};
-ghost use Rattle.wac_edges.specs.declared.node.NodeId.{NodeId as AnId};
-ghost use Rattle.wac_nodes.specs.Graph.{node_at, package_at, imports_of, instantiation, definition};
+ghost use Rattle.wac_fields.specs.ImportsLeft.{node_left};
+ghost use Rattle.wac_nodes.specs.Graph.{node_at, package_at, imports_of, instantiation};
 ghost use Rattle.wac_nodes.specs.Imports.{node_rows};
 
 use crate::graph::CompositionGraph;
@@ -53,10 +53,11 @@ impl CompositionGraph {
         self.reader().import_node_at(n)
     }
 
-    /// Whether a node is a definition.
-    pub(crate) fn has_definition(&self) -> bool
-        ensures { result ≡ false → (n : AnId) → IsSomeAnd (node_at self.now n) (λ node. node.kind ≡ definition) → ⊥ }
+    /// The first import of a node from a position on that no argument satisfies: the position behind it, its name and
+    /// its kind.
+    pub(crate) fn unset_at(&self, n: usize, from: usize) -> Option<(usize, &str, ItemKind)>
+        ensures { MatchOption result (node_left self.now n from (node_at self.now (node_number n)) ≡ []) (λ r. node_left self.now n from (node_at self.now (node_number n)) ≡ (r.1.now, r.2, None) ∷ node_left self.now n r.0 (node_at self.now (node_number n))) }
     {
-        self.reader().has_definition()
+        self.reader().unset_at(n, from)
     }
 }

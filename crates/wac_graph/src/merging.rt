@@ -10,6 +10,7 @@ ghost use Rattle.wac_fields.specs.EntriesLeft.{entry_view, IsHeldKind};
 ghost use Rattle.wac_edges.specs.Order.{IsAcyclic};
 ghost use Rattle.wac_causes.specs.Search.{IsRefused};
 ghost use Rattle.wac_places.specs.Places.{IsMergedFor};
+ghost use Rattle.wac_reading.specs.Seen.{open_numbers};
 ghost use Rattle.wac_nodes.specs.declared.options.EncodeOptions.{EncodeOptions as Asked};
 
 use crate::graph::CompositionGraph;
@@ -23,8 +24,13 @@ use wac_places::exports_law;
 use wac_types::Types;
 
 impl CompositionGraph {
-    /// The merge of all that the graph asks for, and what that is. Refuses a graph that asks for what cannot be merged.
-    pub(crate) fn merged(&self) -> Result<(TypeAggregator, Vec<AskedEntry<'_>>), EncodeError>
+    /// The merge of all that the graph asks for, and what that is. Refuses a graph that asks for what cannot be merged. These are
+    /// the instantiations that have an import which no argument satisfies.
+    pub(crate) fn merged(
+        &self,
+        instantiations: &[usize],
+    ) -> Result<(TypeAggregator, Vec<AskedEntry<'_>>), EncodeError>
+        requires instantiations { instantiations.now ≡ open_numbers self.now }
         requires acyclic { IsAcyclic self.now.edges }
         requires apart { HasNoConflict self.now }
         ensures merged { IfOk result (λ a. IsMergedFor self.now a.0) }
@@ -34,7 +40,7 @@ impl CompositionGraph {
     {
         self.law();
         self.types.law();
-        let entries = self.asked_entries()?;
+        let entries = self.asked_entries(instantiations)?;
         if entries.is_empty() {
             let merge = self.merged_nothing()?;
             return Ok((merge, entries));

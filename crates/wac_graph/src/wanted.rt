@@ -1,13 +1,14 @@
 //! Whether what nodes ask for can be written, whatever stands around it.
-ghost use Rattle.std.specs.Prelude.{◌≡◌, ◌++◌, [], map, IfErr, IfOk, OnOk};
+ghost use Rattle.std.specs.Prelude.{◌≡◌, ◌++◌, [], false, map, IfErr, IfOk, IsSomeAnd, OnOk};
 ghost use Rattle.wac_fields.specs.EntriesLeft.{entry_view, entries_of, IsRight, IsHeldKind, AreSettled, AsksAlike, all_with_used};
 ghost use Rattle.wac_causes.specs.Cause.{HasMerge, HasNoConflict};
 ghost use Rattle.wac_causes.specs.Search.{IsRefused};
 ghost use Rattle.wac_causes.specs.TypeFaults.{wanted_at, wanted_entries as wanted_of, role_of, role_of_kind, IsEntryFault, HasNoTypeFault};
 ghost use Rattle.wac_edges.specs.Edge.{node_number};
 ghost use Rattle.wac_edges.specs.Order.{IsAcyclic};
+ghost use Rattle.wac_edges.specs.declared.node.NodeId.{NodeId as AnId};
 ghost use Rattle.wac_nodes.specs.Entries.{asked_entries};
-ghost use Rattle.wac_nodes.specs.Graph.{node_at};
+ghost use Rattle.wac_nodes.specs.Graph.{node_at, definition};
 ghost use Rattle.wac_nodes.specs.Nodes.{kind_of};
 ghost use Rattle.wac_nodes.specs.declared.options.EncodeOptions.{EncodeOptions as Asked};
 ghost use Rattle.wac_writable.specs.Faults.{IsLowest};
@@ -22,9 +23,14 @@ use wac_writable::{Role, lowest_fault};
 
 impl CompositionGraph {
     /// Refuses a graph in which a node asks for what cannot be written, by the first of it. The entries are what the graph
-    /// asks for.
-    pub(crate) fn check_types(&self, entries: Vec<AskedEntry<'_>>) -> Result<(), EncodeError>
+    /// asks for, and it is told whether any node is a definition.
+    pub(crate) fn check_types(
+        &self,
+        entries: Vec<AskedEntry<'_>>,
+        defined: bool,
+    ) -> Result<(), EncodeError>
         requires asked { map entry_view entries.items ≡ asked_entries self.now }
+        requires definitions { defined ≡ false → (n : AnId) → IsSomeAnd (node_at self.now n) (λ node. node.kind ≡ definition) → ⊥ }
         requires acyclic { IsAcyclic self.now.edges }
         requires apart { HasNoConflict self.now }
         requires merges { HasMerge self.now }
@@ -33,7 +39,7 @@ impl CompositionGraph {
     {
         self.law();
         self.types.law();
-        let wanted = self.wanted_of_asked(entries)?;
+        let wanted = self.wanted_of_asked(entries, defined)?;
         for i in 0..wanted.len() {
             let entry = wanted[i];
             if let Some(fault) = self.entry_fault(entry)? {
@@ -68,11 +74,13 @@ impl CompositionGraph {
     fn wanted_of_asked<'a>(
         &'a self,
         entries: Vec<AskedEntry<'a>>,
+        defined: bool,
     ) -> Result<Vec<AskedEntry<'a>>, AllocError>
-        requires { map entry_view entries.items ≡ asked_entries self.now }
+        requires asked { map entry_view entries.items ≡ asked_entries self.now }
+        requires definitions { defined ≡ false → (n : AnId) → IsSomeAnd (node_at self.now n) (λ node. node.kind ≡ definition) → ⊥ }
         ensures { IfOk result (λ v. map entry_view v.items ≡ wanted_of self.now) }
     {
-        if self.imports.is_empty() && !self.has_definition() {
+        if self.imports.is_empty() && !defined {
             return Ok(entries);
         }
         self.wanted_entries()

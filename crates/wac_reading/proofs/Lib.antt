@@ -1,3 +1,3 @@
-mod DefinitionExports
+mod SeenLemmas
 pub mod RootLemmas
 mod NamesLemmas

@@ -1,2 +1,3 @@
 pub mod Inside
 pub mod EncoderView
+pub mod Seen

@@ -14,5 +14,6 @@ mod sources;
 
 pub use encoder::{Encoder, sort_of};
 pub use lookups::package_in_slots;
+pub use order::Ordered;
 pub use parts::write_processor;
 pub use reader::GraphReader;

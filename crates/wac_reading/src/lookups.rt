@@ -1,18 +1,22 @@
 //! What is looked up of a graph's instantiations, imports and definitions.
-ghost use Rattle.std.specs.Prelude.{◌≡◌, ◌<◌, ◌↔◌, IsSome, IsSomeAnd, IfSome, Some, ◌∷◌, [], MatchOption, slice_get, true, false};
+ghost use Rattle.std.specs.Prelude.{◌≡◌, ◌<◌, ◌↔◌, IsSome, IsSomeAnd, IfSome, Some, ◌∷◌, [], MatchOption, None, slice_get, true};
 ghost use Rattle.wac_collection.specs.Collection.{holds_type};
 ghost use Rattle.wac_edges.specs.Edge.{node_number};
+ghost use Rattle.wac_fields.specs.ImportsLeft.{unset_from, node_left};
 ghost use Rattle.wac_nodes.specs.Graph.{node_at, package_at, imports_of, instantiation, package_in, definition, IsImportOf};
 ghost use Rattle.wac_nodes.specs.Imports.{node_rows};
 ghost use Rattle.wac_nodes.specs.Nodes.{kind_of};
+ghost use Rattle.std.specs.BTreeSet as positions;
 ghost use Rattle.std.specs.Option.{option_copied};
+ghost use Rattle.std.specs.Ordering.{nat_cmp};
 ghost use Rattle.wac_edges.specs.declared.node.NodeId.{NodeId as AnId};
 ghost use Rattle.wac_primitives.specs.Name.{Name as AName};
 ghost use Rattle.wac_shapes.specs.declared.component.ItemKind.TheVariants.{TypeItem};
 
 use crate::reader::GraphReader;
 use std::alloc::Global;
-use wac_nodes::{NodeId, NodeKind, PackageId, Slot};
+use std::collections::BTreeSet;
+use wac_nodes::{NodeId, NodeKind, PackageId, Slot, first_gap};
 use wac_types::{ItemKind, Named, Package, Type, Types};
 
 impl<'a> GraphReader<'a> {
@@ -107,17 +111,29 @@ impl<'a> GraphReader<'a> {
         (name, ty)
     }
 
-    /// Whether a node is a definition. Each has a first name, by which it is exported, so exports tell it.
-    pub fn has_definition(&self) -> bool
-        ensures { result ≡ false → (n : AnId) → IsSomeAnd (node_at self.now n) (λ node. node.kind ≡ definition) → ⊥ }
+    /// The first import of a node from a position on that no argument satisfies: the position behind it, its name and
+    /// its kind.
+    pub fn unset_at(&self, n: usize, from: usize) -> Option<(usize, &'a str, ItemKind)>
+        ensures { MatchOption result (node_left self.now n from (node_at self.now (node_number n)) ≡ []) (λ r. node_left self.now n from (node_at self.now (node_number n)) ≡ (r.1.now, r.2, None) ∷ node_left self.now n r.0 (node_at self.now (node_number n))) }
     {
-        for i in 0..self.exports.len() {
-            let Some(_) = self.further_export(i) else {
-                return true;
-            };
-        }
-        false
+        let node = self.nodes.get(n)?;
+        let NodeKind::Instantiation(satisfied) = &node.kind else {
+            return None;
+        };
+        first_unset(satisfied, self.imports_at(n), from)
     }
+}
+
+/// The first import from a position on whose position is not in the set: the position behind it, its name and its kind.
+fn first_unset<'a>(
+    satisfied: &BTreeSet<usize>,
+    imports: &'a Named<ItemKind>,
+    from: usize,
+) -> Option<(usize, &'a str, ItemKind)>
+    ensures { MatchOption result (unset_from (positions.contains nat_cmp satisfied.now) imports.now from ≡ []) (λ r. unset_from (positions.contains nat_cmp satisfied.now) imports.now from ≡ (r.1.now, r.2) ∷ unset_from (positions.contains nat_cmp satisfied.now) imports.now r.0) }
+{
+    let i = first_gap(satisfied, from, imports.len())?;
+    Some((i + 1, imports.name_at(i), *imports.value_at(i)))
 }
 
 /// The package of an id, where the slot holds one of the id's generation.

@@ -1,13 +1,15 @@
-//! The order in which nodes are written.
-ghost use Rattle.std.specs.Prelude.{◌≡◌, false, OnOk, IfOk, IfErr};
+//! The order in which nodes are written, and what is seen of all nodes before.
+ghost use Rattle.std.specs.Prelude.{◌≡◌, ◌∷◌, ◌++◌, [], cond, false, OnOk, IfOk, IfErr, IsSomeAnd, IsTrue};
 ghost use Rattle.wac_binary.specs.declared.sorts.Sort.{Sort as ASort};
 ghost use Rattle.wac_causes.specs.Search.{IsRefused};
 ghost use Rattle.wac_edges.specs.Edge.{is_left, node_number};
 ghost use Rattle.wac_edges.specs.Order.{Writes, IsOnCycle, IsAcyclic};
 ghost use Rattle.wac_edges.specs.declared.node.NodeId.{NodeId as AnId};
 ghost use Rattle.wac_meaning.specs.Means.{is_written, is_import};
+ghost use Rattle.wac_nodes.specs.Graph.{node_at, definition};
 ghost use Rattle.wac_nodes.specs.Nodes.{kind_of};
 ghost use Rattle.wac_nodes.specs.declared.options.EncodeOptions.{EncodeOptions as Asked};
+ghost use Rattle.wac_reading.specs.Seen.{is_definition, open_at, open_numbers};
 ghost use Rattle.wac_writing.specs.Naming.{IsNamed};
 
 use crate::reader::GraphReader;
@@ -16,18 +18,51 @@ use wac_causes::EncodeError;
 use wac_edges::order::order;
 use wac_nodes::{NodeId, NodeKind};
 
+/// The nodes in the order in which they are written, and what was seen of all nodes on the way.
+#[derive(Drop)]
+pub struct Ordered {
+    /// The nodes that are no imports, each the lowest of those that are left to which no edge leads from one that is left.
+    pub order: Vec<NodeId>,
+    /// Whether any node has a name.
+    pub named: bool,
+    /// Whether any node is a definition.
+    pub defined: bool,
+    /// The numbers of the instantiations that have an import which no argument satisfies, rising.
+    pub open: Vec<usize>,
+}
+
+/// What is seen of all nodes, before they are put in order.
+#[derive(Drop)]
+struct Seen {
+    // Which numbers are those of nodes that are no imports.
+    left: Vec<bool>,
+    // Whether any node has a name.
+    named: bool,
+    // Whether any node is a definition.
+    defined: bool,
+    // The numbers of the instantiations that have an import which no argument satisfies, rising.
+    numbers: Vec<usize>,
+}
+
 impl<'a> GraphReader<'a> {
-    /// The nodes that are no imports, each the lowest of those that are left to which no edge leads from one that is left; and
-    /// whether any node has a name.
-    pub fn ordered(&self) -> Result<(Vec<NodeId>, bool), EncodeError>
-        ensures whole { IfOk result (λ r. Writes self.now.edges (is_written self.now) r.0.items) }
-        ensures named { IfOk result (λ r. r.1 ≡ false → (sort : ASort) (n : AnId) → IsNamed self.now sort n → ⊥) }
+    /// The nodes that are no imports, each the lowest of those that are left to which no edge leads from one that is left; with
+    /// whether any node has a name, whether any is a definition, and which instantiations have an import that no argument satisfies.
+    pub fn ordered(&self) -> Result<Ordered, EncodeError>
+        ensures whole { IfOk result (λ r. Writes self.now.edges (is_written self.now) r.order.items) }
+        ensures named { IfOk result (λ r. r.named ≡ false → (sort : ASort) (n : AnId) → IsNamed self.now sort n → ⊥) }
+        ensures defined { IfOk result (λ r. r.defined ≡ false → (n : AnId) → IsSomeAnd (node_at self.now n) (λ node. node.kind ≡ definition) → ⊥) }
+        ensures open { IfOk result (λ r. r.open.items ≡ open_numbers self.now) }
         ensures acyclic { OnOk result (IsAcyclic self.now.edges) }
         ensures refused { IfErr result (λ e. (o : Asked) → IsRefused self.now o e) }
     {
-        let (left, named) = self.to_write()?;
-        match order(self.alloc, &self.edges, left)? {
-            Some(order) => Ok((order, named)),
+        let seen = self.to_write()?;
+        match order(self.alloc, &self.edges, seen.left)? {
+            Some(order) => Ok(Ordered {
+                open: seen.numbers,
+                order,
+                named: seen.named,
+                defined: seen.defined,
+            }),
             None => Err(self.cycle()?),
         }
     }
@@ -46,18 +81,30 @@ impl<'a> GraphReader<'a> {
         Ok(EncodeError::GraphContainsCycle { node: n })
     }
 
-    /// Which numbers are those of nodes that are no imports, and whether any node has a name.
-    fn to_write(&self) -> Result<(Vec<bool>, bool), AllocError>
-        ensures left { IfOk result (λ r. (n : AnId) → is_left r.0.items n ≡ is_written self.now n) }
-        ensures named { IfOk result (λ r. r.1 ≡ false → (sort : ASort) (n : AnId) → IsNamed self.now sort n → ⊥) }
+    /// Which numbers are those of nodes that are no imports, whether any node has a name, whether any is a definition, and which
+    /// instantiations have an import that no argument satisfies.
+    fn to_write(&self) -> Result<Seen, AllocError>
+        ensures left { IfOk result (λ s. (n : AnId) → is_left s.left.items n ≡ is_written self.now n) }
+        ensures named { IfOk result (λ s. s.named ≡ false → (sort : ASort) (n : AnId) → IsNamed self.now sort n → ⊥) }
+        ensures defined { IfOk result (λ s. s.defined ≡ false → (n : AnId) → IsSomeAnd (node_at self.now n) (λ node. node.kind ≡ definition) → ⊥) }
+        ensures numbers { IfOk result (λ s. s.numbers.items ≡ open_numbers self.now) }
     {
         let mut left = Vec::new(self.alloc);
         let mut named = false;
+        let mut defined = false;
+        let mut numbers = Vec::new(self.alloc);
         for n in 0..self.nodes.capacity() {
             left.push(self.is_to_write(n))?;
             named = named || self.has_name(n);
+            defined = defined || self.is_definition(n);
+            self.note_open(&mut numbers, n)?;
         }
-        Ok((left, named))
+        Ok(Seen {
+            left,
+            named,
+            defined,
+            numbers,
+        })
     }
 
     /// Whether the number is that of a node that is no import.
@@ -69,6 +116,34 @@ impl<'a> GraphReader<'a> {
             None => false,
         }
     }
+
+    /// Whether the number is that of a definition.
+    fn is_definition(&self, n: usize) -> bool
+        ensures { IsSomeAnd (node_at self.now (node_number n)) (λ node. node.kind ≡ definition) → IsTrue result }
+    {
+        match self.nodes.get(n) {
+            Some(node) => is_definition(&node.kind),
+            None => false,
+        }
+    }
+
+    /// Adds the number of an instantiation that has an import which no argument satisfies, and that of no other node.
+    fn note_open(&self, numbers: &mut Vec<usize>, n: usize) -> Result<(), AllocError>
+        ensures { OnOk result (numbers.new.items ≡ numbers.old.items ++ open_at self.now n) }
+    {
+        if !self.is_open(n) {
+            return Ok(());
+        }
+        numbers.push(n)?;
+        Ok(())
+    }
+
+    /// Whether the number is that of an instantiation that has an import which no argument satisfies.
+    fn is_open(&self, n: usize) -> bool
+        ensures { open_at self.now n ≡ cond result (n ∷ []) [] }
+    {
+        self.unset_at(n, 0).is_some()
+    }
 }
 
 /// Whether a node of this kind is an import.
@@ -78,5 +153,15 @@ fn is_import(kind: &NodeKind) -> bool
     match kind {
         NodeKind::Import(_) => true,
         NodeKind::Definition | NodeKind::Instantiation(_) | NodeKind::Alias => false,
+    }
+}
+
+/// Whether a node of this kind is a definition.
+fn is_definition(kind: &NodeKind) -> bool
+    ensures { result ≡ is_definition (kind_of kind.now) }
+{
+    match kind {
+        NodeKind::Definition => true,
+        NodeKind::Import(_) | NodeKind::Instantiation(_) | NodeKind::Alias => false,
     }
 }

@@ -7,6 +7,9 @@ use Rattle.wac_encoding.proofs.ListingLemmas.{AreListed, AreRecorded, none_liste
 use Rattle.wac_encoding.proofs.listing.list_imports.Goals as goal
 use Rattle.wac_encoding.proofs.listing.list_imports.Goals.{in-Instance+in_ok-list_instance, in_default}
 
+pub returns-then-not-defined-clause-listed : goal.returns-then-not-defined-clause-listed
+returns-then-not-defined-clause-listed c = λ n is. absurd (c.requires.definitions c.if-not-defined.true n is)
+
 pub loop-i-init : goal.loop-i-init
 loop-i-init c = (refl, c.requires.right, c.requires.types, none_listed c.args.reader.now c.args.imports.now.places.items c.args.root.now c.requires.unlisted)
 

@@ -12,8 +12,8 @@ use Rattle.wac_graph.proofs.graph.CompositionGraph.are_definable.Goals as goal
 abbrev IsWritten : Graph → GraphNode → Type 0
 IsWritten g node = node.kind ≡ definition → IsDefinableKind g.types node.item_kind
 
-pub returns-then-not-has_definition-clause-all : goal.returns-then-not-has_definition-clause-all
-returns-then-not-has_definition-clause-all c = λ _ n node at is. absurd (c.has_definition.ensures c.if-not-has_definition.true n (subst (λ o. IsSomeAnd o (λ x. x.kind ≡ definition)) (sym at) is))
+pub returns-then-not-defined-clause-all : goal.returns-then-not-defined-clause-all
+returns-then-not-defined-clause-all c = λ _ n node at is. absurd (c.requires c.if-not-defined.true n (subst (λ o. IsSomeAnd o (λ x. x.kind ≡ definition)) (sym at) is))
 
 pub loop-n-preserved : goal.loop-n-preserved
 loop-n-preserved c =

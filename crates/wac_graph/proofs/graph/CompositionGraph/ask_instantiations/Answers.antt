@@ -1,9 +1,9 @@
-use Rattle.std.proofs.Common.{◌≡◌, ◌++◌, sym, subst, arith}
-use Rattle.std.specs.List.{flat_map, range_with_len}
-use Rattle.wac_nodes.specs.Graph.{Graph}
+use Rattle.std.proofs.Common.{◌≡◌, ◌++◌, ◌∙◌, ap, arith, subst, take}
+use Rattle.std.specs.List.{flat_map}
+use Rattle.std.proofs.lemmas.List.{take_all}
 use Rattle.wac_fields.specs.EntriesLeft.{entries_of, asked_at, all_asked_by, all_with_used, AsksAlike}
-use Rattle.wac_writing.proofs.AskingWalk.{nothing_asked, number_asked, all_asked}
-use Rattle.wac_graph.specs.Inside.{fields_of}
+use Rattle.wac_writing.proofs.AskingWalk.{nothing_asked}
+use Rattle.wac_graph.proofs.OpenLemmas.{listed_asked, open_asked}
 use Rattle.wac_graph.proofs.graph.CompositionGraph.ask_instantiations.Goals as goal
 
 pub loop-n-init : goal.loop-n-init
@@ -15,12 +15,13 @@ loop-n-preserved c =
     record {
       right = c.in_ok-ask_unset.ensures.right;
       settled = c.in_ok-ask_unset.ensures.settled;
-      stands = number_asked g.types (asked_at g) (entries_of c.args.asking.now) (entries_of c.loop-n.asking) (entries_of c.ask_unset.new.asking) c.loop-n.n c.loop-n.invariant.stands c.in_ok-ask_unset.ensures.stands;
+      stands = listed_asked g.types (asked_at g) (entries_of c.args.asking.now) (entries_of c.loop-n.asking) (entries_of c.ask_unset.new.asking) c.args.instantiations.now c.loop-n.n-index c.loop-n-test.true c.loop-n.invariant.stands c.in_ok-ask_unset.ensures.stands;
     }
 
 pub returns-clause-stands : goal.returns-clause-stands
 returns-clause-stands c =
     let g = c.args.self.now in
     let old = entries_of c.args.asking.now in
-    let all = subst (λ (h : Graph). all_asked_by h ≡ flat_map (asked_at h) (range_with_len 0 c.loop-n.n)) c.self.view_is (all_asked (fields_of c.self.inside) c.loop-n.n (omega (arith, c.loop-n-test.false, c.capacity-n-end.ensures.slots))) in
-    subst (λ es. AsksAlike g.types (old ++ all_with_used g.types es) (entries_of c.loop-n.asking)) (sym all) c.loop-n.invariant.stands
+    let all : flat_map (asked_at g) (take c.loop-n.n-index c.args.instantiations.now) ≡ all_asked_by g =
+    ap (flat_map (asked_at g)) (take_all c.loop-n.n-index c.args.instantiations.now (omega (arith, c.loop-n-test.false)) ∙ c.requires.instantiations) ∙ open_asked g in
+    subst (λ es. AsksAlike g.types (old ++ all_with_used g.types es) (entries_of c.loop-n.asking)) all c.loop-n.invariant.stands

@@ -1,4 +1,4 @@
-use Rattle.std.proofs.Common.{◌≡◌, List, IfSome, refl, sym, subst}
+use Rattle.std.proofs.Common.{◌≡◌, ◌∙◌, List, IfSome, ap, refl, sym, subst}
 use Rattle.wac_binary.specs.Bytes.{bytes_of}
 use Rattle.wac_binary.specs.Items.{Item}
 use Rattle.wac_causes.specs.Cause.{AnswersFor, Stands, cause_of}
@@ -8,19 +8,23 @@ use Rattle.wac_entries.specs.Classes.{by_names}
 use Rattle.wac_nodes.specs.OuterImports.{outer_entries}
 use Rattle.wac_terms.specs.Faults.{HasNoCircle}
 use Rattle.wac_edges.specs.Order.{Writes, IsAcyclic}
+use Rattle.wac_edges.specs.declared.node.NodeId.{NodeId}
 use Rattle.wac_meaning.specs.Means.{Means, is_written}
+use Rattle.wac_nodes.specs.Graph.{Graph}
+use Rattle.wac_reading.specs.Seen.{open_numbers}
 use Rattle.wac_places.specs.Places.{ArePlaced}
 use Rattle.wac_writing.proofs.CauseLemmas.{names_cause, refused_for, begun_cause, begun_refused, none_stands, nameless_answers, exit_cause, exit_refused}
 use Rattle.wac_places.proofs.OuterNameLemmas.{items_valid, names_valid, fault_stands, fault_answers}
+use Rattle.wac_graph.proofs.WantedAskedLemmas.{IsDefinition}
 use Rattle.wac_graph.proofs.graph.CompositionGraph.encode.Goals as goal
 
-pub returns-in_err-order-clause-cause : goal.returns-in_err-order-clause-cause
-returns-in_err-order-clause-cause c = exit_cause (λ e. IfSome (cause_of e) (Stands c.args.self.now c.args.options)) c.from_residual.result (c.in_err-order.field-0).0 c.from_residual.ensures.1
-    (names_cause c.args.self.now c.args.options (c.in_err-order.field-0).0 (subst (λ g. IsRefused g c.args.options (c.in_err-order.field-0).0) c.reader-reader.ensures (c.in_err-order.ensures.refused c.args.options)))
+pub returns-in_err-ordered-clause-cause : goal.returns-in_err-ordered-clause-cause
+returns-in_err-ordered-clause-cause c = exit_cause (λ e. IfSome (cause_of e) (Stands c.args.self.now c.args.options)) c.from_residual.result (c.in_err-ordered.field-0).0 c.from_residual.ensures.1
+    (names_cause c.args.self.now c.args.options (c.in_err-ordered.field-0).0 (subst (λ g. IsRefused g c.args.options (c.in_err-ordered.field-0).0) c.reader-reader.ensures (c.in_err-ordered.ensures.refused c.args.options)))
 
-pub returns-in_err-order-clause-refused : goal.returns-in_err-order-clause-refused
-returns-in_err-order-clause-refused c = λ cause stands. exit_refused (AnswersFor cause) c.from_residual.result (c.in_err-order.field-0).0 c.from_residual.ensures.1
-    (refused_for c.args.self.now c.law.ensures c.fault_law.ensures c.args.options (c.in_err-order.field-0).0 (subst (λ g. IsRefused g c.args.options (c.in_err-order.field-0).0) c.reader-reader.ensures (c.in_err-order.ensures.refused c.args.options)) cause stands)
+pub returns-in_err-ordered-clause-refused : goal.returns-in_err-ordered-clause-refused
+returns-in_err-ordered-clause-refused c = λ cause stands. exit_refused (AnswersFor cause) c.from_residual.result (c.in_err-ordered.field-0).0 c.from_residual.ensures.1
+    (refused_for c.args.self.now c.law.ensures c.fault_law.ensures c.args.options (c.in_err-ordered.field-0).0 (subst (λ g. IsRefused g c.args.options (c.in_err-ordered.field-0).0) c.reader-reader.ensures (c.in_err-ordered.ensures.refused c.args.options)) cause stands)
 
 pub returns-in_err-check_conflicts-clause-cause : goal.returns-in_err-check_conflicts-clause-cause
 returns-in_err-check_conflicts-clause-cause c = exit_cause (λ e. IfSome (cause_of e) (Stands c.args.self.now c.args.options)) c.from_residual-in_err-check_conflicts.result (c.in_err-check_conflicts.field-0).0 c.from_residual-in_err-check_conflicts.ensures.1
@@ -52,37 +56,46 @@ returns-in_err-root-clause-cause c = exit_cause (λ e. IfSome (cause_of e) (Stan
 
 pub returns-in_err-root-clause-refused : goal.returns-in_err-root-clause-refused
 returns-in_err-root-clause-refused c = λ cause stands. exit_refused (AnswersFor cause) c.from_residual-in_err-root.result (c.in_err-root.field-0).0 c.from_residual-in_err-root.ensures.1
-    (begun_refused c.args.self.now c.law.ensures c.fault_law.ensures c.args.options (subst (λ g. IsAcyclic g.edges) c.reader-reader.ensures c.in_ok-order.ensures.acyclic) c.in_ok-check_conflicts.ensures.none c.in_ok-merge.ensures.merges c.in_ok-check_types.ensures.none (c.in_err-root.field-0).0 (c.in_err-root.ensures.refused c.args.options refl) cause stands)
+    (begun_refused c.args.self.now c.law.ensures c.fault_law.ensures c.args.options (subst (λ g. IsAcyclic g.edges) c.reader-reader.ensures c.in_ok-ordered.ensures.acyclic) c.in_ok-check_conflicts.ensures.none c.in_ok-merge.ensures.merges c.in_ok-check_types.ensures.none (c.in_err-root.field-0).0 (c.in_err-root.ensures.refused c.args.options refl) cause stands)
 
 pub returns-in_err-bytes-clause-refused : goal.returns-in_err-bytes-clause-refused
 returns-in_err-bytes-clause-refused c = λ cause stands. exit_refused (AnswersFor cause) c.from_residual-in_err-bytes.result (c.in_err-bytes.field-0).0 c.from_residual-in_err-bytes.ensures.1
-    (nameless_answers c.args.self.now c.args.options ((subst (λ g. IsAcyclic g.edges) c.reader-reader.ensures c.in_ok-order.ensures.acyclic), c.in_ok-check_conflicts.ensures.none, c.in_ok-merge.ensures.merges, c.in_ok-check_types.ensures.none, c.in_ok-root.ensures.written c.args.options refl) (c.in_err-bytes.field-0).0 c.in_err-bytes.ensures.fault cause stands)
+    (nameless_answers c.args.self.now c.args.options ((subst (λ g. IsAcyclic g.edges) c.reader-reader.ensures c.in_ok-ordered.ensures.acyclic), c.in_ok-check_conflicts.ensures.none, c.in_ok-merge.ensures.merges, c.in_ok-check_types.ensures.none, c.in_ok-root.ensures.written c.args.options refl) (c.in_err-bytes.field-0).0 c.in_err-bytes.ensures.fault cause stands)
 
 pub returns-in_err-check_names-clause-cause : goal.returns-in_err-check_names-clause-cause
 returns-in_err-check_names-clause-cause c = exit_cause (λ e. IfSome (cause_of e) (Stands c.args.self.now c.args.options)) c.from_residual-in_err-check_names.result (c.in_err-check_names.field-0).0 c.from_residual-in_err-check_names.ensures.1
-    (fault_stands c.args.self.now c.law.ensures c.args.options c.in_ok-root.ensures.defined c.class_laws.ensures (λ t es order w. (c.order_law.ensures t es order w).each) c.in_ok-root.imports.merge c.in_ok-root.ensures.placed.merged c.deref-2.result.now (subst (λ ns. Writes c.args.self.now.edges (is_written c.args.self.now) ns) (sym c.deref-2.ensures.value) (subst (λ g. Writes g.edges (is_written g) c.in_ok-order.order.items) c.reader-reader.ensures c.in_ok-order.ensures.whole)) ((subst (λ g. IsAcyclic g.edges) c.reader-reader.ensures c.in_ok-order.ensures.acyclic), c.in_ok-check_conflicts.ensures.none, c.in_ok-merge.ensures.merges, c.in_ok-check_types.ensures.none, c.in_ok-root.ensures.written c.args.options refl)
+    (fault_stands c.args.self.now c.law.ensures c.args.options c.in_ok-root.ensures.defined c.class_laws.ensures (λ t es order w. (c.order_law.ensures t es order w).each) c.in_ok-root.imports.merge c.in_ok-root.ensures.placed.merged c.deref-2.result.now (subst (λ ns. Writes c.args.self.now.edges (is_written c.args.self.now) ns) (sym c.deref-2.ensures.value) (subst (λ g. Writes g.edges (is_written g) c.in_ok-ordered.ordered.order.items) c.reader-reader.ensures c.in_ok-ordered.ensures.whole)) ((subst (λ g. IsAcyclic g.edges) c.reader-reader.ensures c.in_ok-ordered.ensures.acyclic), c.in_ok-check_conflicts.ensures.none, c.in_ok-merge.ensures.merges, c.in_ok-check_types.ensures.none, c.in_ok-root.ensures.written c.args.options refl)
     (c.in_err-check_names.field-0).0 c.in_err-check_names.ensures.fault.0 c.in_err-check_names.ensures.fault.1)
 
 pub returns-in_err-check_names-clause-refused : goal.returns-in_err-check_names-clause-refused
 returns-in_err-check_names-clause-refused c = λ cause stands. exit_refused (AnswersFor cause) c.from_residual-in_err-check_names.result (c.in_err-check_names.field-0).0 c.from_residual-in_err-check_names.ensures.1
-    (fault_answers c.args.self.now c.law.ensures c.args.options c.in_ok-root.ensures.defined c.class_laws.ensures (λ t es order w. (c.order_law.ensures t es order w).each) c.in_ok-root.imports.merge c.in_ok-root.ensures.placed.merged c.deref-2.result.now (subst (λ ns. Writes c.args.self.now.edges (is_written c.args.self.now) ns) (sym c.deref-2.ensures.value) (subst (λ g. Writes g.edges (is_written g) c.in_ok-order.order.items) c.reader-reader.ensures c.in_ok-order.ensures.whole)) ((subst (λ g. IsAcyclic g.edges) c.reader-reader.ensures c.in_ok-order.ensures.acyclic), c.in_ok-check_conflicts.ensures.none, c.in_ok-merge.ensures.merges, c.in_ok-check_types.ensures.none, c.in_ok-root.ensures.written c.args.options refl)
+    (fault_answers c.args.self.now c.law.ensures c.args.options c.in_ok-root.ensures.defined c.class_laws.ensures (λ t es order w. (c.order_law.ensures t es order w).each) c.in_ok-root.imports.merge c.in_ok-root.ensures.placed.merged c.deref-2.result.now (subst (λ ns. Writes c.args.self.now.edges (is_written c.args.self.now) ns) (sym c.deref-2.ensures.value) (subst (λ g. Writes g.edges (is_written g) c.in_ok-ordered.ordered.order.items) c.reader-reader.ensures c.in_ok-ordered.ensures.whole)) ((subst (λ g. IsAcyclic g.edges) c.reader-reader.ensures c.in_ok-ordered.ensures.acyclic), c.in_ok-check_conflicts.ensures.none, c.in_ok-merge.ensures.merges, c.in_ok-check_types.ensures.none, c.in_ok-root.ensures.written c.args.options refl)
     (c.in_err-check_names.field-0).0 c.in_err-check_names.ensures.fault.1 cause stands)
 
 pub returns-clause-refused : goal.returns-clause-refused
-returns-clause-refused c = λ cause stands. absurd (none_stands c.args.self.now c.args.options ((subst (λ g. IsAcyclic g.edges) c.reader-reader.ensures c.in_ok-order.ensures.acyclic), c.in_ok-check_conflicts.ensures.none, c.in_ok-merge.ensures.merges, c.in_ok-check_types.ensures.none, c.in_ok-root.ensures.written c.args.options refl)
-    (names_valid c.args.self.now c.law.ensures c.args.options c.in_ok-root.ensures.defined c.class_laws.ensures (λ t es order w. (c.order_law.ensures t es order w).each) c.in_ok-root.imports.merge c.in_ok-root.ensures.placed.merged c.deref-2.result.now (subst (λ ns. Writes c.args.self.now.edges (is_written c.args.self.now) ns) (sym c.deref-2.ensures.value) (subst (λ g. Writes g.edges (is_written g) c.in_ok-order.order.items) c.reader-reader.ensures c.in_ok-order.ensures.whole)) c.in_ok-check_names.ensures.none) cause stands)
+returns-clause-refused c = λ cause stands. absurd (none_stands c.args.self.now c.args.options ((subst (λ g. IsAcyclic g.edges) c.reader-reader.ensures c.in_ok-ordered.ensures.acyclic), c.in_ok-check_conflicts.ensures.none, c.in_ok-merge.ensures.merges, c.in_ok-check_types.ensures.none, c.in_ok-root.ensures.written c.args.options refl)
+    (names_valid c.args.self.now c.law.ensures c.args.options c.in_ok-root.ensures.defined c.class_laws.ensures (λ t es order w. (c.order_law.ensures t es order w).each) c.in_ok-root.imports.merge c.in_ok-root.ensures.placed.merged c.deref-2.result.now (subst (λ ns. Writes c.args.self.now.edges (is_written c.args.self.now) ns) (sym c.deref-2.ensures.value) (subst (λ g. Writes g.edges (is_written g) c.in_ok-ordered.ordered.order.items) c.reader-reader.ensures c.in_ok-ordered.ensures.whole)) c.in_ok-check_names.ensures.none) cause stands)
 
 pub check_conflicts-requires : goal.check_conflicts-requires
-check_conflicts-requires c = subst (λ g. IsAcyclic g.edges) c.reader-reader.ensures c.in_ok-order.ensures.acyclic
+check_conflicts-requires c = subst (λ g. IsAcyclic g.edges) c.reader-reader.ensures c.in_ok-ordered.ensures.acyclic
 
 pub merged-requires-clause-acyclic : goal.merged-requires-clause-acyclic
-merged-requires-clause-acyclic c = subst (λ g. IsAcyclic g.edges) c.reader-reader.ensures c.in_ok-order.ensures.acyclic
+merged-requires-clause-acyclic c = subst (λ g. IsAcyclic g.edges) c.reader-reader.ensures c.in_ok-ordered.ensures.acyclic
+
+pub merged-requires-clause-instantiations : goal.merged-requires-clause-instantiations
+merged-requires-clause-instantiations c = c.as_slice.ensures.value ∙ c.in_ok-ordered.ensures.open ∙ ap open_numbers c.reader-reader.ensures
+
+pub check_types-requires-clause-definitions : goal.check_types-requires-clause-definitions
+check_types-requires-clause-definitions c = λ none. subst (λ (g : Graph). (n : NodeId) → IsDefinition g n → ⊥) c.reader-reader.ensures (c.in_ok-ordered.ensures.defined none)
+
+pub begin-requires-clause-definitions : goal.begin-requires-clause-definitions
+begin-requires-clause-definitions c = λ none. subst (λ (g : Graph). (n : NodeId) → IsDefinition g n → ⊥) c.reader-reader.ensures (c.in_ok-ordered.ensures.defined none)
 
 pub check_types-requires-clause-acyclic : goal.check_types-requires-clause-acyclic
-check_types-requires-clause-acyclic c = subst (λ g. IsAcyclic g.edges) c.reader-reader.ensures c.in_ok-order.ensures.acyclic
+check_types-requires-clause-acyclic c = subst (λ g. IsAcyclic g.edges) c.reader-reader.ensures c.in_ok-ordered.ensures.acyclic
 
 pub begin-requires-clause-acyclic : goal.begin-requires-clause-acyclic
-begin-requires-clause-acyclic c = subst (λ g. IsAcyclic g.edges) c.reader-reader.ensures c.in_ok-order.ensures.acyclic
+begin-requires-clause-acyclic c = subst (λ g. IsAcyclic g.edges) c.reader-reader.ensures c.in_ok-ordered.ensures.acyclic
 
 pub write-requires-clause-placed : goal.write-requires-clause-placed
 write-requires-clause-placed c = subst (λ g. ArePlaced g c.in_ok-root.imports) (sym c.reader-reader.ensures) c.in_ok-root.ensures.placed
@@ -97,7 +110,7 @@ pub write-requires-clause-ordered : goal.write-requires-clause-ordered
 write-requires-clause-ordered c = subst (λ g. HasNoCircle by_names g.types (outer_entries g)) (sym c.reader-reader.ensures) c.in_ok-merge.ensures.merges.1
 
 pub write-requires-clause-whole : goal.write-requires-clause-whole
-write-requires-clause-whole c = subst (λ ns. Writes c.reader-reader.result.edges (is_written c.reader-reader.result) ns) (sym c.deref.ensures.value) c.in_ok-order.ensures.whole
+write-requires-clause-whole c = subst (λ ns. Writes c.reader-reader.result.edges (is_written c.reader-reader.result) ns) (sym c.deref.ensures.value) c.in_ok-ordered.ensures.whole
 
 pub returns-clause-means : goal.returns-clause-means
 returns-clause-means c = subst (λ g. (items : List Item) × (c.in_ok-bytes.bytes.items ≡ bytes_of items) × Means items g c.args.options) c.reader-reader.ensures c.in_ok-bytes.ensures.means
@@ -105,4 +118,4 @@ returns-clause-means c = subst (λ g. (items : List Item) × (c.in_ok-bytes.byte
 pub returns-clause-valid : goal.returns-clause-valid
 returns-clause-valid c = λ asked.
     let (items, written, means) = returns-clause-means c in
-    (items, written, items_valid c.args.self.now c.law.ensures c.args.options c.in_ok-root.ensures.defined c.class_laws.ensures (λ t es order w. (c.order_law.ensures t es order w).each) c.in_ok-root.imports.merge c.in_ok-root.ensures.placed.merged c.deref-2.result.now (subst (λ ns. Writes c.args.self.now.edges (is_written c.args.self.now) ns) (sym c.deref-2.ensures.value) (subst (λ g. Writes g.edges (is_written g) c.in_ok-order.order.items) c.reader-reader.ensures c.in_ok-order.ensures.whole)) asked c.in_ok-check_names.ensures.valid items means)
+    (items, written, items_valid c.args.self.now c.law.ensures c.args.options c.in_ok-root.ensures.defined c.class_laws.ensures (λ t es order w. (c.order_law.ensures t es order w).each) c.in_ok-root.imports.merge c.in_ok-root.ensures.placed.merged c.deref-2.result.now (subst (λ ns. Writes c.args.self.now.edges (is_written c.args.self.now) ns) (sym c.deref-2.ensures.value) (subst (λ g. Writes g.edges (is_written g) c.in_ok-ordered.ordered.order.items) c.reader-reader.ensures c.in_ok-ordered.ensures.whole)) asked c.in_ok-check_names.ensures.valid items means)

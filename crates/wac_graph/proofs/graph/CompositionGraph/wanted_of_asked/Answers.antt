@@ -7,7 +7,7 @@ use Rattle.wac_writing.proofs.NoImportLemmas.{no_import}
 use Rattle.wac_graph.proofs.WantedAskedLemmas.{wanted_is_asked}
 use Rattle.wac_graph.proofs.graph.CompositionGraph.wanted_of_asked.Goals as goal
 
-pub returns-then-not-has_definition : goal.returns-then-not-has_definition
-returns-then-not-has_definition c =
+pub returns-then-not-defined : goal.returns-then-not-defined
+returns-then-not-defined c =
     let none = no_import (fields_of c.self.inside) c.self.invariant (c.is_empty.ensures.0 c.if-is_empty.true) in
-    c.requires ∙ wanted_is_asked c.args.self.now (subst (λ g. (name : Name) (n : NodeId) → IsImportOf g name n → ⊥) c.self.view_is none) (c.has_definition.ensures c.if-not-has_definition.true)
+    c.requires.asked ∙ wanted_is_asked c.args.self.now (subst (λ g. (name : Name) (n : NodeId) → IsImportOf g name n → ⊥) c.self.view_is none) (c.requires.definitions c.if-not-defined.true)

@@ -2,7 +2,7 @@ use Rattle.std.proofs.Common.{◌-◌, ◌∙◌, arith}
 use Rattle.std.specs.BTreeSet as positions
 use Rattle.std.specs.Ordering.{nat_cmp}
 use Rattle.wac_writing.proofs.ImportRows.{skipped_to, found, none_left, entry_by}
-use Rattle.wac_graph.proofs.imports.first_unset.Goals as goal
+use Rattle.wac_reading.proofs.lookups.first_unset.Goals as goal
 
 pub returns-in_err-i : goal.returns-in_err-i
 returns-in_err-i c =
