@@ -2,7 +2,7 @@
 use Rattle.std.proofs.Common.{◌≡◌, ◌↔◌, ℕ, zero, suc, ◌<◌, nat_lt, IsTrue, true, false, refl, ap, sym, ◌∙◌, arith}
 use Rattle.std.proofs.lemmas.Bool.Decides.{nat_tests}
 use Rattle.wac_primitives.specs.Name.{Name}
-use Rattle.wac_collection.specs.Package.{Key}
+use Rattle.wac_keys.specs.Key.{Key}
 use Rattle.wac_entries.specs.Classes.{by_names}
 use Rattle.wac_terms.specs.Faults.{HasNoCircle}
 use Rattle.wac_terms.specs.NoDisagreement.{HasNoDisagreement}

@@ -1,7 +1,7 @@
 -- Why `encode` is refused.
 use Rattle.std.specs.Prelude.{ℕ, ◌≡◌, ◌<◌, ◌≤◌, ◌⊎◌, [], Option, Some, None, IsSomeAnd, IsTrue, slice_get, string_bytes}
 use Rattle.wac_primitives.specs.Name.{Name}
-use Rattle.wac_collection.specs.Package.{Key}
+use Rattle.wac_keys.specs.Key.{Key}
 use Rattle.wac_shapes.specs.declared.component.ItemKind.{ItemKind}
 use Rattle.wac_entries.specs.Agreement.{IsDisagreement}
 use Rattle.wac_entries.specs.Classes.{by_names}

@@ -8,5 +8,4 @@ pub mod Ends
 pub mod Interfaces
 pub mod Items
 pub mod Package
-pub mod KeyLaws
 pub mod HeldTrees

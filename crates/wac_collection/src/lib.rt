@@ -12,7 +12,8 @@ mod uses;
 
 pub use collection::{AddTypeError, Types};
 pub use interfaces::Interfaces;
-pub use package::{Package, PackageKey};
+pub use package::Package;
+pub use wac_keys::PackageKey;
 pub use wac_shapes::{
     CoreExtern, CoreFuncType, CoreImportEntries, CoreImports, CoreRefType, CoreType, DefinedType,
     DefinedTypeId, Entries, Enum, Flags, FuncType, FuncTypeId, Interface, InterfaceId, ItemKind,

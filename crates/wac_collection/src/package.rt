@@ -1,28 +1,22 @@
 //! Packages: a component's bytes, with the world that they are said to be of.
-ghost use Rattle.std.specs.Prelude.{◌≡◌, ◌↔◌, Some, true, length, IfOk, OnErr, IsTrue, string_bytes};
-ghost use Rattle.std.proofs.Common.{refl};
-ghost use Rattle.std.specs.Cmp.{partial_equiv_from_equiv};
+ghost use Rattle.std.specs.Prelude.{◌≡◌, ◌↔◌, true, length, IfOk, OnErr, IsTrue};
 ghost use Rattle.std.specs.Option.{option_map};
 ghost use Rattle.semver.specs.Identifiers.{parts_of};
 ghost use Rattle.wac_collection.specs.Collection.{holds_type, world_exports};
 ghost use Rattle.wac_collection.specs.Uses.{AnswersBy, same_item};
-ghost use Rattle.wac_collection.specs.Package.{instance_with, with_instance_of, package_fault, same_key, key_cmp, key_writes, key_text, HoldsPackage};
-ghost use Rattle.wac_collection.specs.KeyLaws.{same_key_equiv, key_total, key_ties, key_po, same_key_writes};
+ghost use Rattle.wac_collection.specs.Package.{instance_with, with_instance_of, package_fault, HoldsPackage};
 ghost use Rattle.wac_shapes.specs.declared.component.«Type».TheVariants.{World as world_type};
 
 use crate::collection::{AddTypeError, Types};
 use semver::Version;
 use std::alloc::AllocError;
-use std::cmp::Ordering;
-use std::fmt;
-use std::hash::{Hash, Hasher};
 use std::marker::Model;
+use wac_keys::PackageKey;
 use wac_shapes::{Interface, InterfaceId, ItemKind, Named, Type, WorldId};
 
 /// A package: a component's bytes under a name, with the world that they are said to be of.
 pub struct Package {
-    name: String,
-    version: Option<Version>,
+    key: PackageKey,
     bytes: Vec<u8>,
     world: WorldId,
     instance_type: InterfaceId,
@@ -31,8 +25,7 @@ pub struct Package {
 impl Drop for Package {
     fn drop(self) {
         let Package {
-            name: _,
-            version: _,
+            key: _,
             bytes: _,
             world: _,
             instance_type: _,
@@ -41,16 +34,13 @@ impl Drop for Package {
 }
 
 impl Model for Package {
-    ghost use Rattle.std.specs.Prelude.{string_bytes};
-    ghost use Rattle.std.specs.Option.{option_map};
-    ghost use Rattle.semver.specs.Identifiers.{parts_of};
     ghost use Rattle.wac_collection.specs.Package.{PackageParts};
 
     ghost Value = { PackageParts };
 
     ghost view = { λ p. record {
-      name = string_bytes p.name;
-      version = option_map parts_of p.version;
+      name = p.key.0;
+      version = p.key.1;
       bytes = p.bytes.items;
       world = p.world;
       instance_type = p.instance_type;
@@ -83,16 +73,12 @@ impl Package {
     {
         types.law();
         let interface = instance_of(types, world)?;
-        let Ok(name) = String::from_str(types.allocator(), name) else {
-            return Err(AddTypeError::OutOfMemory);
-        };
-        let Ok(version) = cloned(version) else {
+        let Ok(key) = PackageKey::new(types.allocator(), name, version) else {
             return Err(AddTypeError::OutOfMemory);
         };
         match types.add_interface(interface) {
             Ok(instance_type) => Ok(Package {
-                name,
-                version,
+                key,
                 bytes,
                 world,
                 instance_type,
@@ -105,14 +91,14 @@ impl Package {
     pub fn name(&self) -> &str
         ensures { result.now ≡ self.now.name }
     {
-        self.name.as_str()
+        self.key.name()
     }
 
     /// The package's version.
     pub fn version(&self) -> Option<&Version>
         ensures { option_map (λ v. parts_of v.now) result ≡ self.now.version }
     {
-        self.version.as_ref()
+        self.key.version()
     }
 
     /// The component's bytes.
@@ -140,9 +126,7 @@ impl Package {
     pub fn key(&self) -> Result<PackageKey, AllocError>
         ensures { IfOk result (λ k. k ≡ (self.now.name, self.now.version)) }
     {
-        let name = self.name.clone()?;
-        let version = cloned(self.version.as_ref())?;
-        Ok(PackageKey { name, version })
+        self.key.clone()
     }
 }
 
@@ -151,12 +135,10 @@ impl Clone for Package {
     ghost is_clone = { λ a b. b ≡ a };
 
     fn clone(&self) -> Result<Package, AllocError> {
-        let name = self.name.clone()?;
-        let version = cloned(self.version.as_ref())?;
+        let key = self.key.clone()?;
         let bytes = self.bytes.clone()?;
         Ok(Package {
-            name,
-            version,
+            key,
             bytes,
             world: self.world,
             instance_type: self.instance_type,
@@ -184,135 +166,6 @@ fn instance_of(types: &Types, world: WorldId) -> Result<Interface, AddTypeError>
             exports,
         }),
         Err(_) => Err(AddTypeError::OutOfMemory),
-    }
-}
-
-// The version, in memory of its own.
-fn cloned(version: Option<&Version>) -> Result<Option<Version>, AllocError>
-    ensures { IfOk result (λ v. option_map parts_of v ≡ option_map (λ x. parts_of x.now) version.entry) }
-{
-    match version {
-        Some(version) => Ok(Some(version.clone()?)),
-        None => Ok(None),
-    }
-}
-
-/// A package's name and version.
-#[derive(Debug)]
-pub struct PackageKey {
-    name: String,
-    version: Option<Version>,
-}
-
-impl Drop for PackageKey {
-    fn drop(self) {
-        let PackageKey {
-            name: _,
-            version: _,
-        } = self;
-    }
-}
-
-impl Model for PackageKey {
-    ghost use Rattle.std.specs.Prelude.{string_bytes};
-    ghost use Rattle.std.specs.Option.{option_map};
-    ghost use Rattle.semver.specs.Identifiers.{parts_of};
-    ghost use Rattle.wac_collection.specs.Package.{Key};
-
-    ghost Value = { Key };
-
-    ghost view = { λ k. (string_bytes k.name, option_map parts_of k.version) };
-}
-
-impl PackageKey {
-    /// The name.
-    pub fn name(&self) -> &str
-        ensures { result.now ≡ self.now.0 }
-    {
-        self.name.as_str()
-    }
-
-    /// The version.
-    pub fn version(&self) -> Option<&Version>
-        ensures { option_map (λ v. parts_of v.now) result ≡ self.now.1 }
-    {
-        self.version.as_ref()
-    }
-}
-
-/// The clone is the same key, in memory of its own. Answers `AllocError` where memory ran out.
-impl Clone for PackageKey {
-    ghost is_clone = { λ a b. b ≡ a };
-
-    fn clone(&self) -> Result<PackageKey, AllocError> {
-        let name = self.name.clone()?;
-        let version = cloned(self.version.as_ref())?;
-        Ok(PackageKey { name, version })
-    }
-}
-
-/// Shows `name`, or `name@version`.
-impl fmt::Display for PackageKey {
-    ghost output = { λ k. Some (key_text k) };
-
-    fn fmt<W: fmt::Write>(&self, f: &mut fmt::Formatter<W>) -> fmt::Result {
-        let name = self.name.as_str();
-        match &self.version {
-            None => write!(f, "{name}"),
-            Some(version) => write!(f, "{name}@{version}"),
-        }
-    }
-}
-
-impl PartialEq for PackageKey {
-    ghost eq = { same_key };
-
-    ghost laws = { partial_equiv_from_equiv same_key_equiv };
-
-    fn eq(&self, other: &PackageKey) -> bool {
-        self.name.as_str() == other.name.as_str() && self.version == other.version
-    }
-}
-
-impl Eq for PackageKey {
-    ghost laws = { same_key_equiv };
-}
-
-impl PartialOrd for PackageKey {
-    ghost partial_cmp = { λ a b. Some (key_cmp a b) };
-
-    ghost laws = { key_po };
-
-    fn partial_cmp(&self, other: &PackageKey) -> Option<Ordering> {
-        Some(self.cmp(other))
-    }
-}
-
-impl Ord for PackageKey {
-    ghost cmp = { key_cmp };
-
-    ghost total = { key_total };
-
-    ghost matches_partial_cmp = { λ a b. refl };
-
-    ghost matches_eq = { key_ties };
-
-    fn cmp(&self, other: &PackageKey) -> Ordering {
-        self.name
-            .as_str()
-            .cmp(other.name.as_str())
-            .then(self.version.cmp(&other.version))
-    }
-}
-
-impl Hash for PackageKey {
-    ghost hash_input = { key_writes };
-
-    ghost respects_eq = { λ a b e. same_key_writes a b e };
-
-    fn hash<H: Hasher>(&self, state: &mut H) {
-        self.name.as_str().hash(state);
-        self.version.hash(state);
     }
 }
 

@@ -8,7 +8,7 @@ use Rattle.std.specs.FinSet as set
 use Rattle.std.proofs.lemmas.List.Elements.{same_from_all_zip}
 use Rattle.slab.specs.Slab.{get, entries_from, IsSlotClone}
 use Rattle.wac_primitives.specs.Name.{find_name}
-use Rattle.wac_collection.specs.Package.{Key}
+use Rattle.wac_keys.specs.Key.{Key}
 use Rattle.wac_edges.specs.Edge.{argument_edge}
 use Rattle.wac_edges.specs.declared.node.NodeId.{NodeId}
 use Rattle.wac_nodes.specs.declared.node.Node.{Node}

@@ -12,7 +12,8 @@ use Rattle.slab.specs.Slab.{Slab, get, Updates}
 use Rattle.wac_primitives.specs.Name.{Name, find_name}
 use Rattle.wac_collection.specs.Collection.{Collection, holds_type, IsWellFormed}
 use Rattle.wac_shapes.specs.Kinds.{kind_type}
-use Rattle.wac_collection.specs.Package.{PackageParts, Key, same_key, HoldsPackage}
+use Rattle.wac_collection.specs.Package.{PackageParts, HoldsPackage}
+use Rattle.wac_keys.specs.Key.{Key, same_key}
 use Rattle.wac_shapes.specs.declared.component.ItemKind.{ItemKind}
 use Rattle.wac_shapes.specs.declared.component.«Type».{«Type» as AnyType}
 use Rattle.wac_edges.specs.declared.edges.Edge.{Edge}

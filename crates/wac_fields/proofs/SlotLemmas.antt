@@ -9,8 +9,9 @@ use Rattle.std.specs.List.{AllByRecursion, IsDistinct, list_any}
 use Rattle.std.proofs.lemmas.Bool.Decides.{nat_tests}
 use Rattle.std.proofs.lemmas.Map.Steps.{length-le_from_distinct_below}
 use Rattle.indexmap.specs.IndexMap.{insert_entry}
-use Rattle.wac_collection.specs.KeyLaws.{same_key-true, same_key_equiv}
-use Rattle.wac_collection.specs.Package.{PackageParts, Key, same_key, HoldsPackage}
+use Rattle.wac_keys.specs.KeyLaws.{same_key-true, same_key_equiv}
+use Rattle.wac_collection.specs.Package.{PackageParts, HoldsPackage}
+use Rattle.wac_keys.specs.Key.{Key, same_key}
 use Rattle.wac_edges.proofs.WrittenOrder.{eqb_same}
 use Rattle.wac_nodes.specs.declared.packages.PackageId.{PackageId}
 use Rattle.wac_nodes.specs.declared.packages.Slot.{Slot}

@@ -6,8 +6,9 @@ use Rattle.std.specs.HashMap.{HashMap}
 use Rattle.std.specs.declared.hash.FoldHasher.{FoldHasher}
 use Rattle.std.specs.declared.hash.BuildHasherDefault.{BuildHasherDefault}
 use Rattle.slab.specs.Slab.{Slab, get, Updates}
-use Rattle.wac_collection.specs.Package.{PackageParts, Key, same_key}
-use Rattle.wac_collection.specs.KeyLaws.{same_key-true}
+use Rattle.wac_collection.specs.Package.{PackageParts}
+use Rattle.wac_keys.specs.Key.{Key, same_key}
+use Rattle.wac_keys.specs.KeyLaws.{same_key-true}
 use Rattle.wac_shapes.specs.declared.component.ItemKind.TheVariants.{Instance}
 use Rattle.wac_shapes.specs.declared.component.InterfaceId.{InterfaceId}
 use Rattle.wac_nodes.specs.declared.node.Node.{Node}

@@ -8,7 +8,7 @@ use Rattle.std.specs.declared.hash.FoldHasher.{FoldHasher}
 use Rattle.std.specs.declared.hash.BuildHasherDefault.{BuildHasherDefault}
 use Rattle.slab.specs.Slab.{Slab, get}
 use Rattle.wac_primitives.specs.Name.{Name}
-use Rattle.wac_collection.specs.Package.{Key}
+use Rattle.wac_keys.specs.Key.{Key}
 use Rattle.wac_edges.specs.declared.node.NodeId.{NodeId}
 use Rattle.wac_edges.specs.Edge.{node_number}
 use Rattle.wac_edges.specs.Order.{Edges}

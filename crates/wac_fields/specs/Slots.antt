@@ -2,7 +2,8 @@
 use Rattle.std.specs.Prelude.{◌≡◌, ℕ, true, List, [], ◌∷◌, length, Some, None, IsSomeAnd, slice_get, Vec, reverse}
 use Rattle.std.specs.Global.{Global}
 use Rattle.std.specs.Map.{lookup}
-use Rattle.wac_collection.specs.Package.{PackageParts, Key, same_key}
+use Rattle.wac_collection.specs.Package.{PackageParts}
+use Rattle.wac_keys.specs.Key.{Key, same_key}
 use Rattle.wac_nodes.specs.declared.packages.PackageId.{PackageId}
 use Rattle.wac_nodes.specs.declared.packages.Slot.{Slot}
 use Rattle.wac_nodes.specs.Graph.{package_in}

@@ -1,7 +1,7 @@
 //! Slots of packages: which is used next, how a package is put into it, and how it is freed.
 ghost use Rattle.std.specs.Prelude.{◌≡◌, ◌<◌, ◌≤◌, if◌then◌else◌, [], None, OnOk, IfOk, IfSome, IsSome, length, slice_get, vec_len, vec_capacity};
 ghost use Rattle.std.specs.Map.{lookup};
-ghost use Rattle.wac_collection.specs.Package.{Key, same_key};
+ghost use Rattle.wac_keys.specs.Key.{Key, same_key};
 ghost use Rattle.wac_nodes.specs.Graph.{Graph, package_in};
 ghost use Rattle.wac_nodes.specs.Steps.{TakesSlot};
 ghost use Rattle.wac_fields.specs.Slots.{vacant_of, key_of, AreKeyed, AreVacant, IsNext};

@@ -3,7 +3,7 @@ ghost use Rattle.std.specs.Prelude.{◌≡◌, ◌<◌, ℕ, OnOk, IfOk, IfErr, 
 ghost use Rattle.std.specs.BTreeSet as positions;
 ghost use Rattle.std.specs.Ordering.{nat_cmp};
 ghost use Rattle.wac_primitives.specs.Name.{Name as AName};
-ghost use Rattle.wac_collection.specs.Package.{Key};
+ghost use Rattle.wac_keys.specs.Key.{Key};
 ghost use Rattle.wac_causes.specs.Cause.{IsConflict, IsFirstConflict, HasNoConflict, cause_of, conflict as conflict_cause};
 ghost use Rattle.wac_causes.specs.Search.{Clashes, IsFirstOf, IsLowest, IsRefused};
 ghost use Rattle.wac_edges.specs.Edge.{node_number};

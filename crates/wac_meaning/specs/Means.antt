@@ -5,7 +5,7 @@ use Rattle.semver.specs.Identifiers.{parts_text}
 use Rattle.wac_primitives.specs.Name.{Name, same_name, option_case}
 use Rattle.wac_primitives.specs.Tree.{Tree, component_item}
 use Rattle.wac_collection.specs.Bound.{held_tree}
-use Rattle.wac_collection.specs.Package.{Key}
+use Rattle.wac_keys.specs.Key.{Key}
 use Rattle.wac_shapes.specs.declared.component.«Type».{«Type» as AnyType}
 use Rattle.wac_shapes.specs.declared.component.«Type».TheVariants.{World}
 use Rattle.wac_shapes.specs.declared.component.ItemKind.{ItemKind}

@@ -5,7 +5,8 @@ use Rattle.std.proofs.lemmas.List.{append-nil, length-append}
 use Rattle.std.proofs.lemmas.Bool.Decides.{nat_tests}
 use Rattle.wac_primitives.specs.Name.{Name, option_case}
 use Rattle.wac_collection.specs.Collection.{Collection, holds_type, item_of, with_resource, with_func, with_defined, with_interface, with_world, with_module}
-use Rattle.wac_collection.specs.Package.{with_instance_of, PackageParts, VersionParts, HoldsPackage}
+use Rattle.wac_collection.specs.Package.{with_instance_of, PackageParts, HoldsPackage}
+use Rattle.wac_keys.specs.Key.{VersionParts}
 use Rattle.wac_edges.proofs.WrittenOrder.{slice_get-middle}
 use Rattle.wac_collection.specs.declared.collection.Held.{Held}
 use Rattle.wac_shapes.specs.declared.component.Resource.{Resource}

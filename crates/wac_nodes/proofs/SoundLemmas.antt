@@ -8,7 +8,8 @@ use Rattle.std.proofs.lemmas.Bool.{eqb-true}
 use Rattle.wac_primitives.specs.Name.{Name, same_name, find_name}
 use Rattle.wac_collection.specs.Collection.{Collection, holds_type, IsWellFormed}
 use Rattle.wac_shapes.specs.Kinds.{kind_type}
-use Rattle.wac_collection.specs.Package.{PackageParts, Key, HoldsPackage}
+use Rattle.wac_collection.specs.Package.{PackageParts, HoldsPackage}
+use Rattle.wac_keys.specs.Key.{Key}
 use Rattle.wac_collection.proofs.Growth.{get_grown, get_where}
 use Rattle.wac_shapes.specs.declared.component.ItemKind.{ItemKind}
 use Rattle.wac_shapes.specs.declared.component.«Type».TheVariants as ty

@@ -6,7 +6,8 @@ use Rattle.std.specs.FinMap as map
 use Rattle.std.specs.FinSet as set
 use Rattle.wac_primitives.specs.Name.{Name, find_name}
 use Rattle.wac_collection.specs.Collection.{Collection, interface_exports, world_imports}
-use Rattle.wac_collection.specs.Package.{PackageParts, Key}
+use Rattle.wac_collection.specs.Package.{PackageParts}
+use Rattle.wac_keys.specs.Key.{Key}
 use Rattle.wac_shapes.specs.declared.component.InterfaceId.{InterfaceId}
 use Rattle.wac_shapes.specs.declared.component.ItemKind.{ItemKind}
 use Rattle.wac_shapes.specs.declared.component.ItemKind.TheVariants.{Instance}

@@ -2,7 +2,8 @@
 use Rattle.std.specs.Prelude.{ℕ, ◌≡◌, true, Some, None, IsSome, IsSomeAnd, slice_get}
 use Rattle.std.specs.FinSet as set
 use Rattle.wac_primitives.specs.Name.{Name}
-use Rattle.wac_collection.specs.Package.{PackageParts, Key, HoldsPackage}
+use Rattle.wac_collection.specs.Package.{PackageParts, HoldsPackage}
+use Rattle.wac_keys.specs.Key.{Key}
 use Rattle.wac_collection.specs.Collection.{holds_type}
 use Rattle.wac_subtyping.specs.Subtype.{IsSubtype}
 use Rattle.wac_shapes.specs.Kinds.{kind_type}

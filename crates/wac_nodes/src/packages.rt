@@ -4,8 +4,8 @@ ghost use Rattle.std.specs.Prelude.{◌≡◌};
 ghost use Rattle.std.specs.Cmp.{on_equiv, on_per, partial_equiv_from_equiv};
 ghost use Rattle.std.specs.Option.{option_map};
 ghost use Rattle.semver.specs.Identifiers.{parts_of};
-ghost use Rattle.wac_collection.specs.KeyLaws.{same_key_equiv, same_key_writes};
-ghost use Rattle.wac_collection.specs.Package.{same_key, key_writes};
+ghost use Rattle.wac_keys.specs.KeyLaws.{same_key_equiv, same_key_writes};
+ghost use Rattle.wac_keys.specs.Key.{same_key, key_writes};
 ghost use Rattle.wac_nodes.specs.PackageKeys.{borrowed_key};
 
 use indexmap::Equivalent;

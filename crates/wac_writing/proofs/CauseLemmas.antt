@@ -3,7 +3,8 @@ use Rattle.std.proofs.Common.{lit<, ◌<◌, IsTrue, Ok, Err, Result, IfErr, ◌
 use Rattle.std.specs.Prelude.{slice_get}
 use Rattle.std.specs.Result.{IsErrAnd}
 use Rattle.wac_primitives.specs.Name.{Name, option_case}
-use Rattle.wac_collection.specs.Package.{Key, PackageParts}
+use Rattle.wac_collection.specs.Package.{PackageParts}
+use Rattle.wac_keys.specs.Key.{Key}
 use Rattle.wac_shapes.specs.declared.component.ItemKind.{ItemKind}
 use Rattle.wac_nodes.specs.declared.options.EncodeOptions.{EncodeOptions}
 use Rattle.wac_binary.specs.declared.fault.BinaryFault.{BinaryFault}

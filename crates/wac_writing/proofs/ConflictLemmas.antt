@@ -9,7 +9,8 @@ use Rattle.std.specs.BTreeSet.{BTreeSet}
 use Rattle.std.specs.Ordering.{nat_cmp}
 use Rattle.slab.specs.Slab.{get}
 use Rattle.wac_primitives.specs.Name.{Name, find_name}
-use Rattle.wac_collection.specs.Package.{Key, PackageParts}
+use Rattle.wac_collection.specs.Package.{PackageParts}
+use Rattle.wac_keys.specs.Key.{Key}
 use Rattle.wac_shapes.specs.declared.component.ItemKind.{ItemKind}
 use Rattle.wac_causes.specs.declared.errors.EncodeError.{EncodeError}
 use Rattle.wac_nodes.specs.declared.options.EncodeOptions.{EncodeOptions}

@@ -1,6 +1,6 @@
 use Rattle.std.proofs.Common.{◌≡◌, None, cond}
 use Rattle.std.specs.Map.{lookup}
-use Rattle.wac_collection.specs.Package.{Key, same_key}
+use Rattle.wac_keys.specs.Key.{Key, same_key}
 use Rattle.wac_fields.specs.Slots.{vacant_of, key_of}
 use Rattle.wac_fields.proofs.SlotLemmas.{keyed_freed, if_held}
 use Rattle.wac_fields.proofs.slots.take_package.Goals as goal

@@ -9,7 +9,7 @@ use Rattle.std.specs.FinMap.{IsAntisymmetric, nat_cmp-IsAntisymmetric, slice_cmp
 use Rattle.std.specs.declared.cmp.Ordering.{Ordering}
 use Rattle.std.specs.declared.cmp.Ordering.TheVariants.{Less, Equal, Greater}
 use Rattle.semver.specs.OrderLaws.{pre_total, build_total, pre-anti, build-anti, same_text}
-use Rattle.wac_collection.specs.Package.{VersionParts, Key, same_version, same_key, version_cmp, key_cmp, key_writes}
+use Rattle.wac_keys.specs.Key.{VersionParts, Key, same_version, same_key, version_cmp, key_cmp, key_writes}
 
 pub same_version_equiv : IsEquivalence same_version
 same_version_equiv =
