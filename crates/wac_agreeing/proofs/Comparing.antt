@@ -12,13 +12,13 @@ use Rattle.wac_primitives.specs.Tree.{TypeTree, absent, instance, type_equal, fu
 use Rattle.wac_subtyping.specs.Called.{Called}
 use Rattle.wac_shapes.proofs.Names.{same_name-true, same_name-refl}
 use Rattle.wac_entries.specs.Agreement.{Agree}
-use Rattle.wac_entries.specs.Nodes.{Node, of_resource, of_primitive, of_own, of_borrow, of_record, of_variant, of_list, of_fixed_list, of_tuple, of_flags, of_enum, of_option, of_result, of_stream, of_future, of_function, of_instance, of_component, of_module, Item, a_type, a_func, an_instance, a_component, a_module, a_value, type_of, types_of, item_tree, listed_tree, Sorted, node_tree, tree_to, tree_at, IsTable}
+use Rattle.wac_tables.specs.Nodes.{Node, of_resource, of_primitive, of_own, of_borrow, of_record, of_variant, of_list, of_fixed_list, of_tuple, of_flags, of_enum, of_option, of_result, of_stream, of_future, of_function, of_instance, of_component, of_module, Item, a_type, a_func, an_instance, a_component, a_module, a_value, type_of, types_of, item_tree, listed_tree, Sorted, node_tree, tree_to, tree_at, IsTable}
 use Rattle.wac_agreeing.specs.Fitting.{exports_in, exports_of, IsOpen, Fits}
 use Rattle.wac_agreeing.specs.Apart.{ItemsAgree}
-use Rattle.wac_entries.proofs.SortedMaps.{items_are, found_are}
+use Rattle.wac_tables.proofs.SortedMaps.{items_are, found_are}
 use Rattle.wac_terms.proofs.Alike.{agree_at, agree_itself}
 use Rattle.wac_terms.proofs.Found.{no_some, some_same}
-use Rattle.wac_entries.proofs.NodeLaws.{same_tree, deep, one_tree}
+use Rattle.wac_tables.proofs.NodeLaws.{same_tree, deep, one_tree}
 
 agree_equal : (t u : TypeTree Called) → t ≡ u → Agree t u
 agree_equal t u e = subst (λ x. Agree t x) e (agree_itself t)

@@ -5,7 +5,7 @@ use Rattle.std.specs.List.{AllByRecursion}
 use Rattle.std.specs.Option.{MatchOption}
 use Rattle.std.proofs.lemmas.Option.{slice_get_within}
 use Rattle.wac_primitives.specs.Name.{Name, find_name, option_case}
-use Rattle.wac_entries.specs.Nodes.{Item, Node, type_of, IsTable}
+use Rattle.wac_tables.specs.Nodes.{Item, Node, type_of, IsTable}
 use Rattle.wac_entries.proofs.Lists.{some-at}
 use Rattle.wac_terms.proofs.Found.{no_some, some_same, one_some, find_at, less_cases}
 use Rattle.wac_agreeing.specs.Fitting.{exports_of, IsOpen}

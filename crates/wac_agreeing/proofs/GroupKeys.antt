@@ -6,14 +6,14 @@ use Rattle.std.specs.Cmp.Lexicographic.{pointwise}
 use Rattle.std.proofs.lemmas.Bool.{eqb-true}
 use Rattle.std.proofs.lemmas.List.{map-append}
 use Rattle.indexmap.specs.IndexSet.{insert_key}
-use Rattle.wac_entries.specs.Nodes as table
-use Rattle.wac_entries.specs.Nodes.{Item, Node}
-use Rattle.wac_entries.specs.NodeViews.{item_view}
-use Rattle.wac_entries.specs.contracts.nodes.ItemPartialEq.TheImpl as ItemEq
-use Rattle.wac_entries.specs.declared.nodes.Item.{Item as AnItem}
-use Rattle.wac_entries.specs.declared.nodes.Item.TheVariants as item
+use Rattle.wac_tables.specs.Nodes as table
+use Rattle.wac_tables.specs.Nodes.{Item, Node}
+use Rattle.wac_tables.specs.NodeViews.{item_view}
+use Rattle.wac_tables.specs.contracts.nodes.ItemPartialEq.TheImpl as ItemEq
+use Rattle.wac_tables.specs.declared.nodes.Item.{Item as AnItem}
+use Rattle.wac_tables.specs.declared.nodes.Item.TheVariants as item
 use Rattle.wac_entries.proofs.Lists.{any-found, at-end}
-use Rattle.wac_entries.proofs.Telling.{both}
+use Rattle.wac_subtyping.proofs.Telling.{both}
 use Rattle.wac_terms.proofs.Found.{get_map, no_some, some_same}
 use Rattle.wac_agreeing.specs.Fitting.{Fits}
 use Rattle.wac_agreeing.specs.Rows.{groups_view, Row, row_view}

@@ -2,7 +2,7 @@
 use Rattle.std.proofs.Common.{◌≡◌, ℕ, ◌<◌, ◌≤◌, List, [], ◌∷◌, ◌++◌, ◌⊎◌, inl, inr, length, Option, Some, refl, ap, sym, ◌∙◌, subst, arith}
 use Rattle.std.specs.Prelude.{slice_get}
 use Rattle.std.specs.List.{AllByRecursion}
-use Rattle.wac_entries.specs.Nodes.{Item, Node}
+use Rattle.wac_tables.specs.Nodes.{Item, Node}
 use Rattle.wac_entries.proofs.Lists.{at-push, at-end, push-cases}
 use Rattle.wac_terms.proofs.Found.{some_same}
 use Rattle.wac_agreeing.specs.Fitting.{Fits, IsOpen}

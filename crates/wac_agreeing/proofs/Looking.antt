@@ -2,7 +2,7 @@
 use Rattle.std.proofs.Common.{◌≡◌, ℕ, zero, suc, ◌<◌, ◌≤◌, List, [], ◌∷◌, ◌⊎◌, inl, inr, length, take, Some, refl, ap, sym, ◌∙◌, subst, arith}
 use Rattle.std.specs.Prelude.{slice_get}
 use Rattle.std.specs.List.{AllByRecursion}
-use Rattle.wac_entries.specs.Nodes.{Item, Node, type_of, IsTable}
+use Rattle.wac_tables.specs.Nodes.{Item, Node, type_of, IsTable}
 use Rattle.wac_entries.proofs.Lists.{push-cases, at-push}
 use Rattle.wac_terms.proofs.Found.{no_some, some_same, one_some}
 use Rattle.wac_agreeing.specs.Apart.{AreApart, ItemsAgree}

@@ -3,7 +3,7 @@ use Rattle.std.proofs.Common.{◌≡◌, ℕ, zero, suc, ◌+◌, ◌<◌, ◌�
 use Rattle.std.specs.Prelude.{slice_get}
 use Rattle.std.specs.List.{AllByRecursion}
 use Rattle.wac_primitives.specs.Name.{Name, option_case}
-use Rattle.wac_entries.specs.Nodes.{Node, Item, type_of, IsTable}
+use Rattle.wac_tables.specs.Nodes.{Node, Item, type_of, IsTable}
 use Rattle.wac_terms.proofs.Found.{some_same, no_some}
 use Rattle.wac_agreeing.specs.Fitting.{exports_of, IsOpen}
 use Rattle.wac_agreeing.specs.Rows.{Row, Spot, Table, IsLonger, here, there, IsPut, ArePut, exports_put, all_put, groups_view}

@@ -5,8 +5,8 @@ use Rattle.std.specs.Map.{lookup, values_of}
 use Rattle.std.proofs.lemmas.Bool.{eqb-true, cases_Bool}
 use Rattle.std.proofs.lemmas.List.{map-append}
 use Rattle.indexmap.specs.IndexMap.{insert_entry, set_value_at}
-use Rattle.wac_entries.specs.declared.nodes.Item.{Item as AnItem}
-use Rattle.wac_entries.proofs.Telling.{borrowed_tells}
+use Rattle.wac_tables.specs.declared.nodes.Item.{Item as AnItem}
+use Rattle.wac_subtyping.proofs.Telling.{borrowed_tells}
 use Rattle.wac_terms.proofs.Found.{no_some, some_same}
 use Rattle.wac_agreeing.specs.declared.rows.Spot.{Spot as ASpot}
 use Rattle.wac_agreeing.specs.declared.rows.Spot.TheVariants as spot

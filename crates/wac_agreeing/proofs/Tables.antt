@@ -3,7 +3,7 @@ use Rattle.std.proofs.Common.{◌≡◌, ℕ, zero, suc, ◌<◌, ◌≤◌, Lis
 use Rattle.std.specs.Prelude.{slice_get}
 use Rattle.std.specs.List.{AllByRecursion}
 use Rattle.wac_primitives.specs.Name.{Name, option_case}
-use Rattle.wac_entries.specs.Nodes.{Item, Node}
+use Rattle.wac_tables.specs.Nodes.{Item, Node}
 use Rattle.wac_entries.proofs.Lists.{at-push, at-end}
 use Rattle.wac_terms.proofs.Found.{no_some, some_same}
 use Rattle.wac_agreeing.specs.Fitting.{exports_of}

@@ -1,7 +1,7 @@
 -- When entries agree over a table of nodes.
 use Rattle.std.specs.Prelude.{ℕ, ◌≡◌, ◌<◌, ◌≤◌, List, length, Some, slice_get}
 use Rattle.wac_entries.specs.Agreement.{Agree}
-use Rattle.wac_entries.specs.Nodes.{Item, Node, item_tree, tree_at}
+use Rattle.wac_tables.specs.Nodes.{Item, Node, item_tree, tree_at}
 
 -- the items agree
 abbrev pub ItemsAgree : List Node → Item → Item → Type 0

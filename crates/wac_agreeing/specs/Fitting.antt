@@ -1,7 +1,7 @@
 -- What instances export, and which items fit.
 use Rattle.std.specs.Prelude.{◌≡◌, ◌⊎◌, List, Option, Some, None, slice_get}
 use Rattle.wac_primitives.specs.Name.{Name, option_case}
-use Rattle.wac_entries.specs.Nodes.{Item, an_instance, Node, of_instance}
+use Rattle.wac_tables.specs.Nodes.{Item, an_instance, Node, of_instance}
 
 -- what an instance exports
 abbrev pub exports_in : Node → Option (List (Name × Item))

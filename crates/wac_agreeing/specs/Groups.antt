@@ -2,7 +2,7 @@
 use Rattle.std.specs.Prelude.{ℕ, zero, suc, ◌+◌, ◌≡◌, ◌<◌, ◌≤◌, ◌⊎◌, List, [], ◌∷◌, ◌++◌, length, Option, Some, slice_get}
 use Rattle.std.specs.List.{AllByRecursion}
 use Rattle.wac_primitives.specs.Name.{Name, find_name, option_case}
-use Rattle.wac_entries.specs.Nodes.{Item, Node, type_of}
+use Rattle.wac_tables.specs.Nodes.{Item, Node, type_of}
 use Rattle.wac_agreeing.specs.Fitting.{exports_of, Fits, IsOpen}
 use Rattle.wac_agreeing.specs.Rows.{groups_view, Row, Spot, Table}
 use Rattle.wac_agreeing.specs.Apart.{AreApart, ItemsAgree}

@@ -2,9 +2,9 @@
 use Rattle.std.specs.Prelude.{ℕ, suc, ◌≡◌, ◌⊎◌, List, [], ◌∷◌, ◌++◌, map, Vec}
 use Rattle.std.specs.List.{AllByRecursion}
 use Rattle.wac_primitives.specs.Name.{Name, option_case}
-use Rattle.wac_entries.specs.Nodes.{Item, Node}
-use Rattle.wac_entries.specs.NodeViews.{item_view}
-use Rattle.wac_entries.specs.declared.nodes.Item.{Item as AnItem}
+use Rattle.wac_tables.specs.Nodes.{Item, Node}
+use Rattle.wac_tables.specs.NodeViews.{item_view}
+use Rattle.wac_tables.specs.declared.nodes.Item.{Item as AnItem}
 use Rattle.wac_agreeing.specs.Fitting.{exports_of}
 use Rattle.wac_agreeing.specs.declared.rows.Spot.{Spot as ASpot}
 use Rattle.wac_agreeing.specs.declared.rows.Spot.TheVariants as spot

@@ -5,8 +5,8 @@
 ghost use Rattle.std.specs.Prelude.{◌≡◌, ◌<◌, ◌++◌, ◌∷◌, ℕ, List, Option, [], length, map, Some, IfOk, OnOk};
 ghost use Rattle.std.specs.List.{AllByRecursion};
 ghost use Rattle.std.specs.Option.{MatchOption};
-ghost use Rattle.wac_entries.specs.Nodes.{type_of};
-ghost use Rattle.wac_entries.specs.NodeViews.{item_view};
+ghost use Rattle.wac_tables.specs.Nodes.{type_of};
+ghost use Rattle.wac_tables.specs.NodeViews.{item_view};
 ghost use Rattle.wac_agreeing.specs.Apart.{AllAgree, IsFirstApart};
 ghost use Rattle.wac_agreeing.specs.Groups.{AreFull, Compares, ComparesAll, IsFull, IsLeast, Splits};
 ghost use Rattle.wac_agreeing.specs.Rows.{Row, row_view, table_view};
@@ -15,7 +15,7 @@ use crate::fitting::fits;
 use crate::rows::{Rows, exported, members};
 use indexmap::IndexSet;
 use std::alloc::{AllocError, Global};
-use wac_entries::nodes::{Item, Nodes};
+use wac_tables::nodes::{Item, Nodes};
 
 /// The lesser of two pairs of entries, by the second and then by the first, where there is a first pair.
 fn lesser(pair: Option<(usize, usize)>, first: usize, second: usize) -> (usize, usize)

@@ -1,11 +1,11 @@
 //! What instances export, and which items fit.
 ghost use Rattle.std.specs.Prelude.{◌≡◌, ◌<◌, length, ◌↔◌, IsTrue};
 ghost use Rattle.std.specs.Option.{option_map};
-ghost use Rattle.wac_entries.specs.Nodes.{type_of};
-ghost use Rattle.wac_entries.specs.NodeViews.{item_view, listed};
+ghost use Rattle.wac_tables.specs.Nodes.{type_of};
+ghost use Rattle.wac_tables.specs.NodeViews.{item_view, listed};
 ghost use Rattle.wac_agreeing.specs.Fitting.{Fits, exports_of};
 
-use wac_entries::nodes::{Item, Node, Nodes};
+use wac_tables::nodes::{Item, Node, Nodes};
 
 /// What an item exports, where it is an instance.
 pub fn exports<'a, 'b>(nodes: &'a Nodes<'b>, item: Item) -> Option<&'a [(&'b str, Item)]>

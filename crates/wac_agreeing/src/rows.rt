@@ -1,14 +1,14 @@
 //! What entries have at each spot: as members of a class, or under a name that their instances export.
 ghost use Rattle.std.specs.Prelude.{◌≡◌, ◌<◌, [], length, map, IfOk, OnOk};
 ghost use Rattle.std.specs.List.{AllByRecursion};
-ghost use Rattle.wac_entries.specs.Nodes.{type_of};
-ghost use Rattle.wac_entries.specs.NodeViews.{item_view, listed};
+ghost use Rattle.wac_tables.specs.Nodes.{type_of};
+ghost use Rattle.wac_tables.specs.NodeViews.{item_view, listed};
 ghost use Rattle.wac_agreeing.specs.Rows.{ArePut, IsPut, all_put, exports_put, members_put, row_view, spot_view, table_view};
 
 use crate::fitting::exports;
 use indexmap::IndexMap;
 use std::alloc::{AllocError, Global};
-use wac_entries::nodes::{Item, Nodes};
+use wac_tables::nodes::{Item, Nodes};
 
 /// Where items are compared.
 #[derive(PartialEq, Eq, Hash, Drop)]

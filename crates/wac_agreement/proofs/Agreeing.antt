@@ -10,8 +10,8 @@ use Rattle.wac_entries.specs.Agreement.{Agree, compared}
 use Rattle.wac_agreeing.specs.Apart.{AllAgree}
 use Rattle.wac_entries.specs.Classes.{AreClasses, Entry, by_names, same_class}
 use Rattle.wac_agreement.specs.Compared.{AreCompared}
-use Rattle.wac_entries.specs.Nodes.{Item, Node, tree_at}
-use Rattle.wac_entries.specs.Nodes as nodes
+use Rattle.wac_tables.specs.Nodes.{Item, Node, tree_at}
+use Rattle.wac_tables.specs.Nodes as nodes
 use Rattle.wac_entries.proofs.ClassFacts.{class-sym, class-trans}
 use Rattle.wac_terms.proofs.Alike.{agree_at, agree_itself, compared_alike}
 use Rattle.wac_entries.proofs.Lists.{some-at}

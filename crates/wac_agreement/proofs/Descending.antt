@@ -19,9 +19,9 @@ use Rattle.wac_collection.specs.Collection.{Collection, HasInterface, IsBefore, 
 use Rattle.wac_subtyping.specs.Ranks.{type_rank}
 use Rattle.wac_subtyping.proofs.Unfolding.{before_rank}
 use Rattle.wac_entries.specs.Agreement.{AreInstances, LeadsApart, here}
-use Rattle.wac_entries.specs.Nodes.{IsTable, Item, Node, item_tree, listed_tree, tree_at, type_of}
-use Rattle.wac_entries.specs.declared.nodes.Item.{Item as AnItem}
-use Rattle.wac_entries.specs.NodeViews.{item_view}
+use Rattle.wac_tables.specs.Nodes.{IsTable, Item, Node, item_tree, listed_tree, tree_at, type_of}
+use Rattle.wac_tables.specs.declared.nodes.Item.{Item as AnItem}
+use Rattle.wac_tables.specs.NodeViews.{item_view}
 use Rattle.wac_entries.specs.declared.scopes.Opener.TheVariants as opener
 use Rattle.wac_entries.proofs.Opening.{lists}
 use Rattle.wac_agreeing.specs.Apart.{ItemsAgree}

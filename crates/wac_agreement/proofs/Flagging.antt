@@ -5,8 +5,8 @@ use Rattle.std.specs.List.{list_any}
 use Rattle.std.proofs.lemmas.List.{length-append}
 use Rattle.wac_primitives.specs.Name.{option_case}
 use Rattle.wac_primitives.specs.Tree.{absent}
-use Rattle.wac_entries.specs.Nodes.{Node, and_optional, node_tree, tree_to, tree_at, IsTable}
-use Rattle.wac_entries.proofs.NodeLaws.{deep}
+use Rattle.wac_tables.specs.Nodes.{Node, and_optional, node_tree, tree_to, tree_at, IsTable}
+use Rattle.wac_tables.proofs.NodeLaws.{deep}
 use Rattle.wac_cycles.specs.Numbers.{Has}
 use Rattle.wac_agreement.specs.Reach.{Reaches, IsOfClass}
 use Rattle.wac_agreement.specs.ReachSteps.{node_class, parts, flag_of, AreFlags}

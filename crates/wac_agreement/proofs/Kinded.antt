@@ -23,7 +23,7 @@ use Rattle.wac_entries.specs.Classes.{Entry, by_names}
 use Rattle.wac_coding.specs.ItemCoding.{listing_under}
 use Rattle.wac_agreement.specs.Shapes.{IsOfKind}
 use Rattle.wac_terms.proofs.Found.{some_same, no_some}
-use Rattle.wac_entries.proofs.SortedMaps.{items_are, found_are}
+use Rattle.wac_tables.proofs.SortedMaps.{items_are, found_are}
 
 listing_find : (t : AnyType → TypeTree Called) (es : List (Name × ItemKind)) (n : Name) → listing_under t es n ≡ option_case (find_name es n) absent (item_tree t false)
 listing_find t es n = items_are (item_tree t false) es n ∙ sym (found_are absent (item_tree t false) es n)

@@ -13,7 +13,7 @@ use Rattle.wac_shapes.specs.declared.component.InterfaceId.{InterfaceId}
 use Rattle.wac_shapes.proofs.Names.{take_at, same_name-from}
 use Rattle.std.proofs.lemmas.Bool.{cases_Bool}
 use Rattle.wac_entries.specs.Agreement.{LeadsApart, below, AgreesAt}
-use Rattle.wac_entries.specs.Nodes.{Node, Item, item_tree, listed_tree, tree_at, IsTable}
+use Rattle.wac_tables.specs.Nodes.{Node, Item, item_tree, listed_tree, tree_at, IsTable}
 use Rattle.wac_agreeing.specs.Fitting.{exports_of}
 use Rattle.wac_agreeing.specs.Apart.{ItemsAgree}
 use Rattle.wac_agreement.specs.Shapes.{IsShaped, IsOfKind, AgreeUnder, IsNextListed}

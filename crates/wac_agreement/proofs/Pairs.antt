@@ -12,7 +12,7 @@ use Rattle.wac_entries.specs.Classes.{Entry, by_names, same_class, AreClasses}
 use Rattle.wac_agreement.specs.Compared.{AreCompared}
 use Rattle.wac_terms.specs.Faults.{Disagrees}
 use Rattle.wac_terms.specs.NoDisagreement.{HasNoDisagreement}
-use Rattle.wac_entries.specs.Nodes.{Node, Item, type_of, item_tree, tree_at}
+use Rattle.wac_tables.specs.Nodes.{Node, Item, type_of, item_tree, tree_at}
 use Rattle.wac_agreement.specs.Shapes.{IsOfKind, IsShaped}
 use Rattle.wac_terms.proofs.Alike.{compared_alike}
 use Rattle.wac_entries.proofs.ClassFacts.{class-sym}

@@ -11,13 +11,13 @@ use Rattle.wac_primitives.specs.Name.{Name, same_name, option_case}
 use Rattle.wac_primitives.specs.Tree.{TypeTree, absent, resource, own, borrow, record_of, variant_of, list_of, fixed_list_of, tuple_of, option_of, result_of, stream_of, future_of, function, instance, type_equal, function_item, instance_item, component_item, module_item, value_item}
 use Rattle.wac_subtyping.specs.Called.{Called, of_class, bound_at, itself}
 use Rattle.wac_collection.specs.Held.{part_at}
-use Rattle.wac_entries.specs.Nodes.{Node, of_resource, of_primitive, of_own, of_borrow, of_record, of_variant, of_list, of_fixed_list, of_tuple, of_flags, of_enum, of_option, of_result, of_stream, of_future, of_function, of_instance, of_component, of_module, Item, a_type, a_func, an_instance, a_component, a_module, a_value, type_of, types_of, item_tree, listed_tree, Sorted, IsSorted, and_optional, optionals, seconds, mentions, optional_tree, node_tree, tree_to, tree_at, IsTable}
+use Rattle.wac_tables.specs.Nodes.{Node, of_resource, of_primitive, of_own, of_borrow, of_record, of_variant, of_list, of_fixed_list, of_tuple, of_flags, of_enum, of_option, of_result, of_stream, of_future, of_function, of_instance, of_component, of_module, Item, a_type, a_func, an_instance, a_component, a_module, a_value, type_of, types_of, item_tree, listed_tree, Sorted, IsSorted, and_optional, optionals, seconds, mentions, optional_tree, node_tree, tree_to, tree_at, IsTable}
 use Rattle.wac_agreement.specs.Reach.{Reaches, as_resource, as_own, as_borrow, in_field, in_case, in_list, in_fixed_list, in_tuple, in_option, in_ok, in_err, in_stream, in_future, in_parameter, in_result, in_instance, in_type_item, in_function_item, in_instance_item, in_component_item, in_module_item, in_value_item, IsOfClass}
 use Rattle.wac_agreement.specs.ReachSteps.{class_of, node_class, parts, with_all, AreReached}
 use Rattle.wac_cycles.specs.Numbers.{Has}
 use Rattle.wac_agreement.proofs.KeySets.{In, has_all, all_old, all_new, above, above_le, above_last, below_all, below_others}
 use Rattle.wac_cycles.proofs.Numbers.{has_front, has_last, has_either}
-use Rattle.wac_entries.proofs.NodeLaws.{deep}
+use Rattle.wac_tables.proofs.NodeLaws.{deep}
 
 -- ---- what reaching means at each shape
 module _ {L : Type 0} (P : L → Type 0) where

@@ -25,7 +25,7 @@ use Rattle.wac_entries.specs.Classes.{AreClasses, Entry, by_names, class_names, 
 use Rattle.wac_terms.specs.ClassOrder.{Mentions, RestsOn, begins_at, by_resource, by_use}
 use Rattle.wac_agreement.specs.Compared.{AreCompared}
 use Rattle.wac_terms.specs.NoDisagreement.{HasNoDisagreement}
-use Rattle.wac_entries.specs.Nodes.{Node, Item, a_type, a_func, an_instance, a_component, a_module, a_value, and_optional, item_tree, tree_at, type_of}
+use Rattle.wac_tables.specs.Nodes.{Node, Item, a_type, a_func, an_instance, a_component, a_module, a_value, and_optional, item_tree, tree_at, type_of}
 use Rattle.wac_agreement.specs.Reach.{Reaches, IsOfClass, in_type_item, in_function_item, in_instance_item, in_component_item, in_module_item, in_value_item}
 use Rattle.wac_cycles.specs.Numbers.{Has}
 use Rattle.wac_agreement.specs.Resting.{EntryLeads, ItemLeads, classes_used, first_class, interface_class, used_classes}

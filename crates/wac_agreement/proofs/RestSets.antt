@@ -16,7 +16,7 @@ use Rattle.wac_shapes.specs.declared.component.«Type».TheVariants as ty
 use Rattle.wac_entries.specs.Bindings.{ClassBindings}
 use Rattle.wac_cycles.specs.Cycles.{IsStep}
 use Rattle.wac_entries.specs.Classes.{Entry}
-use Rattle.wac_entries.specs.Nodes.{Node, Item, and_optional}
+use Rattle.wac_tables.specs.Nodes.{Node, Item, and_optional}
 use Rattle.wac_cycles.specs.Numbers.{Has}
 use Rattle.wac_agreement.specs.ReachSteps.{with_all}
 use Rattle.wac_agreement.specs.Resting.{EntryLeads, Gains, ItemLeads, classes_used, interface_class, used_classes}

@@ -6,7 +6,7 @@ use Rattle.std.specs.declared.cmp.Ordering.TheVariants.{Less, Equal, Greater}
 use Rattle.std.specs.Cmp.Lexicographic.{nat_list_cmp_total}
 use Rattle.std.specs.FinMap.{nat_cmp-IsAntisymmetric, slice_cmp-IsAntisymmetric}
 use Rattle.wac_primitives.specs.Name.{Name, find_name}
-use Rattle.wac_entries.specs.Nodes.{Sorted}
+use Rattle.wac_tables.specs.Nodes.{Sorted}
 use Rattle.wac_agreement.specs.Shapes.{compare, AreBefore, AreBehind}
 use Rattle.wac_terms.proofs.Found.{less_cases}
 use Rattle.wac_terms.proofs.Found.{some_same, one_some, no_some, find_at}

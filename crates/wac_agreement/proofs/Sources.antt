@@ -20,7 +20,7 @@ use Rattle.wac_shapes.specs.declared.component.ItemKind.{ItemKind}
 use Rattle.wac_shapes.specs.declared.component.ItemKind.TheVariants as kind
 use Rattle.wac_coding.specs.declared.calls.Calls.{Calls}
 use Rattle.wac_coding.specs.declared.memo.Memo.{Memo}
-use Rattle.wac_entries.specs.declared.nodes.Item.{Item as AnItem}
+use Rattle.wac_tables.specs.declared.nodes.Item.{Item as AnItem}
 use Rattle.wac_entries.specs.declared.scopes.Opener.{Opener}
 use Rattle.wac_entries.specs.declared.scopes.Opener.TheVariants as opener
 use Rattle.wac_entries.specs.Agreement.{called_in_class, called_inside, compared}
@@ -30,8 +30,8 @@ use Rattle.wac_coding.specs.Coding.{tree_in, defined_number, func_number, HasTre
 use Rattle.wac_agreement.specs.Compared.{AreCompared, IsItemOf}
 use Rattle.wac_coding.specs.ItemCoding.{AreItems, HasItem, listing_under}
 use Rattle.wac_coding.specs.Listings.{at_scope, AreInnerListings, AreListings, AreOpen, IsAround, IsAroundIn}
-use Rattle.wac_entries.specs.NodeViews.{item_view}
-use Rattle.wac_entries.specs.Nodes.{Node, Item, a_type, a_func, an_instance, a_component, a_module, a_value, type_of, item_tree, tree_at}
+use Rattle.wac_tables.specs.NodeViews.{item_view}
+use Rattle.wac_tables.specs.Nodes.{Node, Item, a_type, a_func, an_instance, a_component, a_module, a_value, type_of, item_tree, tree_at}
 use Rattle.wac_entries.specs.Scopes.{called_in, called_in_root, inside, listed_in, opened_by, scope_tree}
 use Rattle.wac_terms.proofs.Alike.{compared_alike}
 use Rattle.wac_coding.proofs.CodingGrowth.{longer}

@@ -5,7 +5,7 @@ use Rattle.wac_collection.specs.Collection.{Collection}
 use Rattle.wac_shapes.specs.declared.component.ItemKind.{ItemKind}
 use Rattle.wac_entries.specs.Classes.{Entry, by_names}
 use Rattle.wac_entries.specs.Agreement.{compared}
-use Rattle.wac_entries.specs.Nodes.{Node, Item, type_of, item_tree, tree_at}
+use Rattle.wac_tables.specs.Nodes.{Node, Item, type_of, item_tree, tree_at}
 
 -- the item has the tree by which an entry of a class is compared
 pub record IsItemOf (ns : List Node) (c : Collection) (es : List Entry) (class : Name) (k : ItemKind) (x : Item) : Type 0 where

@@ -8,9 +8,9 @@ use Rattle.wac_shapes.specs.declared.component.ItemKind.TheVariants as kind
 use Rattle.wac_collection.specs.Collection.{Collection, HasInterface, interface_exports}
 use Rattle.wac_subtyping.specs.Ranks.{type_rank}
 use Rattle.wac_entries.specs.Agreement.{AreInstances}
-use Rattle.wac_entries.specs.Nodes.{Node, Item, type_of, item_tree, tree_at}
-use Rattle.wac_entries.specs.NodeViews.{item_view}
-use Rattle.wac_entries.specs.declared.nodes.Item.{Item as AnItem}
+use Rattle.wac_tables.specs.Nodes.{Node, Item, type_of, item_tree, tree_at}
+use Rattle.wac_tables.specs.NodeViews.{item_view}
+use Rattle.wac_tables.specs.declared.nodes.Item.{Item as AnItem}
 use Rattle.wac_agreeing.specs.Fitting.{exports_of}
 use Rattle.wac_agreeing.specs.Apart.{ItemsAgree}
 use Rattle.wac_agreement.specs.Shapes.{AgreeUnder, IsOfKind, IsShaped}

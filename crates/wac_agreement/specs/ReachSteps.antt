@@ -5,7 +5,7 @@ use Rattle.std.specs.BTreeSet.{insert_key}
 use Rattle.wac_primitives.specs.Name.{option_case}
 use Rattle.wac_cycles.specs.Numbers.{Has}
 use Rattle.wac_subtyping.specs.Called.{Called, of_class}
-use Rattle.wac_entries.specs.Nodes.{Node, of_resource, of_own, of_borrow, of_component, mentions, tree_at}
+use Rattle.wac_tables.specs.Nodes.{Node, of_resource, of_own, of_borrow, of_component, mentions, tree_at}
 use Rattle.wac_agreement.specs.Reach.{Reaches, IsOfClass}
 
 -- the nodes that a node mentions, anywhere but in a component

@@ -12,7 +12,7 @@ use Rattle.wac_shapes.specs.declared.component.ItemKind.TheVariants as kind
 use Rattle.wac_shapes.specs.declared.component.«Type».TheVariants as ty
 use Rattle.wac_entries.specs.Bindings.{ClassBindings, first_in}
 use Rattle.wac_entries.specs.Classes.{Entry}
-use Rattle.wac_entries.specs.Nodes.{Node, Item, and_optional, tree_at, type_of}
+use Rattle.wac_tables.specs.Nodes.{Node, Item, and_optional, tree_at, type_of}
 use Rattle.wac_agreement.specs.Reach.{Reaches, IsOfClass}
 use Rattle.wac_cycles.specs.Numbers.{Has}
 

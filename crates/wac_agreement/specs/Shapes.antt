@@ -11,7 +11,7 @@ use Rattle.wac_subtyping.specs.Called.{Called}
 use Rattle.wac_collection.specs.Collection.{Collection, HasInterface, interface_exports}
 use Rattle.wac_shapes.specs.declared.component.ItemKind.{ItemKind}
 use Rattle.wac_shapes.specs.declared.component.ItemKind.TheVariants as kind
-use Rattle.wac_entries.specs.Nodes.{Node, Item}
+use Rattle.wac_tables.specs.Nodes.{Node, Item}
 use Rattle.wac_agreeing.specs.Apart.{ItemsAgree}
 
 -- each instance, at each depth, is told by what it exports

@@ -7,8 +7,8 @@ ghost use Rattle.std.specs.List.{AllByRecursion};
 ghost use Rattle.std.specs.Option.{MatchOption, option_map};
 ghost use Rattle.wac_primitives.specs.Name.{find_name, option_case};
 ghost use Rattle.wac_entries.specs.Agreement.{AreInstances, LeadsApart};
-ghost use Rattle.wac_entries.specs.Nodes.{Sorted, type_of, item_tree, tree_at};
-ghost use Rattle.wac_entries.specs.NodeViews.{item_view, listed};
+ghost use Rattle.wac_tables.specs.Nodes.{Sorted, type_of, item_tree, tree_at};
+ghost use Rattle.wac_tables.specs.NodeViews.{item_view, listed};
 ghost use Rattle.wac_agreeing.specs.Apart.{ItemsAgree};
 ghost use Rattle.wac_agreement.specs.Levels.{HasPassed, IsLevel, IsStart, Looks, name_of};
 ghost use Rattle.wac_agreement.specs.Shapes.{IsOfKind, IsShaped};
@@ -19,7 +19,7 @@ use std::alloc::{AllocError, Global};
 use std::cmp::Ordering;
 use wac_agreeing::fitting::exports;
 use wac_collection::{InterfaceId, ItemKind, Types};
-use wac_entries::nodes::{Item, Nodes};
+use wac_tables::nodes::{Item, Nodes};
 
 /// What stands under a name in a sorted listing.
 fn find_export(exports: &[(&str, Item)], name: &str) -> Option<Item>

@@ -12,7 +12,7 @@ ghost use Rattle.wac_agreement.specs.Compared.{AreCompared, IsItemOf};
 ghost use Rattle.wac_coding.specs.CallsView.{AreNamed};
 ghost use Rattle.wac_terms.specs.Faults.{Disagrees};
 ghost use Rattle.wac_terms.specs.NoDisagreement.{HasNoDisagreement};
-ghost use Rattle.wac_entries.specs.NodeViews.{item_view};
+ghost use Rattle.wac_tables.specs.NodeViews.{item_view};
 
 use crate::apart::path_apart;
 use std::alloc::{AllocError, Global};
@@ -27,9 +27,9 @@ use wac_entries::bindings::Bindings;
 use wac_entries::classes::Classes;
 use wac_entries::entry::Entry;
 use wac_entries::naming::bound_in;
-use wac_entries::nodes::{Item, Nodes};
 use wac_entries::outward::outward_in;
 use wac_entries::scopes::{Opener, Scopes};
+use wac_tables::nodes::{Item, Nodes};
 
 /// What the item of an entry is compared as, from around its scopes.
 fn source_item<'a>(

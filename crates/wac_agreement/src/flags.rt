@@ -1,13 +1,13 @@
 //! Which nodes mention a resource that a class binds: each is looked at once, and those that mention none need not be walked.
 ghost use Rattle.std.specs.Prelude.{◌≡◌, ◌<◌, ◌||◌, [], is_some, length, OnOk};
 ghost use Rattle.std.specs.List.{list_any};
-ghost use Rattle.wac_entries.specs.Nodes.{and_optional, optionals, seconds, types_of};
-ghost use Rattle.wac_entries.specs.NodeViews.{node_view, named, listed};
+ghost use Rattle.wac_tables.specs.Nodes.{and_optional, optionals, seconds, types_of};
+ghost use Rattle.wac_tables.specs.NodeViews.{node_view, named, listed};
 ghost use Rattle.wac_agreement.specs.ReachSteps.{AreFlags, flag_of, node_class, parts};
 
 use crate::reach::{node_class, type_of};
 use std::alloc::AllocError;
-use wac_entries::nodes::{Item, Node, Nodes};
+use wac_tables::nodes::{Item, Node, Nodes};
 
 /// Flags the nodes up to this one that mention a resource which a class binds, anywhere but in components. What is flagged stays.
 pub fn flag_through(nodes: &Nodes, flags: &mut Vec<bool>, number: usize) -> Result<(), AllocError>

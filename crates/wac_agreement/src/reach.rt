@@ -2,17 +2,17 @@
 ghost use Rattle.std.specs.Prelude.{◌≡◌, ◌<◌, ◌↔◌, ℕ, [], true, length, IfOk, OnOk};
 ghost use Rattle.std.specs.BTreeSet as set;
 ghost use Rattle.std.specs.Ordering.{nat_cmp};
-ghost use Rattle.wac_entries.specs.CalledViews.{called_view};
-ghost use Rattle.wac_entries.specs.Nodes.{and_optional, optionals, seconds, tree_at, type_of, types_of};
-ghost use Rattle.wac_entries.specs.NodeViews.{node_view, named, listed, item_view};
+ghost use Rattle.wac_subtyping.specs.CalledViews.{called_view};
+ghost use Rattle.wac_tables.specs.Nodes.{and_optional, optionals, seconds, tree_at, type_of, types_of};
+ghost use Rattle.wac_tables.specs.NodeViews.{node_view, named, listed, item_view};
 ghost use Rattle.wac_agreement.specs.Reach.{Reaches, IsOfClass};
 ghost use Rattle.wac_agreement.specs.ReachSteps.{AreFlags, class_of, node_class, parts, with_all};
 
 use crate::flags::flag_of;
 use std::alloc::{AllocError, Global};
 use std::collections::BTreeSet;
-use wac_entries::called::Called;
-use wac_entries::nodes::{Item, Node, Nodes};
+use wac_subtyping::called::Called;
+use wac_tables::nodes::{Item, Node, Nodes};
 
 /// The classes whose resources a node mentions, anywhere but in components. Nothing is walked where its flag is none.
 pub fn classes_reached(

@@ -9,8 +9,8 @@ ghost use Rattle.wac_entries.specs.Classes.{AreClasses, by_names, class_names};
 ghost use Rattle.wac_terms.specs.ClassOrder.{RestsOn};
 ghost use Rattle.wac_agreement.specs.Compared.{AreCompared};
 ghost use Rattle.wac_terms.specs.NoDisagreement.{HasNoDisagreement};
-ghost use Rattle.wac_entries.specs.Nodes.{tree_at, type_of as type_in};
-ghost use Rattle.wac_entries.specs.NodeViews.{item_view};
+ghost use Rattle.wac_tables.specs.Nodes.{tree_at, type_of as type_in};
+ghost use Rattle.wac_tables.specs.NodeViews.{item_view};
 ghost use Rattle.wac_agreement.specs.Reach.{IsOfClass, Reaches};
 ghost use Rattle.wac_cycles.specs.Numbers.{Has};
 ghost use Rattle.wac_agreement.specs.ReachSteps.{AreFlags, with_all};
@@ -25,7 +25,7 @@ use wac_cycles::cycles::empty_sets;
 use wac_entries::bindings::Bindings;
 use wac_entries::classes::Classes;
 use wac_entries::entry::Entry;
-use wac_entries::nodes::{Item, Nodes};
+use wac_tables::nodes::{Item, Nodes};
 
 /// The class under the id of an interface.
 fn interface_class(types: &Types, classes: &Classes, id: InterfaceId) -> Option<usize>

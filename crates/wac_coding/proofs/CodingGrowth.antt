@@ -10,10 +10,10 @@ use Rattle.wac_subtyping.specs.Called.{Called}
 use Rattle.wac_shapes.specs.declared.component.«Type».{«Type» as AnyType}
 use Rattle.wac_shapes.specs.declared.component.ValueType.{ValueType}
 use Rattle.wac_coding.specs.declared.memo.Memo.{Memo}
-use Rattle.wac_entries.specs.Nodes.{Node, mentions, node_tree, tree_to, tree_at, IsTable, Added}
+use Rattle.wac_tables.specs.Nodes.{Node, mentions, node_tree, tree_to, tree_at, IsTable, Added}
 use Rattle.wac_coding.specs.Coding.{IsGrown, HasTree, IsRight, HasOption, AreParts, AreFields, AreCases}
 use Rattle.wac_entries.proofs.Lists.{zip_all}
-use Rattle.wac_entries.proofs.NodeLaws.{same_tree, deep, grown}
+use Rattle.wac_tables.proofs.NodeLaws.{same_tree, deep, grown}
 
 all_of : {P Q : ℕ → Type 0} → ((m : ℕ) → P m → Q m) → (ns : List ℕ) → AllByRecursion P ns → AllByRecursion Q ns
 all_of f [] h = tt

@@ -17,15 +17,15 @@ use Rattle.wac_collection.specs.Collection.{Collection}
 use Rattle.wac_collection.specs.Held.{Names, items_under}
 use Rattle.wac_shapes.specs.declared.component.«Type».{«Type» as AnyType}
 use Rattle.wac_shapes.specs.declared.component.ItemKind.{ItemKind}
-use Rattle.wac_entries.specs.declared.nodes.Item.{Item as AnItem}
+use Rattle.wac_tables.specs.declared.nodes.Item.{Item as AnItem}
 use Rattle.wac_entries.specs.declared.scopes.Opener.{Opener}
-use Rattle.wac_entries.specs.Nodes.{Node, Item, of_instance, of_component, type_of, types_of, item_tree, tree_at, Sorted}
-use Rattle.wac_entries.specs.NodeViews.{item_view, listed}
+use Rattle.wac_tables.specs.Nodes.{Node, Item, of_instance, of_component, type_of, types_of, item_tree, tree_at, Sorted}
+use Rattle.wac_tables.specs.NodeViews.{item_view, listed}
 use Rattle.wac_entries.specs.Scopes.{listed_in, scope_tree}
 use Rattle.wac_coding.specs.Coding.{tree_in, Fits}
 use Rattle.wac_coding.specs.ItemCoding.{HasItem, AreItems, Lists, listing_under, component_tree}
-use Rattle.wac_entries.proofs.TaskLemmas.{all_joined}
-use Rattle.wac_entries.proofs.Telling.{Borrowed, bytes}
+use Rattle.wac_tables.proofs.TaskLemmas.{all_joined}
+use Rattle.wac_subtyping.proofs.Telling.{Borrowed, bytes}
 
 -- borrowed names in the order of their bytes
 abbrev pub borrowed_cmp : Borrowed → Borrowed → Ordering

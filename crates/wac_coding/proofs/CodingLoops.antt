@@ -8,11 +8,11 @@ use Rattle.wac_primitives.specs.Tree.{TypeTree}
 use Rattle.wac_subtyping.specs.Called.{Called}
 use Rattle.wac_shapes.specs.declared.component.ValueType.{ValueType}
 use Rattle.wac_shapes.proofs.Loops.{take_more}
-use Rattle.wac_entries.specs.Nodes.{Node}
+use Rattle.wac_tables.specs.Nodes.{Node}
 use Rattle.wac_coding.specs.Coding.{IsGrown, HasTree, HasOption, AreParts, AreFields, AreCases}
 use Rattle.wac_coding.proofs.CodingGrowth.{parts_grown, fields_grown, cases_grown}
 use Rattle.wac_entries.proofs.Lists.{zip_push}
-use Rattle.wac_entries.proofs.TaskOpenings.{values_take}
+use Rattle.wac_tables.proofs.TaskOpenings.{values_take}
 
 take_next : {V : Type 0} (es : List (Name × V)) (i : ℕ) (n : Name) (v : V) → option_map (λ e. e.0) (slice_get es i) ≡ Some n → option_map (λ e. e.1) (slice_get es i) ≡ Some v → take (i + 1) es ≡ take i es ++ (n, v) ∷ []
 take_next es i n v a b = rw add-one (take_more es i n v a b)

@@ -12,10 +12,10 @@ use Rattle.wac_shapes.specs.declared.component.ValueType.TheVariants as val
 use Rattle.wac_shapes.specs.declared.component.«Type».{«Type» as AnyType}
 use Rattle.wac_shapes.specs.declared.component.«Type».TheVariants as ty
 use Rattle.wac_coding.specs.declared.memo.Memo.{Memo}
-use Rattle.wac_entries.specs.Nodes.{Node}
-use Rattle.wac_entries.specs.Numbers.{number_at}
-use Rattle.wac_entries.specs.Tasks.{task_id}
-use Rattle.wac_entries.specs.declared.tasks.Task.{Task}
+use Rattle.wac_tables.specs.Nodes.{Node}
+use Rattle.wac_tables.specs.Numbers.{number_at}
+use Rattle.wac_tables.specs.Tasks.{task_id}
+use Rattle.wac_tables.specs.declared.tasks.Task.{Task}
 use Rattle.wac_coding.specs.Coding.{HasTree, defined_number, func_number, HasDefinedToo, HasFuncToo, HasSame, IsRight, IsMore, IsDone}
 
 same_defined : (a b : DefinedTypeId) → nat_eq a.0 b.0 ≡ true → a ≡ b

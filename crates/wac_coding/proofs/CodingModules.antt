@@ -25,10 +25,10 @@ use Rattle.wac_collection.specs.Held.{core_item, core_imports, module_tree}
 use Rattle.wac_collection.specs.Held as held
 use Rattle.wac_shapes.specs.declared.core_types.CoreExtern.{CoreExtern}
 use Rattle.wac_shapes.specs.declared.core_types.ModuleType.{ModuleType}
-use Rattle.wac_entries.specs.declared.nodes.Core.{Core}
-use Rattle.wac_entries.specs.declared.nodes.Core.TheVariants as core
-use Rattle.wac_entries.specs.Nodes.{Node, of_module, core_under, core_under_both, Sorted, AreCoreItems}
-use Rattle.wac_entries.specs.NodeViews.{core_view, core_items, core_modules}
+use Rattle.wac_tables.specs.declared.nodes.Core.{Core}
+use Rattle.wac_tables.specs.declared.nodes.Core.TheVariants as core
+use Rattle.wac_tables.specs.Nodes.{Node, of_module, core_under, core_under_both, Sorted, AreCoreItems}
+use Rattle.wac_tables.specs.NodeViews.{core_view, core_items, core_modules}
 use Rattle.wac_coding.specs.Coding.{Fits}
 use Rattle.wac_coding.specs.ModuleCoding.{AreCores, AreImports, Maps, look, in_maps, maps_items, PutsUnder, AreFull}
 

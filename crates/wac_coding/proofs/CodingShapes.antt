@@ -7,10 +7,10 @@ use Rattle.wac_primitives.specs.Tree.{TypeTree, record_of, variant_of, list_of, 
 use Rattle.wac_subtyping.specs.Called.{Called}
 use Rattle.wac_collection.specs.Held.{part_at, option_tree, defined_tree}
 use Rattle.wac_shapes.specs.declared.component.DefinedType.{DefinedType}
-use Rattle.wac_entries.specs.declared.nodes.Node.{Node as ANode}
+use Rattle.wac_tables.specs.declared.nodes.Node.{Node as ANode}
 use Rattle.wac_shapes.specs.declared.component.ValueType.{ValueType}
-use Rattle.wac_entries.specs.Nodes.{Node, of_record, of_variant, of_list, of_fixed_list, of_tuple, of_flags, of_enum, of_option, of_result, of_stream, of_future, of_function, and_optional, optionals, seconds, optional_tree, tree_at}
-use Rattle.wac_entries.specs.NodeViews.{named, node_view}
+use Rattle.wac_tables.specs.Nodes.{Node, of_record, of_variant, of_list, of_fixed_list, of_tuple, of_flags, of_enum, of_option, of_result, of_stream, of_future, of_function, and_optional, optionals, seconds, optional_tree, tree_at}
+use Rattle.wac_tables.specs.NodeViews.{named, node_view}
 use Rattle.wac_coding.specs.Coding.{HasTree, HasOption, AreParts, AreFields, AreCases, Fits}
 
 module _ (t : ValueType → TypeTree Called) (ns : List Node) where

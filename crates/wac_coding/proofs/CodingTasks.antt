@@ -14,13 +14,13 @@ use Rattle.wac_shapes.specs.declared.component.ValueType.{ValueType}
 use Rattle.wac_shapes.specs.declared.component.ValueType.TheVariants as val
 use Rattle.wac_shapes.specs.declared.component.«Type».{«Type» as AnyType}
 use Rattle.wac_coding.specs.declared.memo.Memo.{Memo}
-use Rattle.wac_entries.specs.declared.tasks.Task.{Task}
-use Rattle.wac_entries.specs.declared.tasks.Task.TheVariants.{Open, Close}
-use Rattle.wac_entries.specs.Nodes.{Node}
-use Rattle.wac_entries.specs.Tasks.{task_id, opening, openings, parts_of, task_weight, tasks_weight, HasTask, IsHeldTask, IsOpening}
+use Rattle.wac_tables.specs.declared.tasks.Task.{Task}
+use Rattle.wac_tables.specs.declared.tasks.Task.TheVariants.{Open, Close}
+use Rattle.wac_tables.specs.Nodes.{Node}
+use Rattle.wac_tables.specs.Tasks.{task_id, opening, openings, parts_of, task_weight, tasks_weight, HasTask, IsHeldTask, IsOpening}
 use Rattle.wac_coding.specs.Coding.{only_part, IsGrown, IsRight, IsMore, IsReady, AreReady, IsDone, MayBeDone, Did, numbered, put_off, IsAwaited, AreCovered, IsUnderWay, defined_number}
 use Rattle.wac_coding.proofs.CodingGrowth.{grown_twice, grown_not}
-use Rattle.wac_entries.proofs.TaskLemmas.{all_each, all_front, all_last, all_joined, parts_below, total_joined, openings_weigh, some_weight, openings_held, has_behind, has_front, has_parted, all_openings}
+use Rattle.wac_tables.proofs.TaskLemmas.{all_each, all_front, all_last, all_joined, parts_below, total_joined, openings_weigh, some_weight, openings_held, has_behind, has_front, has_parted, all_openings}
 
 module _ (c : Collection) (wf : IsWellFormed c) where
   -- what is done leaves less to do

@@ -23,7 +23,7 @@ use Rattle.wac_shapes.specs.declared.component.ItemKind.TheVariants as kind
 use Rattle.wac_collection.proofs.Growth.{all_within}
 use Rattle.wac_coding.specs.declared.calls.Calls.{Calls}
 use Rattle.wac_coding.specs.declared.coder.Source.{Source}
-use Rattle.wac_entries.specs.declared.nodes.Item.{Item}
+use Rattle.wac_tables.specs.declared.nodes.Item.{Item}
 use Rattle.wac_entries.specs.declared.scopes.Opener.{Opener}
 use Rattle.wac_entries.specs.declared.scopes.Opener.TheVariants as opener
 use Rattle.wac_entries.specs.declared.scopes.Scope.{Scope}
@@ -33,7 +33,7 @@ use Rattle.wac_coding.specs.CallsView.{names_of, names_in, AreNamed}
 use Rattle.wac_coding.specs.Coding.{tree_in, source_tree}
 use Rattle.wac_coding.specs.ItemCoding.{AreItems, component_tree}
 use Rattle.wac_coding.specs.Listings.{at_scope, AreOpen, IsAroundIn, IsAround, AreListings, AreInnerListings}
-use Rattle.wac_entries.specs.Nodes.{Node}
+use Rattle.wac_tables.specs.Nodes.{Node}
 use Rattle.wac_entries.specs.Scopes.{listed_in, binds, opened, opened_by, opened_by_type, inside, IsBelow, called_in_root, scope_tree}
 use Rattle.wac_entries.proofs.Inserting.{of-at}
 use Rattle.wac_entries.proofs.Opening.{opened-kind, there, lists}

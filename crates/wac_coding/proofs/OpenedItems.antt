@@ -15,16 +15,16 @@ use Rattle.wac_shapes.specs.declared.component.«Type».{«Type» as AnyType}
 use Rattle.wac_collection.proofs.Growth.{all_from}
 use Rattle.wac_shapes.proofs.Names.{take_at}
 use Rattle.wac_coding.specs.declared.calls.Calls.{Calls}
-use Rattle.wac_entries.specs.declared.nodes.Item.{Item}
+use Rattle.wac_tables.specs.declared.nodes.Item.{Item}
 use Rattle.wac_entries.specs.declared.scopes.Opener.{Opener}
 use Rattle.wac_entries.specs.declared.scopes.Scope.{Scope}
 use Rattle.wac_coding.specs.CallsView.{names_in}
 use Rattle.wac_coding.specs.Coding.{tree_in, IsGrown}
 use Rattle.wac_coding.specs.ItemCoding.{HasItem, AreItems}
 use Rattle.wac_coding.specs.Listings.{at_scope, AreOpen, AreListings, AreInnerListings}
-use Rattle.wac_entries.specs.NodeViews.{item_view}
-use Rattle.wac_entries.specs.Nodes.{Node, type_of, item_tree, tree_at}
-use Rattle.wac_entries.specs.Nodes as table
+use Rattle.wac_tables.specs.NodeViews.{item_view}
+use Rattle.wac_tables.specs.Nodes.{Node, type_of, item_tree, tree_at}
+use Rattle.wac_tables.specs.Nodes as table
 use Rattle.wac_entries.specs.Scopes.{listed_in, opened_by, opened}
 use Rattle.wac_coding.proofs.CodingGrowth.{longer}
 use Rattle.wac_entries.proofs.Lists.{set-cases, zip_all, zip_push}

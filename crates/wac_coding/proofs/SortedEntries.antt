@@ -26,12 +26,12 @@ use Rattle.wac_subtyping.specs.Called as called
 use Rattle.wac_shapes.specs.declared.component.«Type».{«Type» as AnyType}
 use Rattle.wac_shapes.specs.declared.component.ItemKind.{ItemKind}
 use Rattle.wac_shapes.proofs.Loops.{take_more}
-use Rattle.wac_entries.specs.declared.nodes.Item.{Item as AnItem}
-use Rattle.wac_entries.specs.Nodes.{Node}
-use Rattle.wac_entries.specs.NodeViews.{item_view, listed}
-use Rattle.wac_entries.proofs.Telling.{Borrowed}
+use Rattle.wac_tables.specs.declared.nodes.Item.{Item as AnItem}
+use Rattle.wac_tables.specs.Nodes.{Node}
+use Rattle.wac_tables.specs.NodeViews.{item_view, listed}
+use Rattle.wac_subtyping.proofs.Telling.{Borrowed}
 use Rattle.wac_entries.proofs.Lists.{zip_push}
-use Rattle.wac_entries.proofs.TaskOpenings.{each_value}
+use Rattle.wac_tables.proofs.TaskOpenings.{each_value}
 use Rattle.wac_coding.specs.ItemCoding.{HasItem, AreItems, Lists, listing_under}
 use Rattle.wac_coding.proofs.CodingListing.{borrowed_cmp, borrowed_total, look, item_there, kind_there, item_seen, IsLow, lists}
 

@@ -19,13 +19,13 @@ use Rattle.wac_coding.specs.declared.memo.Memo.{Memo}
 use Rattle.wac_coding.specs.declared.coder.Source.{Source}
 use Rattle.wac_coding.specs.declared.coder.Meaning.{Meaning}
 use Rattle.wac_coding.specs.declared.coder.Meaning.TheVariants as meaning
-use Rattle.wac_entries.specs.declared.tasks.Task.{Task}
-use Rattle.wac_entries.specs.declared.tasks.Task.TheVariants.{Open, Close}
-use Rattle.wac_entries.specs.Nodes.{Node, mentions, IsSorted, node_tree, tree_at}
-use Rattle.wac_entries.specs.NodeViews.{node_view}
+use Rattle.wac_tables.specs.declared.tasks.Task.{Task}
+use Rattle.wac_tables.specs.declared.tasks.Task.TheVariants.{Open, Close}
+use Rattle.wac_tables.specs.Nodes.{Node, mentions, IsSorted, node_tree, tree_at}
+use Rattle.wac_tables.specs.NodeViews.{node_view}
 use Rattle.wac_coding.specs.CallsView.{names_in}
-use Rattle.wac_entries.specs.Numbers.{number_at}
-use Rattle.wac_entries.specs.Tasks.{task_id, parts_of, openings, HasTask, IsHeldTask}
+use Rattle.wac_tables.specs.Numbers.{number_at}
+use Rattle.wac_tables.specs.Tasks.{task_id, parts_of, openings, HasTask, IsHeldTask}
 
 -- the tree of each type where resources are called so
 unfoldable pub tree_in : Collection → Names Called → AnyType → TypeTree Called

@@ -7,9 +7,9 @@ use Rattle.wac_subtyping.specs.Called.{Called}
 use Rattle.wac_collection.specs.Held as held
 use Rattle.wac_shapes.specs.declared.component.«Type».{«Type» as AnyType}
 use Rattle.wac_shapes.specs.declared.component.ItemKind.{ItemKind}
-use Rattle.wac_entries.specs.declared.nodes.Item.{Item as AnItem}
-use Rattle.wac_entries.specs.NodeViews.{item_view}
-use Rattle.wac_entries.specs.Nodes.{Node, Item, type_of, types_of, item_tree, listed_tree, tree_at, Sorted}
+use Rattle.wac_tables.specs.declared.nodes.Item.{Item as AnItem}
+use Rattle.wac_tables.specs.NodeViews.{item_view}
+use Rattle.wac_tables.specs.Nodes.{Node, Item, type_of, types_of, item_tree, listed_tree, tree_at, Sorted}
 
 -- the item is listed with the tree of a kind
 pub record HasItem (ns : List Node) (t : AnyType → TypeTree Called) (k : ItemKind) (x : Item) : Type 0 where

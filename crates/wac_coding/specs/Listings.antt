@@ -4,14 +4,14 @@ use Rattle.std.specs.Prelude.{ℕ, ◌≡◌, ◌≤◌, false, List, Option, So
 use Rattle.wac_collection.specs.Collection.{Collection}
 use Rattle.wac_shapes.specs.declared.component.ItemKind.{ItemKind}
 use Rattle.wac_coding.specs.declared.calls.Calls.{Calls}
-use Rattle.wac_entries.specs.declared.nodes.Item.{Item}
+use Rattle.wac_tables.specs.declared.nodes.Item.{Item}
 use Rattle.wac_entries.specs.declared.scopes.Opener.{Opener}
 use Rattle.wac_entries.specs.declared.scopes.Scope.{Scope}
 use Rattle.wac_entries.specs.Classes.{is_instance}
 use Rattle.wac_coding.specs.CallsView.{names_in}
 use Rattle.wac_coding.specs.Coding.{tree_in}
 use Rattle.wac_coding.specs.ItemCoding.{AreItems}
-use Rattle.wac_entries.specs.Nodes.{Node}
+use Rattle.wac_tables.specs.Nodes.{Node}
 use Rattle.wac_entries.specs.Scopes.{listed_in, inside}
 
 -- in another scope of the same entry

@@ -9,9 +9,9 @@ use Rattle.wac_shapes.specs.Imports.{Pair, same_pair}
 use Rattle.wac_primitives.specs.Core.{CoreItem, no_item}
 use Rattle.wac_collection.specs.Held as held
 use Rattle.wac_shapes.specs.declared.core_types.CoreExtern.{CoreExtern}
-use Rattle.wac_entries.specs.declared.nodes.Core.{Core}
-use Rattle.wac_entries.specs.Nodes.{core_under, core_under_both, Sorted, AreCoreItems}
-use Rattle.wac_entries.specs.NodeViews.{core_view, core_items}
+use Rattle.wac_tables.specs.declared.nodes.Core.{Core}
+use Rattle.wac_tables.specs.Nodes.{core_under, core_under_both, Sorted, AreCoreItems}
+use Rattle.wac_tables.specs.NodeViews.{core_view, core_items}
 
 -- the same core items, sorted
 pub record AreCores (items : List (Name × CoreExtern)) (es : List (Name × CoreItem)) : Type 0 where

@@ -2,7 +2,7 @@
 ghost use Rattle.std.specs.Prelude.{◌≡◌, Some, Contains, IfOk, slice_get};
 ghost use Rattle.wac_collection.specs.Collection.{HasResource};
 ghost use Rattle.wac_collection.specs.Held.{resolved};
-ghost use Rattle.wac_entries.specs.CalledViews.{called_view};
+ghost use Rattle.wac_subtyping.specs.CalledViews.{called_view};
 ghost use Rattle.wac_entries.specs.Scopes.{inside};
 ghost use Rattle.wac_coding.specs.CallsView.{names_in, AreNamed};
 ghost use Rattle.wac_coding.specs.Listings.{at_scope};
@@ -11,11 +11,11 @@ use std::alloc::{AllocError, Global};
 use wac_collection::{ItemKind, ResourceId, Types};
 use wac_entries::bindings::Bindings;
 use wac_entries::bound::Bound;
-use wac_entries::called::Called;
 use wac_entries::entry::Entry;
 use wac_entries::naming::{BoundScopes, called, called_outside};
 use wac_entries::outward::Outward;
 use wac_entries::scopes::{Opener, Scope, Scopes};
+use wac_subtyping::called::Called;
 
 /// What resources are called in a scope of an entry of a class.
 #[derive(Clone, Copy)]

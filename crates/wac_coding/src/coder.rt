@@ -9,9 +9,9 @@ ghost use Rattle.wac_collection.specs.Held.{defined_tree};
 ghost use Rattle.wac_shapes.specs.declared.component.DefinedType.TheVariants as def;
 ghost use Rattle.wac_shapes.specs.declared.component.ValueType.TheVariants as val;
 ghost use Rattle.wac_shapes.specs.declared.component.«Type».TheVariants as ty;
-ghost use Rattle.wac_entries.specs.Nodes.{mentions, node_tree, tree_at, IsSorted};
-ghost use Rattle.wac_entries.specs.NodeViews.{node_view};
-ghost use Rattle.wac_entries.specs.Tasks.{parts_of, IsHeldTask, IsOpening, AreHeldValues};
+ghost use Rattle.wac_tables.specs.Nodes.{mentions, node_tree, tree_at, IsSorted};
+ghost use Rattle.wac_tables.specs.NodeViews.{node_view};
+ghost use Rattle.wac_tables.specs.Tasks.{parts_of, IsHeldTask, IsOpening, AreHeldValues};
 ghost use Rattle.wac_coding.specs.CallsView.{AreNamed};
 ghost use Rattle.wac_coding.specs.Coding.{only_part, source_tree, values_of, IsGrown, HasTree, IsRight, IsMore, IsReady, AreReady, IsDone, MayBeDone, Did, HasOption, AreParts, AreFields, AreCases, Fits, Means};
 
@@ -21,9 +21,9 @@ use std::alloc::{AllocError, Global};
 use wac_collection::{
     DefinedType, DefinedTypeId, FuncTypeId, Labels, Named, ResourceId, Types, ValueType,
 };
-use wac_entries::nodes::{Node, Nodes};
-use wac_entries::tasks::{Task, open_fields, open_optional, open_parts, open_value};
 use wac_subtyping::laws::trees_are_whole;
+use wac_tables::nodes::{Node, Nodes};
+use wac_tables::tasks::{Task, open_fields, open_optional, open_parts, open_value};
 
 /// Where a scope's types are held, and what resources are called in it.
 #[derive(Clone, Copy)]

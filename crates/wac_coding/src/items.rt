@@ -6,7 +6,7 @@ ghost use Rattle.std.specs.Prelude.{◌≡◌, [], true, IfOk, OnOk};
 ghost use Rattle.wac_collection.specs.Collection.{holds_type};
 ghost use Rattle.wac_shapes.specs.Kinds.{kind_type};
 ghost use Rattle.wac_entries.specs.Scopes.{opened_by, opened_by_type};
-ghost use Rattle.wac_entries.specs.NodeViews.{item_view};
+ghost use Rattle.wac_tables.specs.NodeViews.{item_view};
 ghost use Rattle.wac_coding.specs.CallsView.{AreNamed};
 ghost use Rattle.wac_coding.specs.Coding.{source_tree, IsGrown, HasTree, IsRight};
 ghost use Rattle.wac_coding.specs.ItemCoding.{HasItem};
@@ -16,7 +16,7 @@ use crate::memo::Memo;
 use crate::modules::module_type;
 use std::alloc::AllocError;
 use wac_collection::{ItemKind, Type};
-use wac_entries::nodes::{Item, Node, Nodes};
+use wac_tables::nodes::{Item, Node, Nodes};
 
 impl Memo {
     /// The number of a type that opens no scope.

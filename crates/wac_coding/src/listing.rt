@@ -3,7 +3,7 @@ ghost use Rattle.std.specs.Prelude.{◌≡◌, true, IfOk};
 ghost use Rattle.wac_collection.specs.Collection.{holds_type, world_imports, world_exports, HasWorld};
 ghost use Rattle.wac_entries.specs.Scopes.{listed_in, opener_type, scope_tree};
 ghost use Rattle.wac_primitives.specs.Tree.{instance};
-ghost use Rattle.wac_entries.specs.NodeViews.{listed};
+ghost use Rattle.wac_tables.specs.NodeViews.{listed};
 ghost use Rattle.wac_coding.specs.CallsView.{names_in};
 ghost use Rattle.wac_coding.specs.Coding.{source_tree, IsGrown, HasSame, HasTree};
 ghost use Rattle.wac_coding.specs.ItemCoding.{AreItems, Lists, listing_under, component_tree};
@@ -13,8 +13,8 @@ use crate::memo::Memo;
 use crate::order::{exchange_all, renew};
 use std::alloc::AllocError;
 use wac_collection::{ItemKind, Named, Types, WorldId};
-use wac_entries::nodes::{Item, Node, Nodes};
 use wac_entries::scopes::Opener;
+use wac_tables::nodes::{Item, Node, Nodes};
 
 /// Items under their names, sorted by name.
 fn entries<'a>(

@@ -4,10 +4,10 @@ ghost use Rattle.wac_subtyping.specs.Called.{Called};
 ghost use Rattle.wac_primitives.specs.Tree.{TypeTree};
 ghost use Rattle.wac_shapes.specs.declared.component.«Type».{«Type» as AnyType};
 ghost use Rattle.wac_shapes.specs.declared.component.«Type».TheVariants as ty;
-ghost use Rattle.wac_entries.specs.Nodes.{Node};
+ghost use Rattle.wac_tables.specs.Nodes.{Node};
 ghost use Rattle.wac_collection.specs.Collection.{holds_all, holds_type, kind_types};
 ghost use Rattle.wac_shapes.specs.Kinds.{kind_type};
-ghost use Rattle.wac_entries.specs.NodeViews.{item_view};
+ghost use Rattle.wac_tables.specs.NodeViews.{item_view};
 ghost use Rattle.wac_coding.specs.CallsView.{AreNamed, names_in};
 ghost use Rattle.wac_coding.specs.Coding.{source_tree, tree_in, HasSame, HasTree, IsGrown, IsRight};
 ghost use Rattle.wac_coding.specs.ItemCoding.{AreItems, HasItem};
@@ -20,9 +20,9 @@ use crate::listing::{component, listed_kinds, scope_instance};
 use crate::memo::Memo;
 use std::alloc::{AllocError, Global};
 use wac_collection::{ItemKind, Named, Type, WorldId};
-use wac_entries::nodes::{Item, Nodes};
 use wac_entries::scopes::Opener;
 use wac_subtyping::laws::trees_are_whole;
+use wac_tables::nodes::{Item, Nodes};
 
 /// An item of an instance type or of a component type, of this number.
 fn opened_item(kind: ItemKind, number: usize) -> Item

@@ -5,8 +5,8 @@ ghost use Rattle.wac_coding.specs.Coding.{defined_number, func_number, HasDefine
 use std::alloc::{AllocError, Global};
 use std::mem::replace;
 use wac_collection::{DefinedTypeId, FuncTypeId};
-use wac_entries::rounds::Numbers;
-use wac_entries::tasks::Task;
+use wac_tables::rounds::Numbers;
+use wac_tables::tasks::Task;
 
 /// The numbers of the types of a scope: of those that have one so far.
 pub struct Memo {

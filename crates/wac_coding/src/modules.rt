@@ -6,16 +6,16 @@ ghost use Rattle.std.specs.String.{string_cmp};
 ghost use Rattle.wac_collection.specs.Collection.{HasModule};
 ghost use Rattle.wac_collection.specs.Held.{core_item};
 ghost use Rattle.wac_shapes.specs.declared.component.«Type».TheVariants as ty;
-ghost use Rattle.wac_entries.specs.NodeViews.{core_view, core_items, core_modules};
+ghost use Rattle.wac_tables.specs.NodeViews.{core_view, core_items, core_modules};
 ghost use Rattle.wac_coding.specs.Coding.{source_tree, IsGrown, HasTree};
-ghost use Rattle.wac_entries.specs.Nodes.{AreCoreItems};
+ghost use Rattle.wac_tables.specs.Nodes.{AreCoreItems};
 ghost use Rattle.wac_coding.specs.ModuleCoding.{AreCores, AreImports, PutsUnder, AreFull, maps_items};
 
 use crate::coder::{Source, add};
 use std::alloc::{AllocError, Global};
 use std::collections::BTreeMap;
 use wac_collection::{CoreExtern, CoreImports, ModuleTypeId, Named};
-use wac_entries::nodes::{Core, Node, Nodes};
+use wac_tables::nodes::{Core, Node, Nodes};
 
 /// The entries of a map, in the order of their names.
 pub fn in_order<V: Drop>(

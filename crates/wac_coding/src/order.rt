@@ -6,7 +6,7 @@ ghost use Rattle.std.specs.List.Sorted.{IsPermutation};
 
 use std::alloc::{AllocError, Global};
 use wac_collection::{ItemKind, Named};
-use wac_entries::nodes::Item;
+use wac_tables::nodes::Item;
 
 /// Names up to which a sort takes too little time to find exchanges for.
 const FEW: usize = 16;

@@ -4,12 +4,6 @@ pub mod Numbers
 pub mod Newest
 pub mod Rows
 pub mod Canonical
-pub mod SortedMaps
-pub mod NodeLaws
-pub mod Telling
-pub mod CalledKeys
-pub mod NodeKeys
-pub mod NodeAdding
 pub mod Inserting
 pub mod ScopeKeys
 pub mod Opening
@@ -18,6 +12,3 @@ pub mod Walking
 pub mod Ways
 pub mod Places
 pub mod ClassPaths
-pub mod TaskOpenings
-pub mod TaskLemmas
-pub mod PutNumbers

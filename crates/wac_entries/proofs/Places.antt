@@ -27,8 +27,8 @@ use Rattle.wac_shapes.specs.declared.component.ItemKind.{ItemKind}
 use Rattle.wac_shapes.specs.declared.component.ItemKind.TheVariants as kind
 use Rattle.wac_collection.proofs.Growth.{all_within}
 use Rattle.wac_shapes.proofs.Names.{take_at}
-use Rattle.wac_entries.proofs.Telling.{both}
-use Rattle.wac_entries.specs.CalledViews.{path_view}
+use Rattle.wac_subtyping.proofs.Telling.{both}
+use Rattle.wac_subtyping.specs.CalledViews.{path_view}
 use Rattle.wac_entries.specs.Places.{Adds, bound_by_instance, find_resource, given_path, leaf_at, only, own_at, own_resource, under}
 
 -- ---- what is known, and more behind it

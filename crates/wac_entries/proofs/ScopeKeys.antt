@@ -9,7 +9,7 @@ use Rattle.wac_entries.specs.contracts.scopes.ScopePartialEq.TheImpl as ScopeEq
 use Rattle.wac_entries.specs.declared.scopes.Opener.{Opener}
 use Rattle.wac_entries.specs.declared.scopes.Opener.TheVariants as opener
 use Rattle.wac_entries.specs.declared.scopes.Scope.{Scope}
-use Rattle.wac_entries.proofs.Telling.{both, and_true}
+use Rattle.wac_subtyping.proofs.Telling.{both, and_true}
 
 same-opener : (a b : Opener) → (OpenerEq.ghosts).eq a b ≡ true → a ≡ b
 same-opener (opener.Interface i) (opener.Interface j) e = ap (λ n. opener.Interface (record { 0 = n })) (eqb-true i.0 j.0 e)

@@ -12,7 +12,7 @@ use Rattle.wac_shapes.specs.declared.component.«Type».TheVariants as ty
 use Rattle.wac_shapes.specs.declared.component.ItemKind.{ItemKind}
 use Rattle.wac_shapes.specs.declared.component.ItemKind.TheVariants as kind
 use Rattle.wac_entries.specs.declared.bound.Place.{Place as APlace}
-use Rattle.wac_entries.specs.CalledViews.{side_view, path_view}
+use Rattle.wac_subtyping.specs.CalledViews.{side_view, path_view}
 
 -- a leaf of the scope itself
 abbrev pub leaf_at : Side → List Place → Leaf

@@ -10,12 +10,11 @@ ghost use Rattle.wac_primitives.specs.Tree.{Leaf};
 ghost use Rattle.wac_shapes.specs.declared.component.ItemKind.TheVariants as kind_of;
 ghost use Rattle.wac_shapes.specs.declared.component.ResourceId.{ResourceId as AnId};
 ghost use Rattle.wac_entries.specs.Bindings.{AreBindings, AreHeld, HaveBound, HaveTracks, first_from, first_in, member_leaves, numbered, path_in};
-ghost use Rattle.wac_entries.specs.CalledViews.{path_view};
+ghost use Rattle.wac_subtyping.specs.CalledViews.{path_view};
 ghost use Rattle.wac_entries.specs.Classes.{by_names, class_names, AreClasses};
 ghost use Rattle.wac_entries.specs.Places.{Adds, find_resource};
 
 use crate::bound::{Bound, resource_itself};
-use crate::called::Side;
 use crate::classes::Classes;
 use crate::entry::Entry;
 use indexmap::IndexMap;
@@ -23,6 +22,7 @@ use std::alloc::{AllocError, Global};
 use std::marker::Model;
 use wac_collection::{InterfaceId, ItemKind, ResourceId, Types};
 use wac_names::Track;
+use wac_subtyping::called::Side;
 
 /// The track of each class.
 pub fn class_tracks<'a>(

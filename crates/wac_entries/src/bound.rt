@@ -5,16 +5,16 @@ ghost use Rattle.wac_collection.specs.Bound.{first_bound};
 ghost use Rattle.wac_collection.specs.Collection.{holds_all, holds_type, kind_types};
 ghost use Rattle.wac_shapes.specs.Kinds.{kind_type};
 ghost use Rattle.wac_shapes.specs.declared.component.ResourceId.{ResourceId as AnId};
-ghost use Rattle.wac_entries.specs.CalledViews.{path_view, side_view};
+ghost use Rattle.wac_subtyping.specs.CalledViews.{path_view, side_view};
 ghost use Rattle.wac_entries.specs.Places.{Adds, bound_by_instance, find_resource, given_path, leaf_at, only, own_at, own_resource, place_view, resource_itself, under};
 ghost use Rattle.wac_entries.specs.Scopes.{binds, opener_type};
 
-use crate::called::Side;
 use crate::scopes::Opener;
 use indexmap::IndexMap;
 use std::alloc::{AllocError, Global};
 use std::marker::Model;
 use wac_collection::{ItemKind, Named, ResourceId, Type, Types, UsedType};
+use wac_subtyping::called::Side;
 
 /// Where a resource is bound: on a side, under a path of names.
 pub struct Place {

@@ -6,7 +6,7 @@ ghost use Rattle.wac_collection.specs.Held.{resolved};
 ghost use Rattle.wac_primitives.specs.Name.{Name};
 ghost use Rattle.wac_entries.specs.Agreement.{called_in_class};
 ghost use Rattle.wac_entries.specs.Bindings.{AreBindings, first_in, path_in};
-ghost use Rattle.wac_entries.specs.CalledViews.{called_view, path_view};
+ghost use Rattle.wac_subtyping.specs.CalledViews.{called_view, path_view};
 ghost use Rattle.wac_entries.specs.Classes.{by_names, class_names, is_instance};
 ghost use Rattle.wac_entries.specs.Classes as classes;
 ghost use Rattle.wac_entries.specs.Opening.{IsHeldAt};
@@ -16,11 +16,11 @@ ghost use Rattle.wac_entries.specs.Walking.{AreBound, past};
 
 use crate::bindings::Bindings;
 use crate::bound::Bound;
-use crate::called::{Called, Side};
 use crate::outward::Outward;
 use crate::scopes::Scopes;
 use std::alloc::{AllocError, Global};
 use wac_collection::{ItemKind, ResourceId, Types};
+use wac_subtyping::called::{Called, Side};
 
 /// What each of the scopes of an item binds.
 pub fn bound_in(alloc: Global, types: &Types, scopes: &Scopes) -> Result<Vec<Bound>, AllocError>

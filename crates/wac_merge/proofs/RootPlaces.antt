@@ -14,7 +14,7 @@ use Rattle.wac_collection.specs.Collection.{Collection}
 use Rattle.wac_primitives.specs.Tree.{Place}
 use Rattle.wac_entries.specs.Binding.{binding_class}
 use Rattle.wac_entries.specs.Bindings.{ClassBindings, first_in}
-use Rattle.wac_entries.specs.CalledViews.{path_view}
+use Rattle.wac_subtyping.specs.CalledViews.{path_view}
 use Rattle.wac_entries.specs.Classes.{Entry, by_names, canonical, class_names}
 use Rattle.wac_entries.proofs.Lists.{some-at}
 use Rattle.wac_terms.specs.Merge.{IsMerge, Merged, import_entries, import_under}

@@ -10,7 +10,7 @@ use Rattle.wac_subtyping.specs.Called.{own_leaf}
 use Rattle.wac_shapes.specs.declared.component.Interface.{Interface}
 use Rattle.wac_shapes.specs.declared.component.ResourceId.{ResourceId}
 use Rattle.wac_shapes.proofs.Names.{take_at}
-use Rattle.wac_entries.specs.CalledViews.{path_view}
+use Rattle.wac_subtyping.specs.CalledViews.{path_view}
 use Rattle.wac_entries.specs.Places.{find_resource, leaf_at, place_view}
 use Rattle.wac_entries.specs.Bindings.{ClassBindings}
 use Rattle.wac_terms.specs.Became.{AreBoundParts, became, became_in_class, became_to, new_at, or_itself, own_in, own_of_part}

@@ -19,7 +19,7 @@ use Rattle.wac_entries.specs.Bindings.{AreBindings, ClassBindings, first_in}
 use Rattle.wac_entries.specs.Classes.{Entry, by_names, class_names, same_class, same_track}
 use Rattle.wac_renaming.specs.FreshSteps.{AreCounted, IsWhole, StayWhole}
 use Rattle.wac_entries.specs.Places.{resource_itself}
-use Rattle.wac_entries.specs.CalledViews.{path_view}
+use Rattle.wac_subtyping.specs.CalledViews.{path_view}
 use Rattle.wac_entries.proofs.Lists.{push-cases}
 
 some-same : {A : Type 0} (x y : A) → Some x ≡ Some y → x ≡ y

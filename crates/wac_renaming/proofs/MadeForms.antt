@@ -19,8 +19,8 @@ use Rattle.wac_shapes.specs.declared.component.ValueType.{ValueType}
 use Rattle.wac_shapes.specs.declared.component.ValueType.TheVariants as val
 use Rattle.wac_shapes.proofs.Names.{take_at}
 use Rattle.wac_collection.specs.Collection.{Collection, HasDefined, item_at, seconds}
-use Rattle.wac_entries.proofs.Telling.{Tells, both, and_true, list_itself, list_same, Text, text_eq, text_tells}
-use Rattle.wac_entries.proofs.TaskOpenings.{labels_take}
+use Rattle.wac_subtyping.proofs.Telling.{Tells, both, and_true, list_itself, list_same, Text, text_eq, text_tells}
+use Rattle.wac_tables.proofs.TaskOpenings.{labels_take}
 use Rattle.wac_renaming.specs.contracts.made.FormPartialEq.TheImpl as FormEq
 use Rattle.wac_renaming.specs.contracts.made.FuncFormPartialEq.TheImpl as FuncFormEq
 use Rattle.wac_renaming.specs.contracts.shapes.ShapePartialEq.TheImpl as ShapeEq

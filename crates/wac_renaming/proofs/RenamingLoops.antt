@@ -18,10 +18,10 @@ use Rattle.wac_shapes.specs.declared.component.FuncTypeId.{FuncTypeId}
 use Rattle.wac_shapes.specs.declared.component.ValueType.{ValueType}
 use Rattle.wac_shapes.proofs.Names.{none_before, none_behind, take_at}
 use Rattle.wac_subtyping.specs.TreeLaws.{GrowthKeepsTrees}
-use Rattle.wac_entries.specs.Tasks.{AreHeldValues}
+use Rattle.wac_tables.specs.Tasks.{AreHeldValues}
 use Rattle.wac_renaming.specs.RenamingSteps.{IsDefinedBehind, IsFuncBehind}
 use Rattle.wac_entries.proofs.Lists.{zip_push}
-use Rattle.wac_entries.proofs.TaskOpenings.{labels_take, values_take}
+use Rattle.wac_tables.proofs.TaskOpenings.{labels_take, values_take}
 use Rattle.wac_renaming.proofs.Extending.{extended_defined, extended_func}
 
 pub parts_further : (R : ValueType → ValueType → Type 0) (vs : List ValueType) (i : ℕ) (d : ValueType) (ws us : List ValueType) (w : ValueType) → i < length vs → us ≡ ws ++ w ∷ [] → AllZip R (take i vs) ws → R (get_or vs i d) w → AllZip R (take (i + 1) vs) us

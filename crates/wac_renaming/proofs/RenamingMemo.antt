@@ -15,8 +15,8 @@ use Rattle.wac_shapes.specs.declared.component.«Type».TheVariants as ty
 use Rattle.wac_renaming.specs.Made.{AreApart, AreMade, AreThere, IsFuncMadeOf, IsMadeFor, IsMadeOf, StayMade, anew, other_name}
 use Rattle.wac_renaming.specs.declared.made.Made.{Made}
 use Rattle.wac_renaming.specs.RenamedTypes.{AreRenamed, becomes, defined_at, defined_in, func_at, func_in}
-use Rattle.wac_entries.specs.Tasks.{task_id}
-use Rattle.wac_entries.specs.declared.tasks.Task.{Task}
+use Rattle.wac_tables.specs.Tasks.{task_id}
+use Rattle.wac_tables.specs.declared.tasks.Task.{Task}
 use Rattle.wac_terms.specs.Renaming.{IsExtended, IsRenamed}
 use Rattle.wac_renaming.specs.RenamingSteps.{HasDefinedToo, HasFuncToo, HasSame, HaveOneFuncShape, HaveOneShape, IsDefinedBehind, IsDone, IsFuncBehind, IsMore, IsRenamedIn, IsRenamedValue}
 use Rattle.wac_renaming.specs.declared.renamer.Renamed.{Renamed}

@@ -13,12 +13,12 @@ use Rattle.wac_renaming.specs.Made.{StayMade}
 use Rattle.wac_renaming.specs.RenamedTypes.{AreRenamed, defined_in}
 use Rattle.wac_terms.specs.Renaming.{IsExtended}
 use Rattle.wac_renaming.specs.RenamingSteps.{AreCovered, AreReady, Did, IsAwaited, IsDone, IsMore, IsReady, IsUnderWay, MayBeDone, put_off, renamed}
-use Rattle.wac_entries.specs.Tasks.{task_id, opening, openings, parts_of, task_weight, tasks_weight, IsHeldTask, IsOpening, HasTask}
+use Rattle.wac_tables.specs.Tasks.{task_id, opening, openings, parts_of, task_weight, tasks_weight, IsHeldTask, IsOpening, HasTask}
 use Rattle.wac_renaming.specs.declared.renamer.Renamed.{Renamed}
 use Rattle.wac_renaming.specs.declared.renamer.Renaming.{Renaming}
-use Rattle.wac_entries.specs.declared.tasks.Task.{Task}
-use Rattle.wac_entries.specs.declared.tasks.Task.TheVariants.{Open, Close}
-use Rattle.wac_entries.proofs.TaskLemmas.{all_each, all_front, all_joined, all_last, all_openings, has_behind, has_front, has_parted, openings_held, openings_weigh, parts_below, some_weight, total_joined}
+use Rattle.wac_tables.specs.declared.tasks.Task.{Task}
+use Rattle.wac_tables.specs.declared.tasks.Task.TheVariants.{Open, Close}
+use Rattle.wac_tables.proofs.TaskLemmas.{all_each, all_front, all_joined, all_last, all_openings, has_behind, has_front, has_parted, openings_held, openings_weigh, parts_below, some_weight, total_joined}
 use Rattle.wac_renaming.proofs.Extending.{extended_none, extended_twice}
 
 module _ (c : Collection) (wf : IsWellFormed c) where

@@ -9,7 +9,7 @@ use Rattle.wac_shapes.specs.declared.component.FuncTypeId.{FuncTypeId}
 use Rattle.wac_shapes.specs.declared.component.«Type».TheVariants as ty
 use Rattle.wac_shapes.specs.declared.component.ValueType.{ValueType}
 use Rattle.wac_shapes.specs.declared.component.ValueType.TheVariants as val
-use Rattle.wac_entries.specs.Numbers.{number_at}
+use Rattle.wac_tables.specs.Numbers.{number_at}
 use Rattle.wac_terms.specs.Unions.{AreAround, IsPart}
 use Rattle.wac_terms.specs.Became.{AreBoundParts, became}
 use Rattle.wac_renaming.specs.declared.became.Became.{Became}

@@ -20,11 +20,11 @@ use Rattle.wac_renaming.specs.RenamedTypes.{AreRenamed, becomes, defined_in, fun
 use Rattle.wac_renaming.specs.Made.{IsMadeOf, StayMade}
 use Rattle.wac_renaming.specs.declared.made.Made.{Made}
 use Rattle.wac_terms.specs.Renaming.{IsExtended, IsRenamed}
-use Rattle.wac_entries.specs.Tasks.{task_id, parts_of, openings, IsHeldTask, HasTask}
+use Rattle.wac_tables.specs.Tasks.{task_id, parts_of, openings, IsHeldTask, HasTask}
 use Rattle.wac_renaming.specs.declared.renamer.Renamed.{Renamed}
 use Rattle.wac_renaming.specs.declared.renamer.Renaming.{Renaming}
-use Rattle.wac_entries.specs.declared.tasks.Task.{Task}
-use Rattle.wac_entries.specs.declared.tasks.Task.TheVariants.{Open, Close}
+use Rattle.wac_tables.specs.declared.tasks.Task.{Task}
+use Rattle.wac_tables.specs.declared.tasks.Task.TheVariants.{Open, Close}
 
 -- a value type became one of the second collection
 abbrev pub IsRenamedValue : Collection → Collection → (ResourceId → ResourceId) → ValueType → ValueType → Type 0

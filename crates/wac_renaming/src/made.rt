@@ -4,7 +4,7 @@ ghost use Rattle.std.specs.Prelude.{◌≡◌, None, Some, IfOk, OnOk};
 ghost use Rattle.std.specs.Option.{unwrap_or};
 ghost use Rattle.wac_collection.specs.Collection.{Collection, HasDefined, defined_values, func_values, item_at, seconds};
 ghost use Rattle.wac_collection.specs.declared.collection.AddTypeError.TheVariants.{OutOfMemory};
-ghost use Rattle.wac_entries.specs.Tasks.{AreHeldValues};
+ghost use Rattle.wac_tables.specs.Tasks.{AreHeldValues};
 ghost use Rattle.wac_renaming.specs.Made.{AreApart, AreMade, AreThere, HasMadeFuncToo, HasMadeToo, IsCalledAlike, IsFuncMadeFor, IsMadeFor, StayMade, func_made_in, made_in};
 ghost use Rattle.wac_renaming.specs.RenamingSteps.{IsDefinedBehind, IsFuncBehind};
 ghost use Rattle.wac_renaming.specs.Shapes.{shape_view};

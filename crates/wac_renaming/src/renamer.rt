@@ -16,7 +16,7 @@ ghost use Rattle.wac_renaming.specs.RenamedTypes.{AreRenamed, CanRename, becomes
 ghost use Rattle.wac_terms.specs.Renaming.{IsExtended, IsRenamed};
 ghost use Rattle.wac_renaming.specs.Ways.{AreOutward};
 ghost use Rattle.wac_renaming.specs.RenamingSteps.{AllStay, AreReady, CasesGoTogether, Did, FieldsGoTogether, GoTogether, HasDefinedToo, HasFuncToo, HasSame, HaveOneFuncShape, HaveOneShape, IsBecome, IsDone, IsMore, IsReady, MayBeDone, Stays};
-ghost use Rattle.wac_entries.specs.Tasks.{IsHeldTask, IsOpening, parts_of, AreHeldValues};
+ghost use Rattle.wac_tables.specs.Tasks.{IsHeldTask, IsOpening, parts_of, AreHeldValues};
 ghost use Rattle.wac_terms.specs.Unions.{AreAround, IsPart};
 ghost use Rattle.wac_renaming.specs.declared.renamer.Renaming.{Renaming as ARenaming};
 ghost use Rattle.wac_values.specs.declared.named.NamedTypes.{NamedTypes as ANamedTypes};
@@ -29,9 +29,9 @@ use wac_collection::{
     DefinedType, DefinedTypeId, Enum, Flags, FuncType, FuncTypeId, Labels, Named, Record,
     ResourceId, ShapeError, Types, ValueType, Variant,
 };
-use wac_entries::rounds::Numbers;
-use wac_entries::tasks::{Task, open_fields, open_optional, open_parts, open_value};
 use wac_subtyping::laws::trees_are_whole;
+use wac_tables::rounds::Numbers;
+use wac_tables::tasks::{Task, open_fields, open_optional, open_parts, open_value};
 
 /// Where types are renamed: the collection that they are of, what its resources become, and in which part.
 #[derive(Clone, Copy)]

@@ -3,3 +3,4 @@ pub mod Resolved
 pub mod Relation
 pub mod Trees
 pub mod Kept
+pub mod Telling

@@ -2,7 +2,7 @@
 use Rattle.std.proofs.Common.{◌≡◌, ℕ, ◌<◌, ◌≤◌, List, [], ◌∷◌, length, get_or, ap, arith}
 use Rattle.std.specs.Prelude.{string_bytes}
 use Rattle.std.specs.declared.string.String.{String}
-use Rattle.wac_entries.specs.CalledViews.{path_view}
+use Rattle.wac_subtyping.specs.CalledViews.{path_view}
 use Rattle.wac_terms.specs.Became.{new_at, own_in}
 use Rattle.wac_terms.specs.declared.fresh.Fresh.{Fresh}
 

@@ -1,6 +1,6 @@
 //! The new resources of a merged collection.
 ghost use Rattle.std.specs.Prelude.{◌≡◌};
-ghost use Rattle.wac_entries.specs.CalledViews.{path_view};
+ghost use Rattle.wac_subtyping.specs.CalledViews.{path_view};
 ghost use Rattle.wac_terms.specs.Became.{new_at, own_in, whole_in};
 
 use wac_collection::{Named, ResourceId};

@@ -31,7 +31,7 @@ use Rattle.wac_terms.specs.Writing.{IsAliasOf, IsWrittenAs}
 use Rattle.wac_terms.proofs.Alike.{agree_at}
 use Rattle.wac_terms.proofs.Found.{no_some, some_same}
 use Rattle.wac_trees.proofs.MergedSubtypesNames.{tested_low}
-use Rattle.wac_entries.proofs.SortedMaps.{found_are, items_are}
+use Rattle.wac_tables.proofs.SortedMaps.{found_are, items_are}
 
 -- ---- items that agree
 

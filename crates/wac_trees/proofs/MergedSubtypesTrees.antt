@@ -16,7 +16,7 @@ use Rattle.wac_subtyping.specs.Subtype.{listed_in}
 use Rattle.wac_subtyping.specs.Subtype.{Sub, by_name, kind_tree, resource_names, type_tree}
 use Rattle.wac_subtyping.specs.TreeLaws.{IsDeepEnough}
 use Rattle.wac_terms.proofs.Found.{no_some, some_same}
-use Rattle.wac_entries.proofs.SortedMaps.{found_are, items_are}
+use Rattle.wac_tables.proofs.SortedMaps.{found_are, items_are}
 
 pub sub_to : {L : Type 0} (a b u v : TypeTree L) → a ≡ u → b ≡ v → Sub u v → Sub a b
 sub_to a b u v e f s = subst (λ z. Sub a z) (sym f) (subst (λ z. Sub z v) (sym e) s)

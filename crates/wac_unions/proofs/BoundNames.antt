@@ -21,7 +21,7 @@ use Rattle.wac_shapes.specs.declared.component.ItemKind.{ItemKind}
 use Rattle.wac_shapes.specs.declared.component.ItemKind.TheVariants as kind
 use Rattle.wac_entries.specs.Binding.{class_binds, first_binds, kind_binds}
 use Rattle.wac_entries.specs.Bindings.{AreBindings, ClassBindings, path_in}
-use Rattle.wac_entries.specs.CalledViews.{path_view}
+use Rattle.wac_subtyping.specs.CalledViews.{path_view}
 use Rattle.wac_entries.specs.Classes.{AreClasses, Entry, by_names, is_asked, is_instance, members, same_class}
 use Rattle.wac_entries.proofs.ClassFacts.{class-parts, class-sym, class-trans, one-position}
 use Rattle.wac_entries.proofs.Lists.{any-at, any-found, some-at}

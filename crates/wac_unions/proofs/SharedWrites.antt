@@ -22,7 +22,7 @@ use Rattle.wac_shapes.specs.declared.component.ValueType.TheVariants as val
 use Rattle.wac_shapes.specs.declared.component.«Type».{«Type» as AnyType}
 use Rattle.wac_shapes.specs.declared.component.«Type».TheVariants as ty
 use Rattle.wac_collection.specs.Collection.{Collection, HasInterface, item_at}
-use Rattle.wac_entries.proofs.Telling.{and_true, both}
+use Rattle.wac_subtyping.proofs.Telling.{and_true, both}
 use Rattle.wac_terms.proofs.Found.{some_same}
 use Rattle.wac_unions.specs.SharedUnions.{Shares}
 

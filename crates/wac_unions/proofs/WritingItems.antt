@@ -31,7 +31,7 @@ use Rattle.wac_terms.specs.declared.parts.Export.{Export}
 use Rattle.wac_terms.specs.declared.parts.Part.{Part}
 use Rattle.wac_renaming.proofs.Extending.{still_alias, still_holds, still_renamed}
 use Rattle.wac_entries.proofs.Lists.{at-end}
-use Rattle.wac_entries.proofs.Telling.{both}
+use Rattle.wac_subtyping.proofs.Telling.{both}
 
 -- ---- aliases
 

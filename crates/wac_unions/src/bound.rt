@@ -5,7 +5,7 @@ ghost use Rattle.wac_collection.specs.Collection.{holds_type};
 ghost use Rattle.wac_primitives.specs.Tree.{named};
 ghost use Rattle.wac_shapes.specs.Kinds.{kind_type};
 ghost use Rattle.wac_entries.specs.Bindings.{AreBindings, AreHeld};
-ghost use Rattle.wac_entries.specs.CalledViews.{path_view};
+ghost use Rattle.wac_subtyping.specs.CalledViews.{path_view};
 ghost use Rattle.wac_entries.specs.Classes.{AreClasses, by_names};
 ghost use Rattle.wac_unions.specs.BoundNames.{ItemBinds, MemberBinds};
 ghost use Rattle.wac_unions.specs.MergedScope.{BindsUnder};

@@ -8,7 +8,7 @@ use Rattle.wac_shapes.specs.contracts.component.InterfaceIdPartialEq.TheImpl as 
 use Rattle.wac_shapes.specs.declared.component.InterfaceId.{InterfaceId}
 use Rattle.wac_shapes.proofs.Names.{key_passes}
 use Rattle.wac_subtyping.proofs.Unfolding.{all_map}
-use Rattle.wac_entries.proofs.Telling.{both}
+use Rattle.wac_subtyping.proofs.Telling.{both}
 use Rattle.wac_terms.specs.declared.parts.Part.{Part}
 use Rattle.wac_terms.specs.declared.parts.Union.{Union}
 use Rattle.wac_terms.specs.Unions.{IsInner}

@@ -10,7 +10,7 @@ use Rattle.wac_shapes.proofs.Names.{key_passes}
 use Rattle.wac_shapes.specs.declared.component.ItemKind.{ItemKind}
 use Rattle.wac_shapes.specs.declared.component.ItemKind.TheVariants as kind
 use Rattle.wac_entries.proofs.Lists.{at-end}
-use Rattle.wac_entries.proofs.Telling.{both}
+use Rattle.wac_subtyping.proofs.Telling.{both}
 use Rattle.wac_terms.proofs.Found.{no_some, some_same}
 use Rattle.wac_uses.specs.Using.{AreKnown, IsItemPlaced, StandsBehind}
 

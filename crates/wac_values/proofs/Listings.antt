@@ -13,7 +13,7 @@ use Rattle.wac_shapes.specs.declared.component.UsedType.{UsedType}
 use Rattle.wac_shapes.specs.declared.component.«Type».TheVariants as ty
 use Rattle.wac_shapes.specs.declared.component.ItemKind.{ItemKind}
 use Rattle.wac_shapes.specs.declared.component.ItemKind.TheVariants as kind
-use Rattle.wac_entries.proofs.Telling.{both}
+use Rattle.wac_subtyping.proofs.Telling.{both}
 use Rattle.wac_terms.specs.Values.{is_value, listed_value, used_value, uses_value, value_name}
 use Rattle.wac_terms.specs.ValueBindings.{find_value}
 use Rattle.wac_values.specs.Listings.{Found, Takes, better, exported, found, has_value, listed_by, only, stays}

@@ -1,9 +1,9 @@
 use Rattle.std.proofs.Common.{◌≡◌, ◌<◌, ◌∙◌, ℕ, [], map, length, List, Some, None, refl, ap, sym, subst, arith}
 use Rattle.std.specs.Prelude.{slice_get, option_copied}
 use Rattle.std.specs.List.{AllByRecursion}
-use Rattle.wac_entries.specs.Nodes.{Item, type_of}
-use Rattle.wac_entries.specs.NodeViews.{item_view}
-use Rattle.wac_entries.specs.declared.nodes.Item.{Item as AnItem}
+use Rattle.wac_tables.specs.Nodes.{Item, type_of}
+use Rattle.wac_tables.specs.NodeViews.{item_view}
+use Rattle.wac_tables.specs.declared.nodes.Item.{Item as AnItem}
 use Rattle.wac_terms.proofs.Found.{get_map, mapped_length}
 use Rattle.wac_agreeing.specs.Groups.{IsGroup}
 use Rattle.wac_agreeing.specs.Rows.{all_put, ArePut, groups_view, row_view, table_view}

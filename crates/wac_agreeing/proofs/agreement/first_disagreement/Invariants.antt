@@ -1,5 +1,5 @@
 use Rattle.std.proofs.Common.{map}
-use Rattle.wac_entries.specs.NodeViews.{item_view}
+use Rattle.wac_tables.specs.NodeViews.{item_view}
 use Rattle.wac_agreeing.specs.Groups.{IsGoing, left}
 use Rattle.wac_agreeing.specs.Rows.{groups_view}
 use Rattle.wac_agreeing.proofs.agreement.first_disagreement.Given as goal

@@ -4,9 +4,9 @@ use Rattle.std.proofs.lemmas.Option.{slice_get-get_or}
 use Rattle.wac_primitives.specs.Name.{option_case}
 use Rattle.wac_shapes.proofs.Names.{take_at}
 use Rattle.wac_shapes.proofs.Under.{none_mapped}
-use Rattle.wac_entries.specs.Nodes.{type_of}
-use Rattle.wac_entries.specs.NodeViews.{item_view, listed}
-use Rattle.wac_entries.specs.declared.nodes.Item.TheVariants as item
+use Rattle.wac_tables.specs.Nodes.{type_of}
+use Rattle.wac_tables.specs.NodeViews.{item_view, listed}
+use Rattle.wac_tables.specs.declared.nodes.Item.TheVariants as item
 use Rattle.wac_agreeing.specs.Fitting.{exports_of}
 use Rattle.wac_agreeing.specs.Rows.{ArePut, all_put, exports_put, Row, row_view, table_view}
 use Rattle.wac_terms.proofs.Found.{get_map, mapped_length}

@@ -1,6 +1,6 @@
 use Rattle.std.proofs.Common.{◌≤◌, [], map, take, length, ap, subst, arith, add-one, List}
 use Rattle.std.proofs.lemmas.Option.{slice_get-get_or}
-use Rattle.wac_entries.specs.NodeViews.{item_view}
+use Rattle.wac_tables.specs.NodeViews.{item_view}
 use Rattle.wac_shapes.proofs.Names.{take_at}
 use Rattle.wac_terms.proofs.Found.{get_map, mapped_length}
 use Rattle.wac_agreeing.specs.Rows.{ArePut, members_put, Row, Spot, table_view}

@@ -1,5 +1,5 @@
 use Rattle.std.proofs.Common.{[], map, take}
-use Rattle.wac_entries.specs.NodeViews.{item_view}
+use Rattle.wac_tables.specs.NodeViews.{item_view}
 use Rattle.wac_agreeing.specs.Rows.{ArePut, members_put, table_view}
 use Rattle.wac_agreeing.proofs.rows.members.Given as goal
 

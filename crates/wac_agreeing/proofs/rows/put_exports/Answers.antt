@@ -2,11 +2,11 @@ use Rattle.std.proofs.Common.{◌≡◌, ◌≤◌, take, length, List, [], Some
 use Rattle.std.specs.Prelude.{slice_get}
 use Rattle.std.proofs.lemmas.Option.{slice_get-get_or}
 use Rattle.wac_primitives.specs.Name.{Name}
-use Rattle.wac_entries.specs.Nodes.{Item}
-use Rattle.wac_entries.specs.NodeViews.{item_view, listed}
-use Rattle.wac_entries.specs.declared.nodes.Item.{Item as AnItem}
-use Rattle.wac_entries.specs.declared.nodes.Item.TheVariants as item
-use Rattle.wac_entries.proofs.Telling.{Borrowed}
+use Rattle.wac_tables.specs.Nodes.{Item}
+use Rattle.wac_tables.specs.NodeViews.{item_view, listed}
+use Rattle.wac_tables.specs.declared.nodes.Item.{Item as AnItem}
+use Rattle.wac_tables.specs.declared.nodes.Item.TheVariants as item
+use Rattle.wac_subtyping.proofs.Telling.{Borrowed}
 use Rattle.wac_shapes.proofs.Names.{take_at}
 use Rattle.wac_terms.proofs.Found.{get_map, mapped_length}
 use Rattle.wac_agreeing.specs.Rows.{ArePut, export, exports_put, IsPut, Row, Spot, table_view}

@@ -1,5 +1,5 @@
 use Rattle.std.proofs.Common.{take}
-use Rattle.wac_entries.specs.NodeViews.{listed}
+use Rattle.wac_tables.specs.NodeViews.{listed}
 use Rattle.wac_agreeing.specs.Rows.{ArePut, exports_put, table_view}
 use Rattle.wac_agreeing.proofs.rows.put_exports.Given as goal
 

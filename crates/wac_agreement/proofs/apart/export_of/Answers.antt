@@ -1,5 +1,5 @@
 use Rattle.std.proofs.Common.{sym}
-use Rattle.wac_entries.specs.NodeViews.{item_view, listed}
+use Rattle.wac_tables.specs.NodeViews.{item_view, listed}
 use Rattle.wac_agreeing.proofs.Comparing.{open_sorted}
 use Rattle.wac_agreement.proofs.apart.export_of.Goals as goal
 

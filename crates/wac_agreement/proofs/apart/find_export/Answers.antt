@@ -2,10 +2,10 @@ use Rattle.std.proofs.Common.{◌≡◌, ℕ, ◌+◌, ◌-◌, ◌/◌, ◌<◌
 use Rattle.std.specs.Prelude.{slice_get}
 use Rattle.std.specs.declared.cmp.Ordering.TheVariants.{Less, Equal, Greater}
 use Rattle.std.proofs.lemmas.Option.{slice_get-get_or}
-use Rattle.wac_entries.specs.NodeViews.{item_view, listed}
-use Rattle.wac_entries.specs.declared.nodes.Item.{Item as AnItem}
-use Rattle.wac_entries.specs.declared.nodes.Item.TheVariants as item
-use Rattle.wac_entries.proofs.Telling.{Borrowed}
+use Rattle.wac_tables.specs.NodeViews.{item_view, listed}
+use Rattle.wac_tables.specs.declared.nodes.Item.{Item as AnItem}
+use Rattle.wac_tables.specs.declared.nodes.Item.TheVariants as item
+use Rattle.wac_subtyping.proofs.Telling.{Borrowed}
 use Rattle.wac_terms.proofs.Found.{get_map}
 use Rattle.wac_agreement.specs.Shapes.{compare}
 use Rattle.wac_agreement.proofs.Searching.{before_more, behind_more, found_here, found_nowhere}

@@ -1,5 +1,5 @@
 use Rattle.std.proofs.Common.{◌-◌, ◌≤◌, length}
-use Rattle.wac_entries.specs.NodeViews.{listed}
+use Rattle.wac_tables.specs.NodeViews.{listed}
 use Rattle.wac_agreement.specs.Shapes.{AreBefore, AreBehind}
 use Rattle.wac_agreement.proofs.apart.find_export.Given as goal
 

@@ -1,4 +1,4 @@
-use Rattle.wac_entries.specs.declared.nodes.Item.TheVariants as item
+use Rattle.wac_tables.specs.declared.nodes.Item.TheVariants as item
 use Rattle.wac_agreement.specs.declared.apart.Level.{Level}
 use Rattle.wac_agreement.proofs.Descending.{names_further}
 use Rattle.wac_agreement.proofs.apart.names.Goals as goal

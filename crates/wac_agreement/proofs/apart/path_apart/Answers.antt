@@ -6,9 +6,9 @@ use Rattle.wac_primitives.specs.Name.{Name}
 use Rattle.wac_shapes.specs.declared.component.ItemKind.{ItemKind}
 use Rattle.wac_shapes.specs.declared.component.ItemKind.TheVariants as kind
 use Rattle.wac_entries.specs.Agreement.{AreInstances, LeadsApart, here}
-use Rattle.wac_entries.specs.Nodes.{Item, item_tree, tree_at}
-use Rattle.wac_entries.specs.NodeViews.{item_view}
-use Rattle.wac_entries.specs.declared.nodes.Item.{Item as AnItem}
+use Rattle.wac_tables.specs.Nodes.{Item, item_tree, tree_at}
+use Rattle.wac_tables.specs.NodeViews.{item_view}
+use Rattle.wac_tables.specs.declared.nodes.Item.{Item as AnItem}
 use Rattle.wac_agreeing.specs.Apart.{ItemsAgree}
 use Rattle.wac_agreement.specs.Levels.{AreLevels, HasPassed, IsStart, at_root, name_of, under}
 use Rattle.wac_agreement.specs.declared.apart.Level.{Level}

@@ -1,6 +1,6 @@
 use Rattle.std.proofs.Common.{◌+◌}
 use Rattle.wac_shapes.specs.declared.component.ItemKind.TheVariants as kind
-use Rattle.wac_entries.specs.NodeViews.{item_view}
+use Rattle.wac_tables.specs.NodeViews.{item_view}
 use Rattle.wac_agreement.specs.Levels.{AreLevels, IsLevel, left_at, left_in}
 use Rattle.wac_agreement.proofs.apart.path_apart.Given as goal
 

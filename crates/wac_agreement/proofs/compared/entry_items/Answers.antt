@@ -3,8 +3,8 @@ use Rattle.std.specs.Prelude.{slice_get}
 use Rattle.std.proofs.lemmas.Option.{slice_get_read, slice_get-get_or}
 use Rattle.wac_entries.specs.Classes.{AreClasses, by_names}
 use Rattle.wac_agreement.specs.Compared.{AreCompared, IsItemOf}
-use Rattle.wac_entries.specs.NodeViews.{item_view}
-use Rattle.wac_entries.specs.declared.nodes.Item.{Item as AnItem}
+use Rattle.wac_tables.specs.NodeViews.{item_view}
+use Rattle.wac_tables.specs.declared.nodes.Item.{Item as AnItem}
 use Rattle.wac_coding.proofs.CodingGrowth.{grown_twice}
 use Rattle.wac_agreement.proofs.Sources.{compared_next, under_own_name}
 use Rattle.wac_agreement.proofs.compared.entry_items.Goals as goal

@@ -1,7 +1,7 @@
 use Rattle.std.proofs.Common.{◌≡◌, length, map}
 use Rattle.wac_coding.specs.Coding.{IsGrown}
 use Rattle.wac_agreement.specs.Compared.{AreCompared}
-use Rattle.wac_entries.specs.NodeViews.{item_view}
+use Rattle.wac_tables.specs.NodeViews.{item_view}
 use Rattle.wac_agreement.proofs.compared.entry_items.Given as goal
 
 abbrev pub invariant-loop-i : goal.invariant-loop-i

@@ -4,10 +4,10 @@ use Rattle.std.proofs.lemmas.Option.{slice_get_read}
 use Rattle.wac_agreeing.specs.Apart.{AllAgree, IsFirstApart}
 use Rattle.wac_entries.specs.Agreement.{joined}
 use Rattle.wac_entries.specs.Classes.{AreClasses, by_names}
-use Rattle.wac_entries.specs.NodeViews.{item_view}
-use Rattle.wac_entries.specs.Nodes.{item_tree, tree_at}
+use Rattle.wac_tables.specs.NodeViews.{item_view}
+use Rattle.wac_tables.specs.Nodes.{item_tree, tree_at}
 use Rattle.wac_agreement.specs.Shapes.{IsOfKind}
-use Rattle.wac_entries.specs.declared.nodes.Item.TheVariants as item
+use Rattle.wac_tables.specs.declared.nodes.Item.TheVariants as item
 use Rattle.wac_shapes.specs.declared.component.ItemKind.{ItemKind}
 use Rattle.wac_terms.proofs.Found.{mapped_length}
 use Rattle.wac_agreement.proofs.Leading.{match_some, match_none}

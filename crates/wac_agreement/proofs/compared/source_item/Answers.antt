@@ -7,9 +7,9 @@ use Rattle.wac_coding.specs.Coding.{source_tree}
 use Rattle.wac_agreement.specs.Compared.{IsItemOf}
 use Rattle.wac_coding.specs.ItemCoding.{HasItem}
 use Rattle.wac_coding.specs.Listings.{at_scope, AreListings}
-use Rattle.wac_entries.specs.NodeViews.{item_view}
+use Rattle.wac_tables.specs.NodeViews.{item_view}
 use Rattle.wac_coding.specs.declared.coder.Source.{Source}
-use Rattle.wac_entries.specs.declared.nodes.Item.{Item as AnItem}
+use Rattle.wac_tables.specs.declared.nodes.Item.{Item as AnItem}
 use Rattle.wac_entries.specs.declared.scopes.Opener.TheVariants as opener
 use Rattle.wac_coding.proofs.CodingGrowth.{grown_twice}
 use Rattle.wac_agreement.proofs.Leading.{if_ok}

@@ -1,7 +1,7 @@
 use Rattle.std.proofs.Common.{◌≡◌, drop}
 use Rattle.std.specs.List.{list_any}
-use Rattle.wac_entries.specs.Nodes.{types_of}
-use Rattle.wac_entries.specs.NodeViews.{listed}
+use Rattle.wac_tables.specs.Nodes.{types_of}
+use Rattle.wac_tables.specs.NodeViews.{listed}
 use Rattle.wac_agreement.specs.ReachSteps.{flag_of}
 use Rattle.wac_agreement.proofs.flags.any_item.Given as goal
 

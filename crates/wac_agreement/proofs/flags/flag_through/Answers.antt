@@ -1,7 +1,7 @@
 use Rattle.std.proofs.Common.{◌≡◌, Bool, List, length, ap, sym, ◌∙◌, subst, ◌||◌, is_some}
 use Rattle.std.specs.Prelude.{slice_get}
 use Rattle.std.specs.List.{list_any}
-use Rattle.wac_entries.specs.NodeViews.{node_view}
+use Rattle.wac_tables.specs.NodeViews.{node_view}
 use Rattle.wac_agreement.specs.ReachSteps.{AreFlags, flag_of, node_class, parts}
 use Rattle.wac_agreement.proofs.Flagging.{flags_next}
 use Rattle.wac_agreement.proofs.flags.flag_through.Goals as goal

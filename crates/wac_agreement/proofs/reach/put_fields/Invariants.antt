@@ -1,6 +1,6 @@
 use Rattle.std.proofs.Common.{◌≡◌, drop}
-use Rattle.wac_entries.specs.Nodes.{seconds}
-use Rattle.wac_entries.specs.NodeViews.{named}
+use Rattle.wac_tables.specs.Nodes.{seconds}
+use Rattle.wac_tables.specs.NodeViews.{named}
 use Rattle.wac_agreement.specs.ReachSteps.{with_all}
 use Rattle.wac_agreement.proofs.reach.put_fields.Given as goal
 

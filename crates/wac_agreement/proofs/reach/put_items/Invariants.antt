@@ -1,6 +1,6 @@
 use Rattle.std.proofs.Common.{◌≡◌, drop}
-use Rattle.wac_entries.specs.Nodes.{types_of}
-use Rattle.wac_entries.specs.NodeViews.{listed}
+use Rattle.wac_tables.specs.Nodes.{types_of}
+use Rattle.wac_tables.specs.NodeViews.{listed}
 use Rattle.wac_agreement.specs.ReachSteps.{with_all}
 use Rattle.wac_agreement.proofs.reach.put_items.Given as goal
 

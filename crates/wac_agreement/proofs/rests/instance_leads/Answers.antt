@@ -1,6 +1,6 @@
 use Rattle.std.proofs.Common.{sym}
-use Rattle.wac_entries.specs.NodeViews.{item_view}
-use Rattle.wac_entries.specs.Nodes.{tree_at, type_of}
+use Rattle.wac_tables.specs.NodeViews.{item_view}
+use Rattle.wac_tables.specs.Nodes.{tree_at, type_of}
 use Rattle.wac_agreement.specs.Reach.{IsOfClass, Reaches}
 use Rattle.wac_entries.proofs.Places.{uses_held}
 use Rattle.wac_agreement.proofs.RestSets.{instance_has}

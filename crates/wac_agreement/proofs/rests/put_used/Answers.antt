@@ -2,7 +2,7 @@ use Rattle.std.proofs.Common.{◌+◌, List, [], ℕ, Option, drop, sym, ap, ◌
 use Rattle.std.proofs.lemmas.List.{drop_all}
 use Rattle.wac_primitives.specs.Name.{Name}
 use Rattle.wac_shapes.specs.declared.component.UsedType.{UsedType}
-use Rattle.wac_entries.specs.Nodes.{and_optional}
+use Rattle.wac_tables.specs.Nodes.{and_optional}
 use Rattle.wac_agreement.specs.ReachSteps.{with_all}
 use Rattle.wac_agreement.specs.Resting.{used_classes}
 use Rattle.wac_agreement.proofs.RestSets.{used_at, used_next}

@@ -8,11 +8,11 @@ use Rattle.wac_terms.proofs.Found.{get_map}
 use Rattle.wac_collection.specs.Collection.{holds_type}
 use Rattle.wac_shapes.specs.Kinds.{kind_type}
 use Rattle.wac_shapes.specs.declared.component.ItemKind.{ItemKind}
-use Rattle.wac_entries.specs.declared.nodes.Item.{Item}
-use Rattle.wac_entries.specs.declared.nodes.Item.TheVariants as item
+use Rattle.wac_tables.specs.declared.nodes.Item.{Item}
+use Rattle.wac_tables.specs.declared.nodes.Item.TheVariants as item
 use Rattle.wac_cycles.specs.Cycles.{IsStep}
 use Rattle.wac_entries.specs.Classes.{Entry, by_names, class_names}
-use Rattle.wac_entries.specs.NodeViews.{item_view}
+use Rattle.wac_tables.specs.NodeViews.{item_view}
 use Rattle.wac_cycles.specs.Numbers.{Has}
 use Rattle.wac_agreement.specs.Resting.{EntryLeads, ItemLeads}
 use Rattle.wac_agreement.proofs.Flagging.{no_flags}

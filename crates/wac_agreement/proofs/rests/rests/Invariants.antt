@@ -2,7 +2,7 @@ use Rattle.std.proofs.Common.{◌≡◌, ℕ, length, map}
 use Rattle.std.specs.Prelude.{◌↔◌}
 use Rattle.wac_cycles.specs.Cycles.{IsStep}
 use Rattle.wac_entries.specs.Classes.{by_names, class_names}
-use Rattle.wac_entries.specs.NodeViews.{item_view}
+use Rattle.wac_tables.specs.NodeViews.{item_view}
 use Rattle.wac_agreement.specs.ReachSteps.{AreFlags}
 use Rattle.wac_agreement.specs.Resting.{EntryLeads}
 use Rattle.wac_agreement.proofs.rests.rests.Given as goal

@@ -1,4 +1,4 @@
-use Rattle.wac_entries.specs.NodeViews.{node_view}
+use Rattle.wac_tables.specs.NodeViews.{node_view}
 use Rattle.wac_coding.proofs.CodingGrowth.{grown_none, grown_added, added_tree}
 use Rattle.wac_coding.proofs.coder.add.Goals as goal
 

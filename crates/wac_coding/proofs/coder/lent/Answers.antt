@@ -1,5 +1,5 @@
 use Rattle.std.proofs.Common.{sym}
-use Rattle.wac_entries.specs.CalledViews.{called_view}
+use Rattle.wac_subtyping.specs.CalledViews.{called_view}
 use Rattle.wac_coding.specs.CallsView.{names_in}
 use Rattle.wac_coding.proofs.CodingGrowth.{answer_same}
 use Rattle.wac_coding.proofs.CodingTrees.{borrow_is}

@@ -1,7 +1,7 @@
 use Rattle.std.proofs.Common.{◌∷◌, [], map, ap, ◌∙◌}
 use Rattle.std.proofs.lemmas.List.{map-append}
-use Rattle.wac_entries.proofs.Telling.{bytes}
-use Rattle.wac_entries.proofs.TaskOpenings.{labels_take}
+use Rattle.wac_subtyping.proofs.Telling.{bytes}
+use Rattle.wac_tables.proofs.TaskOpenings.{labels_take}
 use Rattle.wac_coding.proofs.coder.names.Goals as goal
 
 pub loop-i-preserved : goal.loop-i-preserved

@@ -1,5 +1,5 @@
 use Rattle.std.proofs.Common.{◌≡◌, map, take}
-use Rattle.wac_entries.proofs.Telling.{bytes}
+use Rattle.wac_subtyping.proofs.Telling.{bytes}
 use Rattle.wac_coding.proofs.coder.names.Given as goal
 
 abbrev pub invariant-loop-i : goal.invariant-loop-i

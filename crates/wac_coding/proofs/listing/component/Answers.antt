@@ -1,7 +1,7 @@
 use Rattle.std.proofs.Common.{◌≡◌, [], ap, sym, ◌∙◌}
 use Rattle.wac_primitives.specs.Name.{option_case}
 use Rattle.wac_collection.specs.Collection.{world_imports, world_exports}
-use Rattle.wac_entries.specs.NodeViews.{listed}
+use Rattle.wac_tables.specs.NodeViews.{listed}
 use Rattle.wac_coding.specs.Coding.{source_tree}
 use Rattle.wac_coding.specs.ItemCoding.{component_tree}
 use Rattle.wac_coding.proofs.CodingGrowth.{answer_same}

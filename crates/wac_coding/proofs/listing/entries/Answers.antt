@@ -4,9 +4,9 @@ use Rattle.std.specs.List.Sorted.{IsPermutation}
 use Rattle.std.proofs.lemmas.List.Sorted.{IsPermutation-trans}
 use Rattle.wac_primitives.specs.Name.{Name}
 use Rattle.wac_shapes.specs.declared.component.ItemKind.{ItemKind}
-use Rattle.wac_entries.specs.declared.nodes.Item.{Item}
-use Rattle.wac_entries.specs.declared.nodes.Item.TheVariants as item
-use Rattle.wac_entries.proofs.Telling.{Borrowed}
+use Rattle.wac_tables.specs.declared.nodes.Item.{Item}
+use Rattle.wac_tables.specs.declared.nodes.Item.TheVariants as item
+use Rattle.wac_subtyping.proofs.Telling.{Borrowed}
 use Rattle.wac_coding.specs.Coding.{source_tree}
 use Rattle.wac_coding.proofs.CodingListing.{as_many}
 use Rattle.wac_coding.proofs.SortedEntries.{AreEntries, entries_next, lists_sorted, sorted_by_name, written_back}

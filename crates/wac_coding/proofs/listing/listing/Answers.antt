@@ -1,4 +1,4 @@
-use Rattle.wac_entries.specs.NodeViews.{listed}
+use Rattle.wac_tables.specs.NodeViews.{listed}
 use Rattle.wac_coding.specs.Coding.{source_tree}
 use Rattle.wac_coding.proofs.CodingGrowth.{answer_same}
 use Rattle.wac_coding.proofs.CodingListing.{fits_instance}

@@ -3,7 +3,7 @@ use Rattle.wac_shapes.specs.declared.component.ItemKind.{ItemKind}
 use Rattle.wac_primitives.specs.Name.{Name}
 use Rattle.std.specs.Prelude.{List}
 use Rattle.std.proofs.Math.Seq.{take-length}
-use Rattle.wac_entries.specs.declared.nodes.Item.{Item}
+use Rattle.wac_tables.specs.declared.nodes.Item.{Item}
 use Rattle.wac_coding.specs.Coding.{source_tree}
 use Rattle.wac_coding.specs.ItemCoding.{AreItems}
 use Rattle.wac_coding.proofs.CodingGrowth.{grown_not, grown_twice}

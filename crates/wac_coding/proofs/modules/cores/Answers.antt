@@ -2,7 +2,7 @@ use Rattle.std.proofs.Common.{◌≡◌, ℕ, drop, ◌<◌, subst, arith}
 use Rattle.wac_primitives.specs.Name.{Name}
 use Rattle.wac_primitives.specs.Core.{no_item}
 use Rattle.wac_collection.specs.Held as held
-use Rattle.wac_entries.specs.NodeViews.{core_view}
+use Rattle.wac_tables.specs.NodeViews.{core_view}
 use Rattle.wac_coding.specs.ModuleCoding.{look}
 use Rattle.wac_coding.proofs.CodingModules.{cores_next, cores_listed}
 use Rattle.wac_coding.proofs.modules.cores.Goals as goal

@@ -1,7 +1,7 @@
 use Rattle.std.proofs.Common.{◌≡◌, ◌++◌, length}
 use Rattle.std.specs.List.{AllByRecursion}
-use Rattle.wac_entries.specs.Nodes.{AreCoreItems}
-use Rattle.wac_entries.specs.NodeViews.{core_modules}
+use Rattle.wac_tables.specs.Nodes.{AreCoreItems}
+use Rattle.wac_tables.specs.NodeViews.{core_modules}
 use Rattle.wac_coding.specs.ModuleCoding.{maps_items}
 use Rattle.wac_coding.proofs.modules.grouped.Given as goal
 

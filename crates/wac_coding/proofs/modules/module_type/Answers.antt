@@ -1,5 +1,5 @@
 use Rattle.std.proofs.Common.{sym, ◌∙◌}
-use Rattle.wac_entries.specs.NodeViews.{core_items, core_modules}
+use Rattle.wac_tables.specs.NodeViews.{core_items, core_modules}
 use Rattle.wac_coding.specs.CallsView.{names_in}
 use Rattle.wac_coding.proofs.CodingGrowth.{answer_same}
 use Rattle.wac_coding.proofs.CodingModules.{fits_module}

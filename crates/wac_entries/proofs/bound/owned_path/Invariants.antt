@@ -1,5 +1,5 @@
 use Rattle.std.proofs.Common.{◌≡◌, take}
-use Rattle.wac_entries.specs.CalledViews.{path_view}
+use Rattle.wac_subtyping.specs.CalledViews.{path_view}
 use Rattle.wac_entries.specs.Places.{given_path}
 use Rattle.wac_entries.proofs.bound.owned_path.Given as goal
 

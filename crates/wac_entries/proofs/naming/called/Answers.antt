@@ -1,7 +1,7 @@
 use Rattle.std.proofs.Common.{◌≡◌, ℕ, ◌<◌, length, Option, Some, None, get_or, refl, sym, ap, ◌∙◌, subst, arith}
 use Rattle.wac_subtyping.specs.Called.{bound_at}
 use Rattle.wac_shapes.specs.declared.component.ResourceId.{ResourceId}
-use Rattle.wac_entries.specs.CalledViews.{side_view, path_view}
+use Rattle.wac_subtyping.specs.CalledViews.{side_view, path_view}
 use Rattle.wac_entries.specs.Classes.{by_names, is_instance}
 use Rattle.wac_entries.specs.Scopes.{binds, called_in, called_in_root}
 use Rattle.wac_entries.specs.Places.{place_view}

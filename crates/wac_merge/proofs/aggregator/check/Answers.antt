@@ -9,9 +9,9 @@ use Rattle.wac_terms.specs.ClassOrder.{IsFirstOnCircle}
 use Rattle.wac_agreement.specs.Compared.{AreCompared}
 use Rattle.wac_terms.specs.Faults.{Disagrees, HasNoCircle, disagree, use_each_other}
 use Rattle.wac_terms.specs.NoDisagreement.{HasNoDisagreement}
-use Rattle.wac_entries.specs.NodeViews.{item_view}
+use Rattle.wac_tables.specs.NodeViews.{item_view}
 use Rattle.wac_agreement.specs.declared.compared.Disagreement.{Disagreement}
-use Rattle.wac_entries.specs.declared.nodes.Item.{Item}
+use Rattle.wac_tables.specs.declared.nodes.Item.{Item}
 use Rattle.wac_merge.proofs.FaultLemmas.{circle_class, none_of, pair_of}
 use Rattle.wac_agreement.proofs.RestCircles.{are_within, first_of}
 use Rattle.wac_merge.proofs.aggregator.check.Goals as goal

@@ -7,7 +7,7 @@ use Rattle.wac_shapes.specs.declared.component.ResourceId.{ResourceId}
 use Rattle.wac_subtyping.specs.Called.{resource_name}
 use Rattle.wac_terms.specs.Became.{IsNew}
 use Rattle.wac_entries.specs.Bindings.{first_in}
-use Rattle.wac_entries.specs.CalledViews.{path_view}
+use Rattle.wac_subtyping.specs.CalledViews.{path_view}
 use Rattle.wac_renaming.specs.FreshSteps.{IsWhole}
 use Rattle.wac_renaming.proofs.FreshAdding.{stays-some, whole-here, whole-put, whole-stays}
 use Rattle.wac_renaming.proofs.FreshClasses.{first-same, is-path, no-path}

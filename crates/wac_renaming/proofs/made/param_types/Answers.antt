@@ -1,5 +1,5 @@
 use Rattle.std.proofs.Common.{[], ◌∷◌, ◌++◌, ap, sym, ◌∙◌}
-use Rattle.wac_entries.proofs.TaskOpenings.{seconds_take}
+use Rattle.wac_tables.proofs.TaskOpenings.{seconds_take}
 use Rattle.wac_renaming.proofs.made.param_types.Goals as goal
 
 pub loop-i-preserved : goal.loop-i-preserved

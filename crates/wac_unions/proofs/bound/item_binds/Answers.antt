@@ -3,7 +3,7 @@ use Rattle.std.specs.Prelude.{◌↔◌}
 use Rattle.wac_shapes.specs.declared.component.«Type».TheVariants as ty
 use Rattle.wac_shapes.specs.declared.component.ItemKind.{ItemKind}
 use Rattle.wac_shapes.specs.declared.component.ItemKind.TheVariants as kind
-use Rattle.wac_entries.specs.CalledViews.{path_view}
+use Rattle.wac_subtyping.specs.CalledViews.{path_view}
 use Rattle.wac_unions.specs.BoundNames.{ItemBinds}
 use Rattle.wac_unions.proofs.BoundNames.{item-found}
 use Rattle.wac_unions.proofs.bound.item_binds.Goals as goal

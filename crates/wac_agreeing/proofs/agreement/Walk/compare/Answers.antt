@@ -3,9 +3,9 @@ use Rattle.std.specs.Prelude.{slice_get}
 use Rattle.std.proofs.lemmas.Option.{slice_get-get_or}
 use Rattle.wac_shapes.proofs.Names.{take_at}
 use Rattle.wac_terms.proofs.Found.{get_map, mapped_length}
-use Rattle.wac_entries.specs.Nodes.{type_of}
-use Rattle.wac_entries.specs.NodeViews.{item_view}
-use Rattle.wac_entries.specs.declared.nodes.Item.TheVariants as item
+use Rattle.wac_tables.specs.Nodes.{type_of}
+use Rattle.wac_tables.specs.NodeViews.{item_view}
+use Rattle.wac_tables.specs.declared.nodes.Item.TheVariants as item
 use Rattle.wac_agreeing.specs.Groups.{Splits}
 use Rattle.wac_agreeing.specs.Rows.{groups_view, Row, row_view}
 use Rattle.wac_agreeing.proofs.Comparing.{all_at}

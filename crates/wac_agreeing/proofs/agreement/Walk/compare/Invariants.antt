@@ -1,5 +1,5 @@
 use Rattle.std.proofs.Common.{◌≡◌, ◌≤◌, map, take}
-use Rattle.wac_entries.specs.NodeViews.{item_view}
+use Rattle.wac_tables.specs.NodeViews.{item_view}
 use Rattle.wac_agreeing.specs.Groups.{Splits}
 use Rattle.wac_agreeing.specs.Rows.{row_view}
 use Rattle.wac_agreeing.proofs.agreement.Walk.compare.Given as goal

@@ -4,7 +4,7 @@ use Rattle.std.specs.Option.{option_map}
 use Rattle.std.specs.Map.Iter.{deref_pair}
 use Rattle.wac_shapes.proofs.Names.{take_at}
 use Rattle.wac_terms.proofs.Found.{mapped_length}
-use Rattle.wac_entries.specs.declared.nodes.Item.{Item as AnItem}
+use Rattle.wac_tables.specs.declared.nodes.Item.{Item as AnItem}
 use Rattle.wac_agreeing.specs.Groups.{Compares, ComparesAll, IsFull, more}
 use Rattle.wac_agreeing.specs.Rows.{Row, row_view, Spot, spot_view, Table, table_view}
 use Rattle.wac_agreeing.proofs.Comparing.{all_at}

@@ -1,6 +1,6 @@
 use Rattle.std.proofs.Common.{◌∙◌, map, sym, Some}
 use Rattle.std.proofs.lemmas.Bool.{false≢true}
-use Rattle.wac_entries.specs.NodeViews.{item_view}
+use Rattle.wac_tables.specs.NodeViews.{item_view}
 use Rattle.wac_agreeing.specs.Groups.{apart}
 use Rattle.wac_agreeing.specs.Rows.{row_view}
 use Rattle.wac_agreeing.proofs.GroupKeys.{item_back, item_same, split_fits, split_same}

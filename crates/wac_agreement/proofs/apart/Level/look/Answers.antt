@@ -8,9 +8,9 @@ use Rattle.wac_shapes.specs.declared.component.ItemKind.TheVariants as kind
 use Rattle.wac_shapes.proofs.Names.{find_name-at}
 use Rattle.wac_collection.specs.Collection.{interface_exports}
 use Rattle.wac_entries.specs.Agreement.{AreInstances}
-use Rattle.wac_entries.specs.Nodes.{item_tree, tree_at, type_of}
-use Rattle.wac_entries.specs.NodeViews.{item_view}
-use Rattle.wac_entries.specs.declared.nodes.Item.{Item}
+use Rattle.wac_tables.specs.Nodes.{item_tree, tree_at, type_of}
+use Rattle.wac_tables.specs.NodeViews.{item_view}
+use Rattle.wac_tables.specs.declared.nodes.Item.{Item}
 use Rattle.wac_terms.proofs.Found.{some_same}
 use Rattle.wac_agreement.specs.Levels.{IsAbove, IsStart}
 use Rattle.wac_agreement.specs.Shapes.{IsOfKind}

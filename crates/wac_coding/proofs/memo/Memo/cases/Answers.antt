@@ -4,7 +4,7 @@ use Rattle.wac_collection.specs.Collection.{holds_value}
 use Rattle.wac_coding.specs.Coding.{source_tree, values_of, IsReady}
 use Rattle.wac_coding.proofs.CodingGrowth.{grown_twice, right_grown}
 use Rattle.wac_coding.proofs.CodingLoops.{cases_more}
-use Rattle.wac_entries.proofs.TaskOpenings.{each_case}
+use Rattle.wac_tables.proofs.TaskOpenings.{each_case}
 use Rattle.wac_coding.proofs.memo.Memo.cases.Goals as goal
 
 pub optional-requires-clause-ready : goal.optional-requires-clause-ready

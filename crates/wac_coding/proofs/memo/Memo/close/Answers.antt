@@ -1,12 +1,12 @@
 use Rattle.std.proofs.Common.{ℕ, List, sym, subst}
 use Rattle.wac_collection.specs.Held.{defined_tree}
 use Rattle.wac_coding.specs.declared.coder.Meaning.{Meaning}
-use Rattle.wac_entries.specs.Nodes.{Node}
+use Rattle.wac_tables.specs.Nodes.{Node}
 use Rattle.wac_coding.specs.CallsView.{names_in}
 use Rattle.wac_coding.specs.Coding.{source_tree, values_of, HasTree, IsGrown, Means}
 use Rattle.wac_coding.proofs.CodingGrowth.{grown_none, grown_not, grown_twice, right_grown, tree_same, moved_by}
 use Rattle.wac_coding.proofs.CodingMemo.{defined_put}
-use Rattle.wac_entries.proofs.TaskLemmas.{defined_values_hold}
+use Rattle.wac_tables.proofs.TaskLemmas.{defined_values_hold}
 use Rattle.wac_coding.proofs.CodingTrees.{defined_is}
 use Rattle.wac_coding.proofs.memo.Memo.close.Goals as goal
 use Rattle.wac_coding.proofs.memo.Memo.close.Goals.{in-New+in_ok-number-in-New, in-Same}

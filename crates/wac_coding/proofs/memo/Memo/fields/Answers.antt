@@ -5,7 +5,7 @@ use Rattle.wac_collection.specs.Collection.{holds_value}
 use Rattle.wac_coding.specs.Coding.{source_tree, values_of, AreFields, IsReady}
 use Rattle.wac_coding.proofs.CodingGrowth.{grown_none, grown_twice, right_grown}
 use Rattle.wac_coding.proofs.CodingLoops.{fields_more}
-use Rattle.wac_entries.proofs.TaskOpenings.{each_field}
+use Rattle.wac_tables.proofs.TaskOpenings.{each_field}
 use Rattle.wac_coding.proofs.memo.Memo.fields.Goals as goal
 
 pub part-requires-clause-ready : goal.part-requires-clause-ready

@@ -1,11 +1,11 @@
 use Rattle.std.proofs.Common.{◌≡◌, ◌<◌, ◌-◌, List, [], ◌++◌, take, ap, sym, ◌∙◌, subst}
 use Rattle.std.specs.List.{AllByRecursion}
-use Rattle.wac_entries.specs.declared.tasks.Task.{Task}
-use Rattle.wac_entries.specs.Tasks.{tasks_weight, IsHeldTask}
+use Rattle.wac_tables.specs.declared.tasks.Task.{Task}
+use Rattle.wac_tables.specs.Tasks.{tasks_weight, IsHeldTask}
 use Rattle.wac_coding.specs.Coding.{source_tree, AreCovered, IsUnderWay}
 use Rattle.wac_coding.proofs.CodingMemo.{same_done, same_right}
 use Rattle.wac_coding.proofs.CodingTasks.{may_be_done, less_to_do, still_under_way, under_way, all_done}
-use Rattle.wac_entries.proofs.TaskLemmas.{all_last}
+use Rattle.wac_tables.proofs.TaskLemmas.{all_last}
 use Rattle.wac_coding.proofs.memo.Memo.finish.Goals as goal
 
 pub loop-task-init : goal.loop-task-init

@@ -1,4 +1,4 @@
-use Rattle.wac_entries.specs.Tasks.{tasks_weight}
+use Rattle.wac_tables.specs.Tasks.{tasks_weight}
 use Rattle.wac_coding.specs.Coding.{source_tree, IsUnderWay}
 use Rattle.wac_coding.proofs.memo.Memo.finish.Given as goal
 

@@ -1,17 +1,17 @@
 use Rattle.std.proofs.Common.{◌≡◌, List, true, sym, ◌∙◌, subst}
 use Rattle.std.specs.List.{AllByRecursion}
 use Rattle.wac_collection.specs.Collection.{func_values, holds_value, seconds}
-use Rattle.wac_entries.specs.declared.tasks.Task.{Task}
-use Rattle.wac_entries.specs.Nodes.{Node}
+use Rattle.wac_tables.specs.declared.tasks.Task.{Task}
+use Rattle.wac_tables.specs.Nodes.{Node}
 use Rattle.wac_coding.specs.CallsView.{names_in}
-use Rattle.wac_entries.specs.Tasks.{IsHeldTask, IsOpening}
+use Rattle.wac_tables.specs.Tasks.{IsHeldTask, IsOpening}
 use Rattle.wac_coding.specs.Coding.{source_tree, values_of, IsReady, IsDone}
 use Rattle.wac_coding.proofs.CodingGrowth.{grown_twice, right_grown, tree_same, fields_grown}
 use Rattle.wac_coding.proofs.CodingMemo.{func_right, same_right}
-use Rattle.wac_entries.proofs.TaskOpenings.{first_of, openings_two, rest_of}
+use Rattle.wac_tables.proofs.TaskOpenings.{first_of, openings_two, rest_of}
 use Rattle.wac_coding.proofs.CodingShapes.{fits_function}
 use Rattle.wac_coding.proofs.CodingTasks.{ready_values}
-use Rattle.wac_entries.proofs.TaskLemmas.{all_openings, func_held, func_values_hold}
+use Rattle.wac_tables.proofs.TaskLemmas.{all_openings, func_held, func_values_hold}
 use Rattle.wac_coding.proofs.CodingTrees.{func_is}
 use Rattle.wac_coding.proofs.memo.Memo.func_type.Goals as goal
 

@@ -1,8 +1,8 @@
 use Rattle.std.proofs.Common.{List, map, sym, subst}
 use Rattle.wac_shapes.specs.declared.component.DefinedType.{DefinedType}
 use Rattle.wac_shapes.specs.declared.component.ValueType.{ValueType}
-use Rattle.wac_entries.specs.Nodes.{Node}
-use Rattle.wac_entries.proofs.Telling.{bytes}
+use Rattle.wac_tables.specs.Nodes.{Node}
+use Rattle.wac_subtyping.proofs.Telling.{bytes}
 use Rattle.wac_coding.specs.Coding.{source_tree, values_of, IsGrown, AreParts}
 use Rattle.wac_coding.proofs.CodingGrowth.{grown_none}
 use Rattle.wac_coding.proofs.CodingShapes.{fits_tuple, fits_list, fits_fixed, fits_option, fits_stream, fits_future, fits_record, fits_variant, fits_flags, fits_enum, fits_by}

@@ -1,6 +1,6 @@
 use Rattle.std.proofs.Common.{ap, sym, ◌∙◌}
 use Rattle.wac_shapes.specs.declared.component.«Type».{«Type» as AnyType}
-use Rattle.wac_entries.specs.CalledViews.{called_view}
+use Rattle.wac_subtyping.specs.CalledViews.{called_view}
 use Rattle.wac_coding.specs.CallsView.{names_in}
 use Rattle.wac_coding.specs.Coding.{source_tree, IsRight}
 use Rattle.wac_coding.proofs.CodingGrowth.{answer_same, on_ok, right_grown}

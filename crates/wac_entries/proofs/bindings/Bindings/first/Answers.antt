@@ -1,6 +1,6 @@
 use Rattle.std.proofs.Common.{None, Some, sym, ap, ◌∙◌}
 use Rattle.std.specs.Option.{option_copied, option_map}
-use Rattle.wac_entries.specs.CalledViews.{path_view}
+use Rattle.wac_subtyping.specs.CalledViews.{path_view}
 use Rattle.wac_entries.specs.Places.{find_resource}
 use Rattle.wac_entries.proofs.ClassPaths.{find-plain, has-first, no-first}
 use Rattle.wac_entries.proofs.bindings.Bindings.first.Goals as goal

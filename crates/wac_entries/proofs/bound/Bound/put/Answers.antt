@@ -1,5 +1,5 @@
 use Rattle.std.proofs.Common.{cond, nat_eq, Some, ◌∙◌}
-use Rattle.wac_entries.specs.CalledViews.{side_view}
+use Rattle.wac_subtyping.specs.CalledViews.{side_view}
 use Rattle.wac_entries.specs.Places.{find_resource, given_path, leaf_at, leaves, place_view}
 use Rattle.wac_entries.proofs.Places.{find-put, find-some, only-new, only-there}
 use Rattle.wac_entries.proofs.bound.Bound.put.Goals as goal

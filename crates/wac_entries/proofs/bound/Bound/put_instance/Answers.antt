@@ -2,7 +2,7 @@ use Rattle.std.proofs.Common.{Some, nat_eq, sym, ap, ◌∙◌}
 use Rattle.std.specs.Cmp.Lexicographic.{pointwise}
 use Rattle.wac_shapes.proofs.Names.{same_name-bytes_eq}
 use Rattle.wac_shapes.proofs.Under.{on_ok}
-use Rattle.wac_entries.specs.CalledViews.{side_view}
+use Rattle.wac_subtyping.specs.CalledViews.{side_view}
 use Rattle.wac_entries.specs.Places.{bound_by_instance, own_at}
 use Rattle.wac_entries.proofs.Places.{adds-nothing, adds-same, exports_held, instance-other, instance-under}
 use Rattle.wac_entries.proofs.bound.Bound.put_instance.Goals as goal

@@ -4,7 +4,7 @@ use Rattle.wac_primitives.specs.Name.{Name}
 use Rattle.wac_shapes.specs.declared.component.ItemKind.{ItemKind}
 use Rattle.wac_shapes.proofs.Loops.{entry_at}
 use Rattle.wac_shapes.proofs.Under.{on_ok}
-use Rattle.wac_entries.specs.CalledViews.{side_view}
+use Rattle.wac_subtyping.specs.CalledViews.{side_view}
 use Rattle.wac_entries.specs.Places.{Adds}
 use Rattle.wac_entries.proofs.Places.{all-listed, held_at, instances, instances-step}
 use Rattle.wac_entries.proofs.bound.Bound.put_listed.Goals as goal

@@ -1,5 +1,5 @@
 use Rattle.std.proofs.Common.{take}
-use Rattle.wac_entries.specs.CalledViews.{side_view}
+use Rattle.wac_subtyping.specs.CalledViews.{side_view}
 use Rattle.wac_entries.specs.Places.{Adds}
 use Rattle.wac_entries.proofs.Places.{instances}
 use Rattle.wac_entries.proofs.bound.Bound.put_listed.Given as goal

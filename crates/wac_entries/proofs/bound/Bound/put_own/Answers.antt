@@ -5,7 +5,7 @@ use Rattle.std.proofs.lemmas.List.{take_all}
 use Rattle.wac_primitives.specs.Name.{Name}
 use Rattle.wac_shapes.specs.declared.component.ItemKind.{ItemKind}
 use Rattle.wac_shapes.proofs.Loops.{entry_at}
-use Rattle.wac_entries.specs.CalledViews.{side_view}
+use Rattle.wac_subtyping.specs.CalledViews.{side_view}
 use Rattle.wac_entries.specs.Places.{Adds, own_at}
 use Rattle.wac_entries.proofs.Places.{adds-no-own, held_at, own-stays, own-step}
 use Rattle.wac_entries.proofs.bound.Bound.put_own.Goals as goal

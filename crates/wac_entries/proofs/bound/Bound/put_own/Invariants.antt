@@ -1,6 +1,6 @@
 use Rattle.std.proofs.Common.{take}
 use Rattle.std.specs.Option.{option_copied}
-use Rattle.wac_entries.specs.CalledViews.{side_view}
+use Rattle.wac_subtyping.specs.CalledViews.{side_view}
 use Rattle.wac_entries.specs.Places.{Adds, own_at}
 use Rattle.wac_entries.proofs.bound.Bound.put_own.Given as goal
 

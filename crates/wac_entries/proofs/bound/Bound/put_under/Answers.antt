@@ -3,7 +3,7 @@ use Rattle.std.specs.Borrow.{Bor}
 use Rattle.std.specs.Option.{option_copied}
 use Rattle.std.specs.Result.{OnOk}
 use Rattle.wac_primitives.specs.Name.{Name}
-use Rattle.wac_entries.specs.CalledViews.{side_view}
+use Rattle.wac_subtyping.specs.CalledViews.{side_view}
 use Rattle.wac_entries.specs.Places.{Adds, leaf_at, only, under}
 use Rattle.wac_entries.proofs.bound.Bound.put_under.Goals as goal
 

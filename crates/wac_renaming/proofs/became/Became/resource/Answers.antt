@@ -1,7 +1,7 @@
 use Rattle.std.proofs.Common.{◌≡◌, ◌<◌, ℕ, length, Option, Some, None, get_or, sym, ap, ◌∙◌, subst, refl, arith}
 use Rattle.std.proofs.lemmas.Option.{slice_get-get_or}
 use Rattle.wac_terms.specs.Became.{became, new_at, or_itself}
-use Rattle.wac_entries.specs.CalledViews.{path_view}
+use Rattle.wac_subtyping.specs.CalledViews.{path_view}
 use Rattle.wac_entries.specs.Places.{find_resource, place_view}
 use Rattle.wac_terms.specs.Unions.{IsPart}
 use Rattle.wac_renaming.specs.Ways.{LeadsOut}

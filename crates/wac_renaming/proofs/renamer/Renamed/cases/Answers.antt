@@ -2,7 +2,7 @@ use Rattle.std.proofs.Common.{◌≡◌, true, ap}
 use Rattle.std.specs.Option.{option_map}
 use Rattle.wac_collection.specs.Collection.{holds_value}
 use Rattle.wac_renaming.specs.RenamingSteps.{GoTogether, IsBecome, IsReady}
-use Rattle.wac_entries.proofs.TaskOpenings.{each_case}
+use Rattle.wac_tables.proofs.TaskOpenings.{each_case}
 use Rattle.wac_renaming.proofs.RenamingLoops.{beside_further, new_beside}
 use Rattle.wac_renaming.proofs.renamer.Renamed.cases.Goals as goal
 

@@ -1,6 +1,6 @@
 use Rattle.std.proofs.Common.{◌≡◌, [], true}
 use Rattle.wac_collection.specs.Collection.{and_maybe, case_values, holds_value}
-use Rattle.wac_entries.proofs.TaskOpenings.{each_case}
+use Rattle.wac_tables.proofs.TaskOpenings.{each_case}
 use Rattle.wac_renaming.specs.RenamingSteps.{AllStay, IsReady, Stays}
 use Rattle.wac_renaming.proofs.Staying.{cases_further, fails}
 use Rattle.wac_renaming.proofs.renamer.Renamed.cases_stay.Goals as goal

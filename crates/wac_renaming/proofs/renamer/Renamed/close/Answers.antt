@@ -8,7 +8,7 @@ use Rattle.wac_renaming.specs.RenamedTypes.{becomes}
 use Rattle.wac_renaming.specs.Made.{IsMadeFor, IsMadeOf, alias}
 use Rattle.wac_renaming.specs.RenamingSteps.{AreReady, HaveOneShape, IsBecome, IsRenamedIn, IsRenamedValue}
 use Rattle.wac_renaming.specs.declared.renamer.Renamed.{Renamed}
-use Rattle.wac_entries.proofs.TaskLemmas.{defined_values_hold}
+use Rattle.wac_tables.proofs.TaskLemmas.{defined_values_hold}
 use Rattle.wac_renaming.proofs.Extending.{extended_none, kept_item}
 use Rattle.wac_renaming.proofs.RenamingMemo.{closed, defined_put, more_put}
 use Rattle.wac_renaming.proofs.RenamingShapes.{shape_more}

@@ -1,6 +1,6 @@
 use Rattle.std.proofs.Common.{◌≡◌, true}
 use Rattle.wac_collection.specs.Collection.{holds_value, seconds}
-use Rattle.wac_entries.proofs.TaskOpenings.{each_field}
+use Rattle.wac_tables.proofs.TaskOpenings.{each_field}
 use Rattle.wac_renaming.specs.RenamingSteps.{AllStay, IsReady, Stays}
 use Rattle.wac_renaming.proofs.Staying.{fails, fields_further}
 use Rattle.wac_renaming.proofs.renamer.Renamed.fields_stay.Goals as goal

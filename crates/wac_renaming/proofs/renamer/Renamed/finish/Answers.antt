@@ -1,9 +1,9 @@
 use Rattle.std.proofs.Common.{◌≡◌, ◌<◌, ◌-◌, List, [], ◌++◌, take, ap, sym, ◌∙◌, subst}
 use Rattle.std.specs.List.{AllByRecursion}
-use Rattle.wac_entries.specs.declared.tasks.Task.{Task}
-use Rattle.wac_entries.specs.Tasks.{tasks_weight, IsHeldTask}
+use Rattle.wac_tables.specs.declared.tasks.Task.{Task}
+use Rattle.wac_tables.specs.Tasks.{tasks_weight, IsHeldTask}
 use Rattle.wac_renaming.specs.RenamingSteps.{AreCovered, IsUnderWay}
-use Rattle.wac_entries.proofs.TaskLemmas.{all_last}
+use Rattle.wac_tables.proofs.TaskLemmas.{all_last}
 use Rattle.wac_renaming.proofs.Extending.{extended_twice, still_can}
 use Rattle.wac_renaming.proofs.OneIds.{stay_twice}
 use Rattle.wac_renaming.proofs.RenamingMemo.{same_done, same_right, same_stay}

@@ -1,6 +1,6 @@
 use Rattle.wac_renaming.specs.Made.{StayMade}
 use Rattle.wac_renaming.specs.RenamingSteps.{IsUnderWay}
-use Rattle.wac_entries.specs.Tasks.{tasks_weight}
+use Rattle.wac_tables.specs.Tasks.{tasks_weight}
 use Rattle.wac_renaming.proofs.renamer.Renamed.finish.Given as goal
 
 abbrev pub invariant-loop-task : goal.invariant-loop-task

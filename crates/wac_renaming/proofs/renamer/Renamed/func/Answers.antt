@@ -1,5 +1,5 @@
 use Rattle.std.proofs.Common.{inl, inr, refl, sym, ◌∙◌, subst}
-use Rattle.wac_entries.proofs.TaskLemmas.{func_values_hold}
+use Rattle.wac_tables.proofs.TaskLemmas.{func_values_hold}
 use Rattle.wac_renaming.specs.RenamedTypes.{becomes}
 use Rattle.wac_renaming.specs.Made.{IsFuncMadeOf, StayMade}
 use Rattle.wac_renaming.specs.RenamingSteps.{IsBecome, IsRenamedIn, IsRenamedValue}

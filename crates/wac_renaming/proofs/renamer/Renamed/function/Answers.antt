@@ -1,6 +1,6 @@
 use Rattle.std.proofs.Common.{◌≡◌, true, refl}
 use Rattle.wac_collection.specs.Collection.{holds_value, seconds}
-use Rattle.wac_entries.proofs.TaskOpenings.{first_of, rest_of}
+use Rattle.wac_tables.proofs.TaskOpenings.{first_of, rest_of}
 use Rattle.wac_renaming.specs.RenamingSteps.{IsReady}
 use Rattle.wac_renaming.proofs.renamer.Renamed.function.Goals as goal
 

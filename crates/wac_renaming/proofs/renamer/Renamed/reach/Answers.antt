@@ -1,10 +1,10 @@
 use Rattle.std.proofs.Common.{List, sym, subst}
 use Rattle.std.specs.List.{AllByRecursion}
 use Rattle.wac_collection.specs.Collection.{func_values, seconds}
-use Rattle.wac_entries.specs.declared.tasks.Task.{Task}
-use Rattle.wac_entries.specs.Tasks.{IsHeldTask, IsOpening}
-use Rattle.wac_entries.proofs.TaskOpenings.{openings_two}
-use Rattle.wac_entries.proofs.TaskLemmas.{all_openings}
+use Rattle.wac_tables.specs.declared.tasks.Task.{Task}
+use Rattle.wac_tables.specs.Tasks.{IsHeldTask, IsOpening}
+use Rattle.wac_tables.proofs.TaskOpenings.{openings_two}
+use Rattle.wac_tables.proofs.TaskLemmas.{all_openings}
 use Rattle.wac_renaming.proofs.Extending.{extended_none}
 use Rattle.wac_renaming.proofs.RenamingMemo.{same_first, same_right}
 use Rattle.wac_renaming.proofs.RenamingTasks.{on_ok, ready_after}

@@ -1,0 +1,89 @@
+//! What is left to do while the definitions that a type reaches are numbered.
+ghost use Rattle.std.specs.Prelude.{◌≡◌, ◌++◌, [], ◌∷◌, OnOk};
+ghost use Rattle.wac_collection.specs.Collection.{and_maybe, case_values, defined_values, seconds};
+ghost use Rattle.wac_tables.specs.Tasks.{openings};
+
+use std::alloc::AllocError;
+use wac_collection::{DefinedType, DefinedTypeId, Named, ValueType};
+
+/// What is to be done with a definition.
+#[derive(Clone, Copy)]
+pub enum Task {
+    /// Its parts are to be numbered first.
+    Open(DefinedTypeId),
+    /// Its parts are numbered, and it is to be.
+    Close(DefinedTypeId),
+}
+
+/// A value type's definition is to be opened, where it has one.
+pub fn open_value(tasks: &mut Vec<Task>, value: ValueType) -> Result<(), AllocError>
+    ensures { OnOk result (tasks.new.items ≡ tasks.old.items ++ openings (value ∷ [])) }
+{
+    if let ValueType::Defined(id) = value {
+        tasks.push(Task::Open(id))?;
+    }
+    Ok(())
+}
+
+/// An optional value type's definition is to be opened.
+pub fn open_optional(tasks: &mut Vec<Task>, value: Option<ValueType>) -> Result<(), AllocError>
+    ensures { OnOk result (tasks.new.items ≡ tasks.old.items ++ openings (and_maybe value [])) }
+{
+    match value {
+        Some(value) => open_value(tasks, value),
+        None => Ok(()),
+    }
+}
+
+/// The definitions of values are to be opened.
+fn open_values(tasks: &mut Vec<Task>, values: &[ValueType]) -> Result<(), AllocError>
+    ensures { OnOk result (tasks.new.items ≡ tasks.old.items ++ openings values.now) }
+{
+    for i in 0..values.len() {
+        open_value(tasks, values[i])?;
+    }
+    Ok(())
+}
+
+/// The definitions of fields or parameters are to be opened.
+pub fn open_fields(tasks: &mut Vec<Task>, fields: &Named<ValueType>) -> Result<(), AllocError>
+    ensures { OnOk result (tasks.new.items ≡ tasks.old.items ++ openings (seconds fields.now)) }
+{
+    for i in 0..fields.len() {
+        open_value(tasks, *fields.value_at(i))?;
+    }
+    Ok(())
+}
+
+/// The definitions of the payloads of cases are to be opened.
+fn open_cases(tasks: &mut Vec<Task>, cases: &Named<Option<ValueType>>) -> Result<(), AllocError>
+    ensures { OnOk result (tasks.new.items ≡ tasks.old.items ++ openings (case_values cases.now)) }
+{
+    for i in 0..cases.len() {
+        open_optional(tasks, *cases.value_at(i))?;
+    }
+    Ok(())
+}
+
+/// The definitions of the parts of a definition are to be opened.
+pub fn open_parts(tasks: &mut Vec<Task>, definition: &DefinedType) -> Result<(), AllocError>
+    ensures { OnOk result (tasks.new.items ≡ tasks.old.items ++ openings (defined_values definition.now)) }
+{
+    match definition {
+        DefinedType::Tuple(values) => open_values(tasks, values.as_slice()),
+        DefinedType::List(value) => open_value(tasks, *value),
+        DefinedType::FixedSizeList(value, _) => open_value(tasks, *value),
+        DefinedType::Option(value) => open_value(tasks, *value),
+        DefinedType::Result { ok, err } => {
+            open_optional(tasks, *ok)?;
+            open_optional(tasks, *err)
+        }
+        DefinedType::Variant(variant) => open_cases(tasks, &variant.cases),
+        DefinedType::Record(record) => open_fields(tasks, &record.fields),
+        DefinedType::Flags(_) => Ok(()),
+        DefinedType::Enum(_) => Ok(()),
+        DefinedType::Alias(value) => open_value(tasks, *value),
+        DefinedType::Stream(value) => open_optional(tasks, *value),
+        DefinedType::Future(value) => open_optional(tasks, *value),
+    }
+}
