@@ -11,7 +11,8 @@ ghost use Rattle.wac_shapes.specs.declared.component.ValueType.TheVariants as va
 ghost use Rattle.wac_shapes.specs.declared.component.«Type».TheVariants as ty;
 ghost use Rattle.wac_tables.specs.Nodes.{mentions, node_tree, tree_at, IsSorted};
 ghost use Rattle.wac_tables.specs.NodeViews.{node_view};
-ghost use Rattle.wac_tables.specs.Tasks.{parts_of, IsHeldTask, IsOpening, AreHeldValues};
+ghost use Rattle.wac_tables.specs.Tasks.{parts_of, IsHeldTask, IsOpening};
+ghost use Rattle.wac_subtyping.specs.Extended.{AreHeldValues};
 ghost use Rattle.wac_coding.specs.CallsView.{AreNamed};
 ghost use Rattle.wac_coding.specs.Coding.{only_part, source_tree, values_of, IsGrown, HasTree, IsRight, IsMore, IsReady, AreReady, IsDone, MayBeDone, Did, HasOption, AreParts, AreFields, AreCases, Fits, Means};
 

@@ -19,7 +19,8 @@ use Rattle.wac_terms.specs.Became.{AreFresh, IsNew, became, became_in_class, bec
 use Rattle.wac_entries.specs.Bindings.{AreBindings, ClassBindings, first_in, path_in}
 use Rattle.wac_entries.specs.Classes.{Entry, by_names, class_names}
 use Rattle.wac_terms.specs.MergedKinds.{AreNamedAlike}
-use Rattle.wac_terms.specs.Renaming.{AreEnds, IsExtended}
+use Rattle.wac_terms.specs.Renaming.{AreEnds}
+use Rattle.wac_subtyping.specs.Extended.{IsExtended}
 use Rattle.wac_terms.specs.Unions.{AreUnions}
 use Rattle.wac_fitting.proofs.BecameEndsNames.{IsPathOf, class-bound, held-name, interface-names}
 use Rattle.wac_terms.proofs.Found.{no_some}

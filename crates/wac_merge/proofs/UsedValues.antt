@@ -37,7 +37,7 @@ use Rattle.wac_trees.proofs.UnionTreesWritten.{written_name, written_other, writ
 use Rattle.wac_uses.specs.KeptUses.{of_interface}
 use Rattle.wac_uses.specs.United.{instances_of, listed_by}
 use Rattle.wac_values.specs.NamedTypes.{ListsOne, named_type}
-use Rattle.wac_renaming.specs.Made.{other_name}
+use Rattle.wac_renaming.specs.MadeOf.{other_name}
 use Rattle.wac_unions.specs.OneId.{Became, HasOneIdEach, another, at_end, in_union, kind_values}
 use Rattle.wac_merge.specs.Listed.{united_interfaces}
 use Rattle.wac_merge.specs.UsedValues.{ListsDefinition}

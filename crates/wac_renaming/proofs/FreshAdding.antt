@@ -16,11 +16,12 @@ use Rattle.wac_shapes.proofs.Names.{same_name-from, same_name-true}
 use Rattle.wac_entries.specs.Bindings.{ClassBindings, first_in}
 use Rattle.wac_terms.specs.Became.{AreFresh, IsNew}
 use Rattle.wac_renaming.specs.FreshSteps.{AreAllOwn, AreOwn, AreWhole, IsOwn, IsWhole, StayWhole, own_under, whole_under}
-use Rattle.wac_terms.specs.Renaming.{IsExtended}
+use Rattle.wac_subtyping.specs.Extended.{IsExtended}
 use Rattle.wac_terms.specs.declared.fresh.Fresh.{Fresh}
 use Rattle.wac_terms.specs.declared.parts.Export.{Export}
 use Rattle.wac_terms.specs.declared.parts.Union.{Union}
-use Rattle.wac_renaming.proofs.Extending.{Keeps, kept_low, still_new}
+use Rattle.wac_made.proofs.Extending.{Keeps, kept_low}
+use Rattle.wac_renaming.proofs.StillRenamed.{still_new}
 use Rattle.wac_entries.proofs.Lists.{at-end, at-push, push-cases, set-cases, some-at}
 
 some-same : {A : Type 0} (x y : A) → Some x ≡ Some y → x ≡ y

@@ -1,5 +1,4 @@
-pub mod Extending
-pub mod MadeForms
+pub mod StillRenamed
 pub mod RenamingShapes
 pub mod RenamingTrees
 pub mod RenamingLoops

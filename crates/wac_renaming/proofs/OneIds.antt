@@ -15,12 +15,13 @@ use Rattle.wac_shapes.specs.declared.component.ValueType.{ValueType}
 use Rattle.wac_shapes.specs.declared.component.ValueType.TheVariants as val
 use Rattle.wac_shapes.specs.declared.component.«Type».TheVariants as ty
 use Rattle.wac_values.specs.declared.named.NamedTypes.{NamedTypes}
-use Rattle.wac_terms.specs.Renaming.{IsExtended}
-use Rattle.wac_renaming.specs.Made.{IsFuncMadeFor, IsFuncMadeOf, IsKindMadeOf, IsMadeFor, IsMadeOf, StayMade, alias, anew, form, func_form, other_name, plain}
+use Rattle.wac_subtyping.specs.Extended.{IsExtended}
+use Rattle.wac_made.specs.Made.{IsFuncMadeFor, IsMadeFor, StayMade, form, func_form}
+use Rattle.wac_renaming.specs.MadeOf.{IsFuncMadeOf, IsKindMadeOf, IsMadeOf, alias, anew, other_name, plain}
 use Rattle.wac_renaming.specs.RenamingSteps.{CasesGoTogether, FieldsGoTogether, GoTogether, HaveOneFuncShape, HaveOneShape, IsRenamedIn, aliases, enums, fixed_lists, flags, futures, lists, options, records, results, streams, tuples, variants}
-use Rattle.wac_renaming.specs.declared.made.Made.{Made}
+use Rattle.wac_made.specs.declared.made.Made.{Made}
 use Rattle.wac_renaming.specs.declared.renamer.Renaming.{Renaming}
-use Rattle.wac_renaming.proofs.Extending.{kept_item}
+use Rattle.wac_made.proofs.Extending.{kept_item}
 use Rattle.wac_renaming.proofs.Outlines.{func_outlined}
 
 -- ---- the values of definitions of one shape, and of function types, beside each other

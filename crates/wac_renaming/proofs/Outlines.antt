@@ -7,7 +7,7 @@ use Rattle.wac_shapes.specs.declared.component.DefinedType.{DefinedType}
 use Rattle.wac_shapes.specs.declared.component.DefinedType.TheVariants as def
 use Rattle.wac_shapes.specs.declared.component.FuncType.{FuncType}
 use Rattle.wac_shapes.specs.declared.component.ValueType.{ValueType}
-use Rattle.wac_renaming.specs.Made.{any_maybe, any_value, func_outline, outline}
+use Rattle.wac_renaming.specs.MadeOf.{any_maybe, any_value, func_outline, outline}
 use Rattle.wac_renaming.specs.RenamingSteps.{CasesGoTogether, FieldsGoTogether, GoTogether, HaveOneShape, aliases, enums, fixed_lists, flags, futures, lists, options, records, results, streams, tuples, variants}
 
 -- ---- what became another has its outline

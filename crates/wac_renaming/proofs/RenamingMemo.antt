@@ -12,16 +12,18 @@ use Rattle.wac_shapes.specs.declared.component.FuncTypeId.{FuncTypeId}
 use Rattle.wac_shapes.specs.declared.component.ValueType.{ValueType}
 use Rattle.wac_shapes.specs.declared.component.ValueType.TheVariants as val
 use Rattle.wac_shapes.specs.declared.component.«Type».TheVariants as ty
-use Rattle.wac_renaming.specs.Made.{AreApart, AreMade, AreThere, IsFuncMadeOf, IsMadeFor, IsMadeOf, StayMade, anew, other_name}
-use Rattle.wac_renaming.specs.declared.made.Made.{Made}
+use Rattle.wac_made.specs.Made.{AreApart, AreThere, IsMadeFor, StayMade, IsDefinedBehind, IsFuncBehind}
+use Rattle.wac_renaming.specs.MadeOf.{AreMade, IsFuncMadeOf, IsMadeOf, anew, other_name}
+use Rattle.wac_made.specs.declared.made.Made.{Made}
 use Rattle.wac_renaming.specs.RenamedTypes.{AreRenamed, becomes, defined_at, defined_in, func_at, func_in}
 use Rattle.wac_tables.specs.Tasks.{task_id}
 use Rattle.wac_tables.specs.declared.tasks.Task.{Task}
-use Rattle.wac_terms.specs.Renaming.{IsExtended, IsRenamed}
-use Rattle.wac_renaming.specs.RenamingSteps.{HasDefinedToo, HasFuncToo, HasSame, HaveOneFuncShape, HaveOneShape, IsDefinedBehind, IsDone, IsFuncBehind, IsMore, IsRenamedIn, IsRenamedValue}
+use Rattle.wac_subtyping.specs.Extended.{IsExtended}
+use Rattle.wac_terms.specs.Renaming.{IsRenamed}
+use Rattle.wac_renaming.specs.RenamingSteps.{HasDefinedToo, HasFuncToo, HasSame, HaveOneFuncShape, HaveOneShape, IsDone, IsMore, IsRenamedIn, IsRenamedValue}
 use Rattle.wac_renaming.specs.declared.renamer.Renamed.{Renamed}
 use Rattle.wac_renaming.specs.declared.renamer.Renaming.{Renaming}
-use Rattle.wac_renaming.proofs.Extending.{still_all_renamed, still_renamed}
+use Rattle.wac_renaming.proofs.StillRenamed.{still_all_renamed, still_renamed}
 use Rattle.wac_renaming.proofs.OneIds.{shape_pairs, still_func_of, still_of}
 use Rattle.wac_renaming.proofs.Outlines.{outlined}
 use Rattle.wac_renaming.proofs.RenamingShapes.{fields_more, option_more, shape_more}
@@ -88,7 +90,7 @@ module _ (old mid new : Renamed) (d e : DefinedTypeId) (same : mid.defined ≡ o
   more_put (Err _) put = put
 
 -- where more was made, and the collection grew
-pub still_with : (s : Renaming) (m more : Collection) (x : IsExtended m more) (memo : Renamed) (new : Made) → StayMade memo.made new → AreThere more new → AreApart s.types.now s.became.now.named.now new → AreRenamed m s memo → AreRenamed more s (record { defined = memo.defined; funcs = memo.funcs; made = new; tasks = memo.tasks })
+pub still_with : (s : Renaming) (m more : Collection) (x : IsExtended m more) (memo : Renamed) (new : Made) → StayMade memo.made new → AreThere more new → AreApart s.types.now (named_type s.became.now.named.now) new → AreRenamed m s memo → AreRenamed more s (record { defined = memo.defined; funcs = memo.funcs; made = new; tasks = memo.tasks })
 still_with s m more x memo new stay there apart r =
     let t = s.became.now.named.now in
     let still = still_all_renamed m more x s memo r in
@@ -142,7 +144,7 @@ module _ (s : Renaming) (m more : Collection) (wc : AreWhole s.types.now) (wm : 
 
 -- a definition that is no other name became what was made of it
 pub closed : (s : Renaming) (m more : Collection) → AreWhole s.types.now → AreWhole more → (memo : Renamed) (made : Made) (new : Renamed) (d e : DefinedTypeId) (x y : DefinedType) → item_at s.types.now.defined d.0 ≡ Some x → other_name x ≡ None → IsDefinedBehind m more y e
-    → IsMadeFor made (named_type s.became.now.named.now d) y e → StayMade memo.made made → AreThere more made → AreApart s.types.now s.became.now.named.now made → HaveOneShape (IsRenamedIn s m memo.made) x y → AreRenamed m s memo
+    → IsMadeFor made (named_type s.became.now.named.now d) y e → StayMade memo.made made → AreThere more made → AreApart s.types.now (named_type s.became.now.named.now) made → HaveOneShape (IsRenamedIn s m memo.made) x y → AreRenamed m s memo
     → (r : Result (Unit {0}) AllocError) → OnOk r (HasDefinedToo (record { defined = memo.defined; funcs = memo.funcs; made = made; tasks = memo.tasks }) d e new) → OnOk r (AreRenamed more s new)
 closed s m more wc wm memo made new d e x y at other behind made_for stay there apart shape right r put =
     let t = s.became.now.named.now in

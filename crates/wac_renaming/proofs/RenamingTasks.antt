@@ -9,9 +9,9 @@ use Rattle.wac_shapes.specs.declared.component.DefinedType.{DefinedType}
 use Rattle.wac_shapes.specs.declared.component.DefinedTypeId.{DefinedTypeId}
 use Rattle.wac_shapes.specs.declared.component.ValueType.{ValueType}
 use Rattle.wac_shapes.specs.declared.component.ValueType.TheVariants as val
-use Rattle.wac_renaming.specs.Made.{StayMade}
+use Rattle.wac_made.specs.Made.{StayMade}
 use Rattle.wac_renaming.specs.RenamedTypes.{AreRenamed, defined_in}
-use Rattle.wac_terms.specs.Renaming.{IsExtended}
+use Rattle.wac_subtyping.specs.Extended.{IsExtended}
 use Rattle.wac_renaming.specs.RenamingSteps.{AreCovered, AreReady, Did, IsAwaited, IsDone, IsMore, IsReady, IsUnderWay, MayBeDone, put_off, renamed}
 use Rattle.wac_tables.specs.Tasks.{task_id, opening, openings, parts_of, task_weight, tasks_weight, IsHeldTask, IsOpening, HasTask}
 use Rattle.wac_renaming.specs.declared.renamer.Renamed.{Renamed}
@@ -19,7 +19,7 @@ use Rattle.wac_renaming.specs.declared.renamer.Renaming.{Renaming}
 use Rattle.wac_tables.specs.declared.tasks.Task.{Task}
 use Rattle.wac_tables.specs.declared.tasks.Task.TheVariants.{Open, Close}
 use Rattle.wac_tables.proofs.TaskLemmas.{all_each, all_front, all_joined, all_last, all_openings, has_behind, has_front, has_parted, openings_held, openings_weigh, parts_below, some_weight, total_joined}
-use Rattle.wac_renaming.proofs.Extending.{extended_none, extended_twice}
+use Rattle.wac_made.proofs.Extending.{extended_none, extended_twice}
 
 module _ (c : Collection) (wf : IsWellFormed c) where
   -- what is done leaves less to do

@@ -1,5 +1,5 @@
 -- The trees of types whose resources became others.
-use Rattle.std.proofs.Common.{◌≡◌, ℕ, zero, suc, ◌<◌, List, [], ◌∷◌, length, Option, Some, None, true, nat_lt, refl, ap, sym, ◌∙◌, subst, arith}
+use Rattle.std.proofs.Common.{◌≡◌, ℕ, suc, ◌<◌, length, Option, Some, None, true, nat_lt, refl, ap, sym, ◌∙◌, subst, arith}
 use Rattle.std.specs.Prelude.{slice_get}
 use Rattle.std.specs.List.{AllByRecursion}
 use Rattle.wac_primitives.specs.Name.{option_case}
@@ -23,6 +23,7 @@ use Rattle.wac_shapes.specs.declared.component.«Type».TheVariants as ty
 use Rattle.wac_terms.specs.Renaming.{AreEnds, IsRenamed}
 use Rattle.wac_renaming.specs.RenamingSteps.{FieldsGoTogether, GoTogether, HaveOneShape, IsRenamedValue}
 use Rattle.wac_renaming.proofs.RenamingShapes.{func_all, func_same, shape_all, shape_same}
+use Rattle.wac_made.proofs.Extending.{within_held}
 
 low_tested : (a b : ℕ) → a < b → nat_lt a b ≡ true
 low_tested a b h = grind (arith, h)
@@ -65,11 +66,6 @@ module _ (c m : Collection) (f : ResourceId → ResourceId) (ends : AreEnds c m 
 held_is : {A L : Type 0} (t : A → TypeTree L) (o : Option (Held A)) (x : A) → item_of o ≡ Some x → of_held t o ≡ t x
 held_is t None x e = cc
 held_is t (Some h) x e = let same : h.item ≡ x = cc in ap t same
-
-pub within_held : {A : Type 0} (xs : List (Held A)) (i : ℕ) (x : A) → item_at xs i ≡ Some x → i < length xs
-within_held [] i x e = cc
-within_held (h ∷ xs) zero x e = omega arith
-within_held (h ∷ xs) (suc i) x e = let low = within_held xs i x e in omega (arith, low)
 
 module _ {L : Type 0} (naming : Naming L) (c : Collection) (deep : IsDeepEnough naming c) (n : Names L) where
   defined_is : (d : DefinedTypeId) (x : DefinedType) → item_at c.defined d.0 ≡ Some x → unfolded naming c n (ty.Value (val.Defined d)) ≡ defined_tree (λ v. unfolded naming c n (ty.Value v)) x

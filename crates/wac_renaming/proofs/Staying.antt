@@ -12,10 +12,12 @@ use Rattle.wac_shapes.specs.declared.component.DefinedTypeId.{DefinedTypeId}
 use Rattle.wac_shapes.specs.declared.component.FuncType.{FuncType}
 use Rattle.wac_shapes.specs.declared.component.ValueType.{ValueType}
 use Rattle.wac_shapes.specs.declared.component.ValueType.TheVariants as val
-use Rattle.wac_tables.specs.Tasks.{AreHeldValues, IsHeldTask, openings}
+use Rattle.wac_subtyping.specs.Extended.{AreHeldValues}
+use Rattle.wac_tables.specs.Tasks.{IsHeldTask, openings}
 use Rattle.wac_tables.proofs.TaskLemmas.{all_joined}
-use Rattle.wac_tables.proofs.TaskOpenings.{cases_take, seconds_take, values_take}
-use Rattle.wac_renaming.specs.Made.{plain}
+use Rattle.wac_tables.proofs.TaskOpenings.{cases_take, values_take}
+use Rattle.wac_subtyping.proofs.Taking.{seconds_take}
+use Rattle.wac_renaming.specs.MadeOf.{plain}
 use Rattle.wac_renaming.specs.RenamedTypes.{AreRenamed, CanRename, becomes, defined_in}
 use Rattle.wac_renaming.specs.RenamingSteps.{AllStay, CasesGoTogether, FieldsGoTogether, GoTogether, HaveOneFuncShape, HaveOneShape, IsBecome, IsRenamedIn, aliases, enums, fixed_lists, flags, futures, lists, options, records, results, streams, tuples, variants}
 use Rattle.wac_renaming.specs.declared.renamer.Renamed.{Renamed}

@@ -15,9 +15,10 @@ use Rattle.wac_terms.specs.Became.{AreBoundParts, became}
 use Rattle.wac_renaming.specs.declared.became.Became.{Became}
 use Rattle.wac_renaming.specs.declared.renamer.Renamed.{Renamed}
 use Rattle.wac_renaming.specs.declared.renamer.Renaming.{Renaming}
-use Rattle.wac_renaming.specs.Made.{AreMade, IsFuncMadeOf, IsMadeOf}
+use Rattle.wac_renaming.specs.MadeOf.{AreMade, IsFuncMadeOf, IsMadeOf}
 use Rattle.wac_renaming.specs.Ways.{AreOutward}
-use Rattle.wac_terms.specs.Renaming.{AreEnds, IsExtended, IsRenamed}
+use Rattle.wac_terms.specs.Renaming.{AreEnds, IsRenamed}
+use Rattle.wac_subtyping.specs.Extended.{IsExtended}
 
 -- what a resource at the end of its aliases becomes where types are renamed
 abbrev pub becomes : Renaming → ResourceId → ResourceId

@@ -2,7 +2,7 @@
 use Rattle.std.specs.Prelude.{ℕ, ◌≡◌, ◌++◌, ◌⊎◌, true, cond, nat_eq, List, ◌∷◌, [], Option, Some, None, IsSome}
 use Rattle.std.specs.List.{AllByRecursion, AllZip}
 use Rattle.wac_primitives.specs.Name.{Name}
-use Rattle.wac_collection.specs.Collection.{Collection, holds_value, item_at}
+use Rattle.wac_collection.specs.Collection.{Collection, holds_value}
 use Rattle.wac_shapes.specs.declared.component.DefinedType.{DefinedType}
 use Rattle.wac_shapes.specs.declared.component.DefinedType.TheVariants as def
 use Rattle.wac_shapes.specs.declared.component.DefinedTypeId.{DefinedTypeId}
@@ -17,9 +17,11 @@ use Rattle.wac_shapes.specs.declared.component.ValueType.TheVariants as val
 use Rattle.wac_shapes.specs.declared.component.Variant.{Variant}
 use Rattle.wac_shapes.specs.declared.component.«Type».TheVariants as ty
 use Rattle.wac_renaming.specs.RenamedTypes.{AreRenamed, becomes, defined_in, func_in, value_in}
-use Rattle.wac_renaming.specs.Made.{IsMadeOf, StayMade}
-use Rattle.wac_renaming.specs.declared.made.Made.{Made}
-use Rattle.wac_terms.specs.Renaming.{IsExtended, IsRenamed}
+use Rattle.wac_renaming.specs.MadeOf.{IsMadeOf}
+use Rattle.wac_made.specs.Made.{StayMade}
+use Rattle.wac_made.specs.declared.made.Made.{Made}
+use Rattle.wac_subtyping.specs.Extended.{IsExtended}
+use Rattle.wac_terms.specs.Renaming.{IsRenamed}
 use Rattle.wac_tables.specs.Tasks.{task_id, parts_of, openings, IsHeldTask, HasTask}
 use Rattle.wac_renaming.specs.declared.renamer.Renamed.{Renamed}
 use Rattle.wac_renaming.specs.declared.renamer.Renaming.{Renaming}
@@ -96,15 +98,6 @@ pub record HaveOneFuncShape (R : ValueType → ValueType → Type 0) (x y : Func
   pub params : FieldsGoTogether R x.params y.params
   pub result : GoTogether R x.result y.result
   pub sort : y.is_async ≡ x.is_async
-
--- a definition, and a function type, that was put behind what is there
-pub record IsDefinedBehind (c m : Collection) (d : DefinedType) (id : DefinedTypeId) : Type 0 where
-  pub extended : IsExtended c m
-  pub there : item_at m.defined id.0 ≡ Some d
-
-pub record IsFuncBehind (c m : Collection) (f : FuncType) (id : FuncTypeId) : Type 0 where
-  pub extended : IsExtended c m
-  pub there : item_at m.funcs id.0 ≡ Some f
 
 -- what became something still did, and what was made still is
 pub record IsMore (old new : Renamed) : Type 0 where

@@ -8,7 +8,7 @@ ghost use Rattle.wac_entries.specs.Bindings.{AreBindings, AreHeld, first_in};
 ghost use Rattle.wac_entries.specs.Classes.{AreClasses, by_names};
 ghost use Rattle.wac_renaming.specs.FreshSteps.{AreAllOwn, AreCounted, AreOwn, AreWhole, IsWhole, StayWhole};
 ghost use Rattle.wac_entries.specs.Places.{resource_itself};
-ghost use Rattle.wac_terms.specs.Renaming.{IsExtended};
+ghost use Rattle.wac_subtyping.specs.Extended.{IsExtended};
 
 use std::alloc::{AllocError, Global};
 use wac_collection::{AddTypeError, ItemKind, Named, Resource, ResourceId, ShapeError, Types};

@@ -5,7 +5,5 @@
 
 pub mod adding;
 pub mod became;
-pub mod made;
 pub mod outward;
 pub mod renamer;
-pub mod shapes;

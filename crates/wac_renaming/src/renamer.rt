@@ -4,7 +4,8 @@
 //! too long. Each is opened once and renamed once.
 ghost use Rattle.std.specs.Prelude.{◌≡◌, ◌↔◌, ◌++◌, ◌∷◌, [], true, None, IfOk, IfSome, IsTrue, OnOk};
 ghost use Rattle.std.specs.List.{AllByRecursion, AllZip};
-ghost use Rattle.wac_renaming.specs.Made.{AreMade, IsFuncMadeOf, IsMadeOf, StayMade, other_name};
+ghost use Rattle.wac_renaming.specs.MadeOf.{AreMade, IsFuncMadeOf, IsMadeOf, other_name};
+ghost use Rattle.wac_made.specs.Made.{StayMade};
 ghost use Rattle.wac_collection.specs.Collection.{Collection, HasDefined, HasFunc, and_maybe, case_values, defined_values, func_values, holds_value, seconds};
 ghost use Rattle.wac_collection.specs.Held.{resolved};
 ghost use Rattle.wac_primitives.specs.Name.{find_name};
@@ -13,25 +14,29 @@ ghost use Rattle.wac_shapes.specs.declared.component.ValueType.TheVariants as va
 ghost use Rattle.wac_shapes.specs.declared.component.«Type».TheVariants as ty;
 ghost use Rattle.wac_terms.specs.Became.{AreBoundParts};
 ghost use Rattle.wac_renaming.specs.RenamedTypes.{AreRenamed, CanRename, becomes, defined_in, func_in};
-ghost use Rattle.wac_terms.specs.Renaming.{IsExtended, IsRenamed};
+ghost use Rattle.wac_subtyping.specs.Extended.{IsExtended, AreHeldValues};
+ghost use Rattle.wac_terms.specs.Renaming.{IsRenamed};
 ghost use Rattle.wac_renaming.specs.Ways.{AreOutward};
 ghost use Rattle.wac_renaming.specs.RenamingSteps.{AllStay, AreReady, CasesGoTogether, Did, FieldsGoTogether, GoTogether, HasDefinedToo, HasFuncToo, HasSame, HaveOneFuncShape, HaveOneShape, IsBecome, IsDone, IsMore, IsReady, MayBeDone, Stays};
-ghost use Rattle.wac_tables.specs.Tasks.{IsHeldTask, IsOpening, parts_of, AreHeldValues};
+ghost use Rattle.wac_tables.specs.Tasks.{IsHeldTask, IsOpening, parts_of};
 ghost use Rattle.wac_terms.specs.Unions.{AreAround, IsPart};
 ghost use Rattle.wac_renaming.specs.declared.renamer.Renaming.{Renaming as ARenaming};
 ghost use Rattle.wac_values.specs.declared.named.NamedTypes.{NamedTypes as ANamedTypes};
 
 use crate::became::Became;
-use crate::made::Made;
 use std::alloc::{AllocError, Global};
 use std::mem::replace;
 use wac_collection::{
     DefinedType, DefinedTypeId, Enum, Flags, FuncType, FuncTypeId, Labels, Named, Record,
     ResourceId, ShapeError, Types, ValueType, Variant,
 };
+use wac_made::made::Made;
 use wac_subtyping::laws::trees_are_whole;
-use wac_tables::rounds::Numbers;
-use wac_tables::tasks::{Task, open_fields, open_optional, open_parts, open_value};
+use wac_tables::rounds::{Numbers, Numbers};
+use wac_tables::tasks::{
+    Task, Task, open_fields, open_fields, open_optional, open_optional, open_parts, open_parts,
+    open_value, open_value,
+};
 
 /// Where types are renamed: the collection that they are of, what its resources become, and in which part.
 #[derive(Clone, Copy)]

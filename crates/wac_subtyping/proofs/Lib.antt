@@ -4,3 +4,4 @@ pub mod Relation
 pub mod Trees
 pub mod Kept
 pub mod Telling
+pub mod Taking

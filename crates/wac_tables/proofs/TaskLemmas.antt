@@ -13,7 +13,8 @@ use Rattle.wac_shapes.specs.declared.component.ValueType.{ValueType}
 use Rattle.wac_shapes.specs.declared.component.ValueType.TheVariants as val
 use Rattle.wac_tables.specs.declared.tasks.Task.{Task}
 use Rattle.wac_tables.specs.declared.tasks.Task.TheVariants.{Open, Close}
-use Rattle.wac_tables.specs.Tasks.{task_id, opening, openings, parts_of, total, weight_to, task_weight, tasks_weight, AreHeldValues, HasTask, IsHeldTask, IsOpening}
+use Rattle.wac_tables.specs.Tasks.{task_id, opening, openings, parts_of, total, weight_to, task_weight, tasks_weight, HasTask, IsHeldTask, IsOpening}
+use Rattle.wac_subtyping.specs.Extended.{AreHeldValues}
 
 -- ---- lists
 pub all_each : {A : Type 0} (P Q : A → Type 0) → ((x : A) → P x → Q x) → (xs : List A) → AllByRecursion P xs → AllByRecursion Q xs

@@ -24,13 +24,6 @@ values_take vs i d low = rw add-one (by vs i low) where
   by (v ∷ vs) zero low = refl
   by (v ∷ vs) (suc i) low = ap (λ r. v ∷ r) (by vs i (omega (arith, low)))
 
-pub seconds_take : (es : List (Name × ValueType)) (i : ℕ) (v : ValueType) → option_map (λ e. e.1) (slice_get es i) ≡ Some v → seconds (take (i + 1) es) ≡ seconds (take i es) ++ v ∷ []
-seconds_take es i v is = rw add-one (by es i is) where
-  by : (es : List (Name × ValueType)) (i : ℕ) → option_map (λ e. e.1) (slice_get es i) ≡ Some v → seconds (take (suc i) es) ≡ seconds (take i es) ++ v ∷ []
-  by [] i is = cc
-  by (e ∷ es) zero is = let same : e.1 ≡ v = cc in ap (λ x. x ∷ []) same
-  by (e ∷ es) (suc i) is = ap (λ r. e.1 ∷ r) (by es i is)
-
 maybe_joined : (o : Option ValueType) (vs ws : List ValueType) → and_maybe o (vs ++ ws) ≡ and_maybe o vs ++ ws
 maybe_joined None vs ws = refl
 maybe_joined (Some v) vs ws = refl

@@ -1,8 +1,7 @@
 -- What is left to do while the definitions that a type reaches are numbered. Private functions alone cite this.
-use Rattle.std.specs.Prelude.{ℕ, zero, suc, ◌+◌, ◌≡◌, ◌⊎◌, true, List, [], ◌∷◌, ◌++◌}
-use Rattle.std.specs.List.{AllByRecursion}
+use Rattle.std.specs.Prelude.{ℕ, zero, suc, ◌+◌, ◌≡◌, ◌⊎◌, List, [], ◌∷◌, ◌++◌}
 use Rattle.wac_primitives.specs.Name.{option_case}
-use Rattle.wac_collection.specs.Collection.{Collection, HasDefined, item_at, defined_values, holds_value}
+use Rattle.wac_collection.specs.Collection.{Collection, HasDefined, item_at, defined_values}
 use Rattle.wac_shapes.specs.declared.component.DefinedTypeId.{DefinedTypeId}
 use Rattle.wac_shapes.specs.declared.component.ValueType.{ValueType}
 use Rattle.wac_shapes.specs.declared.component.ValueType.TheVariants as val
@@ -55,10 +54,6 @@ IsHeldTask c t = HasDefined c (task_id t)
 abbrev pub IsOpening : Task → Type 0
 IsOpening (Open d) = Unit {0}
 IsOpening (Close d) = ⊥
-
--- the ids in values are held
-abbrev pub AreHeldValues : Collection → List ValueType → Type 0
-AreHeldValues c vs = AllByRecursion (λ v. holds_value c v ≡ true) vs
 
 -- a task is of the definition
 abbrev pub HasTask : DefinedTypeId → List Task → Type 0

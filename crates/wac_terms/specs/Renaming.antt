@@ -4,14 +4,8 @@ use Rattle.wac_collection.specs.Collection.{Collection, HasResource, holds_type}
 use Rattle.wac_collection.specs.Held.{resolved}
 use Rattle.wac_collection.specs.Bound.{Bindings, held_tree}
 use Rattle.wac_subtyping.specs.Subtype.{type_tree, resource_names}
-use Rattle.wac_subtyping.specs.TreeLaws.{IsKeptBy, KeepsTrees}
 use Rattle.wac_shapes.specs.declared.component.ResourceId.{ResourceId}
 use Rattle.wac_shapes.specs.declared.component.«Type».{«Type» as AnyType}
-
--- the second collection begins with the first, whose types have the same trees in it
-pub record IsExtended (c m : Collection) : Type 0 where
-  pub kept : IsKeptBy c m
-  pub trees : KeepsTrees c m
 
 -- what a resource at the end of its aliases becomes is held, is no alias, and has its name
 abbrev pub AreEnds : Collection → Collection → (ResourceId → ResourceId) → Type 0

@@ -25,7 +25,8 @@ use Rattle.wac_entries.specs.Agreement.{Agree}
 use Rattle.wac_terms.specs.Became.{AreFresh, became, own_in}
 use Rattle.wac_entries.specs.Bindings.{ClassBindings}
 use Rattle.wac_entries.specs.Places.{own_resource}
-use Rattle.wac_terms.specs.Renaming.{AreEnds, IsExtended}
+use Rattle.wac_terms.specs.Renaming.{AreEnds}
+use Rattle.wac_subtyping.specs.Extended.{IsExtended}
 use Rattle.wac_terms.specs.Unions.{AreUnions, IsExport, IsInner, instances_in, is_own_of, listed_under, part, part_lists, united}
 use Rattle.wac_terms.specs.Writing.{AreWritten, IsWrittenAs, IsWrittenExport, written_at}
 use Rattle.wac_terms.specs.declared.fresh.Fresh.{Fresh}

@@ -26,7 +26,8 @@ use Rattle.wac_subtyping.specs.Subtype.{held_name, kind_tree, resource_names, ty
 use Rattle.wac_entries.specs.Agreement.{Agree}
 use Rattle.wac_terms.specs.Became.{IsNew}
 use Rattle.wac_entries.specs.Places.{own_resource}
-use Rattle.wac_terms.specs.Renaming.{AreEnds, IsExtended}
+use Rattle.wac_terms.specs.Renaming.{AreEnds}
+use Rattle.wac_subtyping.specs.Extended.{IsExtended}
 use Rattle.wac_terms.specs.Writing.{IsAliasOf, IsWrittenAs}
 use Rattle.wac_terms.proofs.Alike.{agree_at}
 use Rattle.wac_terms.proofs.Found.{no_some, some_same}

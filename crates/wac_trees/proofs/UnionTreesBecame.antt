@@ -21,7 +21,7 @@ use Rattle.wac_shapes.specs.declared.component.ItemKind.TheVariants as kind
 use Rattle.wac_entries.specs.Bindings.{ClassBindings, first_in, path_in}
 use Rattle.wac_terms.specs.Became.{AreFresh, IsNew, became, became_in_class, became_outside, became_to, new_at, or_itself, own_in, own_of_part}
 use Rattle.wac_entries.specs.Places.{own_resource, resource_itself}
-use Rattle.wac_terms.specs.Renaming.{IsExtended}
+use Rattle.wac_subtyping.specs.Extended.{IsExtended}
 use Rattle.wac_terms.specs.Unions.{is_own_of}
 use Rattle.wac_terms.specs.declared.fresh.Fresh.{Fresh}
 use Rattle.wac_terms.specs.declared.parts.Part.{Part}

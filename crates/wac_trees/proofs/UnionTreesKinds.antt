@@ -17,7 +17,8 @@ use Rattle.wac_shapes.specs.declared.component.ItemKind.{ItemKind}
 use Rattle.wac_shapes.specs.declared.component.ItemKind.TheVariants as kind
 use Rattle.wac_subtyping.specs.Called.{Called}
 use Rattle.wac_entries.specs.Agreement.{Agree}
-use Rattle.wac_terms.specs.Renaming.{Fits, IsExtended}
+use Rattle.wac_terms.specs.Renaming.{Fits}
+use Rattle.wac_subtyping.specs.Extended.{IsExtended}
 use Rattle.wac_terms.specs.Union.{union}
 use Rattle.wac_terms.specs.Writing.{IsAliasOf, IsWrittenAs}
 use Rattle.wac_trees.proofs.UnionTreesNames.{is_fresh, union_type}

@@ -18,7 +18,8 @@ use Rattle.wac_entries.specs.Bindings.{ClassBindings}
 use Rattle.wac_terms.specs.Became.{AreFresh, became}
 use Rattle.wac_entries.specs.Classes.{Entry, by_names, class_names, members, names_instance}
 use Rattle.wac_terms.specs.NoDisagreement.{HasNoDisagreement}
-use Rattle.wac_terms.specs.Renaming.{Fits, IsExtended}
+use Rattle.wac_terms.specs.Renaming.{Fits}
+use Rattle.wac_subtyping.specs.Extended.{IsExtended}
 use Rattle.wac_terms.specs.Union.{inside_member, merged}
 use Rattle.wac_terms.specs.Unions.{AreUnions, part}
 use Rattle.wac_terms.specs.Writing.{AreWritten}

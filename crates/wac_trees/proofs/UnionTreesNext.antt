@@ -21,7 +21,8 @@ use Rattle.wac_subtyping.specs.Called.{Called, by_binding}
 use Rattle.wac_subtyping.specs.TreeLaws.{IsDeepEnough}
 use Rattle.wac_entries.specs.Bindings.{ClassBindings}
 use Rattle.wac_terms.specs.Became.{AreFresh, became, own_in}
-use Rattle.wac_terms.specs.Renaming.{Fits, IsExtended}
+use Rattle.wac_terms.specs.Renaming.{Fits}
+use Rattle.wac_subtyping.specs.Extended.{IsExtended}
 use Rattle.wac_terms.specs.Union.{union_all}
 use Rattle.wac_terms.specs.Unions.{AreUnions, IsExport, IsInner, instances_in, is_own_of, listed_under, part, part_lists, united}
 use Rattle.wac_terms.specs.Writing.{AreWritten, IsAliasOf, IsWrittenAs, IsWrittenExport, written_at}

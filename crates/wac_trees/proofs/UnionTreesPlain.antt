@@ -24,7 +24,8 @@ use Rattle.wac_entries.specs.Classes.{Entry, by_names, class_names, members, sam
 use Rattle.wac_terms.specs.NoDisagreement.{HasNoDisagreement}
 use Rattle.wac_terms.specs.Merge.{position_in}
 use Rattle.wac_entries.specs.Places.{find_resource}
-use Rattle.wac_terms.specs.Renaming.{Fits, IsExtended}
+use Rattle.wac_terms.specs.Renaming.{Fits}
+use Rattle.wac_subtyping.specs.Extended.{IsExtended}
 use Rattle.wac_terms.specs.Union.{member_tree, merged, union, union_all}
 use Rattle.wac_terms.specs.Writing.{IsAliasOf, IsWrittenAs}
 use Rattle.wac_terms.specs.declared.fresh.Fresh.{Fresh}

@@ -13,7 +13,7 @@ use Rattle.wac_entries.specs.Bindings.{AreHeld, ClassBindings}
 use Rattle.wac_entries.specs.Classes.{Entry, by_names, class_names}
 use Rattle.wac_terms.specs.ClassOrder.{IsWrittenOrder}
 use Rattle.wac_unions.specs.MergedClasses.{AreAgreed, AreIds, AreImports, AreRoots}
-use Rattle.wac_terms.specs.Renaming.{IsExtended}
+use Rattle.wac_subtyping.specs.Extended.{IsExtended}
 use Rattle.wac_terms.specs.declared.fresh.Fresh.{Fresh}
 use Rattle.wac_terms.specs.declared.parts.Part.{Part}
 use Rattle.wac_terms.specs.declared.parts.Union.{Union}

@@ -21,7 +21,7 @@ use Rattle.wac_terms.specs.declared.fresh.Fresh.{Fresh}
 use Rattle.wac_terms.specs.declared.parts.Part.{Part}
 use Rattle.wac_terms.specs.declared.parts.Union.{Union}
 use Rattle.wac_terms.proofs.Found.{one_some}
-use Rattle.wac_renaming.proofs.Extending.{still_holds}
+use Rattle.wac_made.proofs.Extending.{still_holds}
 use Rattle.wac_trees.proofs.UnionTreesParts.{contains_at}
 use Rattle.wac_unions.proofs.Assembled.{AreAssembled}
 use Rattle.wac_unions.proofs.AssembledMerge.{written-given}

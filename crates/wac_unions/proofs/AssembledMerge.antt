@@ -21,7 +21,7 @@ use Rattle.wac_terms.specs.Merge.{IsMerge}
 use Rattle.wac_unions.specs.MergedClasses.{AreAgreed, AreRoots, with_root}
 use Rattle.wac_renaming.specs.RenamedTypes.{CanRenameAll}
 use Rattle.wac_renaming.specs.Ways.{AreOutward}
-use Rattle.wac_terms.specs.Renaming.{IsExtended}
+use Rattle.wac_subtyping.specs.Extended.{IsExtended}
 use Rattle.wac_terms.specs.Unions.{AreUnions}
 use Rattle.wac_terms.specs.Writing.{AreWritten, IsGiven}
 use Rattle.wac_renaming.specs.declared.became.Became.{Became}
@@ -37,7 +37,7 @@ use Rattle.wac_fitting.proofs.BecameEnds.{became-ends}
 use Rattle.wac_entries.proofs.ClassFacts.{class-refl}
 use Rattle.wac_uses.proofs.ClassFolds.{mapped_at}
 use Rattle.wac_terms.proofs.Found.{no_some}
-use Rattle.wac_renaming.proofs.Extending.{same_interface}
+use Rattle.wac_made.proofs.Extending.{same_interface}
 use Rattle.wac_entries.proofs.Lists.{some-at}
 use Rattle.wac_terms.proofs.Found.{get_map}
 use Rattle.wac_fitting.proofs.MergedBindingsAgreed.{names-agree}

@@ -22,7 +22,7 @@ use Rattle.wac_entries.proofs.Lists.{any-at, some-at}
 use Rattle.wac_terms.specs.Became.{AreFresh, became, whole_in}
 use Rattle.wac_terms.specs.ClassOrder.{IsWrittenOrder}
 use Rattle.wac_terms.specs.MergedKinds.{AreListedOnce}
-use Rattle.wac_terms.specs.Renaming.{IsExtended}
+use Rattle.wac_subtyping.specs.Extended.{IsExtended}
 use Rattle.wac_terms.specs.Unions.{IsExport, IsInner, listed_under, united}
 use Rattle.wac_terms.specs.Writing.{IsWrittenAs, IsWrittenExport, written_at}
 use Rattle.wac_terms.specs.declared.parts.Export.{Export}
@@ -34,7 +34,8 @@ use Rattle.wac_trees.proofs.UnionTreesOwn.{zip_none, zip_some}
 use Rattle.wac_trees.proofs.UnionTreesParts.{contains_at}
 use Rattle.wac_trees.proofs.UnionTreesWritten.{written_name, written_other, written_own}
 use Rattle.wac_values.specs.declared.named.NamedTypes.{NamedTypes}
-use Rattle.wac_renaming.proofs.Extending.{extended_twice, still_fresh, still_made}
+use Rattle.wac_made.proofs.Extending.{extended_twice}
+use Rattle.wac_renaming.proofs.StillRenamed.{still_fresh, still_made}
 use Rattle.wac_renaming.proofs.OneIds.{still_kind_of}
 use Rattle.wac_unions.specs.MergedClasses.{AreAgreed, AreClassUnions, AreImports, AreWrittenImports, IsClassKind}
 use Rattle.wac_unions.specs.MergedScope.{BindsAsClasses, BindsUnder}

@@ -16,14 +16,14 @@ use Rattle.wac_entries.specs.Bindings.{ClassBindings}
 use Rattle.wac_terms.specs.Became.{became, whole_in}
 use Rattle.wac_entries.specs.Classes.{Entry, AreClasses, by_names, canonical, class_names, members, names_instance, same_class}
 use Rattle.wac_unions.specs.MergedClasses.{AreImports, IsClassKind}
-use Rattle.wac_terms.specs.Renaming.{IsExtended}
+use Rattle.wac_subtyping.specs.Extended.{IsExtended}
 use Rattle.wac_terms.specs.Writing.{IsGiven, IsWrittenAs}
 use Rattle.wac_terms.specs.declared.fresh.Fresh.{Fresh}
 use Rattle.wac_terms.specs.declared.parts.Part.{Part}
 use Rattle.wac_entries.proofs.ClassFacts.{class-refl, class-sym, class-trans, one-position}
 use Rattle.wac_entries.proofs.ClassPaths.{newest-class}
 use Rattle.wac_terms.proofs.Found.{find_at, no_some, one_some}
-use Rattle.wac_renaming.proofs.Extending.{still_interface}
+use Rattle.wac_made.proofs.Extending.{still_interface}
 use Rattle.wac_renaming.proofs.FreshAdding.{some-of}
 use Rattle.wac_entries.proofs.Lists.{push-cases, some-at}
 use Rattle.wac_terms.proofs.Found.{get_map, mapped_length}

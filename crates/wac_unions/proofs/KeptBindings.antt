@@ -21,7 +21,7 @@ use Rattle.wac_entries.specs.Bindings.{AreHeld}
 use Rattle.wac_entries.specs.Classes.{Entry, by_names, members, same_class, same_track}
 use Rattle.wac_entries.proofs.Opening.{below}
 use Rattle.wac_entries.proofs.Places.{exports_held}
-use Rattle.wac_renaming.proofs.Extending.{kept_get}
+use Rattle.wac_made.proofs.Extending.{kept_get}
 use Rattle.wac_fitting.proofs.MergedBindingsClasses.{filter-at}
 use Rattle.wac_uniting.proofs.UnionLists.{all_from}
 

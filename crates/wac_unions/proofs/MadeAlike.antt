@@ -21,9 +21,10 @@ use Rattle.wac_terms.specs.declared.parts.Union.{Union}
 use Rattle.wac_terms.proofs.Found.{one_some, some_same}
 use Rattle.wac_values.specs.NamedTypes.{named_type}
 use Rattle.wac_values.specs.declared.named.NamedTypes.{NamedTypes}
-use Rattle.wac_renaming.specs.Made.{AreThere, IsFuncMadeFor, IsFuncMadeOf, IsKindMadeOf, IsMadeOf, alias, anew, func_outline, other_name, outline, plain}
-use Rattle.wac_renaming.specs.declared.made.Made.{Made}
-use Rattle.wac_renaming.proofs.MadeForms.{func_made_alike, made_alike}
+use Rattle.wac_made.specs.Made.{AreThere, IsFuncMadeFor}
+use Rattle.wac_renaming.specs.MadeOf.{IsFuncMadeOf, IsKindMadeOf, IsMadeOf, alias, anew, func_outline, other_name, outline, plain}
+use Rattle.wac_made.specs.declared.made.Made.{Made}
+use Rattle.wac_made.proofs.MadeForms.{func_made_alike, made_alike}
 use Rattle.wac_renaming.proofs.Outlines.{AreBesideAlike, func_outline_many, func_outline_same, outline_many, outline_same}
 use Rattle.wac_unions.specs.OneId.{AreMadeOnce, FuncBecame, func_of, of_entry, under_name}
 use Rattle.wac_unions.specs.OneInterface.{HasNoHandle, defined, primitive}

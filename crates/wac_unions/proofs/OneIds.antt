@@ -20,7 +20,7 @@ use Rattle.wac_entries.specs.Bindings.{ClassBindings}
 use Rattle.wac_entries.specs.Classes.{Entry}
 use Rattle.wac_entries.proofs.Lists.{push-cases, some-at, zip_all}
 use Rattle.wac_terms.specs.Merge.{import_entries}
-use Rattle.wac_terms.specs.Renaming.{IsExtended}
+use Rattle.wac_subtyping.specs.Extended.{IsExtended}
 use Rattle.wac_terms.specs.Values.{definition}
 use Rattle.wac_terms.specs.declared.fresh.Fresh.{Fresh}
 use Rattle.wac_terms.specs.declared.parts.Export.{Export}
@@ -29,10 +29,11 @@ use Rattle.wac_terms.specs.declared.parts.Union.{Union}
 use Rattle.wac_terms.proofs.Found.{mapped_length}
 use Rattle.wac_values.specs.NamedTypes.{named_type}
 use Rattle.wac_values.specs.declared.named.NamedTypes.{NamedTypes}
-use Rattle.wac_renaming.specs.Made.{IsFuncMadeOf, IsKindMadeOf, IsMadeFor, IsMadeOf, StayMade, alias, anew, other_name, plain}
-use Rattle.wac_renaming.specs.declared.made.Made.{Made}
-use Rattle.wac_renaming.proofs.Extending.{kept_item}
-use Rattle.wac_renaming.proofs.MadeForms.{made_alike}
+use Rattle.wac_renaming.specs.MadeOf.{IsFuncMadeOf, IsKindMadeOf, IsMadeOf, alias, anew, other_name, plain}
+use Rattle.wac_made.specs.Made.{IsMadeFor, StayMade}
+use Rattle.wac_made.specs.declared.made.Made.{Made}
+use Rattle.wac_made.proofs.Extending.{kept_item}
+use Rattle.wac_made.proofs.MadeForms.{made_alike}
 use Rattle.wac_renaming.proofs.OneIds.{still_kind_of}
 use Rattle.wac_unions.specs.OneId.{AreBeside, AreMadeOnce, Became, another, at_end, in_definition, in_import, in_union, kind_values}
 use Rattle.wac_unions.specs.WritingSteps.{AreImportsMadeOf, AreItemsMadeOf, AreUnionsMadeOf, IsUnionMadeOf}

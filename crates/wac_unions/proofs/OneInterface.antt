@@ -36,8 +36,9 @@ use Rattle.wac_uniting.proofs.UnionLists.{contains_at}
 use Rattle.wac_uses.specs.KeptUses.{instances, uses_of, with_instance}
 use Rattle.wac_uses.specs.Using.{AreUsing, StaysBare}
 use Rattle.wac_values.specs.declared.named.NamedTypes.{NamedTypes}
-use Rattle.wac_renaming.specs.Made.{AreThere, IsFuncMadeOf, IsKindMadeOf, IsMadeOf}
-use Rattle.wac_renaming.specs.declared.made.Made.{Made}
+use Rattle.wac_made.specs.Made.{AreThere}
+use Rattle.wac_renaming.specs.MadeOf.{IsFuncMadeOf, IsKindMadeOf, IsMadeOf}
+use Rattle.wac_made.specs.declared.made.Made.{Made}
 use Rattle.wac_unions.specs.MergedClasses.{first_id}
 use Rattle.wac_unions.specs.OneId.{AreMadeOnce}
 use Rattle.wac_unions.specs.OneInterface.{AreOfOneInterface, IsAlone, IsPlain, IsPlainItem}

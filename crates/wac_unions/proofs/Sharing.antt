@@ -5,12 +5,12 @@ use Rattle.std.proofs.lemmas.Option.{slice_get_within}
 use Rattle.wac_primitives.specs.Name.{Name}
 use Rattle.wac_collection.specs.Collection.{Collection, HasInterface}
 use Rattle.wac_shapes.specs.declared.component.InterfaceId.{InterfaceId}
-use Rattle.wac_terms.specs.Renaming.{IsExtended}
+use Rattle.wac_subtyping.specs.Extended.{IsExtended}
 use Rattle.wac_terms.specs.declared.parts.Part.{Part}
 use Rattle.wac_terms.specs.declared.parts.Union.{Union}
 use Rattle.wac_entries.proofs.Lists.{at-end, at-push, push-cases, some-at}
 use Rattle.wac_terms.proofs.Found.{no_some, some_same}
-use Rattle.wac_renaming.proofs.Extending.{kept_item, still_interface}
+use Rattle.wac_made.proofs.Extending.{kept_item, still_interface}
 use Rattle.wac_unions.specs.SharedUnions.{AreShared, AreSharedUnions, IsAloneAt, IsAloneIn, IsOneWhereAlike, IsWrittenLast, Shares}
 use Rattle.wac_unions.proofs.WritingUnions.{turned}
 

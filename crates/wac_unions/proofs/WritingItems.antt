@@ -22,14 +22,15 @@ use Rattle.wac_shapes.specs.declared.component.«Type».TheVariants as ty
 use Rattle.wac_shapes.proofs.Names.{same_name-refl}
 use Rattle.wac_terms.specs.Became.{IsNew, became, own_in}
 use Rattle.wac_entries.specs.Bindings.{ClassBindings}
-use Rattle.wac_terms.specs.Renaming.{IsExtended}
+use Rattle.wac_subtyping.specs.Extended.{IsExtended}
 use Rattle.wac_terms.specs.Writing.{IsAliasOf, IsWrittenAs, IsWrittenExport, written_at}
 use Rattle.wac_unions.specs.WritingSteps.{AreWrittenItems, HasWritten, IsFoundIn, IsWrittenItem}
 use Rattle.wac_renaming.specs.declared.became.Became.{Became}
 use Rattle.wac_terms.specs.declared.fresh.Fresh.{Fresh}
 use Rattle.wac_terms.specs.declared.parts.Export.{Export}
 use Rattle.wac_terms.specs.declared.parts.Part.{Part}
-use Rattle.wac_renaming.proofs.Extending.{still_alias, still_holds, still_renamed}
+use Rattle.wac_renaming.proofs.StillRenamed.{still_alias, still_renamed}
+use Rattle.wac_made.proofs.Extending.{still_holds}
 use Rattle.wac_entries.proofs.Lists.{at-end}
 use Rattle.wac_subtyping.proofs.Telling.{both}
 

@@ -19,9 +19,10 @@ use Rattle.wac_shapes.specs.declared.component.ValueType.TheVariants as val
 use Rattle.wac_shapes.specs.declared.component.«Type».TheVariants as ty
 use Rattle.wac_shapes.proofs.Names.{find_position}
 use Rattle.wac_terms.specs.Became.{IsNew, became, own_in}
-use Rattle.wac_renaming.specs.Made.{AreMade, IsFuncMadeOf, IsMadeOf}
+use Rattle.wac_renaming.specs.MadeOf.{AreMade, IsFuncMadeOf, IsMadeOf}
 use Rattle.wac_renaming.specs.RenamedTypes.{AreRenamed, CanRename, CanRenameAll}
-use Rattle.wac_terms.specs.Renaming.{IsExtended, IsRenamed}
+use Rattle.wac_subtyping.specs.Extended.{IsExtended}
+use Rattle.wac_terms.specs.Renaming.{IsRenamed}
 use Rattle.wac_terms.specs.Unions.{AreUnions, IsExport, IsInner, IsPart, listed_under, part_lists, united}
 use Rattle.wac_terms.specs.Writing.{AreWritten, IsGiven, IsWrittenExport}
 use Rattle.wac_unions.specs.WritingSteps.{AreWrittenItems, CanWrite, HasExport, HasWritten, IsBehind, IsFoundIn, IsWrittenUnion}
@@ -31,7 +32,8 @@ use Rattle.wac_renaming.specs.declared.renamer.Renaming.{Renaming}
 use Rattle.wac_terms.specs.declared.parts.Export.{Export}
 use Rattle.wac_terms.specs.declared.parts.Part.{Part}
 use Rattle.wac_terms.specs.declared.parts.Union.{Union}
-use Rattle.wac_renaming.proofs.Extending.{still_can_all, still_fresh, still_interface, kept_item}
+use Rattle.wac_renaming.proofs.StillRenamed.{still_can_all, still_fresh}
+use Rattle.wac_made.proofs.Extending.{still_interface, kept_item}
 use Rattle.wac_renaming.proofs.FreshAdding.{some-of}
 use Rattle.wac_entries.proofs.Lists.{at-push, push-cases, some-at}
 use Rattle.wac_entries.proofs.Places.{exports_held, held_at}

@@ -6,7 +6,7 @@ use Rattle.wac_entries.specs.Bindings.{ClassBindings}
 use Rattle.wac_entries.specs.Classes.{Entry}
 use Rattle.wac_terms.specs.Became.{AreBoundParts, AreFresh}
 use Rattle.wac_terms.specs.MergedKinds.{AreListedOnce}
-use Rattle.wac_terms.specs.Renaming.{IsExtended}
+use Rattle.wac_subtyping.specs.Extended.{IsExtended}
 use Rattle.wac_values.specs.NamedTypes.{AreClassed, AreNamedAlike, AreUnited, IsOneType}
 use Rattle.wac_renaming.specs.Ways.{AreOutward}
 use Rattle.wac_renaming.specs.declared.became.Became.{Became}

@@ -25,8 +25,8 @@ use Rattle.wac_terms.specs.declared.parts.Union.{Union}
 use Rattle.wac_uses.specs.Using.{AreUsing}
 use Rattle.wac_values.specs.NamedTypes.{AreClassed, AreNamedAlike, AreUnited, IsOneType, named_type}
 use Rattle.wac_values.specs.declared.named.NamedTypes.{NamedTypes}
-use Rattle.wac_renaming.specs.Made.{AreMade, other_name}
-use Rattle.wac_renaming.specs.declared.made.Made.{Made}
+use Rattle.wac_renaming.specs.MadeOf.{AreMade, other_name}
+use Rattle.wac_made.specs.declared.made.Made.{Made}
 use Rattle.wac_unions.specs.MergedClasses.{AreClassUnions, AreWrittenImports}
 use Rattle.wac_unions.specs.OneInterface.{AreOfOneInterface}
 use Rattle.wac_unions.specs.SharedUnions.{AreSharedUnions}

@@ -10,12 +10,12 @@ use Rattle.wac_shapes.specs.declared.component.InterfaceId.{InterfaceId}
 use Rattle.wac_shapes.specs.declared.component.ItemKind.{ItemKind}
 use Rattle.wac_terms.specs.Became.{AreFresh}
 use Rattle.wac_entries.specs.Classes.{Entry}
-use Rattle.wac_renaming.specs.Made.{IsKindMadeOf}
+use Rattle.wac_renaming.specs.MadeOf.{IsKindMadeOf}
 use Rattle.wac_renaming.specs.RenamedTypes.{AreRenamed, CanRenameAll}
 use Rattle.wac_terms.specs.Unions.{AreUnions}
 use Rattle.wac_terms.specs.Writing.{IsWrittenExport}
 use Rattle.wac_renaming.specs.declared.became.Became.{Became}
-use Rattle.wac_renaming.specs.declared.made.Made.{Made}
+use Rattle.wac_made.specs.declared.made.Made.{Made}
 use Rattle.wac_renaming.specs.declared.renamer.Renamed.{Renamed}
 use Rattle.wac_renaming.specs.declared.renamer.Renaming.{Renaming}
 use Rattle.wac_terms.specs.declared.parts.Export.{Export}

@@ -5,7 +5,7 @@ ghost use Rattle.std.specs.List.{list_all};
 ghost use Rattle.wac_collection.specs.Collection.{HasInterface, holds_all, item_at, kind_types};
 ghost use Rattle.wac_collection.specs.Uses.{is_named_right};
 ghost use Rattle.wac_shapes.specs.declared.component.InterfaceId.{InterfaceId as AnId};
-ghost use Rattle.wac_terms.specs.Renaming.{IsExtended};
+ghost use Rattle.wac_subtyping.specs.Extended.{IsExtended};
 ghost use Rattle.wac_unions.specs.SharedUnions.{Shares, first_in};
 
 use std::alloc::{AllocError, Global};

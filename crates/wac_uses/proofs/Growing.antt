@@ -26,7 +26,7 @@ use Rattle.wac_entries.proofs.Lists.{at-end, some-at}
 use Rattle.wac_entries.proofs.Opening.{below}
 use Rattle.wac_entries.proofs.Places.{exports_held, held_at}
 use Rattle.wac_terms.specs.Merge.{import_under, listed_resource}
-use Rattle.wac_terms.specs.Renaming.{IsExtended}
+use Rattle.wac_subtyping.specs.Extended.{IsExtended}
 use Rattle.wac_terms.proofs.Found.{find_at, no_some, some_same}
 use Rattle.wac_uses.specs.KeptUses.{imported_interface, instance_of, lists_resource}
 use Rattle.wac_uses.specs.Using.{IsWithUses, MayHave, kept_use, kept_uses, may_use, with_use}

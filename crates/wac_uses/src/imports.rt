@@ -5,7 +5,7 @@ ghost use Rattle.wac_shapes.specs.declared.component.InterfaceId.{InterfaceId as
 ghost use Rattle.wac_entries.specs.Bindings.{AreHeld};
 ghost use Rattle.wac_entries.specs.Classes.{AreClasses, Entry as AnEntry, by_names, is_asked, is_instance};
 ghost use Rattle.wac_terms.specs.Merge.{import_entries};
-ghost use Rattle.wac_terms.specs.Renaming.{IsExtended};
+ghost use Rattle.wac_subtyping.specs.Extended.{IsExtended};
 ghost use Rattle.wac_uses.specs.KeptUses.{uses_of};
 ghost use Rattle.wac_uses.specs.Using.{AreBare, AreBareImports, AreInterfaces, AreUsers, AreUsing, HasClasses, IsBareIn, IsKindUsing, StaysBare, uses_among};
 

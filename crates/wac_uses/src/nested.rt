@@ -7,7 +7,7 @@ ghost use Rattle.wac_shapes.specs.declared.component.ItemKind.TheVariants as kin
 ghost use Rattle.wac_entries.specs.Bindings.{AreHeld};
 ghost use Rattle.wac_entries.specs.Classes.{by_names};
 ghost use Rattle.wac_terms.specs.Merge.{import_entries};
-ghost use Rattle.wac_terms.specs.Renaming.{IsExtended};
+ghost use Rattle.wac_subtyping.specs.Extended.{IsExtended};
 ghost use Rattle.wac_uses.specs.KeptUses.{with_instance};
 ghost use Rattle.wac_uses.specs.Using.{AreAlike, AreBare, AreInside, AreInterfaces, AreKnown, HasClasses, HaveListed, HaveMore, HaveUses, IsAmong, IsItemPlaced, IsOpened, IsUsing, IsWithUses, MayHave, placed, placed_from, uses_among};
 

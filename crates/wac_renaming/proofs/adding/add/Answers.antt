@@ -3,8 +3,8 @@ use Rattle.wac_collection.specs.Collection.{Collection}
 use Rattle.wac_primitives.specs.Name.{Name}
 use Rattle.wac_shapes.specs.declared.component.Resource.{Resource}
 use Rattle.wac_terms.specs.Became.{IsNew}
-use Rattle.wac_terms.specs.Renaming.{IsExtended}
-use Rattle.wac_renaming.proofs.Extending.{extended_resource}
+use Rattle.wac_subtyping.specs.Extended.{IsExtended}
+use Rattle.wac_made.proofs.Extending.{extended_resource}
 use Rattle.wac_renaming.proofs.FreshAdding.{new-added}
 use Rattle.wac_renaming.proofs.adding.add.Goals as goal
 

@@ -6,7 +6,7 @@ use Rattle.wac_shapes.specs.declared.component.ResourceId.{ResourceId}
 use Rattle.wac_shapes.proofs.Names.{take_at}
 use Rattle.wac_renaming.specs.FreshSteps.{AreAllOwn, AreOwn}
 use Rattle.wac_terms.specs.declared.parts.Union.{Union}
-use Rattle.wac_renaming.proofs.Extending.{extended_none, extended_twice}
+use Rattle.wac_made.proofs.Extending.{extended_none, extended_twice}
 use Rattle.wac_renaming.proofs.FreshAdding.{all-more, all-none}
 use Rattle.wac_renaming.proofs.adding.add_all_own.Goals as goal
 

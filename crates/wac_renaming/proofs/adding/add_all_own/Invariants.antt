@@ -1,6 +1,6 @@
 use Rattle.std.proofs.Common.{take}
 use Rattle.wac_renaming.specs.FreshSteps.{AreAllOwn}
-use Rattle.wac_terms.specs.Renaming.{IsExtended}
+use Rattle.wac_subtyping.specs.Extended.{IsExtended}
 use Rattle.wac_renaming.proofs.adding.add_all_own.Given as goal
 
 abbrev pub invariant-loop-u : goal.invariant-loop-u

@@ -7,7 +7,7 @@ use Rattle.wac_entries.specs.Bindings.{first_in}
 use Rattle.wac_entries.specs.Classes.{Entry}
 use Rattle.wac_renaming.specs.FreshSteps.{IsWhole}
 use Rattle.wac_entries.specs.Places.{resource_itself}
-use Rattle.wac_renaming.proofs.Extending.{extended_none, extended_twice}
+use Rattle.wac_made.proofs.Extending.{extended_none, extended_twice}
 use Rattle.wac_renaming.proofs.FreshAdding.{whole-none}
 use Rattle.wac_renaming.proofs.FreshClasses.{first-counted, first-whole, seen-more}
 use Rattle.wac_renaming.proofs.adding.add_all_whole.Goals as goal

@@ -4,7 +4,7 @@ use Rattle.wac_entries.specs.Bindings.{first_in}
 use Rattle.wac_entries.specs.Classes.{Entry, by_names, class_names}
 use Rattle.wac_renaming.specs.FreshSteps.{AreWhole, IsWhole}
 use Rattle.wac_entries.specs.Places.{resource_itself}
-use Rattle.wac_terms.specs.Renaming.{IsExtended}
+use Rattle.wac_subtyping.specs.Extended.{IsExtended}
 use Rattle.wac_renaming.proofs.adding.add_all_whole.Given as goal
 
 abbrev pub invariant-loop-i : goal.invariant-loop-i

@@ -1,4 +1,4 @@
-use Rattle.wac_renaming.proofs.Extending.{extended_twice}
+use Rattle.wac_made.proofs.Extending.{extended_twice}
 use Rattle.wac_renaming.proofs.FreshAdding.{are-fresh}
 use Rattle.wac_renaming.proofs.adding.add_fresh.Goals as goal
 

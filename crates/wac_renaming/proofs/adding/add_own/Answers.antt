@@ -5,7 +5,7 @@ use Rattle.wac_shapes.specs.declared.component.ResourceId.{ResourceId}
 use Rattle.wac_shapes.proofs.Names.{none_before, take_at}
 use Rattle.wac_renaming.specs.FreshSteps.{AreOwn}
 use Rattle.wac_terms.specs.declared.parts.Export.{Export}
-use Rattle.wac_renaming.proofs.Extending.{extended_none, extended_twice}
+use Rattle.wac_made.proofs.Extending.{extended_none, extended_twice}
 use Rattle.wac_renaming.proofs.FreshAdding.{own-left, own-none, own-put}
 use Rattle.wac_renaming.proofs.adding.add_own.Goals as goal
 use Rattle.wac_renaming.proofs.adding.add_own.Goals.{then-export+in_ok-resource+in-Ok, else-export}

@@ -1,6 +1,7 @@
 use Rattle.std.proofs.Common.{◌+◌, ◌∷◌, [], take}
 use Rattle.wac_collection.specs.Collection.{seconds}
-use Rattle.wac_tables.proofs.TaskOpenings.{openings_more, seconds_take}
+use Rattle.wac_tables.proofs.TaskOpenings.{openings_more}
+use Rattle.wac_subtyping.proofs.Taking.{seconds_take}
 use Rattle.wac_tables.proofs.tasks.open_fields.Goals as goal
 
 pub loop-i-preserved : goal.loop-i-preserved

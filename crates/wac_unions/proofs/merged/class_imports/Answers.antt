@@ -10,11 +10,12 @@ use Rattle.wac_unions.specs.MergedClasses.{AreImports, IsClassKind}
 use Rattle.wac_terms.specs.Writing.{IsGiven}
 use Rattle.wac_unions.proofs.AssembledItemsFirst.{first-member}
 use Rattle.wac_terms.proofs.Found.{some_same}
-use Rattle.wac_renaming.specs.Made.{IsKindMadeOf}
+use Rattle.wac_renaming.specs.MadeOf.{IsKindMadeOf}
 use Rattle.wac_renaming.proofs.OneIds.{stay_twice}
 use Rattle.wac_unions.specs.WritingSteps.{AreImportsMadeOf}
 use Rattle.wac_unions.proofs.OneIds.{imports-long, imports-made-more}
-use Rattle.wac_renaming.proofs.Extending.{extended_twice, still_can_all}
+use Rattle.wac_made.proofs.Extending.{extended_twice}
+use Rattle.wac_renaming.proofs.StillRenamed.{still_can_all}
 use Rattle.wac_fitting.proofs.FittingClasses.{contains-at}
 use Rattle.wac_unions.proofs.ImportKinds.{namesake, still-given, imports-more, imported-once}
 use Rattle.wac_unions.proofs.merged.class_imports.Goals as goal

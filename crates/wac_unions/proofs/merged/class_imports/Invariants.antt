@@ -1,9 +1,10 @@
 use Rattle.std.proofs.Common.{take}
 use Rattle.wac_terms.specs.Merge.{import_entries}
 use Rattle.wac_unions.specs.MergedClasses.{AreImports}
-use Rattle.wac_renaming.specs.Made.{AreMade, StayMade}
+use Rattle.wac_renaming.specs.MadeOf.{AreMade}
+use Rattle.wac_made.specs.Made.{StayMade}
 use Rattle.wac_unions.specs.WritingSteps.{AreImportsMadeOf}
-use Rattle.wac_terms.specs.Renaming.{IsExtended}
+use Rattle.wac_subtyping.specs.Extended.{IsExtended}
 use Rattle.wac_unions.proofs.merged.class_imports.Given as goal
 
 abbrev pub invariant-loop-i : goal.invariant-loop-i

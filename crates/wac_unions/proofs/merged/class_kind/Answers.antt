@@ -10,8 +10,9 @@ use Rattle.wac_shapes.specs.declared.component.«Type».TheVariants as ty
 use Rattle.wac_terms.specs.Became.{became, whole_in}
 use Rattle.wac_terms.specs.Unions.{IsPart}
 use Rattle.wac_terms.specs.Writing.{IsGiven, IsWrittenAs}
-use Rattle.wac_renaming.specs.Made.{IsKindMadeOf, StayMade}
-use Rattle.wac_renaming.specs.declared.made.Made.{Made}
+use Rattle.wac_renaming.specs.MadeOf.{IsKindMadeOf}
+use Rattle.wac_made.specs.Made.{StayMade}
+use Rattle.wac_made.specs.declared.made.Made.{Made}
 use Rattle.wac_unions.proofs.WritingUnions.{can-rename}
 use Rattle.wac_unions.proofs.merged.class_kind.Goals as goal
 

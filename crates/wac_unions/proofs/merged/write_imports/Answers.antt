@@ -3,12 +3,13 @@ use Rattle.std.specs.Option.{option_map}
 use Rattle.std.proofs.lemmas.Result.{IfOk-weaker}
 use Rattle.wac_terms.specs.Merge.{import_entries}
 use Rattle.wac_terms.specs.Writing.{AreWritten}
-use Rattle.wac_renaming.specs.Made.{AreMade}
+use Rattle.wac_renaming.specs.MadeOf.{AreMade}
 use Rattle.wac_unions.specs.MergedClasses.{AreImports}
 use Rattle.wac_unions.specs.WritingSteps.{AreImportsMadeOf, IsUnionMadeOf}
 use Rattle.wac_unions.proofs.AssembledMerge.{still-written-all, written-given}
 use Rattle.wac_unions.proofs.BasisLaws.{basis-known, by-basis}
-use Rattle.wac_renaming.proofs.Extending.{extended_twice, still_can_all}
+use Rattle.wac_made.proofs.Extending.{extended_twice}
+use Rattle.wac_renaming.proofs.StillRenamed.{still_can_all}
 use Rattle.wac_unions.proofs.Sharing.{still-shared}
 use Rattle.wac_unions.proofs.OneIds.{if-four, still-union-made}
 use Rattle.wac_unions.proofs.merged.write_imports.Goals as goal

@@ -1,7 +1,7 @@
 use Rattle.std.proofs.Common.{sym, subst, arith}
 use Rattle.wac_collection.specs.Collection.{Collection}
-use Rattle.wac_terms.specs.Renaming.{IsExtended}
-use Rattle.wac_renaming.proofs.Extending.{extended_interface}
+use Rattle.wac_subtyping.specs.Extended.{IsExtended}
+use Rattle.wac_made.proofs.Extending.{extended_interface}
 use Rattle.wac_uses.proofs.Growing.{interface-added}
 use Rattle.wac_unions.proofs.shared.add_interface.Goals as goal
 

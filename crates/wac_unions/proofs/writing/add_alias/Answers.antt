@@ -1,7 +1,7 @@
 use Rattle.std.proofs.Common.{sym, subst}
 use Rattle.wac_collection.specs.Collection.{Collection}
-use Rattle.wac_terms.specs.Renaming.{IsExtended}
-use Rattle.wac_renaming.proofs.Extending.{extended_resource}
+use Rattle.wac_subtyping.specs.Extended.{IsExtended}
+use Rattle.wac_made.proofs.Extending.{extended_resource}
 use Rattle.wac_unions.proofs.WritingItems.{alias-added}
 use Rattle.wac_unions.proofs.writing.add_alias.Goals as goal
 

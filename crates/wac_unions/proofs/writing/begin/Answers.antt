@@ -1,6 +1,6 @@
 use Rattle.std.proofs.Common.{sym, subst}
 use Rattle.wac_collection.specs.Collection.{Collection}
-use Rattle.wac_renaming.specs.Made.{AreMade}
+use Rattle.wac_renaming.specs.MadeOf.{AreMade}
 use Rattle.wac_renaming.specs.declared.became.Became.{Became}
 use Rattle.wac_unions.proofs.writing.begin.Goals as goal
 

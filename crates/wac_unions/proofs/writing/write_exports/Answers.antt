@@ -6,16 +6,17 @@ use Rattle.wac_shapes.specs.Named.{names_of}
 use Rattle.wac_shapes.specs.declared.component.ItemKind.{ItemKind}
 use Rattle.wac_shapes.proofs.Names.{find_name-at, none_before, take_at}
 use Rattle.wac_collection.specs.Collection.{Collection}
-use Rattle.wac_renaming.specs.Made.{AreMade, StayMade}
+use Rattle.wac_renaming.specs.MadeOf.{AreMade}
+use Rattle.wac_made.specs.Made.{StayMade}
 use Rattle.wac_renaming.specs.declared.became.Became.{Became}
-use Rattle.wac_renaming.specs.declared.made.Made.{Made}
+use Rattle.wac_made.specs.declared.made.Made.{Made}
 use Rattle.wac_renaming.proofs.OneIds.{stay_twice}
 use Rattle.wac_unions.specs.WritingSteps.{AreItemsMadeOf, AreWrittenItems}
 use Rattle.wac_renaming.specs.declared.renamer.Renaming.{Renaming}
 use Rattle.wac_terms.specs.declared.parts.Export.{Export}
 use Rattle.wac_terms.specs.declared.parts.Union.{Union}
 use Rattle.wac_terms.proofs.Found.{one_some}
-use Rattle.wac_renaming.proofs.Extending.{extended_none, extended_twice}
+use Rattle.wac_made.proofs.Extending.{extended_none, extended_twice}
 use Rattle.wac_uniting.proofs.SameNames.{none_alike, push_alike}
 use Rattle.wac_unions.proofs.OneIds.{items-made-more}
 use Rattle.wac_unions.proofs.WritingItems.{items-more, items-none}

@@ -1,6 +1,6 @@
 use Rattle.std.proofs.Common.{◌≡◌, map, length, take}
-use Rattle.wac_terms.specs.Renaming.{IsExtended}
-use Rattle.wac_renaming.specs.Made.{StayMade}
+use Rattle.wac_subtyping.specs.Extended.{IsExtended}
+use Rattle.wac_made.specs.Made.{StayMade}
 use Rattle.wac_unions.specs.WritingSteps.{AreItemsMadeOf, AreRenamedIn, AreWrittenItems}
 use Rattle.wac_unions.proofs.writing.write_exports.Given as goal
 

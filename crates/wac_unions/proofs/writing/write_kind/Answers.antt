@@ -2,7 +2,7 @@ use Rattle.std.proofs.Common.{sym, ap, ◌∙◌}
 use Rattle.wac_collection.specs.Collection.{holds_type}
 use Rattle.wac_shapes.specs.Kinds.{kind_type}
 use Rattle.wac_shapes.specs.declared.component.«Type».TheVariants as ty
-use Rattle.wac_renaming.proofs.Extending.{still_holds}
+use Rattle.wac_made.proofs.Extending.{still_holds}
 use Rattle.wac_unions.proofs.writing.write_kind.Goals as goal
 
 pub returns-in-Component-clause-held : goal.returns-in-Component-clause-held

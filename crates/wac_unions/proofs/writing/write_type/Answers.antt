@@ -1,7 +1,8 @@
 use Rattle.std.proofs.Common.{sym, ap, ◌∙◌}
 use Rattle.wac_collection.specs.Collection.{holds_type}
 use Rattle.wac_shapes.specs.declared.component.«Type».TheVariants as ty
-use Rattle.wac_renaming.proofs.Extending.{still_all_renamed, still_holds}
+use Rattle.wac_renaming.proofs.StillRenamed.{still_all_renamed}
+use Rattle.wac_made.proofs.Extending.{still_holds}
 use Rattle.wac_unions.proofs.writing.write_type.Goals as goal
 
 pub returns-in_ok-alias-in-Resource-clause-right : goal.returns-in_ok-alias-in-Resource-clause-right

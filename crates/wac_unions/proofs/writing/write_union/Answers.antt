@@ -3,7 +3,8 @@ use Rattle.std.specs.Prelude.{string_bytes}
 use Rattle.std.specs.Option.{option_map}
 use Rattle.wac_shapes.specs.declared.component.UsedType.{UsedType}
 use Rattle.wac_primitives.specs.Name.{Name}
-use Rattle.wac_renaming.proofs.Extending.{extended_twice, still_interface, still_made}
+use Rattle.wac_made.proofs.Extending.{extended_twice, still_interface}
+use Rattle.wac_renaming.proofs.StillRenamed.{still_made}
 use Rattle.wac_entries.proofs.Lists.{some-at}
 use Rattle.wac_entries.proofs.Walking.{if-ok}
 use Rattle.wac_terms.specs.Unions.{AreUnions}

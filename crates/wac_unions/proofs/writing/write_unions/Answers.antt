@@ -12,7 +12,8 @@ use Rattle.wac_unions.specs.SharedUnions.{AreShared, AreSharedUnions, IsWrittenL
 use Rattle.wac_unions.specs.WritingSteps.{AreUnionsMadeOf, CanWrite, IsUnionMadeOf, IsWrittenUnion}
 use Rattle.wac_terms.specs.declared.parts.Part.{Part}
 use Rattle.wac_terms.specs.declared.parts.Union.{Union}
-use Rattle.wac_renaming.proofs.Extending.{extended_none, extended_twice, still_can_all, still_fresh}
+use Rattle.wac_made.proofs.Extending.{extended_none, extended_twice}
+use Rattle.wac_renaming.proofs.StillRenamed.{still_can_all, still_fresh}
 use Rattle.wac_entries.proofs.Lists.{some-at}
 use Rattle.wac_unions.proofs.OneIds.{unions-made, unions-made-more}
 use Rattle.wac_unions.proofs.Sharing.{none-shared, shared-more, shared-unions}

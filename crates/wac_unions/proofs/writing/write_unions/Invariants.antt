@@ -2,8 +2,9 @@ use Rattle.std.proofs.Common.{◌≡◌, ◌+◌, ℕ, length, map, slice_get, s
 use Rattle.std.specs.Option.{option_map}
 use Rattle.wac_collection.specs.Collection.{HasInterface}
 use Rattle.wac_shapes.specs.declared.component.InterfaceId.{InterfaceId}
-use Rattle.wac_renaming.specs.Made.{AreMade, StayMade}
-use Rattle.wac_terms.specs.Renaming.{IsExtended}
+use Rattle.wac_renaming.specs.MadeOf.{AreMade}
+use Rattle.wac_made.specs.Made.{StayMade}
+use Rattle.wac_subtyping.specs.Extended.{IsExtended}
 use Rattle.wac_terms.specs.declared.parts.Union.{Union}
 use Rattle.wac_unions.specs.SharedUnions.{AreShared, IsWrittenLast, first_in}
 use Rattle.wac_unions.specs.WritingSteps.{IsUnionMadeOf}

@@ -2,7 +2,7 @@ use Rattle.std.proofs.Common.{take}
 use Rattle.wac_entries.specs.Bindings.{AreHeld}
 use Rattle.wac_entries.specs.Classes.{by_names}
 use Rattle.wac_terms.specs.Merge.{import_entries}
-use Rattle.wac_terms.specs.Renaming.{IsExtended}
+use Rattle.wac_subtyping.specs.Extended.{IsExtended}
 use Rattle.wac_uses.specs.Using.{AreUsing}
 use Rattle.wac_uses.proofs.imports.imports_with_uses.Given as goal
 

@@ -1,7 +1,7 @@
 use Rattle.std.proofs.Common.{◌≡◌, Some, sym, subst, ap, ◌∙◌}
 use Rattle.wac_collection.specs.Collection.{Collection}
 use Rattle.wac_shapes.specs.declared.component.Interface.{Interface}
-use Rattle.wac_terms.specs.Renaming.{IsExtended}
+use Rattle.wac_subtyping.specs.Extended.{IsExtended}
 use Rattle.wac_uses.proofs.Growing.{extended-interface, interface-added, with-uses}
 use Rattle.wac_uses.proofs.nested.add_using.Goals as goal
 

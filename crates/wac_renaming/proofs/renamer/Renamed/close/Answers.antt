@@ -4,12 +4,14 @@ use Rattle.wac_collection.specs.Collection.{defined_values}
 use Rattle.wac_shapes.specs.declared.component.DefinedType.TheVariants as def
 use Rattle.wac_shapes.specs.declared.component.ValueType.{ValueType}
 use Rattle.wac_shapes.specs.declared.component.ValueType.TheVariants as val
+use Rattle.wac_values.specs.NamedTypes.{named_type}
 use Rattle.wac_renaming.specs.RenamedTypes.{becomes}
-use Rattle.wac_renaming.specs.Made.{IsMadeFor, IsMadeOf, alias}
+use Rattle.wac_made.specs.Made.{IsMadeFor}
+use Rattle.wac_renaming.specs.MadeOf.{IsMadeOf, alias}
 use Rattle.wac_renaming.specs.RenamingSteps.{AreReady, HaveOneShape, IsBecome, IsRenamedIn, IsRenamedValue}
 use Rattle.wac_renaming.specs.declared.renamer.Renamed.{Renamed}
 use Rattle.wac_tables.proofs.TaskLemmas.{defined_values_hold}
-use Rattle.wac_renaming.proofs.Extending.{extended_none, kept_item}
+use Rattle.wac_made.proofs.Extending.{extended_none, kept_item}
 use Rattle.wac_renaming.proofs.RenamingMemo.{closed, defined_put, more_put}
 use Rattle.wac_renaming.proofs.RenamingShapes.{shape_more}
 use Rattle.wac_renaming.proofs.RenamingTrees.{alias_renamed, shape_held}
@@ -46,7 +48,7 @@ returns-clause-right c =
     let shape : HaveOneShape R x y = shape_more (IsBecome s memo) R (become_renamed s old memo c.requires.known c.requires.right) x y c.in_ok-definition.ensures in
     closed s old new (record { named = c.trees_are_whole.ensures.named; placed = c.trees_are_whole.ensures.placed }) (record { named = c.trees_are_whole-2.ensures.named; placed = c.trees_are_whole-2.ensures.placed }) memo c.make.new.self c.put_defined-2.new.self
     c.args.id c.in_ok-became.became x y c.index-definition.ensures (sym c.alias_end.ensures.named ∙ c.in_default.is) made.added
-    (subst (λ n. IsMadeFor c.make.new.self n y c.in_ok-became.became) c.of-named.ensures made.named) made.stay made.made (made.apart s.types.now s.became.now.named.now c.requires.known.extended c.requires.right.made.apart) shape c.requires.right
+    (subst (λ n. IsMadeFor c.make.new.self n y c.in_ok-became.became) c.of-named.ensures made.named) made.stay made.made (made.apart s.types.now (named_type s.became.now.named.now) c.requires.known.extended c.requires.right.made.apart) shape c.requires.right
     c.put_defined-2.result c.put_defined-2.ensures
 
 pub keep-requires-clause-there : goal.keep-requires-clause-there
@@ -68,7 +70,7 @@ returns-then-definition_stays-clause-right c =
     let shape : HaveOneShape R x x = shape_more (IsBecome s memo) R (become_renamed s m memo c.requires.known c.requires.right) x x (shape_stays s memo x held stay) in
     closed s m m (record { named = c.trees_are_whole.ensures.named; placed = c.trees_are_whole.ensures.placed }) (record { named = c.trees_are_whole-then-definition_stays.ensures.named; placed = c.trees_are_whole-then-definition_stays.ensures.placed }) memo c.keep.new.self c.put_defined-then-definition_stays.new.self
     c.args.id c.in_ok-kept.kept x x c.index-definition.ensures (sym c.alias_end.ensures.named ∙ c.in_default.is) (record { extended = extended_none m; there = made.there })
-    (subst (λ n. IsMadeFor c.keep.new.self n x c.in_ok-kept.kept) c.of-named.ensures made.named) made.stay made.made (made.apart s.types.now s.became.now.named.now c.requires.held c.of-named.ensures c.requires.right.made.apart) shape c.requires.right
+    (subst (λ n. IsMadeFor c.keep.new.self n x c.in_ok-kept.kept) c.of-named.ensures made.named) made.stay made.made (made.apart s.types.now (named_type s.became.now.named.now) c.requires.held c.of-named.ensures c.requires.right.made.apart) shape c.requires.right
     c.put_defined-then-definition_stays.result c.put_defined-then-definition_stays.ensures
 
 pub unwrap-became-requires : goal.unwrap-became-requires

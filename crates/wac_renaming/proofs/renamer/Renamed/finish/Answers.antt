@@ -4,7 +4,8 @@ use Rattle.wac_tables.specs.declared.tasks.Task.{Task}
 use Rattle.wac_tables.specs.Tasks.{tasks_weight, IsHeldTask}
 use Rattle.wac_renaming.specs.RenamingSteps.{AreCovered, IsUnderWay}
 use Rattle.wac_tables.proofs.TaskLemmas.{all_last}
-use Rattle.wac_renaming.proofs.Extending.{extended_twice, still_can}
+use Rattle.wac_made.proofs.Extending.{extended_twice}
+use Rattle.wac_renaming.proofs.StillRenamed.{still_can}
 use Rattle.wac_renaming.proofs.OneIds.{stay_twice}
 use Rattle.wac_renaming.proofs.RenamingMemo.{same_done, same_right, same_stay}
 use Rattle.wac_renaming.proofs.RenamingTasks.{all_done, did_stay, less_to_do, may_be_done, still_under_way, under_way}

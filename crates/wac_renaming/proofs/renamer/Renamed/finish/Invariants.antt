@@ -1,4 +1,4 @@
-use Rattle.wac_renaming.specs.Made.{StayMade}
+use Rattle.wac_made.specs.Made.{StayMade}
 use Rattle.wac_renaming.specs.RenamingSteps.{IsUnderWay}
 use Rattle.wac_tables.specs.Tasks.{tasks_weight}
 use Rattle.wac_renaming.proofs.renamer.Renamed.finish.Given as goal

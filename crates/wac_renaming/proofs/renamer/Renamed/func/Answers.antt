@@ -1,11 +1,14 @@
 use Rattle.std.proofs.Common.{inl, inr, refl, sym, ◌∙◌, subst}
 use Rattle.wac_tables.proofs.TaskLemmas.{func_values_hold}
+use Rattle.wac_values.specs.NamedTypes.{named_type}
 use Rattle.wac_renaming.specs.RenamedTypes.{becomes}
-use Rattle.wac_renaming.specs.Made.{IsFuncMadeOf, StayMade}
+use Rattle.wac_renaming.specs.MadeOf.{IsFuncMadeOf}
+use Rattle.wac_made.specs.Made.{StayMade}
 use Rattle.wac_renaming.specs.RenamingSteps.{IsBecome, IsRenamedIn, IsRenamedValue}
-use Rattle.wac_renaming.specs.declared.made.Made.{Made}
+use Rattle.wac_made.specs.declared.made.Made.{Made}
 use Rattle.wac_renaming.specs.declared.renamer.Renamed.{Renamed}
-use Rattle.wac_renaming.proofs.Extending.{extended_none, extended_twice, kept_item, still_can}
+use Rattle.wac_made.proofs.Extending.{extended_none, extended_twice, kept_item}
+use Rattle.wac_renaming.proofs.StillRenamed.{still_can}
 use Rattle.wac_renaming.proofs.OneIds.{func_once, names_beside, stay_twice}
 use Rattle.wac_renaming.proofs.RenamingMemo.{func_closed, func_right, still_with}
 use Rattle.wac_renaming.proofs.RenamingShapes.{fields_more, option_more}
@@ -164,7 +167,7 @@ returns-clause-right c =
     let put = c.in_ok-put_func-2.ensures in
     let right = c.in_ok-reach.ensures.right in
     func_right s more mid c.put_func-2.new.self c.args.id c.in_ok-became.became put
-    (still_with s m more c.make_func.ensures.extended memo made c.in_ok-became.ensures.stay c.in_ok-became.ensures.made (c.in_ok-became.ensures.apart s.types.now s.became.now.named.now right.made.apart) right) (returns-clause-func c)
+    (still_with s m more c.make_func.ensures.extended memo made c.in_ok-became.ensures.stay c.in_ok-became.ensures.made (c.in_ok-became.ensures.apart s.types.now (named_type s.became.now.named.now) right.made.apart) right) (returns-clause-func c)
     (subst (λ (z : Made). IsFuncMadeOf s.types.now more s.became.now.named.now z c.args.id c.in_ok-became.became) put.made (remade c))
 
 pub returns-clause-stay : goal.returns-clause-stay

@@ -1,6 +1,7 @@
 use Rattle.std.proofs.Common.{◌≡◌, ℕ, List, [], Option, Some, sym, ap, ◌∙◌}
 use Rattle.wac_shapes.specs.declared.component.DefinedTypeId.{DefinedTypeId}
 use Rattle.wac_shapes.specs.declared.component.FuncTypeId.{FuncTypeId}
+use Rattle.wac_values.specs.NamedTypes.{named_type}
 use Rattle.wac_renaming.specs.RenamedTypes.{defined_at, func_at}
 use Rattle.wac_renaming.proofs.renamer.Renamed.new.Goals as goal
 
@@ -14,7 +15,10 @@ pub returns-clause-right : goal.returns-clause-right
 returns-clause-right c m s = record {
   defined = λ d e is. absurd (none_defined c.new.result d e c.new.ensures is);
   funcs = λ f g is. absurd (no_func c.new-2.result f g c.new-2.ensures is);
-  made = c.new-3.ensures s.types.now m s.became.now.named.now;
+  made = record { there = c.new-3.ensures.there m; apart = c.new-3.ensures.apart s.types.now (named_type s.became.now.named.now) };
   once = λ d e is. absurd (none_defined c.new.result d e c.new.ensures is);
   once_funcs = λ f g is. absurd (no_func c.new-2.result f g c.new-2.ensures is);
 }
+
+pub returns-clause-made : goal.returns-clause-made
+returns-clause-made c first m t = record { there = c.new-3.ensures.there m; apart = c.new-3.ensures.apart first (named_type t) }

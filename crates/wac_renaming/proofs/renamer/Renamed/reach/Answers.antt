@@ -5,7 +5,7 @@ use Rattle.wac_tables.specs.declared.tasks.Task.{Task}
 use Rattle.wac_tables.specs.Tasks.{IsHeldTask, IsOpening}
 use Rattle.wac_tables.proofs.TaskOpenings.{openings_two}
 use Rattle.wac_tables.proofs.TaskLemmas.{all_openings}
-use Rattle.wac_renaming.proofs.Extending.{extended_none}
+use Rattle.wac_made.proofs.Extending.{extended_none}
 use Rattle.wac_renaming.proofs.RenamingMemo.{same_first, same_right}
 use Rattle.wac_renaming.proofs.RenamingTasks.{on_ok, ready_after}
 use Rattle.wac_renaming.proofs.Staying.{held_openings}

@@ -1,10 +1,11 @@
 use Rattle.std.proofs.Common.{◌≡◌, sym, ◌∙◌, subst}
 use Rattle.wac_shapes.specs.declared.component.ValueType.{ValueType}
 use Rattle.wac_shapes.specs.declared.component.ValueType.TheVariants as val
-use Rattle.wac_renaming.specs.Made.{IsMadeOf}
+use Rattle.wac_renaming.specs.MadeOf.{IsMadeOf}
 use Rattle.wac_renaming.specs.RenamedTypes.{becomes}
 use Rattle.wac_renaming.specs.RenamingSteps.{IsBecome, IsRenamedIn, IsRenamedValue}
-use Rattle.wac_renaming.proofs.Extending.{extended_none, still_can}
+use Rattle.wac_made.proofs.Extending.{extended_none}
+use Rattle.wac_renaming.proofs.StillRenamed.{still_can}
 use Rattle.wac_renaming.proofs.RenamingMemo.{same_first, same_right}
 use Rattle.wac_renaming.proofs.Staying.{become_renamed}
 use Rattle.wac_renaming.proofs.renamer.Renamed.value.Goals as goal

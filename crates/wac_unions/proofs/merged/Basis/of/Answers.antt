@@ -5,7 +5,7 @@ use Rattle.wac_terms.specs.Became.{AreBoundParts, AreFresh}
 use Rattle.wac_terms.specs.declared.parts.Part.{Part}
 use Rattle.wac_terms.specs.declared.parts.Union.{Union}
 use Rattle.wac_renaming.specs.Ways.{AreOutward}
-use Rattle.wac_renaming.proofs.Extending.{extended_twice}
+use Rattle.wac_made.proofs.Extending.{extended_twice}
 use Rattle.wac_unions.proofs.merged.Basis.of.Goals as goal
 
 pub outward_in-requires-clause-around : goal.outward_in-requires-clause-around

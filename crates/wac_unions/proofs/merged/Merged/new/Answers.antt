@@ -7,7 +7,7 @@ use Rattle.wac_unions.proofs.AssembledHeld.{imports-held}
 use Rattle.wac_unions.proofs.BareImports.{first-assembled, imports-asked, imports-bare, still-assembled, still-once, using-binds}
 use Rattle.wac_unions.proofs.AssembledMerge.{agreed-pairs, merge-is}
 use Rattle.wac_shapes.specs.Kinds.{kind_type}
-use Rattle.wac_renaming.proofs.Extending.{extended_twice, still_holds}
+use Rattle.wac_made.proofs.Extending.{extended_twice, still_holds}
 use Rattle.wac_unions.proofs.MadeAlike.{one-func}
 use Rattle.wac_unions.proofs.OneIds.{apart-named, one-id}
 use Rattle.wac_unions.proofs.OneInterface.{one-interface}

@@ -1,6 +1,6 @@
 use Rattle.std.proofs.Common.{Some, sym, ap, ◌∙◌}
 use Rattle.std.proofs.lemmas.Bool.{false≢true}
-use Rattle.wac_renaming.proofs.Extending.{kept_item}
+use Rattle.wac_made.proofs.Extending.{kept_item}
 use Rattle.wac_unions.specs.SharedUnions.{first_in}
 use Rattle.wac_unions.proofs.SharedWrites.{alone-other, interface-itself, same-interface}
 use Rattle.wac_unions.proofs.WritingItems.{if-both}

@@ -3,7 +3,7 @@ use Rattle.std.specs.Global.{Global}
 use Rattle.wac_shapes.specs.declared.component.InterfaceId.{InterfaceId}
 use Rattle.wac_entries.specs.Classes.{by_names}
 use Rattle.wac_terms.specs.Merge.{import_entries}
-use Rattle.wac_terms.specs.Renaming.{IsExtended}
+use Rattle.wac_subtyping.specs.Extended.{IsExtended}
 use Rattle.wac_uses.specs.Using.{AreUsingFrom, uses_among}
 use Rattle.wac_uses.proofs.nested.Inside.using.Given as goal
 

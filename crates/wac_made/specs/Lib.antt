@@ -1,0 +1,4 @@
+pub mod Shapes
+pub mod ShapeHash
+pub mod FormHash
+pub mod Made
