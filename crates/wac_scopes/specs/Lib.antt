@@ -4,3 +4,4 @@ pub mod Scoped
 pub mod Sides
 pub mod Rooted
 pub mod Binding
+pub mod Lending

@@ -1,13 +1,14 @@
 //! What is being written in a scope.
 
 ghost use Rattle.std.specs.Prelude.{◌≡◌, ℕ, IfOk, OnOk, OnErr, Err as Refused};
+ghost use Rattle.std.specs.Borrow.{sem};
 ghost use Rattle.wac_binary.specs.declared.sorts.Sort.TheVariants as s;
 ghost use Rattle.wac_binary.specs.Fits.{TooLargeUnless};
 ghost use Rattle.wac_binary.specs.Indexes.{space, core_types, described_sort};
 ghost use Rattle.wac_binary.specs.declared.sorts.Description.TheVariants as e;
 ghost use Rattle.wac_binary.specs.Items.{value_def, component_def, instance_def, decls};
 ghost use Rattle.wac_binary.specs.Views.{defined_of, func_of};
-ghost use Rattle.wac_scopes.specs.Contents.{IsRoot, IsOpenType, and_type, and_alias_of, and_alias_around, and_core_module, and_export, and_import, count, ContentFits};
+ghost use Rattle.wac_scopes.specs.Contents.{IsRoot, IsOpenType, and_type, and_alias_of, and_alias_around, and_core_module, and_export, and_import, count, items_of, ContentFits};
 ghost use Rattle.wac_scopes.specs.Scoped.{RecordsUnlessTooLarge, and_listed};
 ghost use Rattle.wac_scopes.specs.Sides.{side_of, IsOpenComponent, and_declared};
 
@@ -31,6 +32,20 @@ pub enum Encodable {
 }
 
 impl Encodable {
+    ghost use Rattle.wac_scopes.specs.Lending.{LendsRoot};
+
+    /// The component that is written, to which items may be added.
+    pub(crate) fn builder(&mut self) -> &mut ComponentBuilder
+        requires { IsRoot self.old }
+        ensures* writes_back { sem 𝓛 (LendsRoot self.entry result) }
+        ensures value { result.now ≡ items_of self.old }
+    {
+        match self {
+            Encodable::Builder(content) => content,
+            Encodable::Instance(_) | Encodable::Component(_) => unreachable!(),
+        }
+    }
+
     /// Writes a value type, and answers its type index.
     pub(crate) fn defined_type(&mut self, t: &DefinedType<'_>) -> Result<u32, BinaryFault>
         ensures index { IfOk result (λ i. i ≡ count (space s.Type) self.old) }

@@ -2,6 +2,7 @@
 
 ghost use Rattle.std.specs.Prelude.{cond, ◌≡◌, ◌↔◌, true, ◌<◌, ◌≤◌, ◌+◌, ◌++◌, ◌∷◌, [], length, IfOk, OnOk, OnErr, IfSome, IsSome, None, is_some};
 ghost use Rattle.std.specs.Bool.{OnTrue};
+ghost use Rattle.std.specs.Borrow.{sem};
 ghost use Rattle.std.specs.HashMap.{spare};
 ghost use Rattle.wac_shapes.specs.declared.component.DefinedTypeId.{DefinedTypeId as AnyDefinition};
 ghost use Rattle.wac_shapes.specs.declared.component.ValueType.TheVariants as val;
@@ -28,8 +29,8 @@ use std::alloc::{AllocError, Global};
 use std::collections::HashMap;
 use std::hash::BuildHasherDefault;
 use wac_builder::{
-    BinaryFault, ComponentType, ComponentValType, DefinedType, Description, FuncType, InstanceType,
-    ModuleType, Sort,
+    BinaryFault, ComponentBuilder, ComponentType, ComponentValType, DefinedType, Description,
+    FuncType, InstanceType, ModuleType, Sort,
 };
 use wac_collection::{
     DefinedTypeId, FuncTypeId, InterfaceId, PrimitiveType, Text, ValueType, WorldId,
@@ -90,6 +91,8 @@ impl Drop for Scope {
 }
 
 impl Scope {
+    ghost use Rattle.wac_scopes.specs.Lending.{LendsComponent};
+
     /// A scope in which this is written, and no type is recorded.
     pub fn new(alloc: Global, content: Encodable) -> Scope
         ensures content { result.content ≡ content }
@@ -740,6 +743,15 @@ impl Scope {
         root_law();
         let component = self.content.import(name, Description::Component(index))?;
         Ok(component)
+    }
+
+    /// The component that is written, to which items may be added. What is recorded of types stays.
+    pub fn builder(&mut self) -> &mut ComponentBuilder
+        requires { IsRoot self.old.content }
+        ensures* writes_back { sem 𝓛 (LendsComponent self.entry result) }
+        ensures value { result.now ≡ items_of self.old.content }
+    {
+        self.content.builder()
     }
 
     /// Adds a whole component to the root, as it is, and answers its component index.
