@@ -29,7 +29,7 @@ use Rattle.wac_scopes.specs.declared.scope.Scope.{Scope}
 use Rattle.wac_scopes.specs.Contents.{items_of}
 use Rattle.wac_scopes.specs.Rooted.{thing_listed}
 use Rattle.wac_scopes.specs.Scoped.{listed_at, listing, root_of}
-use Rattle.wac_importing.specs.Defined.{definition_thing}
+use Rattle.wac_importable.specs.Defined.{definition_thing}
 use Rattle.wac_encoding.specs.Listed.{IsListedFrom, IsListedFor}
 
 module _ (g : Graph) (n : NodeId) (t : AnyType) (name : Name) (is : IsSomeAnd (node_at g n) (λ node. node.kind ≡ graph.definition))

@@ -40,7 +40,7 @@ use Rattle.wac_places.specs.declared.places.ImportPlaces.{ImportPlaces}
 use Rattle.wac_places.specs.Places.{IsImportedName, IsPlaceOf, ArePlaced}
 use Rattle.wac_places.proofs.MergeLemmas.{merge_held}
 use Rattle.wac_places.proofs.OuterLemmas.{asked_imported, found_at, asked_sort}
-use Rattle.wac_importing.proofs.Listing.{exports_value}
+use Rattle.wac_importable.proofs.Listing.{exports_value}
 use Rattle.wac_terms.specs.Values.{definition, listed_value, is_value, value_name}
 use Rattle.wac_planning.specs.Listed.{definition_of, listed_definition}
 use Rattle.wac_encode.specs.Instances.{listed_definitions}

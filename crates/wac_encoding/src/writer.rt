@@ -149,7 +149,7 @@ fn write_definition(
     ensures fault { IfErr result (λ e. cause_of e ≡ None) }
 {
     let (name, ty) = reader.definition(n);
-    let index = wac_importing::write_definition(reader.types(), &mut encoder.root, name, ty)?;
+    let index = wac_importable::write_definition(reader.types(), &mut encoder.root, name, ty)?;
     Ok(index)
 }
 

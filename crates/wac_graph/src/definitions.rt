@@ -5,14 +5,14 @@ ghost use Rattle.wac_collection.specs.Collection.{holds_type};
 ghost use Rattle.wac_shapes.specs.Kinds.{kind_type};
 ghost use Rattle.wac_edges.specs.Edge.{node_number};
 ghost use Rattle.wac_edges.specs.declared.node.NodeId.{NodeId as AnId};
-ghost use Rattle.wac_importing.specs.Looked.{AreFree};
+ghost use Rattle.wac_importable.specs.Looked.{AreFree};
 ghost use Rattle.wac_meaning.specs.Importable.{IsDefinableKind};
 ghost use Rattle.wac_nodes.specs.Graph.{node_at, definition};
 ghost use Rattle.wac_nodes.specs.Nodes.{kind_of};
 
 use crate::graph::CompositionGraph;
 use std::alloc::AllocError;
-use wac_importing::is_definable;
+use wac_importable::is_definable;
 use wac_nodes::{Node, NodeKind};
 use wac_reach::Reached;
 use wac_types::Types;

@@ -29,8 +29,8 @@ use Rattle.wac_listing.proofs.Listing.{none-first, listed-before}
 use Rattle.wac_importing.specs.Written.{AllImportable}
 use Rattle.wac_meaning.proofs.PlainLemmas.{plain_item}
 use Rattle.wac_worlds.proofs.TypesInside.{listed-held, exports-named}
-use Rattle.wac_importing.proofs.Items.{interface_is, interface_there}
-use Rattle.wac_importing.proofs.Refusing.{is_held}
+use Rattle.wac_importable.proofs.Items.{interface_is, interface_there}
+use Rattle.wac_importable.proofs.Refusing.{is_held}
 
 -- ---- subtypes of what is importable
 module _ {L : Type 0} where

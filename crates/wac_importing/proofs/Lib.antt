@@ -1,17 +1,3 @@
-pub mod Lists
-pub mod Handles
-pub mod Bare
-pub mod Items
-pub mod Listing
-pub mod Nested
-pub mod Refusing
 pub mod Loop
 pub mod Merging
 pub mod Asked
-pub mod ModuleImports
-pub mod Interfaces
-pub mod Defining
-pub mod Worlds
-pub mod Ahead
-pub mod Beside
-pub mod WorldTrees

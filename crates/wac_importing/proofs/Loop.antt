@@ -48,7 +48,7 @@ use Rattle.wac_meaning.proofs.MeaningLemmas.{Laws, indexes-push}
 use Rattle.wac_meaning.proofs.QuietLemmas.{IsQuiet}
 use Rattle.wac_meaning.proofs.BeginLemmas.{nothing_begins, begins_next}
 use Rattle.wac_components.specs.Imports.{and_component_type, next_index, and_world_import, ImportsWorld}
-use Rattle.wac_importing.specs.Modules.{WritesOne, and_module_import}
+use Rattle.wac_importable.specs.Modules.{WritesOne, and_module_import}
 use Rattle.wac_meaning.proofs.MergeLemmas.{imports_next}
 
 abbrev pub bindings : Merged → Bindings

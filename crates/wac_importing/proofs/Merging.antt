@@ -1,5 +1,5 @@
 -- A merge's imports as entries and as listed items, and what is answered of them.
-use Rattle.std.proofs.Common.{◌≡◌, ℕ, zero, suc, true, List, [], ◌∷◌, ap, ◌∙◌, sym, subst, Some, inl, Result, Ok, Err}
+use Rattle.std.proofs.Common.{◌≡◌, ℕ, zero, suc, true, List, [], ◌∷◌, refl, ap, ◌∙◌, sym, subst, Some, inl, inr, Result, Ok, Err}
 use Rattle.std.specs.Prelude.{slice_get}
 use Rattle.std.specs.Result.{IfErr, IsErrAnd}
 use Rattle.wac_primitives.specs.Name.{Name}
@@ -11,13 +11,15 @@ use Rattle.wac_entries.specs.Classes.{Entry}
 use Rattle.wac_terms.specs.Merge.{Merged, import_entries}
 use Rattle.wac_binary.specs.declared.fault.BinaryFault.{BinaryFault}
 use Rattle.wac_binary.specs.declared.fault.BinaryFault.TheVariants.{TooLarge, OutOfMemory}
+use Rattle.wac_scopes.specs.declared.fault.EncodeFault.TheVariants as fault
 use Rattle.wac_scopes.specs.declared.scope.Scope.{Scope}
 use Rattle.wac_meaning.specs.Beginning.{Places}
 use Rattle.wac_sorting.specs.declared.worlds.Worlds.{Worlds}
-use Rattle.wac_worlds.specs.Nested.{AreWorlds}
-use Rattle.wac_importing.specs.Looked.{AreImportable, HasNotYet}
-use Rattle.wac_importing.specs.Written.{IsAhead, AllImportable, HasUnimportable, IsTooLarge, AreRefused, IsNotWritten, merge_of}
-use Rattle.wac_importing.proofs.Nested.{lists_importable}
+use Rattle.wac_worlds.specs.Nested.{AreWorlds, AreWorldsRefused}
+use Rattle.wac_importable.specs.Holders.{holders_of, IsAhead}
+use Rattle.wac_importable.specs.Looked.{AreImportable, HasNotYet}
+use Rattle.wac_importing.specs.Written.{AllImportable, HasUnimportable, entry_items, IsTooLarge, AreRefused, IsNotWritten, merge_of}
+use Rattle.wac_importable.proofs.Nested.{lists_importable}
 use Rattle.wac_importing.proofs.Loop.{IsBegun, entry_there}
 
 -- the error that a `?` hands on
@@ -72,3 +74,11 @@ pub all_importable : (m : Merged) (c : Collection) (es : List (Name × ItemKind)
 all_importable m c es types imports wf held all = subst AllImportable (merge_is m c es types imports) (λ p e at.
     let there = entry_back es p e at in
     lists_importable c wf e.kind (held_items m c es types imports held p (e.name, e.kind) there) (all p (e.name, e.kind) there))
+
+-- the entries of a merge are the listed items again
+entries_back : (es : List (Name × ItemKind)) → entry_items (import_entries es) ≡ es
+entries_back [] = refl
+entries_back (e ∷ es) = ap (λ (xs : List (Name × ItemKind)). e ∷ xs) (entries_back es)
+
+pub worlds_too_large : (A : Type 0) (c : Collection) (es : List (Name × ItemKind)) → AreWorldsRefused {A = A} c (holders_of es) (Err fault.TooLarge) → IsTooLarge (merge_of c es) TooLarge
+worlds_too_large A c es h = inr (subst (λ (xs : List (Name × ItemKind)). AreWorldsRefused {A = Unit {0}} c (holders_of xs) (Err fault.TooLarge)) (sym (entries_back es)) h)

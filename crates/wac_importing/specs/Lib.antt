@@ -1,4 +1,1 @@
 pub mod Written
-pub mod Modules
-pub mod Looked
-pub mod Defined

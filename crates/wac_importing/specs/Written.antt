@@ -1,10 +1,7 @@
 -- The imports of a merge as they are written into the root of a component.
-use Rattle.std.specs.Prelude.{ℕ, ◌≡◌, ◌⊎◌, List, [], ◌∷◌, map, take, Option, Some, slice_get, Err}
-use Rattle.wac_primitives.specs.Name.{Name, option_case}
+use Rattle.std.specs.Prelude.{ℕ, ◌≡◌, ◌⊎◌, List, map, take, Some, slice_get, Err}
+use Rattle.wac_primitives.specs.Name.{Name}
 use Rattle.wac_shapes.specs.declared.component.ItemKind.{ItemKind}
-use Rattle.wac_shapes.specs.declared.component.ItemKind.TheVariants as kind
-use Rattle.wac_shapes.specs.declared.component.«Type».{«Type» as AnyType}
-use Rattle.wac_shapes.specs.declared.component.«Type».TheVariants as ty
 use Rattle.wac_collection.specs.Collection.{Collection}
 use Rattle.wac_entries.specs.Classes.{Entry}
 use Rattle.wac_terms.specs.Merge.{Merged, import_entries}
@@ -17,8 +14,9 @@ use Rattle.wac_meaning.specs.Beginning.{Places, Begins}
 use Rattle.wac_meaning.specs.Importable.{IsImportableKind}
 use Rattle.wac_meaning.specs.MergedImports.{imports_from}
 use Rattle.wac_sorting.specs.declared.worlds.Worlds.{Worlds}
-use Rattle.wac_worlds.specs.Nested.{type_inside, AreWorlds, AllWritten, AreWorldsRefused}
-use Rattle.wac_importing.specs.Modules.{OneDoesNotFit}
+use Rattle.wac_worlds.specs.Nested.{AreWorlds, AreWorldsRefused}
+use Rattle.wac_importable.specs.Holders.{holders_of, IsAhead}
+use Rattle.wac_importable.specs.Modules.{OneDoesNotFit}
 
 -- every import of a merge is imported so far
 abbrev pub AllImportable : Merged → Type 0
@@ -31,22 +29,9 @@ pub record HasUnimportable (m : Merged) : Type 0 where
   pub there : slice_get m.imports p ≡ Some entry
   pub not_yet : IsImportableKind m.types entry.kind → ⊥
 
--- the interface or the world of an item: of an instance or a component, or of its type
-abbrev pub holder_of : ItemKind → Option AnyType
-holder_of (kind.Component w) = Some (ty.World w)
-holder_of k = type_inside k
-
--- those of listed items
-abbrev pub holders_of : List (Name × ItemKind) → List AnyType
-holders_of [] = []
-holders_of (e ∷ es) = option_case (holder_of e.1) (holders_of es) (λ t. t ∷ holders_of es)
-
+-- listed items as they are entered
 abbrev pub entry_items : List Entry → List (Name × ItemKind)
 entry_items es = map (λ e. (e.name, e.kind)) es
-
--- every world inside an item is written ahead whose items are of sorts that are written
-abbrev pub IsAhead : Collection → Worlds → ItemKind → Type 0
-IsAhead c ws k = (t : AnyType) → holder_of k ≡ Some t → AllWritten c (t ∷ []) ws
 
 -- an import does not fit behind those before it, with some of the types that it is made of, with the worlds inside as they are written ahead
 pub record HasTooLarge (m : Merged) : Type 0 where

@@ -1,6 +1,6 @@
 use Rattle.std.proofs.Common.{◌≡◌, true, sym, subst}
 use Rattle.wac_collection.specs.Collection.{Collection, holds_type}
-use Rattle.wac_importing.specs.Defined.{definition_thing}
+use Rattle.wac_importable.specs.Defined.{definition_thing}
 use Rattle.wac_meaning.specs.Encoding.{index_in}
 use Rattle.wac_meaning.specs.Importable.{IsDefinableKind}
 use Rattle.wac_meaning.specs.Writing.{WritesType}

@@ -4,7 +4,7 @@ use Rattle.wac_shapes.specs.declared.component.ItemKind.{ItemKind}
 use Rattle.wac_binary.specs.declared.sorts.Sort.{Sort}
 use Rattle.wac_meaning.specs.Beginning.{Places}
 use Rattle.wac_importing.specs.Written.{merge_of, IsTooLarge}
-use Rattle.wac_importing.proofs.Ahead.{entry_ahead}
+use Rattle.wac_importable.proofs.Ahead.{entry_ahead}
 use Rattle.wac_importing.proofs.Loop.{IsBegun, one_more, all_begun}
 use Rattle.wac_importing.proofs.Merging.{err_of, too_large}
 use Rattle.wac_importing.proofs.written.write_all.Goals as goal

@@ -4,7 +4,7 @@ use Rattle.wac_sorting.specs.Worlds.{SayWorlds}
 use Rattle.wac_scopes.specs.declared.fault.EncodeFault.TheVariants.{Write}
 use Rattle.wac_root.specs.Importing.{IsItemNotImported, ImportsHeld, ImportsIfThere, is_importable}
 use Rattle.wac_worlds.proofs.Ahead.{as-held, of-held, say}
-use Rattle.wac_importing.proofs.Refusing.{is_written, no_fault}
+use Rattle.wac_importable.proofs.Refusing.{is_written, no_fault}
 use Rattle.wac_importing.proofs.written.write_item.Goals as goal
 
 pub import-requires-clause-say : goal.import-requires-clause-say

@@ -3,7 +3,7 @@ use Rattle.wac_shapes.specs.declared.component.ItemKind.{ItemKind}
 use Rattle.wac_shapes.specs.declared.component.ItemKind.TheVariants as kind
 use Rattle.wac_shapes.specs.declared.component.«Type».{«Type» as AnyType}
 use Rattle.wac_root.specs.Importing.{ImportsHeld}
-use Rattle.wac_importing.specs.Written.{IsAhead}
+use Rattle.wac_importable.specs.Holders.{IsAhead}
 use Rattle.wac_importing.proofs.written.write_one.Goals as goal
 
 pub returns-in-Ok-clause-imports : goal.returns-in-Ok-clause-imports

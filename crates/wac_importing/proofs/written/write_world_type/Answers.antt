@@ -9,7 +9,7 @@ use Rattle.wac_root.specs.Importing.{ImportsHeld, ImportsIfThere}
 use Rattle.wac_worlds.specs.Worlds.{is_plain_world}
 use Rattle.wac_components.specs.Imports.{ImportsWorld, ImportsWorldIfThere, IsWorldNotImported}
 use Rattle.wac_worlds.proofs.Ahead.{as-held, of-held, say}
-use Rattle.wac_importing.proofs.Refusing.{world_written, world_no_fault}
+use Rattle.wac_importable.proofs.Refusing.{world_written, world_no_fault}
 use Rattle.wac_importing.proofs.written.write_world_type.Goals as goal
 
 pub import_world_type-requires-clause-say : goal.import_world_type-requires-clause-say

@@ -5,8 +5,9 @@ use Rattle.wac_reach.specs.Reach.{IsIn}
 use Rattle.wac_reach.proofs.Lists.{in_at}
 use Rattle.wac_scopes.specs.declared.fault.EncodeFault.TheVariants.{Write, TooLarge}
 use Rattle.wac_worlds.specs.Nested.{AllWritten, AreWorldsRefused}
-use Rattle.wac_importing.specs.Written.{holders_of}
-use Rattle.wac_importing.proofs.Ahead.{holders_held, holders_plain, worlds_no_fault, worlds_too_large}
+use Rattle.wac_importable.specs.Holders.{holders_of}
+use Rattle.wac_importable.proofs.Ahead.{holders_held, holders_plain, worlds_no_fault}
+use Rattle.wac_importing.proofs.Merging.{worlds_too_large}
 use Rattle.wac_importing.proofs.written.write_worlds.Goals as goal
 
 pub worlds_inside-requires : goal.worlds_inside-requires

@@ -1,7 +1,7 @@
 use Rattle.std.proofs.Common.{◌≡◌, ◌<◌, IfSome}
 use Rattle.wac_edges.specs.declared.node.NodeId.{NodeId}
 use Rattle.wac_nodes.specs.Graph.{node_at, definition}
-use Rattle.wac_importing.specs.Looked.{AreFree}
+use Rattle.wac_importable.specs.Looked.{AreFree}
 use Rattle.wac_meaning.specs.Importable.{IsDefinableKind}
 use Rattle.wac_graph.proofs.graph.CompositionGraph.are_definable.Given as goal
 

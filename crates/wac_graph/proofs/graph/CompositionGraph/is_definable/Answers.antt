@@ -4,7 +4,7 @@ use Rattle.wac_nodes.specs.Graph.{Graph, GraphNode, node_at, definition}
 use Rattle.wac_meaning.specs.Importable.{IsDefinableKind}
 use Rattle.wac_writing.proofs.EncodingLemmas.{if_none, if_node, some_and}
 use Rattle.wac_writing.proofs.WriteDefinitionLemmas.{item_held}
-use Rattle.wac_importing.specs.Looked.{AreFree}
+use Rattle.wac_importable.specs.Looked.{AreFree}
 use Rattle.wac_graph.specs.Inside.{fields_of}
 use Rattle.wac_graph.proofs.graph.CompositionGraph.is_definable.Goals as goal
 

@@ -1,0 +1,14 @@
+pub mod Lists
+pub mod Handles
+pub mod Bare
+pub mod Items
+pub mod Listing
+pub mod Nested
+pub mod Refusing
+pub mod ModuleImports
+pub mod Interfaces
+pub mod Defining
+pub mod Worlds
+pub mod Ahead
+pub mod Beside
+pub mod WorldTrees

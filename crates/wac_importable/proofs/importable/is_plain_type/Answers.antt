@@ -1,0 +1,19 @@
+use Rattle.wac_shapes.specs.declared.component.ItemKind.TheVariants as kind
+use Rattle.wac_importable.proofs.Items.{is_of_values, not_of_values, values_plain}
+use Rattle.wac_importable.proofs.Nested.{alone_of, alone_value, type_not_alone, alone_holder}
+use Rattle.wac_importable.proofs.importable.is_plain_type.Goals as goal
+
+pub has_no_handle-requires-clause-of_values : goal.has_no_handle-requires-clause-of_values
+has_no_handle-requires-clause-of_values c = is_of_values c.args.ty c.in-Value.is
+
+pub returns-in-Value-clause-plain : goal.returns-in-Value-clause-plain
+returns-in-Value-clause-plain c h = alone_of c.args.types.now (kind.TypeItem c.args.ty) (values_plain c.args.types.now c.law.ensures c.args.ty (is_of_values c.args.ty c.in-Value.is) c.requires.held (c.has_no_handle.ensures.none h))
+
+pub returns-in-Value-clause-not : goal.returns-in-Value-clause-not
+returns-in-Value-clause-not c h so = c.has_no_handle.ensures.some h (alone_value c.args.types.now c.args.ty (is_of_values c.args.ty c.in-Value.is) so)
+
+pub returns-in-Interface-clause-plain : goal.returns-in-Interface-clause-plain
+returns-in-Interface-clause-plain c h = alone_holder c.args.types.now c.args.ty c.in-Interface.is
+
+pub returns-in_default : goal.returns-in_default
+returns-in_default c = record { plain = λ h. cc; free = λ h. cc; not = λ h. type_not_alone c.args.types.now c.law.ensures c.args.ty c.requires.held (not_of_values c.args.ty c.in_default.not-Value c.in_default.not-Func) c.in_default.not-Interface c.in_default.not-World }

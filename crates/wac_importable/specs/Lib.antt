@@ -1,0 +1,4 @@
+pub mod Holders
+pub mod Modules
+pub mod Looked
+pub mod Defined
