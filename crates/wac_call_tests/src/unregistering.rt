@@ -74,6 +74,23 @@ const EXPORTS: Rows = &[
     (Exported("d"), "2"),
 ];
 
+// An instance of a package stands between two of another; then a third package takes the slot of that one.
+const BETWEEN: Rows = &[
+    (Register("my:first", &[], &[]), ""),
+    (Register("my:second", &[], &[]), ""),
+    (Instantiate(0), "0"),
+    (Instantiate(1), "1"),
+    (Instantiate(0), "2"),
+    (
+        Encode(How::Plain),
+        "0061736d0d00010004080061736d0d00010005040100000004080061736d0d000100050702000100000000",
+    ),
+    (Unregister(0), ""),
+    (Register("my:third", &[], &[]), ""),
+    (Instantiate(2), "2"),
+    (Instantiate(1), "0"),
+];
+
 // An alias of the package was an argument of another package's instance.
 const ARGUMENT: Rows = &[
     (Register("my:package1", &[], &[("a", Plain)]), ""),
@@ -98,6 +115,14 @@ const TABLES: &[(Rows, Rows)] = &[
         &[(
             Encode(How::Plain),
             "0061736d0d00010004080061736d0d0001000507020000000000000b0d02000162050000000164050100",
+        )],
+    ),
+    // The components are in the order in which they are written first, whatever their slots.
+    (
+        BETWEEN,
+        &[(
+            Encode(How::Plain),
+            "0061736d0d00010004080061736d0d00010005070200000000000004080061736d0d000100050401000100",
         )],
     ),
     // An argument of the package is asked for.

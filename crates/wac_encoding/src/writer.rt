@@ -142,7 +142,7 @@ fn write_definition(
     requires definable { AllDefinable reader.now }
     requires right { IsRightRoot reader.now.types encoder.old.root }
     requires listed { (m : AnId) → IsSomeAnd (node_at reader.now m) (λ node. node.kind ≡ definition) → IsListedFor reader.now imports.now.places.items encoder.old.root }
-    ensures written { IfOk result (λ i. IfSome (node_at reader.now n) (λ node. WritesNode reader.now imports.now.places.items n node (index_in encoder.old.indexes.items) encoder.old.components.entries encoder.new.components.entries (items_of encoder.old.root.content) (items_of encoder.new.root.content) i)) }
+    ensures written { IfOk result (λ i. IfSome (node_at reader.now n) (λ node. WritesNode reader.now imports.now.places.items n node (index_in encoder.old.indexes.items) encoder.old.components encoder.new.components (items_of encoder.old.root.content) (items_of encoder.new.root.content) i)) }
     ensures right { OnOk result (IsRightRoot reader.now.types encoder.new.root) }
     ensures listed { OnOk result ((a : AnyType) → listing encoder.new.root a ≡ listing encoder.old.root a) }
     ensures kept { encoder.new.indexes ≡ encoder.old.indexes }
@@ -164,7 +164,7 @@ fn write_instantiation(
     requires instantiation { IsSomeAnd (node_at reader.now n) (λ node. node.kind ≡ instantiation) }
     requires right { IsRightRoot reader.now.types encoder.old.root }
     requires room { HasRoom reader.now encoder.old.indexes.items }
-    ensures written { IfOk result (λ i. IfSome (node_at reader.now n) (λ node. WritesNode reader.now imports.now.places.items n node (index_in encoder.old.indexes.items) encoder.old.components.entries encoder.new.components.entries (items_of encoder.old.root.content) (items_of encoder.new.root.content) i)) }
+    ensures written { IfOk result (λ i. IfSome (node_at reader.now n) (λ node. WritesNode reader.now imports.now.places.items n node (index_in encoder.old.indexes.items) encoder.old.components encoder.new.components (items_of encoder.old.root.content) (items_of encoder.new.root.content) i)) }
     ensures right { OnOk result (IsRightRoot reader.now.types encoder.new.root) }
     ensures listed { OnOk result ((a : AnyType) → listing encoder.new.root a ≡ listing encoder.old.root a) }
     ensures kept { encoder.new.indexes ≡ encoder.old.indexes }

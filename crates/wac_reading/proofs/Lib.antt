@@ -1,3 +1,4 @@
 mod SeenLemmas
 pub mod RootLemmas
 mod NamesLemmas
+mod ComponentLemmas

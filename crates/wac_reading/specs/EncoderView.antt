@@ -4,4 +4,4 @@ use Rattle.wac_meaning.specs.Encoding.{Progress}
 use Rattle.wac_scopes.specs.Contents.{items_of}
 
 abbrev pub progress : Encoder → Progress
-progress e = record { items = items_of e.root.content; components = e.components.entries; indexes = e.indexes.items }
+progress e = record { items = items_of e.root.content; components = e.components; indexes = e.indexes.items }

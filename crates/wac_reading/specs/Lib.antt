@@ -1,3 +1,4 @@
 pub mod Inside
 pub mod EncoderView
 pub mod Seen
+pub mod Slots

@@ -7,7 +7,7 @@ ghost use Rattle.wac_scopes.specs.Rooted.{IsRightRoot};
 ghost use Rattle.wac_scopes.specs.Scoped.{type_index, listing};
 ghost use Rattle.wac_shapes.specs.declared.component.«Type».{«Type» as AnyType};
 
-use indexmap::IndexMap;
+use crate::components::Components;
 use std::alloc::Global;
 use wac_builder::{ComponentBuilder, Sort};
 use wac_causes::EncodeError;
@@ -24,7 +24,7 @@ pub struct Encoder {
     /// The root, with what is recorded there.
     pub root: Scope,
     /// The component index of each package that is written.
-    pub components: IndexMap<PackageId, u32>,
+    pub components: Components,
     /// The index of each node, by its number.
     pub indexes: Vec<u32>,
 }
@@ -39,14 +39,14 @@ impl Encoder {
         ensures right { (c : AnyTypes) → IsRightRoot c result.root }
         ensures types { (a : AnyType) → type_index result.root a ≡ None }
         ensures listed { (a : AnyType) → listing result.root a ≡ None }
-        ensures components { result.components.entries ≡ [] }
+        ensures components { result.components ≡ [] }
         ensures indexes { result.indexes ≡ indexes }
     {
         rooted_law();
         Encoder {
             alloc,
             root: Scope::new(alloc, Encodable::Builder(component)),
-            components: IndexMap::new(alloc),
+            components: Components::new(alloc),
             indexes,
         }
     }
@@ -66,15 +66,15 @@ impl Encoder {
     /// The component index of a package, whose bytes are written where they were not.
     pub fn component(&mut self, id: PackageId, bytes: &[u8]) -> Result<u32, EncodeError>
         requires { IsRoot self.old.root.content }
-        ensures there { IfOk result (λ c. HasComponent bytes.now id c self.old.components.entries self.new.components.entries (items_of self.old.root.content) (items_of self.new.root.content)) }
+        ensures there { IfOk result (λ c. HasComponent bytes.now id c self.old.components self.new.components (items_of self.old.root.content) (items_of self.new.root.content)) }
         ensures right { (c : AnyTypes) → IsRightRoot c self.old.root → IsRightRoot c self.new.root }
         ensures listed { (a : AnyType) → listing self.new.root a ≡ listing self.old.root a }
         ensures kept { self.new.indexes ≡ self.old.indexes }
         ensures fault { IfErr result (λ e. cause_of e ≡ None) }
     {
         rooted_law();
-        if let Some(index) = self.components.get(&id) {
-            return Ok(*index);
+        if let Some(index) = self.components.get(id) {
+            return Ok(index);
         }
         let index = self.root.component(bytes)?;
         self.components.insert(id, index)?;

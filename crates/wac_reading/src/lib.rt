@@ -3,6 +3,7 @@
 //! A layer of `wac_graph`, whose crate is the door.
 #![tactic(auto)]
 
+mod components;
 mod encoder;
 mod exports;
 mod lookups;
@@ -12,6 +13,7 @@ mod parts;
 mod reader;
 mod sources;
 
+pub use components::Components;
 pub use encoder::{Encoder, sort_of};
 pub use lookups::package_in_slots;
 pub use order::Ordered;

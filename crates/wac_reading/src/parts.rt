@@ -32,7 +32,7 @@ impl<'a> GraphReader<'a> {
         requires alias { IsSomeAnd (node_at self.now n) (λ node. node.kind ≡ alias) }
         requires right { IsRightRoot self.now.types encoder.old.root }
         requires room { HasRoom self.now encoder.old.indexes.items }
-        ensures written { IfOk result (λ i. (places : Places) → IfSome (node_at self.now n) (λ node. WritesNode self.now places n node (index_in encoder.old.indexes.items) encoder.old.components.entries encoder.new.components.entries (items_of encoder.old.root.content) (items_of encoder.new.root.content) i)) }
+        ensures written { IfOk result (λ i. (places : Places) → IfSome (node_at self.now n) (λ node. WritesNode self.now places n node (index_in encoder.old.indexes.items) encoder.old.components encoder.new.components (items_of encoder.old.root.content) (items_of encoder.new.root.content) i)) }
         ensures right { OnOk result (IsRightRoot self.now.types encoder.new.root) }
         ensures listed { OnOk result ((a : AnyType) → listing encoder.new.root a ≡ listing encoder.old.root a) }
         ensures kept { encoder.new.indexes ≡ encoder.old.indexes }

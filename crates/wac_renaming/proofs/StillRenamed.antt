@@ -32,7 +32,7 @@ module _ (m more : Collection) (x : IsExtended m more) where
   }
 
   pub still_made : (c : Collection) (t : NamedTypes) (made : Made) → AreMade c t m made → AreMade c t more made
-  still_made c t made are = record { there = still_there made are.there; apart = are.apart }
+  still_made c t made are = record { there = still_there m more x made are.there; apart = are.apart }
 
   pub still_all_renamed : (s : Renaming) (memo : Renamed) → AreRenamed m s memo → AreRenamed more s memo
   still_all_renamed s memo r = record {

@@ -32,11 +32,8 @@ use wac_collection::{
 };
 use wac_made::made::Made;
 use wac_subtyping::laws::trees_are_whole;
-use wac_tables::rounds::{Numbers, Numbers};
-use wac_tables::tasks::{
-    Task, Task, open_fields, open_fields, open_optional, open_optional, open_parts, open_parts,
-    open_value, open_value,
-};
+use wac_tables::rounds::Numbers;
+use wac_tables::tasks::{Task, open_fields, open_optional, open_parts, open_value};
 
 /// Where types are renamed: the collection that they are of, what its resources become, and in which part.
 #[derive(Clone, Copy)]

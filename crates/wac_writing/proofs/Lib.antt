@@ -1,5 +1,4 @@
 pub mod ImportableLemmas
-pub mod ComponentLemmas
 pub mod CauseLemmas
 pub mod EncodingLemmas
 pub mod MeansLemmas

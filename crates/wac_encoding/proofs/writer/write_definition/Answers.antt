@@ -25,7 +25,7 @@ pub returns-clause-written : goal.returns-clause-written
 returns-clause-written c =
     let w = c.in_ok-index.ensures.written in
     written c.args.reader.now c.args.n c.definition-ty.result.1 c.definition-ty.result.0.now c.requires.definition c.definition-ty.ensures.defined c.args.imports.now.places.items
-    (index_in c.args.encoder.now.indexes.items) c.args.encoder.now.components.entries (items_of c.args.encoder.now.root.content) w.mid (items_of c.write_definition.new.root.content) w.k c.in_ok-index.index
+    (index_in c.args.encoder.now.indexes.items) c.args.encoder.now.components (items_of c.args.encoder.now.root.content) w.mid (items_of c.write_definition.new.root.content) w.k c.in_ok-index.index
     (definition_thing c.args.reader.now.types c.args.encoder.now.root c.definition-ty.result.1)
     (defined_behind c.args.reader.now c.args.imports.now.places.items c.args.encoder.now.root (c.requires.listed c.args.n c.requires.definition) c.definition-ty.result.1)
     (subst (λ (t : Collection). WritesType (definition_thing t c.args.encoder.now.root c.definition-ty.result.1) (items_of c.args.encoder.now.root.content) w.mid w.k) c.types.ensures w.writes) w.exported w.index

@@ -13,7 +13,7 @@ instantiate-requires c = (c.component.ensures.right c.args.reader.now.types c.re
 
 pub returns-clause-written : goal.returns-clause-written
 returns-clause-written c = added_instantiation c.args.reader.now c.args.imports.now.places.items c.args.n.0 c.package_of.result.0 c.package_of.result.1.now c.bytes.result.now c.args.encoder.now.indexes.items c.deref.result.now c.in_ok-arguments.arguments.items c.deref-2.result.now c.in_ok-component.component
-    c.args.encoder.now.components.entries _ (items_of c.args.encoder.now.root.content) (items_of c.component.new.self.root.content) _ _
+    c.args.encoder.now.components _ (items_of c.args.encoder.now.root.content) (items_of c.component.new.self.root.content) _ _
     c.requires.instantiation c.package_of.ensures.owner c.package_of.ensures.registered c.bytes.ensures c.deref.ensures.value c.deref-2.ensures.value
     c.in_ok-arguments.ensures c.in_ok-component.ensures.there (grown c.component.new.self.root c.instantiate.new.self _ c.in_ok-instantiate.ensures.appended)
     (c.in_ok-instantiate.ensures.index ∙ root_count (space sort.Instance) c.component.new.self.root.content (c.component.ensures.right c.args.reader.now.types c.requires.right).is_root)

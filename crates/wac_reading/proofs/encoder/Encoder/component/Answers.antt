@@ -3,18 +3,17 @@ use Rattle.wac_scopes.specs.declared.scope.Scope.{Scope}
 use Rattle.wac_scopes.specs.Scoped.{listing}
 use Rattle.wac_binary.specs.declared.sorts.Sort.TheVariants as sort
 use Rattle.wac_binary.specs.Indexes.{space}
-use Rattle.wac_writing.proofs.ComponentLemmas.{noted_for, noted_nowhere, noted_last}
 use Rattle.wac_reading.proofs.RootLemmas.{root_count, grown, stays_right}
 use Rattle.wac_reading.proofs.encoder.Encoder.component.Goals as goal
 
 pub returns-in-Some-clause-there : goal.returns-in-Some-clause-there
-returns-in-Some-clause-there c = let (k, at) = noted_for c.args.id c.in-Some.index.now c.args.self.now.components.entries c.in-Some.ensures.value in inl (k, at, refl, refl)
+returns-in-Some-clause-there c = let (k, at) = c.in-Some.ensures.there in inl (k, at, refl, refl)
 
 pub returns-clause-there : goal.returns-clause-there
 returns-clause-there c = inr (
-  noted_nowhere c.args.id c.args.self.now.components.entries c.in_default.ensures.value,
+  c.in_default.ensures.absent,
   c.in_ok-index.ensures.index ∙ root_count (space sort.Component) c.args.self.now.root.content c.requires,
-  c.in_ok-insert.ensures.entries ∙ noted_last c.args.id c.in_ok-index.index c.args.self.now.components.entries c.in_default.ensures.value,
+  c.in_ok-insert.ensures.pushed,
   grown c.args.self.now.root c.component.new.self _ c.in_ok-index.ensures.appended,
 )
 

@@ -37,11 +37,11 @@ index-requires-3 c =
 
 pub returns-clause-written : goal.returns-clause-written
 returns-clause-written c places =
-    subst (λ g. IfSome (node_at g c.args.n) (λ node. WritesNode g places c.args.n node (index_in c.args.encoder.now.indexes.items) c.args.encoder.now.components.entries c.args.encoder.now.components.entries (items_of c.args.encoder.now.root.content) (items_of c.alias_export.new.self.content) c.in_ok-alias_export.field-0)) c.self.view_is
+    subst (λ g. IfSome (node_at g c.args.n) (λ node. WritesNode g places c.args.n node (index_in c.args.encoder.now.indexes.items) c.args.encoder.now.components c.args.encoder.now.components (items_of c.args.encoder.now.root.content) (items_of c.alias_export.new.self.content) c.in_ok-alias_export.field-0)) c.self.view_is
     (alias_added (fields_of c.self.inside) c.self.invariant c.args.n.0 (rw (← c.self.view_is) at c.requires.alias) c.in-Some.source.0 c.in-Some.position c.in-Some.ensures.some c.index.result.now c.in-Instance.interface c.index-2.result.now c.index.ensures c.in-Instance.is c.index-2.ensures
     places c.index-3.result.now c.index-3.ensures c.name_at-name.result.now c.name_at-name.ensures c.sort_of-sort.result c.sort_of-sort.ensures
     (index_in c.args.encoder.now.indexes.items) c.index-instance.result.now (index_is c.args.encoder.now.indexes.items c.in-Some.source.0 c.index-instance.result.now (source_noted (fields_of c.self.inside) c.self.invariant c.args.self.now c.self.view_is c.args.encoder.now.indexes.items c.requires.room (alias_edge c.in-Some.source c.args.n c.in-Some.position) c.in-Some.ensures.some) c.index-instance.ensures)
-    c.args.encoder.now.components.entries c.args.encoder.now.components.entries refl
+    c.args.encoder.now.components c.args.encoder.now.components refl
     (items_of c.args.encoder.now.root.content) (items_of c.alias_export.new.self.content) (grown c.args.encoder.now.root c.alias_export.new.self _ c.in_ok-alias_export.ensures.appended) c.in_ok-alias_export.field-0 (c.in_ok-alias_export.ensures.index ∙ root_count (space c.sort_of-sort.result) c.args.encoder.now.root.content c.requires.right.is_root))
 
 pub index-instance-requires : goal.index-instance-requires

@@ -1,0 +1,119 @@
+//! The component index of each package that is written.
+ghost use Rattle.std.specs.Prelude.{◌≡◌, ◌≢◌, ◌<◌, ◌++◌, ◌∷◌, [], ℕ, Some, IfSome, IfNone, OnOk, OnErr, false, length, slice_get, slice_index_or};
+ghost use Rattle.std.specs.List.{list_any};
+ghost use Rattle.std.specs.Map.{lookup};
+ghost use Rattle.wac_meaning.specs.Means.{same_package};
+
+use std::alloc::{AllocError, Global};
+use std::marker::Model;
+use wac_nodes::PackageId;
+
+/// The component index of each package that is written, in the order in which they were written. It is found by the package's
+/// slot.
+#[derive(Drop)]
+pub struct Components {
+    /// The packages with their components.
+    entries: Vec<(PackageId, u32)>,
+    /// For each slot one more than the place of an entry of that slot; 0 where none is.
+    places: Vec<usize>,
+}
+
+impl Model for Components {
+    ghost use Rattle.std.specs.Prelude.{List, ℕ};
+    ghost use Rattle.wac_nodes.specs.declared.packages.PackageId.{PackageId as AnId};
+
+    ghost Value = { List (AnId × ℕ) };
+
+    ghost use Rattle.wac_reading.specs.Slots.{AreSlotted};
+
+    ghost view = { λ c. c.entries.items };
+
+    ghost invariant = { λ c. AreSlotted c.entries.items c.places.items };
+}
+
+impl Components {
+    /// No component is written.
+    pub fn new(alloc: Global) -> Components
+        ensures { result ≡ [] }
+    {
+        Components {
+            entries: Vec::new(alloc),
+            places: Vec::new(alloc),
+        }
+    }
+
+    /// The component index of a package, where it is written.
+    pub fn get(&self, id: PackageId) -> Option<u32>
+        ensures there { IfSome result (λ c. (k : ℕ) × (slice_get self.now k ≡ Some (id, c))) }
+        ensures absent { IfNone result (list_any (λ e. same_package id e.0) self.now ≡ false) }
+    {
+        let next = next_of(&self.places, id.slot);
+        if next == 0 {
+            return None;
+        }
+        let (found, index) = self.entries[next - 1];
+        if id == found {
+            return Some(index);
+        }
+        find(&self.entries, id)
+    }
+
+    /// Adds a package that is written. Where memory runs out nothing has changed.
+    pub fn insert(&mut self, id: PackageId, index: u32) -> Result<(), AllocError>
+        ensures pushed { OnOk result (self.new ≡ self.old ++ (id, index) ∷ []) }
+        ensures refused { OnErr result (self.new ≡ self.old) }
+    {
+        make_room(&mut self.places, id.slot)?;
+        self.entries.push((id, index))?;
+        note_place(&mut self.places, id.slot, self.entries.len());
+        Ok(())
+    }
+}
+
+/// One more than the place of an entry of a slot; 0 where none is.
+fn next_of(places: &[usize], slot: usize) -> usize
+    ensures { result ≡ slice_index_or places.now slot 0 }
+{
+    match places.get(slot) {
+        Some(next) => *next,
+        None => 0,
+    }
+}
+
+/// Makes room for the place of a slot's entry; where memory runs out nothing has changed.
+fn make_room(places: &mut Vec<usize>, slot: usize) -> Result<(), AllocError>
+    ensures there { OnOk result (slot < length places.new.items) }
+    ensures same { (s : ℕ) → slice_index_or places.new.items s 0 ≡ slice_index_or places.old.items s 0 }
+{
+    let Some(count) = slot.checked_add(1) else {
+        return Err(AllocError);
+    };
+    if places.len() < count {
+        places.resize(count, 0)?;
+    }
+    Ok(())
+}
+
+/// Notes an entry of a slot, unless one is noted: what comes next after its place.
+fn note_place(places: &mut Vec<usize>, slot: usize, next: usize)
+    requires { slot < length places.old.items }
+    ensures noted { slice_index_or places.old.items slot 0 ≡ 0 → slice_index_or places.new.items slot 0 ≡ next }
+    ensures kept { 0 < slice_index_or places.old.items slot 0 → slice_index_or places.new.items slot 0 ≡ slice_index_or places.old.items slot 0 }
+    ensures others { (s : ℕ) → s ≢ slot → slice_index_or places.new.items s 0 ≡ slice_index_or places.old.items s 0 }
+{
+    if places[slot] == 0 {
+        places[slot] = next;
+    }
+}
+
+/// The component index of a package, looked for through all entries.
+fn find(entries: &[(PackageId, u32)], id: PackageId) -> Option<u32>
+    ensures { result ≡ lookup (same_package id) entries.now }
+{
+    for (found, index) in entries {
+        if id == *found {
+            return Some(*index);
+        }
+    }
+    None
+}
