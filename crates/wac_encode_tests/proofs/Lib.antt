@@ -1,3 +1,3 @@
 pub mod StillOpen
 pub mod Saying
-pub mod SameTypes
+pub mod Added

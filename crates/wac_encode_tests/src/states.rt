@@ -1,19 +1,21 @@
 //! Types and definitions that are written into a root by hand.
-ghost use Rattle.std.specs.Prelude.{◌≡◌, ◌<◌};
+ghost use Rattle.std.specs.Prelude.{◌<◌};
+ghost use Rattle.wac_collection.specs.Collection.{Collection};
 ghost use Rattle.wac_binary.specs.HasMeaning.{HasMeaning};
 ghost use Rattle.wac_binary.specs.Indexes.{space, indexes};
 ghost use Rattle.wac_binary.specs.declared.sorts.Sort.TheVariants as s;
-ghost use Rattle.wac_state.specs.Root.{items as items_written};
+ghost use Rattle.wac_state.specs.Root.{IsRight, items as items_written};
 
 use crate::rows::Row::{
     Alias, Component, Enumeration, Func, Instance, List, Module, Own, Primitive, Record, Resource,
 };
 use crate::rows::{Items, Row, assert_row};
+use std::alloc::Global;
 use std::process::Abort;
 use wac_builder::{ComponentValType, Sort};
 use wac_scopes::{EncodeFault, WriteFault};
 use wac_shapes::{ItemKind, PrimitiveType, Type};
-use wac_state::State;
+use wac_state::{State, TypeEncoder};
 
 /// What is written of the item at a place, with what is answered; or what is added beside it.
 #[derive(Clone, Copy)]
@@ -166,57 +168,64 @@ const STATES: &[StateRow] = &[
 ];
 
 // A call on a type that is held.
-fn typed(rt: &impl Abort, items: &Items, state: &mut State<'_>, call: Call) -> bool
-    requires { state.old.types ≡ items.now.types }
-    ensures { state.new.types ≡ state.old.types }
+fn typed(rt: &impl Abort, items: &Items, state: &mut State, call: Call) -> bool
+    requires { IsRight items.now.types state.old }
+    ensures { IsRight items.now.types state.new }
 {
+    let encoder = TypeEncoder::new(&items.types);
     match call {
         Value(place, want) => {
             let value = items.value(rt, place);
             assert!(rt; items.types.contains(Type::Value(value)));
-            state.value_type(value) == want
+            encoder.value_type(state, value) == want
         }
         Typed(place, want) => {
             let ty = items.kind(rt, place).ty();
             assert!(rt; items.types.contains(ty));
-            state.ty(ty) == want
+            encoder.ty(state, ty) == want
         }
         _ => false,
     }
 }
 
 // A call on an interface or a world that is held, or beside the types.
-fn does(rt: &impl Abort, items: &Items, state: &mut State<'_>, call: Call) -> bool
-    requires { state.old.types ≡ items.now.types }
-    ensures { state.new.types ≡ state.old.types }
+fn does(rt: &impl Abort, items: &Items, state: &mut State, call: Call) -> bool
+    requires { IsRight items.now.types state.old }
+    ensures { IsRight items.now.types state.new }
 {
+    let encoder = TypeEncoder::new(&items.types);
     match call {
         Interface(place, want) => {
             let interface = items.interface(rt, place);
             assert!(rt; items.types.contains(Type::Interface(interface)));
-            state.interface(interface) == want
+            encoder.interface(state, interface) == want
         }
         World(place, want) => {
             let world = items.world(rt, place);
             assert!(rt; items.types.contains(Type::World(world)));
-            state.world(world) == want
+            encoder.world(state, world) == want
         }
         ComponentOf(place, want) => {
             let world = items.world(rt, place);
             assert!(rt; items.types.contains(Type::World(world)));
-            state.component(world) == want
+            encoder.component(state, world) == want
         }
-        Export(name, index, want) => state.export(name, Sort::Type, index) == Ok(want),
+        Export(name, index, want) => {
+            state.law();
+            let own = state.builder().export(name, Sort::Type, index);
+            own.expect(rt, "an export") == want
+        }
         _ => typed(rt, items, state, call),
     }
 }
 
 // The bytes of a component in which these calls write, in order.
 fn written(rt: &impl Abort, items: &Items, row: &StateRow) -> Vec<u8> {
-    let mut state = State::new(&items.types);
+    let mut state = State::new(items.types.allocator());
     for call in row.calls {
         assert_row(rt, does(rt, items, &mut state, *call), row.name);
     }
+    state.law();
     state.finish().expect(rt, "bytes")
 }
 
@@ -243,40 +252,39 @@ const EMPTY: &[u8] = &[0x00, 0x61, 0x73, 0x6d, 0x0d, 0x00, 0x01, 0x00];
 
 #[test]
 fn items_are_added_beside_them(rt: HostRuntime) {
-    let items = Items::new(&rt, rt.alloc(), &[]);
-    let mut state = State::new(&items.types);
-    assert!(rt; state.nested_component(EMPTY) == Ok(0));
-    assert!(rt; state.instantiate(0, &[]) == Ok(0));
-    assert!(rt; state.alias_export(Sort::Func, 0, "f") == Ok(0));
-    assert!(rt; state.export("g", Sort::Func, 0) == Ok(1));
-    assert!(rt; state.custom("c", &[0x07]) == Ok(()));
+    let mut state = State::new(rt.alloc());
+    let builder = state.builder();
+    assert!(rt; builder.component(EMPTY) == Ok(0));
+    assert!(rt; builder.instantiate(0, &[]) == Ok(0));
+    assert!(rt; builder.alias_export(Sort::Func, 0, "f") == Ok(0));
+    assert!(rt; builder.export("g", Sort::Func, 0) == Ok(1));
+    assert!(rt; builder.custom("c", &[0x07]) == Ok(()));
     let bytes = state.into_builder().finish().expect(&rt, "bytes");
     assert!(rt; bytes.as_slice() == WIRED);
 }
 
 // A root with an alias out of an instance that is not there: its items have no meaning, so that any type may be told to stand at the alias.
-fn aliased<'a>(rt: &impl Abort, items: &'a Items) -> State<'a>
-    ensures types { result.types ≡ items.now.types }
+fn aliased(rt: &impl Abort, alloc: Global) -> State
+    ensures right { (c : Collection) → IsRight c result }
     ensures meaningless { HasMeaning (items_written result) → ⊥ }
 {
-    let mut state = State::new(&items.types);
-    let index = state
-        .alias_export(Sort::Type, 0, "t")
-        .expect(rt, "an alias");
-    assert!(rt; index == 0);
+    let mut state = State::new(alloc);
+    state.law();
+    let index = state.builder().alias_export(Sort::Type, 0, "t");
+    assert!(rt; index.expect(rt, "an alias") == 0);
     state
 }
 
 // Whether the type at a place is told to stand at a type index of such a root.
-fn tells(rt: &impl Abort, items: &Items, state: &mut State<'_>, place: usize, index: u32) -> bool
-    requires types { state.old.types ≡ items.now.types }
+fn tells(rt: &impl Abort, items: &Items, state: &mut State, place: usize, index: u32) -> bool
+    requires right { IsRight items.now.types state.old }
     requires meaningless { HasMeaning (items_written state.old) → ⊥ }
-    ensures types { state.new.types ≡ state.old.types }
+    ensures right { IsRight items.now.types state.new }
     ensures meaningless { HasMeaning (items_written state.new) → ⊥ }
 {
     let ty = items.kind(rt, place).ty();
     assert!(rt; items.types.contains(ty));
-    state.bind(ItemKind::TypeItem(ty), index) == Ok(())
+    state.bind(&items.types, ItemKind::TypeItem(ty), index) == Ok(())
 }
 
 // The alias, and what is written over the types that are told to stand there.
@@ -289,7 +297,7 @@ const TOLD: &[u8] = &[
 fn a_type_is_written_by_the_first_index_at_which_it_is_told_to_stand(rt: HostRuntime) {
     let rows = [Enumeration("a"), Alias(0), List(0), Func(&[("x", 0)], None)];
     let items = Items::new(&rt, rt.alloc(), &rows);
-    let mut state = aliased(&rt, &items);
+    let mut state = aliased(&rt, rt.alloc());
     // The alias ends at the enumeration, so that is told.
     assert!(rt; tells(&rt, &items, &mut state, 1, 0));
     assert!(rt; tells(&rt, &items, &mut state, 0, 1));
@@ -304,32 +312,34 @@ fn a_type_is_written_by_the_first_index_at_which_it_is_told_to_stand(rt: HostRun
     );
     assert!(rt; does(&rt, &items, &mut state, Typed(2, Ok(Some(1)))));
     assert!(rt; does(&rt, &items, &mut state, Typed(3, Ok(Some(0)))));
+    state.law();
     let bytes = state.finish().expect(&rt, "bytes");
     assert!(rt; bytes.as_slice().get(8..) == Some(TOLD));
 }
 
 // A root with an instance of a component that is not there: its items have no meaning, so that the instance may be told to be of any interface.
-fn instantiated<'a>(rt: &impl Abort, items: &'a Items) -> State<'a>
-    ensures types { result.types ≡ items.now.types }
+fn instantiated(rt: &impl Abort, alloc: Global) -> State
+    ensures right { (c : Collection) → IsRight c result }
     ensures meaningless { HasMeaning (items_written result) → ⊥ }
     ensures there { 0 < indexes (space s.Instance) (items_written result) }
 {
-    let mut state = State::new(&items.types);
-    let index = state.instantiate(0, &[]).expect(rt, "an instance");
-    assert!(rt; index == 0);
+    let mut state = State::new(alloc);
+    state.law();
+    let index = state.builder().instantiate(0, &[]);
+    assert!(rt; index.expect(rt, "an instance") == 0);
     state
 }
 
 // Whether the instance of such a root is told to be of the interface at a place.
-fn tells_instance(rt: &impl Abort, items: &Items, state: &mut State<'_>, place: usize) -> bool
-    requires types { state.old.types ≡ items.now.types }
+fn tells_instance(rt: &impl Abort, items: &Items, state: &mut State, place: usize) -> bool
+    requires right { IsRight items.now.types state.old }
     requires meaningless { HasMeaning (items_written state.old) → ⊥ }
     requires there { 0 < indexes (space s.Instance) (items_written state.old) }
-    ensures { state.new.types ≡ state.old.types }
+    ensures { IsRight items.now.types state.new }
 {
     let interface = items.interface(rt, place);
     assert!(rt; items.types.contains(Type::Interface(interface)));
-    state.bind(ItemKind::Instance(interface), 0) == Ok(())
+    state.bind(&items.types, ItemKind::Instance(interface), 0) == Ok(())
 }
 
 // The instance, and what is written over a type that it is told to export.
@@ -349,7 +359,7 @@ fn a_type_is_aliased_from_the_instance_that_is_told_to_export_it(rt: HostRuntime
         Instance(Some("n:p/i"), &[("t", 1), ("f", 3)]),
     ];
     let items = Items::new(&rt, rt.alloc(), &rows);
-    let mut state = instantiated(&rt, &items);
+    let mut state = instantiated(&rt, rt.alloc());
     assert!(rt; tells_instance(&rt, &items, &mut state, 4));
     assert!(rt; does(&rt, &items, &mut state, Typed(2, Ok(Some(1)))));
     assert!(rt;
@@ -360,6 +370,49 @@ fn a_type_is_aliased_from_the_instance_that_is_told_to_export_it(rt: HostRuntime
             Value(0, Ok(ComponentValType::Index(0)))
         )
     );
+    state.law();
     let bytes = state.finish().expect(&rt, "bytes");
     assert!(rt; bytes.as_slice().get(8..) == Some(EXPORTED));
+}
+
+// The types, what is added behind them, and what is written then.
+const BETWEEN: &[u8] = &[
+    0x07, 0x07, 0x02, // two types
+    0x6d, 0x01, 0x01, 0x61, // the enum
+    0x70, 0x00, // a list of it
+    0x04, 0x08, 0x00, 0x61, 0x73, 0x6d, 0x0d, 0x00, 0x01, 0x00, // a component without items
+    0x05, 0x04, 0x01, 0x00, 0x00, 0x00, // an instance of it
+    0x06, 0x06, 0x01, 0x03, 0x00, 0x00, 0x01, 0x74, // its type `t`
+    0x07, 0x08, 0x01, 0x40, 0x01, 0x01, 0x78, 0x01, 0x01, 0x00, // a function type over the list
+];
+
+// Adds a component, an instance of it and an alias of what that exports.
+fn wires(rt: &impl Abort, items: &Items, state: &mut State)
+    requires { IsRight items.now.types state.old }
+    ensures { IsRight items.now.types state.new }
+{
+    state.law();
+    let component = state.builder().component(EMPTY);
+    assert!(rt; component.expect(rt, "a component") == 0);
+    state.law();
+    let instance = state.builder().instantiate(0, &[]);
+    assert!(rt; instance.expect(rt, "an instance") == 0);
+    state.law();
+    let alias = state.builder().alias_export(Sort::Type, 0, "t");
+    assert!(rt; alias.expect(rt, "an alias") == 2);
+}
+
+#[test]
+fn types_keep_their_indexes_as_items_are_added(rt: HostRuntime) {
+    let rows = [Enumeration("a"), List(0), Func(&[("x", 1)], None)];
+    let items = Items::new(&rt, rt.alloc(), &rows);
+    let mut state = State::new(rt.alloc());
+    assert!(rt; does(&rt, &items, &mut state, Typed(1, Ok(Some(1)))));
+    wires(&rt, &items, &mut state);
+    assert!(rt; does(&rt, &items, &mut state, Typed(0, Ok(Some(0)))));
+    assert!(rt; does(&rt, &items, &mut state, Typed(1, Ok(Some(1)))));
+    assert!(rt; does(&rt, &items, &mut state, Typed(2, Ok(Some(3)))));
+    state.law();
+    let bytes = state.finish().expect(&rt, "bytes");
+    assert!(rt; bytes.as_slice().get(8..) == Some(BETWEEN));
 }

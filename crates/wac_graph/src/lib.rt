@@ -43,6 +43,6 @@ pub use wac_nodes::{
 };
 pub use wac_plugging::{PlugError, PlugFault};
 pub use wac_scopes::{EncodeFault, WriteFault};
-pub use wac_state::State;
+pub use wac_state::{State, TypeEncoder};
 pub use wac_types as types;
 pub use wac_validation::ValidationFault;

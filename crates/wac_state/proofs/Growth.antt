@@ -26,9 +26,11 @@ use Rattle.wac_stacks.specs.Laws.{IsItsTree, StaysOnward}
 use Rattle.wac_stacks.specs.Scopes.{Content, Open, ContentHasMeaning, scope_of}
 use Rattle.wac_defining.specs.Written.{GoesOn, NewType, as_item, with_types, Says, WritesFor}
 use Rattle.wac_root.proofs.Imported.{still-root}
+use Rattle.wac_state.specs.declared.state.State.{State}
 use Rattle.wac_state.specs.Growing.{Grows, StandsSince, IsIndexSince}
 use Rattle.wac_state.specs.Held.{IsIndexOf}
-use Rattle.wac_state.specs.Root.{Written, IsRight, Continues, UnfoldsTo, SaysHeld}
+use Rattle.wac_state.specs.Binding.{with_root}
+use Rattle.wac_state.specs.Root.{IsRight, Continues, UnfoldsTo, SaysHeld, items, with_items}
 
 -- what types that are written add
 
@@ -76,11 +78,7 @@ grows-module c old new ds is on = record {
 means-now : (c : Collection) (s : Scope) → IsRoot s.content → Good c (nothing_bound ∷ []) (opened s unbound ∷ []) → HasMeaning (items_of s.content)
 means-now c s is_root g = subst (λ (x : Content). ContentHasMeaning x []) (content-of-root s.content is_root) g.0.meaning
 
--- as the record of a state
-abbrev pub state : Collection → Scope → Written
-state c s = record { types = c; root = s }
-
-module _ (before : MeansBefore) (c : Collection) (old new : Scope) (g : Grows c old new) (r : IsRight (state c old)) where
+module _ (before : MeansBefore) (c : Collection) (old new : Scope) (g : Grows c old new) (r : IsRight c (with_root old)) where
   new-root : IsRoot new.content
   new-root = g.root r.is_root
 
@@ -90,12 +88,11 @@ module _ (before : MeansBefore) (c : Collection) (old new : Scope) (g : Grows c 
   means-first : HasMeaning (items_of new.content) → HasMeaning (items_of old.content)
   means-first means = before (items_of old.content) g.more (subst HasMeaning g.added means)
 
-  pub right-on : IsRight (state c new)
+  pub right-on : IsRight c (with_root new)
   right-on = record { is_root = new-root; good = λ means. good-after (means-first means) }
 
-  pub continues : Continues (state c old) (state c new)
+  pub continues : Continues (with_root old) (with_root new)
   continues = record {
-    same = refl;
     more = g.more;
     added = g.added;
     means = λ means. means-now c new new-root (good-after means);
@@ -104,10 +101,10 @@ module _ (before : MeansBefore) (c : Collection) (old new : Scope) (g : Grows c 
   }
 
   -- what stands at an index
-  pub unfolds : (t : Tree) (k : ℕ) → StandsSince c old new t k → UnfoldsTo t (state c new) k
+  pub unfolds : (t : Tree) (k : ℕ) → StandsSince c old new t k → UnfoldsTo t (with_root new) k
   unfolds t k stands means = subst (λ (x : Content). At ((scope_of x []).types) k t) (content-of-root new.content new-root) (stands (r.good (means-first means)))
 
-  pub index-of : (a : AnyType) (k : ℕ) → IsIndexSince a c old new k → IsIndexOf a (state c new) k
+  pub index-of : (a : AnyType) (k : ℕ) → IsIndexSince a c old new k → IsIndexOf c a (with_root new) k
   index-of (ty.Module m) k stands = λ means. subst (λ (x : Content). At ((scope_of x []).core_types) k (held_tree c nothing_bound (ty.Module m))) (content-of-root new.content new-root) (stands (r.good (means-first means)))
   index-of (ty.Value v) k stands = unfolds (held_tree c nothing_bound (ty.Value v)) k stands
   index-of (ty.Func f) k stands = unfolds (held_tree c nothing_bound (ty.Func f)) k stands
@@ -115,22 +112,22 @@ module _ (before : MeansBefore) (c : Collection) (old new : Scope) (g : Grows c 
   index-of (ty.World w) k stands = unfolds (held_tree c nothing_bound (ty.World w)) k stands
   index-of (ty.Resource q) k stands = unfolds (held_tree c nothing_bound (ty.Resource q)) k stands
 
-  pub says-held : IsItsTree → (v : ValueType) (x : ComponentValType) → Says c new v x → SaysHeld v (state c new) x
+  pub says-held : IsItsTree → (v : ValueType) (x : ComponentValType) → Says c new v x → SaysHeld c v (with_root new) x
   says-held tree v x says means =
       let is = says nothing_bound [] unbound [] (good-after (means-first means)) in
       subst (λ (t : Tree). Means (root_of new).scope t x) (sym (tree c nothing_bound (ty.Value v) is.0 is.1))
       (subst (λ (y : Content). Means (scope_of y []) is.0 x) (content-of-root new.content new-root) is.2)
 
 -- an empty root
-pub begins : BeginsRight → (c : Collection) (s : Scope) → IsRoot s.content → ((a : AnyType) → type_index s a ≡ None) → ((a : AnyType) → listing s a ≡ None) → IsRight (state c s)
-begins right c s is_root none unlisted = let r = right c s is_root none unlisted in record { is_root = r.is_root; good = r.right }
+pub begins : BeginsRight → (s : Scope) → IsRoot s.content → ((a : AnyType) → type_index s a ≡ None) → ((a : AnyType) → listing s a ≡ None) → (c : Collection) → IsRight c (with_root s)
+begins right s is_root none unlisted c = let r = right c s is_root none unlisted in record { is_root = r.is_root; good = r.right }
 
--- with an item more
-pub item-more : RootGoesOn → MeansBefore → (c : Collection) (old new : Scope) (x : Item) → new ≡ record old { content = Builder (items_of old.content ++ x ∷ []) } → IsRight (state c old) → IsRight (state c new)
-item-more goes_on before c old new x is r = subst (λ (s : Scope). IsRight (state c s)) (sym is) (record {
+-- with more items
+pub items-more : RootGoesOn → MeansBefore → (s : State) (c : Collection) (more : List Item) → IsRight c s → IsRight c (with_items s more)
+items-more goes_on before s c more r = record {
   is_root = tt;
   good = λ means.
-      let good : Good c (nothing_bound ∷ []) (opened old unbound ∷ []) = r.good (before (items_of old.content) (x ∷ []) means) in
-      let held : Good c (nothing_bound ∷ []) (holding (items_of old.content) (opened old unbound) ∷ []) = subst (λ (o : Open). Good c (nothing_bound ∷ []) (o ∷ [])) (λ i. record (opened old unbound) { content = (content-of-root old.content r.is_root) i }) good in
-      (goes_on c nothing_bound (items_of old.content) (x ∷ []) (opened old unbound) held means).0;
-})
+      let good : Good c (nothing_bound ∷ []) (opened s.root unbound ∷ []) = r.good (before (items s) more means) in
+      let held : Good c (nothing_bound ∷ []) (holding (items s) (opened s.root unbound) ∷ []) = subst (λ (o : Open). Good c (nothing_bound ∷ []) (o ∷ [])) (λ i. record (opened s.root unbound) { content = (content-of-root s.root.content r.is_root) i }) good in
+      (goes_on c nothing_bound (items s) more (opened s.root unbound) held means).0;
+}

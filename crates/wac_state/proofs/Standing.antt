@@ -30,7 +30,7 @@ same-meaning : (old new : Scope) → new.content ≡ old.content → HasMeaning 
 same-meaning old new kept means = subst (λ (x : Encodable). HasMeaning (items_of x)) kept means
 
 -- the same recorded
-pub right-as-before : (c : Collection) (old new : Scope) → IsAsBefore old new → IsRight (with_root c old) → IsRight (with_root c new)
+pub right-as-before : (c : Collection) (old new : Scope) → IsAsBefore old new → IsRight c (with_root old) → IsRight c (with_root new)
 right-as-before c old new same right = record {
   is_root = subst IsRoot (sym same.content) right.is_root;
   good = λ means.
@@ -56,7 +56,7 @@ end-of c (ty.World w) u sort = sort
 end-of c (ty.Module m) u sort = sort
 end-of c (ty.Resource r) u sort = sort
 
-pub right-type : (c : Collection) → IsWellFormed c → (old new : Scope) (t : AnyType) (k : ℕ) → BindsType old new (at_end c t) k → new.content ≡ old.content → IsRight (with_root c old) → (IsUnrecorded old (at_end c t) → IsTypeAt c old t k) → IsRight (with_root c new)
+pub right-type : (c : Collection) → IsWellFormed c → (old new : Scope) (t : AnyType) (k : ℕ) → BindsType old new (at_end c t) k → new.content ≡ old.content → IsRight c (with_root old) → (IsUnrecorded old (at_end c t) → IsTypeAt c old t k) → IsRight c (with_root new)
 right-type c wf old new t k binds kept right stands = record {
   is_root = subst IsRoot (sym kept) right.is_root;
   good = λ means.
@@ -69,7 +69,7 @@ right-type c wf old new t k binds kept right stands = record {
         let s = stands free was in
         (s.0, end-is c wf t s.0 s.1, end-of c t s.0 s.2, subst (λ (x : Content). At ((scope_of x []).types) k s.0) (sym (content-of-root old.content right.is_root)) s.3)
 
-pub right-listing : (c : Collection) (old new : Scope) (k : ℕ) (es : List (DefinedTypeId × Name)) → BindsListing old new k es → new.content ≡ old.content → IsRight (with_root c old) → HasListing c old k es → IsRight (with_root c new)
+pub right-listing : (c : Collection) (old new : Scope) (k : ℕ) (es : List (DefinedTypeId × Name)) → BindsListing old new k es → new.content ≡ old.content → IsRight c (with_root old) → HasListing c old k es → IsRight c (with_root new)
 right-listing c old new k es binds kept right has = record {
   is_root = subst IsRoot (sym kept) right.is_root;
   good = λ means.

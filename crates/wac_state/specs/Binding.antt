@@ -15,7 +15,8 @@ use Rattle.wac_scopes.specs.Rooted.{HasListing}
 use Rattle.wac_scopes.specs.Scoped.{AlsoLists, root_of}
 use Rattle.wac_stacks.specs.Good.{At, IsHeld, IsOf, nothing_bound}
 use Rattle.wac_encode.specs.Instances.{listed_definitions}
-use Rattle.wac_state.specs.Root.{Written, IsRight}
+use Rattle.wac_state.specs.declared.state.State.{State}
+use Rattle.wac_state.specs.Root.{IsRight}
 
 -- a value type by the one at the end of its aliases
 abbrev pub at_end : Collection → AnyType → AnyType
@@ -46,9 +47,9 @@ Binds c old (kind.Instance i) k new = AlsoLists old k (listed_definitions c (int
 Binds c old item k new = new ≡ old
 
 -- this as the root
-abbrev pub with_root : Collection → Scope → Written
-with_root c s = record { types = c; root = s }
+abbrev pub with_root : Scope → State
+with_root s = record { root = s }
 
--- where the root was right, and the item stands there, it is right
+-- where the state was right, and the item stands there, it is right
 abbrev pub BindsRight : Collection → Scope → ItemKind → ℕ → Scope → Type 0
-BindsRight c old item k new = IsRight (with_root c old) → StandsFor c old item k → IsRight (with_root c new)
+BindsRight c old item k new = IsRight c (with_root old) → StandsFor c old item k → IsRight c (with_root new)

@@ -26,7 +26,8 @@ use Rattle.wac_encode.specs.Listing.{NeededBy, own_types, IsListedAt, TypeDoesNo
 use Rattle.wac_encode.specs.Instances.{IsInterfaceAt, IsInstanceRefused}
 use Rattle.wac_encode.specs.Worlds.{IsWorldTypeAt, IsWorldTypeRefused}
 use Rattle.wac_worlds.specs.Nested.{listed_in, IsInside, AreWorlds, AllWritten, AreWorldsRefused}
-use Rattle.wac_state.specs.Root.{Written, items, UnfoldsTo}
+use Rattle.wac_state.specs.declared.state.State.{State}
+use Rattle.wac_state.specs.Root.{items, UnfoldsTo}
 
 -- no type item of a resource
 abbrev pub IsNoResource : ItemKind → Type 0
@@ -46,9 +47,9 @@ HasNoResource c (ty.Resource r) = ⊥
 HasNoResource c t = (u : AnyType) → IsInside c t u → AreNoResources (listed_in c u)
 
 -- as far as the items have a meaning, the index is the held type's; a core module's is one of the core types
-abbrev pub IsIndexOf : AnyType → Written → ℕ → Type 0
-IsIndexOf (ty.Module m) w k = HasMeaning (items w) → At ((root_of w.root).scope.core_types) k (held_tree w.types nothing_bound (ty.Module m))
-IsIndexOf t w k = UnfoldsTo (held_tree w.types nothing_bound t) w k
+abbrev pub IsIndexOf : Collection → AnyType → State → ℕ → Type 0
+IsIndexOf c (ty.Module m) s k = HasMeaning (items s) → At ((root_of s.root).scope.core_types) k (held_tree c nothing_bound (ty.Module m))
+IsIndexOf c t s k = UnfoldsTo (held_tree c nothing_bound t) s k
 
 -- the component types of the worlds inside, which are written ahead
 abbrev pub AreAhead : Collection → AnyType → Worlds → Type 0

@@ -1,4 +1,5 @@
 pub mod Root
+pub mod Lending
 pub mod Held
 pub mod Defined
 pub mod Growing

@@ -1,56 +1,48 @@
--- The root of a component into which held types are written beside other items, and what is always true of it.
-use Rattle.std.specs.Prelude.{ℕ, ◌≡◌, List, [], ◌∷◌, ◌++◌, refl}
-use Rattle.std.specs.Coded.{Coded, code_by, coded×}
+-- A component that is written by hand, into which held types are written beside other items, and what stays true of it.
+use Rattle.std.specs.Prelude.{ℕ, ◌≡◌, List, [], ◌∷◌, ◌++◌}
 use Rattle.wac_primitives.specs.Tree.{Tree}
 use Rattle.wac_shapes.specs.declared.component.ValueType.{ValueType}
 use Rattle.wac_shapes.specs.declared.component.«Type».TheVariants as ty
 use Rattle.wac_collection.specs.Collection.{Collection}
-use Rattle.wac_collection.specs.contracts.collection.Types.{the_row as types_row}
 use Rattle.wac_collection.specs.Bound.{held_tree}
 use Rattle.wac_binary.specs.declared.types.ComponentValType.{ComponentValType}
 use Rattle.wac_binary.specs.Items.{Item}
 use Rattle.wac_binary.specs.HasMeaning.{HasMeaning}
-use Rattle.wac_scopes.specs.declared.encodable.Encodable.TheVariants.{Builder}
-use Rattle.wac_scopes.specs.declared.scope.Scope.{Scope}
-use Rattle.wac_scopes.specs.contracts.scope.Scope.{the_row as scope_row}
 use Rattle.wac_scopes.specs.Contents.{IsRoot, items_of}
+use Rattle.wac_scopes.specs.Lending.{with_component as scope_with_component}
 use Rattle.wac_scopes.specs.Rooted.{unbound}
 use Rattle.wac_scopes.specs.Scoped.{opened, root_of}
 use Rattle.wac_stacks.specs.Good.{At, Keeps, Means, Good, nothing_bound}
-
--- a collection, and the root into which its types are written
-pub record Written : Type 0 where
-  pub types : Collection
-  pub root : Scope
-
-abbrev pub written_code : Coded Written
-written_code = code_by (Collection × Scope) (coded× types_row.coded scope_row.coded) (λ w. (w.types, w.root)) (λ p. record { types = p.0; root = p.1 }) (λ _. refl)
+use Rattle.wac_state.specs.declared.state.State.{State}
 
 -- the items that are written
-abbrev pub items : Written → List Item
-items w = items_of w.root.content
+abbrev pub items : State → List Item
+items s = items_of s.root.content
 
--- with one item more; what is recorded of types stays
-abbrev pub with_item : Written → Item → Written
-with_item w x = record w { root = record w.root { content = Builder (items w ++ x ∷ []) } }
+-- with these items written; what is recorded of types stays
+abbrev pub with_component : State → List Item → State
+with_component s xs = record s { root = scope_with_component s.root xs }
 
--- as far as the items have a meaning, where a type is recorded it stands as it is held; no resource is bound
-pub record IsRight (w : Written) : Type 0 where
-  pub is_root : IsRoot w.root.content
-  pub good : HasMeaning (items w) → Good w.types (nothing_bound ∷ []) (opened w.root unbound ∷ [])
+-- with more items behind those that are written
+abbrev pub with_items : State → List Item → State
+with_items s more = with_component s (items s ++ more)
+
+-- as far as the items have a meaning, where a type of the collection is recorded it stands as it is held; no resource is bound
+pub record IsRight (c : Collection) (s : State) : Type 0 where
+  pub is_root : IsRoot s.root.content
+  pub good : HasMeaning (items s) → Good c (nothing_bound ∷ []) (opened s.root unbound ∷ [])
 
 -- From old to new: items are added, which have a meaning where those before have one; then each index stands for what it stood for.
-pub record Continues (old new : Written) : Type 0 where
-  pub same : new.types ≡ old.types
+pub record Continues (old new : State) : Type 0 where
   pub more : List Item
   pub added : items new ≡ items old ++ more
   pub means : HasMeaning (items old) → HasMeaning (items new)
   pub keeps : HasMeaning (items old) → Keeps (root_of old.root).scope (root_of new.root).scope
 
 -- as far as the items have a meaning, the type index unfolds to this tree
-abbrev pub UnfoldsTo : Tree → Written → ℕ → Type 0
-UnfoldsTo t w k = HasMeaning (items w) → At ((root_of w.root).scope.types) k t
+abbrev pub UnfoldsTo : Tree → State → ℕ → Type 0
+UnfoldsTo t s k = HasMeaning (items s) → At ((root_of s.root).scope.types) k t
 
 -- and the value type in use is the held one
-abbrev pub SaysHeld : ValueType → Written → ComponentValType → Type 0
-SaysHeld v w x = HasMeaning (items w) → Means (root_of w.root).scope (held_tree w.types nothing_bound (ty.Value v)) x
+abbrev pub SaysHeld : Collection → ValueType → State → ComponentValType → Type 0
+SaysHeld c v s x = HasMeaning (items s) → Means (root_of s.root).scope (held_tree c nothing_bound (ty.Value v)) x
