@@ -1,16 +1,24 @@
-//! Tests of composition graphs, through what `wac_graph` makes public: types that are defined and imported, as tables of calls
-//! each with what it answers, names, packages, `plug`, and what `encode` answers then.
+//! Tests of composition graphs, through what `wac_graph` makes public: calls, as tables of calls each with what it answers, types that
+//! are defined and imported, names, packages, `plug`, and what `encode` answers then.
 //!
-//! They stand in crates of their own so that no library is proved once more for them, and in two, this one and
-//! `wac_call_tests`, which are proved side by side.
+//! They stand in a crate of their own so that no library is proved once more for them, and in one, since each crate over
+//! `wac_graph` reads what was proved below.
 #![tactic(auto)]
 
 #[cfg(test)]
 mod aliased;
 #[cfg(test)]
+mod bench;
+#[cfg(test)]
 mod defining;
 #[cfg(test)]
+mod encoding;
+#[cfg(test)]
+mod imported;
+#[cfg(test)]
 mod imports;
+#[cfg(test)]
+mod listed;
 #[cfg(test)]
 mod names;
 #[cfg(test)]
@@ -24,6 +32,12 @@ mod plugging;
 #[cfg(test)]
 mod redefined;
 #[cfg(test)]
+mod removal;
+#[cfg(test)]
 mod tables;
+#[cfg(test)]
+mod unregistering;
+#[cfg(test)]
+mod validation;
 #[cfg(test)]
 mod writable;

@@ -2,7 +2,7 @@
 ghost use Rattle.std.specs.Prelude.{IsSome};
 ghost use Rattle.wac_nodes.specs.Graph.{node_at};
 
-use crate::parts::{encode, function, instance, package_name, register, world};
+use crate::parts::{self, encode, function, instance, package_name};
 use std::alloc::{AllocError, Global};
 use std::fmt::Display;
 use std::process::Abort;
@@ -168,7 +168,7 @@ fn core_module(rt: &impl Abort, alloc: Global, graph: &mut CompositionGraph) -> 
         page_size_log2: None,
     };
     module.export(alloc, "e", memory).expect(rt, "an export");
-    ItemKind::Module(graph.add_module_type(module).expect(rt, "its id"))
+    parts::module(rt, graph, module)
 }
 
 // A world of this id that imports a function `f` and exports a function `g`.
@@ -179,13 +179,13 @@ fn sides(
     id: Option<&str>,
 ) -> WorldId {
     let item = function(rt, alloc, graph, &[], None);
-    world(rt, alloc, graph, id, &[("f", item)], &[("g", item)])
+    parts::world(rt, alloc, graph, id, &[("f", item)], &[("g", item)])
 }
 
 fn enumeration(rt: &impl Abort, alloc: Global, graph: &mut CompositionGraph) -> ItemKind {
     let cases = Enum::new(alloc, &["a"]).expect(rt, "an enumeration");
-    let ty = graph.add_defined_type(DefinedType::Enum(cases));
-    ItemKind::TypeItem(Type::Value(ValueType::Defined(ty.expect(rt, "its id"))))
+    let value = parts::defined(rt, graph, DefinedType::Enum(cases));
+    ItemKind::TypeItem(Type::Value(value))
 }
 
 fn using_instance(
@@ -305,7 +305,7 @@ impl Bench {
         let imports = self.kinds(rt, imports);
         let exports = self.kinds(rt, exports);
         let (alloc, graph) = (self.alloc, &mut self.graph);
-        match register(rt, alloc, graph, name, &imports, &exports) {
+        match parts::register(rt, alloc, graph, (name, None), &imports, &exports) {
             Ok(id) => {
                 self.packages.push(id).expect(rt, "room for a package");
                 String::new(self.alloc)
@@ -347,9 +347,7 @@ impl Bench {
 
     fn instantiate(&mut self, rt: &impl Abort, place: usize) -> String {
         let id = self.package_id(rt, place);
-        let held = self.graph.has_package(id);
-        assert!(rt; held);
-        let answer = self.graph.instantiate(id);
+        let answer = parts::instantiate(rt, &mut self.graph, id);
         self.made(rt, answer)
     }
 
@@ -360,25 +358,21 @@ impl Bench {
     }
 
     fn set(&mut self, rt: &impl Abort, place: usize, name: &str, argument: usize) -> String {
-        let instantiation = self.node(rt, place);
-        let argument = self.node(rt, argument);
-        let answer = self
-            .graph
-            .set_instantiation_argument(instantiation, name, argument);
+        let instantiation = self.node_id(rt, place);
+        let argument = self.node_id(rt, argument);
+        let answer = parts::set(rt, &mut self.graph, instantiation, name, argument);
         answered(rt, self.alloc, answer)
     }
 
     fn export(&mut self, rt: &impl Abort, place: usize, name: &str) -> String {
-        let node = self.node(rt, place);
-        let answer = self.graph.export(node, name);
+        let node = self.node_id(rt, place);
+        let answer = parts::export(rt, &mut self.graph, node, name);
         answered(rt, self.alloc, answer)
     }
 
     fn import(&mut self, rt: &impl Abort, name: &str, item: Item) -> String {
         let kind = self.kind(rt, item);
-        let held = self.graph.types().contains(kind.ty());
-        assert!(rt; held);
-        let answer = self.graph.import(name, kind);
+        let answer = parts::import(rt, &mut self.graph, name, kind);
         self.made(rt, answer)
     }
 
@@ -392,8 +386,8 @@ impl Bench {
     }
 
     fn unexport(&mut self, rt: &impl Abort, place: usize) -> String {
-        let node = self.node(rt, place);
-        let answer = self.graph.unexport(node);
+        let node = self.node_id(rt, place);
+        let answer = parts::unexport(rt, &mut self.graph, node);
         answered(rt, self.alloc, answer)
     }
 
@@ -427,8 +421,8 @@ impl Bench {
     }
 
     fn remove(&mut self, rt: &impl Abort, place: usize) -> String {
-        let node = self.node(rt, place);
-        self.graph.remove_node(node);
+        let node = self.node_id(rt, place);
+        parts::remove(rt, &mut self.graph, node);
         String::new(self.alloc)
     }
 
