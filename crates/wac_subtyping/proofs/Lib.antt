@@ -1,5 +1,4 @@
 pub mod Unfolding
-pub mod Resolved
 pub mod Relation
 pub mod Trees
 pub mod Kept

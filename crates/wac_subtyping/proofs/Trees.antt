@@ -1,24 +1,27 @@
--- Trees at greater depths, and trees of aliases.
-use Rattle.std.proofs.Common.{zero, suc, ◌≡◌, ap, ◌∙◌, Option, Some, None, arith, slice_get}
+-- Trees at greater depths, and trees of aliases; the resource at the end of the aliases of a held one is held.
+use Rattle.std.proofs.Common.{zero, suc, true, ◌≡◌, ap, ◌∙◌, Option, Some, None, arith, slice_get}
 use Rattle.wac_primitives.specs.Name.{option_case}
 use Rattle.wac_primitives.specs.Tree.{TypeTree}
+use Rattle.wac_shapes.specs.declared.component.ResourceId.{ResourceId}
 use Rattle.wac_shapes.specs.declared.component.DefinedType.{DefinedType}
 use Rattle.wac_shapes.specs.declared.component.DefinedType.TheVariants as def
 use Rattle.wac_shapes.specs.declared.component.ValueType.{ValueType}
 use Rattle.wac_shapes.specs.declared.component.ValueType.TheVariants as val
 use Rattle.wac_shapes.specs.declared.component.«Type».TheVariants as ty
-use Rattle.wac_collection.specs.Collection.{Collection, size, IsWellFormed, item_at}
-use Rattle.wac_collection.specs.Held.{Naming, Names, of_held, defined_tree, unfolded}
+use Rattle.wac_collection.specs.Collection.{Collection, size, IsWellFormed, item_at, holds_type}
+use Rattle.wac_collection.specs.Held.{Naming, Names, of_held, defined_tree, resolved, unfolded}
 use Rattle.wac_collection.specs.Bound.{by_place, held_tree}
 use Rattle.wac_subtyping.specs.Called.{by_binding}
 use Rattle.wac_subtyping.specs.Subtype.{by_name, resource_names, type_tree}
 use Rattle.wac_collection.specs.Aliases.{aliased, target_of}
 use Rattle.wac_subtyping.specs.TreeLaws.{IsDeepEnough, AliasesAgree}
-use Rattle.wac_subtyping.proofs.Unfolding.{type_before, before_more, unfold_same, unfolded_step, held_item, within}
+use Rattle.wac_collection.proofs.Growth.{type_before, before_more}
+use Rattle.wac_collection.proofs.Chains.{alias_is}
+use Rattle.wac_collection.proofs.Ends.{resource_end_is_held}
+use Rattle.wac_subtyping.proofs.Unfolding.{unfold_same, unfolded_step, held_item, within}
 
-pub aliased_is : (x : DefinedType) (a : ValueType) → aliased x ≡ Some a → x ≡ def.Alias a
-aliased_is (def.Alias v) a e = let s : v ≡ a = cc in ap def.Alias s
-aliased_is _ a e = cc
+pub resolved_held : (c : Collection) → IsWellFormed c → (r : ResourceId) → holds_type c (ty.Resource r) ≡ true → holds_type c (ty.Resource (resolved c r)) ≡ true
+resolved_held c wf r h = resource_end_is_held c wf r true h ∙ h
 
 pub deep_enough : {L : Type 0} (naming : Naming L) (c : Collection) → IsWellFormed c → IsDeepEnough naming c
 deep_enough naming c wf zero lt m t h = absurd (omega (arith, lt))
@@ -27,9 +30,6 @@ deep_enough naming c wf (suc n) lt m t h =
     unfold_same naming c wf n (size c) m t (before_more c (size c) n t (omega (arith, lt)) at) at
 
 alias_unfolded : {L : Type 0} (naming : Naming L) (c : Collection) → IsWellFormed c → (m : Names L) (v w : ValueType) → target_of c v ≡ Some w → unfolded naming c m (ty.Value v) ≡ unfolded naming c m (ty.Value w)
-alias_unfolded naming c wf m (val.Primitive p) w e = cc
-alias_unfolded naming c wf m (val.Own p) w e = cc
-alias_unfolded naming c wf m (val.Borrow p) w e = cc
 alias_unfolded naming c wf m (val.Defined d) w e =
     let x = by (item_at c.defined d.0) e in
     let h = held_item (slice_get c.defined d.0) (def.Alias w) x in
@@ -38,7 +38,8 @@ alias_unfolded naming c wf m (val.Defined d) w e =
   where
     by : (o : Option DefinedType) → option_case o None aliased ≡ Some w → o ≡ Some (def.Alias w)
     by None h = cc
-    by (Some x) h = ap Some (aliased_is x w h)
+    by (Some x) h = ap Some (alias_is x w h)
+alias_unfolded naming c wf m _ w e = cc
 
 pub aliases_agree : (c : Collection) → IsWellFormed c → AliasesAgree c
 unfolding type_tree held_tree

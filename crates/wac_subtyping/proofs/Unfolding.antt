@@ -1,107 +1,41 @@
 -- What is held unfolds to its parts unfolded.
-use Rattle.std.proofs.Common.{ℕ, zero, suc, Bool, true, false, List, [], ◌∷◌, ◌++◌, map, ◌≡◌, ◌<◌, ◌≤◌, length, refl, ap, Option, Some, None, arith, nat_lt, slice_get}
+use Rattle.std.proofs.Common.{ℕ, zero, suc, Bool, true, false, List, [], ◌∷◌, ◌++◌, map, ◌≡◌, ◌<◌, ◌≤◌, length, refl, ap, sym, ◌∙◌, Option, Some, None, arith, nat_lt, slice_get}
 use Rattle.std.specs.List.{AllByRecursion}
-use Rattle.wac_primitives.specs.Name.{Name}
-use Rattle.wac_collection.specs.declared.collection.Held.{Held}
+use Rattle.wac_primitives.specs.Name.{Name, option_case}
+use Rattle.wac_primitives.specs.Tree.{Side, imported, exported, TypeTree, absent, resource, own, borrow, record_of, variant_of, list_of, fixed_list_of, tuple_of, option_of, result_of, stream_of, future_of, function, instance, component, type_equal, function_item, instance_item, component_item, module_item, value_item}
+use Rattle.wac_shapes.specs.declared.component.ResourceId.{ResourceId}
 use Rattle.wac_shapes.specs.declared.component.FuncType.{FuncType}
 use Rattle.wac_shapes.specs.declared.component.DefinedType.{DefinedType}
 use Rattle.wac_shapes.specs.declared.component.DefinedType.TheVariants as def
+use Rattle.wac_shapes.specs.declared.component.Interface.{Interface}
+use Rattle.wac_shapes.specs.declared.component.World.{World}
 use Rattle.wac_shapes.specs.declared.component.ValueType.{ValueType}
 use Rattle.wac_shapes.specs.declared.component.ValueType.TheVariants as val
 use Rattle.wac_shapes.specs.declared.component.«Type».{«Type» as AnyType}
 use Rattle.wac_shapes.specs.declared.component.«Type».TheVariants as ty
 use Rattle.wac_shapes.specs.declared.component.ItemKind.{ItemKind}
 use Rattle.wac_shapes.specs.declared.component.ItemKind.TheVariants as kind
-use Rattle.wac_collection.specs.Collection.{Collection, size, seconds, and_maybe, case_values, func_values, defined_values, value_types, used_types, kind_types, IsWellFormed, IsBefore, IsValueBefore, AreBefore, AddedBefore, holds_type, item_of}
 use Rattle.wac_shapes.specs.Kinds.{kind_type}
-use Rattle.wac_primitives.specs.Tree.{imported, exported, TypeTree, record_of, variant_of, list_of, fixed_list_of, tuple_of, option_of, result_of, stream_of, future_of, function, instance, component, type_equal, function_item, instance_item, component_item, module_item, value_item}
-use Rattle.wac_collection.specs.Held.{Naming, Names, Unfolding, part_at, items_under, option_tree, func_tree, defined_tree, item_tree, of_held, step, unfolded_to, unfolded}
+use Rattle.wac_collection.specs.declared.collection.Held.{Held}
+use Rattle.wac_collection.specs.Collection.{Collection, size, seconds, and_maybe, case_values, func_values, defined_values, value_types, used_types, kind_types, interface_mentions, world_mentions, IsWellFormed, IsBefore, IsValueBefore, AreBefore, AddedBefore, IsKeptBy, holds_type, item_of}
+use Rattle.wac_collection.specs.Held.{Naming, Names, Unfolding, part_at, items_under, option_tree, func_tree, defined_tree, item_tree, of_held, step, resolved, unfolded_to, unfolded}
+use Rattle.wac_collection.proofs.Growth.{type_before, before_more, kept_size}
+use Rattle.wac_collection.proofs.Steady.{all_left, all_right}
 use Rattle.wac_subtyping.specs.Subtype.{by_name, resource_names, type_tree}
 use Rattle.wac_subtyping.specs.Ranks.{rank_of_held, type_rank}
-
-pub all_map : {A : Type 0} (P Q : A → Type 0) → ((x : A) → P x → Q x) → (xs : List A) → AllByRecursion P xs → AllByRecursion Q xs
-all_map P Q f [] h = tt
-all_map P Q f (x ∷ xs) h = (f x h.0, all_map P Q f xs h.1)
-
-pub all_left : {A : Type 0} (P : A → Type 0) (xs ys : List A) → AllByRecursion P (xs ++ ys) → AllByRecursion P xs
-all_left P [] ys h = tt
-all_left P (x ∷ xs) ys h = (h.0, all_left P xs ys h.1)
-
-pub all_right : {A : Type 0} (P : A → Type 0) (xs ys : List A) → AllByRecursion P (xs ++ ys) → AllByRecursion P ys
-all_right P [] ys h = h
-all_right P (x ∷ xs) ys h = all_right P xs ys h.1
 
 pub all_both : {A : Type 0} (P : A → Type 0) (xs ys : List A) → AllByRecursion P xs → AllByRecursion P ys → AllByRecursion P (xs ++ ys)
 all_both P [] ys h k = k
 all_both P (x ∷ xs) ys h k = (h.0, all_both P xs ys h.1 k)
 
--- what is held was added before the end
-pub held_before : {A : Type 0} (N : ℕ) (xs : List (Held A)) (i : ℕ) → ((j : ℕ) (h : Held A) → slice_get xs j ≡ Some h → h.before < N) → nat_lt i (length xs) ≡ true → AddedBefore N (slice_get xs i)
-held_before N [] i each lt = absurd (grind arith)
-held_before N (x ∷ xs) zero each lt = each zero x refl
-held_before N (x ∷ xs) (suc i) each lt = held_before N xs i (λ j h is. each (suc j) h is) (grind arith)
-
-pub type_before : (c : Collection) → IsWellFormed c → (t : AnyType) → holds_type c t ≡ true → IsBefore c (size c) t
-type_before c wf (ty.Resource i) h = held_before _ c.resources i.0 (λ j x is. (wf.resources j x is).0) h
-type_before c wf (ty.Func i) h = held_before _ c.funcs i.0 (λ j x is. (wf.funcs j x is).0) h
-type_before c wf (ty.Value (val.Primitive p)) h = tt
-type_before c wf (ty.Value (val.Own i)) h = held_before _ c.resources i.0 (λ j x is. (wf.resources j x is).0) h
-type_before c wf (ty.Value (val.Borrow i)) h = held_before _ c.resources i.0 (λ j x is. (wf.resources j x is).0) h
-type_before c wf (ty.Value (val.Defined i)) h = held_before _ c.defined i.0 (λ j x is. (wf.defined j x is).0) h
-type_before c wf (ty.Interface i) h = held_before _ c.interfaces i.0 (λ j x is. (wf.interfaces j x is).0) h
-type_before c wf (ty.World i) h = held_before _ c.worlds i.0 (λ j x is. (wf.worlds j x is).0) h
-type_before c wf (ty.Module i) h = held_before _ c.modules i.0 (λ j x is. wf.modules j x is) h
-
-added_more : {A : Type 0} (m n : ℕ) (o : Option (Held A)) → m ≤ n → AddedBefore m o → AddedBefore n o
-added_more m n None le h = h
-added_more m n (Some x) le h = omega (arith, h, le)
-
-pub value_more : (c : Collection) (m n : ℕ) (v : ValueType) → m ≤ n → IsValueBefore c m v → IsValueBefore c n v
-value_more c m n (val.Primitive p) le h = tt
-value_more c m n (val.Own r) le h = added_more m n _ le h
-value_more c m n (val.Borrow r) le h = added_more m n _ le h
-value_more c m n (val.Defined r) le h = added_more m n _ le h
-
-pub before_more : (c : Collection) (m n : ℕ) (t : AnyType) → m ≤ n → IsBefore c m t → IsBefore c n t
-before_more c m n (ty.Resource r) le h = added_more m n _ le h
-before_more c m n (ty.Func r) le h = added_more m n _ le h
-before_more c m n (ty.Value v) le h = value_more c m n v le h
-before_more c m n (ty.Interface r) le h = added_more m n _ le h
-before_more c m n (ty.World r) le h = added_more m n _ le h
-before_more c m n (ty.Module r) le h = added_more m n _ le h
-
-added_there : {A : Type 0} (n : ℕ) (xs : List (Held A)) (i : ℕ) → AddedBefore n (slice_get xs i) → nat_lt i (length xs) ≡ true
-added_there n [] i h = absurd h
-added_there n (x ∷ xs) zero h = grind arith
-added_there n (x ∷ xs) (suc i) h = let r = added_there n xs i h in grind arith
-
--- what was added before something is held
-pub before_held : (c : Collection) (n : ℕ) (t : AnyType) → IsBefore c n t → holds_type c t ≡ true
-before_held c n (ty.Resource r) h = added_there n _ _ h
-before_held c n (ty.Func r) h = added_there n _ _ h
-before_held c n (ty.Value (val.Primitive p)) h = refl
-before_held c n (ty.Value (val.Own r)) h = added_there n _ _ h
-before_held c n (ty.Value (val.Borrow r)) h = added_there n _ _ h
-before_held c n (ty.Value (val.Defined r)) h = added_there n _ _ h
-before_held c n (ty.Interface r) h = added_there n _ _ h
-before_held c n (ty.World r) h = added_there n _ _ h
-before_held c n (ty.Module r) h = added_there n _ _ h
-
 added_rank : {A : Type 0} (n : ℕ) (o : Option (Held A)) → AddedBefore n o → rank_of_held o ≤ n
 added_rank n None h = absurd h
 added_rank n (Some x) h = omega (arith, h)
 
--- and has no higher rank
+-- what was added before something has no higher rank
 pub before_rank : (c : Collection) (n : ℕ) (t : AnyType) → IsBefore c n t → type_rank c t ≤ n
-before_rank c n (ty.Resource r) h = added_rank n _ h
-before_rank c n (ty.Func r) h = added_rank n _ h
 before_rank c n (ty.Value (val.Primitive p)) h = omega arith
-before_rank c n (ty.Value (val.Own r)) h = added_rank n _ h
-before_rank c n (ty.Value (val.Borrow r)) h = added_rank n _ h
-before_rank c n (ty.Value (val.Defined r)) h = added_rank n _ h
-before_rank c n (ty.Interface r) h = added_rank n _ h
-before_rank c n (ty.World r) h = added_rank n _ h
-before_rank c n (ty.Module r) h = added_rank n _ h
+before_rank c n _ h = added_rank n _ h
 
 rank_added : {A : Type 0} (xs : List (Held A)) (i : ℕ) → nat_lt i (length xs) ≡ true → AddedBefore (rank_of_held (slice_get xs i)) (slice_get xs i)
 rank_added [] i h = absurd (grind arith)
@@ -110,15 +44,8 @@ rank_added (x ∷ xs) (suc i) h = rank_added xs i (grind arith)
 
 -- what is held was added before as many items as its rank says
 pub held_at_rank : (c : Collection) (t : AnyType) → holds_type c t ≡ true → IsBefore c (type_rank c t) t
-held_at_rank c (ty.Resource r) h = rank_added _ _ h
-held_at_rank c (ty.Func r) h = rank_added _ _ h
 held_at_rank c (ty.Value (val.Primitive p)) h = tt
-held_at_rank c (ty.Value (val.Own r)) h = rank_added _ _ h
-held_at_rank c (ty.Value (val.Borrow r)) h = rank_added _ _ h
-held_at_rank c (ty.Value (val.Defined r)) h = rank_added _ _ h
-held_at_rank c (ty.Interface r) h = rank_added _ _ h
-held_at_rank c (ty.World r) h = rank_added _ _ h
-held_at_rank c (ty.Module r) h = rank_added _ _ h
+held_at_rank c _ h = rank_added _ _ h
 
 module _ {L : Type 0} where
   module _ (t u : ValueType → TypeTree L) where
@@ -168,60 +95,95 @@ module _ {L : Type 0} where
   item_same t u b (kind.Module w) h = ap module_item h
   item_same t u b (kind.Value w) h = ap value_item h
 
-  pub entries_same : (t u : AnyType → TypeTree L) (f : Name × ItemKind → Bool) (es : List (Name × ItemKind)) → AllByRecursion (λ a. t a ≡ u a) (kind_types es)
-      → map {B = Name × TypeTree L} (λ e. (e.0, item_tree t (f e) e.1)) es ≡ map (λ e. (e.0, item_tree u (f e) e.1)) es
-  entries_same t u f [] h = refl
-  entries_same t u f (e ∷ es) h = let x = item_same t u (f e) e.1 h.0 in let r = entries_same t u f es h.1 in (λ i. (e.0, x i) ∷ r i)
-
   -- trees of what is held agree where those of the item do
-  pub held_same : {A : Type 0} (t u : A → TypeTree L) (j k : ℕ) (o : Option (Held A)) → ((h : Held A) → o ≡ Some h → h.before < j → h.before < k → t h.item ≡ u h.item) → AddedBefore j o → AddedBefore k o
-      → of_held t o ≡ of_held u o
-  held_same t u j k None s hj hk = absurd hj
-  held_same t u j k (Some h) s hj hk = s h refl hj hk
+  held_kept : {A : Type 0} (t u : A → TypeTree L) (j k : ℕ) (o p : Option (Held A)) → ((h : Held A) → o ≡ Some h → p ≡ Some h) → AddedBefore j o → AddedBefore k o
+      → ((h : Held A) → o ≡ Some h → h.before < j → h.before < k → t h.item ≡ u h.item) → of_held t o ≡ of_held u p
+  held_kept t u j k None p e hj hk s = absurd hj
+  held_kept t u j k (Some h) p e hj hk s = s h refl hj hk ∙ sym (ap (of_held u) (e h refl))
 
 pub values_all : (c : Collection) (P : ValueType → Type 0) (n : ℕ) → ((v : ValueType) → IsValueBefore c n v → P v) → (vs : List ValueType) → AreBefore c n (value_types vs) → AllByRecursion P vs
 values_all c P n f [] h = tt
 values_all c P n f (v ∷ vs) h = (f v h.0, values_all c P n f vs h.1)
 
-module _ {L : Type 0} (naming : Naming L) (c : Collection) (wf : IsWellFormed c) where
-  step_same : (t u : Unfolding L) (j k : ℕ) → ((s : ℕ) (m : Names L) (a : AnyType) → s < j → s < k → IsBefore c s a → t m a ≡ u m a)
-      → (m : Names L) (a : AnyType) → IsBefore c j a → IsBefore c k a → step naming c t m a ≡ step naming c u m a
-  step_same t u j k ih m (ty.Resource r) hj hk = refl
-  step_same t u j k ih m (ty.Value (val.Primitive p)) hj hk = refl
-  step_same t u j k ih m (ty.Value (val.Own r)) hj hk = refl
-  step_same t u j k ih m (ty.Value (val.Borrow r)) hj hk = refl
-  step_same t u j k ih m (ty.Value (val.Defined d)) hj hk = held_same _ _ j k _
-      (λ h is lj lk. defined_same (λ v. t m (ty.Value v)) (λ v. u m (ty.Value v)) h.item
-      (values_all c (λ v. t m (ty.Value v) ≡ u m (ty.Value v)) h.before (λ v b. ih h.before m (ty.Value v) lj lk b) (defined_values h.item) (wf.defined d.0 h is).1)) hj hk
-  step_same t u j k ih m (ty.Func r) hj hk = held_same _ _ j k _
-      (λ h is lj lk. func_same (λ v. t m (ty.Value v)) (λ v. u m (ty.Value v)) h.item
-      (values_all c (λ v. t m (ty.Value v) ≡ u m (ty.Value v)) h.before (λ v b. ih h.before m (ty.Value v) lj lk b) (func_values h.item) (wf.funcs r.0 h is).1)) hj hk
-  step_same t u j k ih m (ty.Interface r) hj hk = held_same _ _ j k _
-      (λ h is lj lk.
-      let n = naming.in_instance h.item m in
-      let b = all_right (IsBefore c h.before) (used_types h.item.uses) (kind_types h.item.exports) (wf.interfaces r.0 h is).1 in
-      let e = entries_same (t n) (u n) (naming.is_fresh n exported) h.item.exports (all_map (IsBefore c h.before) (λ a. t n a ≡ u n a) (λ a q. ih h.before n a lj lk q) (kind_types h.item.exports) b) in
-      (λ i. instance (items_under (e i)))) hj hk
-  step_same t u j k ih m (ty.World r) hj hk = held_same _ _ j k _
-      (λ h is lj lk.
-      let n = naming.in_imports h.item m in
-      let l = naming.in_exports h.item m in
-      let b = all_right (IsBefore c h.before) (used_types h.item.uses) _ (wf.worlds r.0 h is).1 in
-      let bi = all_left (IsBefore c h.before) (kind_types h.item.imports) (kind_types h.item.exports) b in
-      let be = all_right (IsBefore c h.before) (kind_types h.item.imports) (kind_types h.item.exports) b in
-      let x = entries_same (t n) (u n) (naming.is_fresh n imported) h.item.imports (all_map (IsBefore c h.before) (λ a. t n a ≡ u n a) (λ a q. ih h.before n a lj lk q) (kind_types h.item.imports) bi) in
-      let y = entries_same (t l) (u l) (naming.is_fresh l exported) h.item.exports (all_map (IsBefore c h.before) (λ a. t l a ≡ u l a) (λ a q. ih h.before l a lj lk q) (kind_types h.item.exports) be) in
-      (λ i. component (items_under (x i)) (items_under (y i)))) hj hk
-  step_same t u j k ih m (ty.Module r) hj hk = refl
+pub imports_of : (c : Collection) (n : ℕ) (w : World) → AreBefore c n (world_mentions w) → AreBefore c n (kind_types w.imports)
+imports_of c n w b = all_left (IsBefore c n) (kind_types w.imports) (kind_types w.exports) (all_right (IsBefore c n) (used_types w.uses) _ b)
+
+pub exports_of : (c : Collection) (n : ℕ) (w : World) → AreBefore c n (world_mentions w) → AreBefore c n (kind_types w.exports)
+exports_of c n w b = all_right (IsBefore c n) (kind_types w.imports) (kind_types w.exports) (all_right (IsBefore c n) (used_types w.uses) _ b)
+
+-- two namings, the second over a collection that has what the first one's holds: by both a resource that is held has one name, where the names around are related by R; and inside they are related again
+pub record NamingsAgree {L : Type 0} (c d : Collection) (p q : Naming L) (R : Names L → Names L → Type 0) : Type 0 where
+  pub name : (n : ℕ) (r : ResourceId) (m l : Names L) → R m l → IsBefore c n (ty.Resource r) → m (resolved c r) ≡ l (resolved d r)
+  pub in_instance : (n : ℕ) (i : Interface) → AreBefore c n (interface_mentions i) → (m l : Names L) → R m l → R (p.in_instance i m) (q.in_instance i l)
+  pub in_imports : (n : ℕ) (w : World) → AreBefore c n (world_mentions w) → (m l : Names L) → R m l → R (p.in_imports w m) (q.in_imports w l)
+  pub in_exports : (n : ℕ) (w : World) → AreBefore c n (world_mentions w) → (m l : Names L) → R m l → R (p.in_exports w m) (q.in_exports w l)
+  pub is_fresh : (n : ℕ) (m l : Names L) → R m l → (s : Side) (e : Name × ItemKind) → IsBefore c n (kind_type e.1) → p.is_fresh m s e ≡ q.is_fresh l s e
+
+module _ {L : Type 0} (c d : Collection) (wf : IsWellFormed c) (g : IsKeptBy c d) (p q : Naming L) (R : Names L → Names L → Type 0) (na : NamingsAgree c d p q R) where
+  -- one step of two unfoldings that agree on what was added before both depths
+  module _ (t u : Unfolding L) (j k : ℕ) (ih : (s : ℕ) (m l : Names L) (a : AnyType) → R m l → s < j → s < k → IsBefore c s a → t m a ≡ u l a) where
+    entries_kept : (n : ℕ) (m l : Names L) → R m l → n < j → n < k → (s : Side) (es : List (Name × ItemKind)) → AreBefore c n (kind_types es)
+        → map {B = Name × TypeTree L} (λ e. (e.0, item_tree (t m) (p.is_fresh m s e) e.1)) es ≡ map (λ e. (e.0, item_tree (u l) (q.is_fresh l s e) e.1)) es
+    entries_kept n m l ag lj lk s [] b = refl
+    entries_kept n m l ag lj lk s (e ∷ es) b =
+        let x = ap (λ f. item_tree (t m) f e.1) (na.is_fresh n m l ag s e b.0) ∙ item_same (t m) (u l) (q.is_fresh l s e) e.1 (ih n m l (kind_type e.1) ag lj lk b.0) in
+        let r = entries_kept n m l ag lj lk s es b.1 in
+        (λ i. (e.0, x i) ∷ r i)
+
+    values_kept : (n : ℕ) (m l : Names L) → R m l → n < j → n < k → (vs : List ValueType) → AreBefore c n (value_types vs) → AllByRecursion (λ v. t m (ty.Value v) ≡ u l (ty.Value v)) vs
+    values_kept n m l ag lj lk = values_all c (λ v. t m (ty.Value v) ≡ u l (ty.Value v)) n (λ v b. ih n m l (ty.Value v) ag lj lk b)
+
+    step_kept : (m l : Names L) (a : AnyType) → R m l → IsBefore c j a → IsBefore c k a → step p c t m a ≡ step q d u l a
+    step_kept m l (ty.Resource r) ag hj hk = ap (λ o. option_case o absent resource) (na.name j r m l ag hj)
+    step_kept m l (ty.Value (val.Primitive x)) ag hj hk = refl
+    step_kept m l (ty.Value (val.Own r)) ag hj hk = ap (λ o. option_case o absent own) (na.name j r m l ag hj)
+    step_kept m l (ty.Value (val.Borrow r)) ag hj hk = ap (λ o. option_case o absent borrow) (na.name j r m l ag hj)
+    step_kept m l (ty.Value (val.Defined x)) ag hj hk = held_kept _ _ j k _ _ (g.defined x.0) hj hk
+        (λ h is lj lk. defined_same (λ v. t m (ty.Value v)) (λ v. u l (ty.Value v)) h.item (values_kept h.before m l ag lj lk (defined_values h.item) (wf.defined x.0 h is).1))
+    step_kept m l (ty.Func x) ag hj hk = held_kept _ _ j k _ _ (g.funcs x.0) hj hk
+        (λ h is lj lk. func_same (λ v. t m (ty.Value v)) (λ v. u l (ty.Value v)) h.item (values_kept h.before m l ag lj lk (func_values h.item) (wf.funcs x.0 h is).1))
+    step_kept m l (ty.Interface x) ag hj hk = held_kept _ _ j k _ _ (g.interfaces x.0) hj hk
+        (λ h is lj lk.
+        let w = (wf.interfaces x.0 h is).1 in
+        let e = entries_kept h.before _ _ (na.in_instance h.before h.item w m l ag) lj lk exported h.item.exports (all_right (IsBefore c h.before) (used_types h.item.uses) _ w) in
+        (λ i. instance (items_under (e i))))
+    step_kept m l (ty.World x) ag hj hk = held_kept _ _ j k _ _ (g.worlds x.0) hj hk
+        (λ h is lj lk.
+        let w = (wf.worlds x.0 h is).1 in
+        let y = entries_kept h.before _ _ (na.in_imports h.before h.item w m l ag) lj lk imported h.item.imports (imports_of c h.before h.item w) in
+        let z = entries_kept h.before _ _ (na.in_exports h.before h.item w m l ag) lj lk exported h.item.exports (exports_of c h.before h.item w) in
+        (λ i. component (items_under (y i)) (items_under (z i))))
+    step_kept m l (ty.Module x) ag hj hk = held_kept _ _ j k _ _ (g.modules x.0) hj hk (λ h is lj lk. refl)
 
   -- to any two depths that are enough
-  pub unfold_same : (j k : ℕ) (m : Names L) (a : AnyType) → IsBefore c j a → IsBefore c k a → unfolded_to naming c (suc j) m a ≡ unfolded_to naming c (suc k) m a
-  unfold_same j k m a hj hk = step_same (unfolded_to naming c j) (unfolded_to naming c k) j k (below j k) m a hj hk
+  pub unfold_kept : (j k : ℕ) (m l : Names L) (a : AnyType) → R m l → IsBefore c j a → IsBefore c k a → unfolded_to p c (suc j) m a ≡ unfolded_to q d (suc k) l a
+  unfold_kept j k m l a ag hj hk = step_kept (unfolded_to p c j) (unfolded_to q d k) j k (below j k) m l a ag hj hk
     where
-      below : (j k s : ℕ) (m : Names L) (a : AnyType) → s < j → s < k → IsBefore c s a → unfolded_to naming c j m a ≡ unfolded_to naming c k m a
-      below zero k s m a lj lk b = absurd (omega (arith, lj))
-      below (suc j) zero s m a lj lk b = absurd (omega (arith, lk))
-      below (suc j) (suc k) s m a lj lk b = step_same (unfolded_to naming c j) (unfolded_to naming c k) j k (below j k) m a (before_more c s j a (omega (arith, lj)) b) (before_more c s k a (omega (arith, lk)) b)
+      below : (j k s : ℕ) (m l : Names L) (a : AnyType) → R m l → s < j → s < k → IsBefore c s a → unfolded_to p c j m a ≡ unfolded_to q d k l a
+      below zero k s m l a ag lj lk b = absurd (omega (arith, lj))
+      below (suc j) zero s m l a ag lj lk b = absurd (omega (arith, lk))
+      below (suc j) (suc k) s m l a ag lj lk b = step_kept (unfolded_to p c j) (unfolded_to q d k) j k (below j k) m l a ag (before_more c s j a (omega (arith, lj)) b) (before_more c s k a (omega (arith, lk)) b)
+
+  pub unfolded_kept : (m l : Names L) → R m l → (a : AnyType) → holds_type c a ≡ true → unfolded p c m a ≡ unfolded q d l a
+  unfolded_kept m l ag a h =
+      let at = type_before c wf a h in
+      unfold_kept (size c) (size d) m l a ag at (before_more c (size c) (size d) a (kept_size c d g) at)
+
+module _ {L : Type 0} (naming : Naming L) (c : Collection) (wf : IsWellFormed c) where
+  -- in one collection, under the same names
+  same_names : NamingsAgree c c naming naming (λ m l. m ≡ l)
+  same_names = record {
+    name = λ n r m l e b. ap (λ x. x (resolved c r)) e;
+    in_instance = λ n i b m l e. ap (naming.in_instance i) e;
+    in_imports = λ n w b m l e. ap (naming.in_imports w) e;
+    in_exports = λ n w b m l e. ap (naming.in_exports w) e;
+    is_fresh = λ n m l e s x b. ap (λ y. naming.is_fresh y s x) e;
+  }
+
+  pub unfold_same : (j k : ℕ) (m : Names L) (a : AnyType) → IsBefore c j a → IsBefore c k a → unfolded_to naming c (suc j) m a ≡ unfolded_to naming c (suc k) m a
+  unfold_same j k m a hj hk =
+      let kept : IsKeptBy c c = record { resources = λ _ _ e. e; funcs = λ _ _ e. e; defined = λ _ _ e. e; interfaces = λ _ _ e. e; worlds = λ _ _ e. e; modules = λ _ _ e. e } in
+      unfold_kept c c wf kept naming naming (λ m l. m ≡ l) same_names j k m m a refl hj hk
 
   -- what is held unfolds to its parts unfolded
   pub unfolded_step : (m : Names L) (a : AnyType) → holds_type c a ≡ true → unfolded naming c m a ≡ step naming c (unfolded naming c) m a

@@ -1,9 +1,9 @@
 -- Collections that begin with others, and values that are held.
 use Rattle.std.specs.Prelude.{◌≡◌, true, List}
 use Rattle.std.specs.List.{AllByRecursion}
-use Rattle.wac_collection.specs.Collection.{Collection, holds_value}
+use Rattle.wac_collection.specs.Collection.{Collection, holds_value, IsKeptBy}
 use Rattle.wac_shapes.specs.declared.component.ValueType.{ValueType}
-use Rattle.wac_subtyping.specs.TreeLaws.{IsKeptBy, KeepsTrees}
+use Rattle.wac_subtyping.specs.TreeLaws.{KeepsTrees}
 
 -- the second collection begins with the first, whose types have the same trees in it
 pub record IsExtended (c m : Collection) : Type 0 where

@@ -1,12 +1,11 @@
 -- Laws of trees and of subtyping, which calls give to their callers.
-use Rattle.std.specs.Prelude.{ℕ, ◌≡◌, ◌<◌, true, Some, slice_get}
+use Rattle.std.specs.Prelude.{ℕ, ◌≡◌, ◌<◌, true, Some}
 use Rattle.wac_collection.specs.Collection.{Collection, size, holds_type, with_resource, with_func, with_defined, with_interface, with_world, with_module}
 use Rattle.wac_collection.specs.Held.{Naming, Names, step, unfolded, unfolded_to}
 use Rattle.wac_collection.specs.Bound.{Bindings, held_tree}
 use Rattle.wac_subtyping.specs.Subtype.{type_tree}
 use Rattle.wac_collection.specs.Aliases.{target_of}
 use Rattle.wac_subtyping.specs.Called.{Called, by_binding}
-use Rattle.wac_collection.specs.declared.collection.Held.{Held}
 use Rattle.wac_shapes.specs.declared.component.Resource.{Resource}
 use Rattle.wac_shapes.specs.declared.component.FuncType.{FuncType}
 use Rattle.wac_shapes.specs.declared.component.DefinedType.{DefinedType}
@@ -31,15 +30,6 @@ AliasesAgree c = (v w : ValueType) → target_of c v ≡ Some w →
     (type_tree c (ty.Value v) ≡ type_tree c (ty.Value w))
     × ((m : Bindings) → held_tree c m (ty.Value v) ≡ held_tree c m (ty.Value w))
     × ((m : Names Called) → unfolded (by_binding c) c m (ty.Value v) ≡ unfolded (by_binding c) c m (ty.Value w))
-
--- what the one holds stands in the other, at the same positions
-pub record IsKeptBy (c d : Collection) : Type 0 where
-  pub resources : (i : ℕ) (h : Held Resource) → slice_get c.resources i ≡ Some h → slice_get d.resources i ≡ Some h
-  pub funcs : (i : ℕ) (h : Held FuncType) → slice_get c.funcs i ≡ Some h → slice_get d.funcs i ≡ Some h
-  pub defined : (i : ℕ) (h : Held DefinedType) → slice_get c.defined i ≡ Some h → slice_get d.defined i ≡ Some h
-  pub interfaces : (i : ℕ) (h : Held Interface) → slice_get c.interfaces i ≡ Some h → slice_get d.interfaces i ≡ Some h
-  pub worlds : (i : ℕ) (h : Held World) → slice_get c.worlds i ≡ Some h → slice_get d.worlds i ≡ Some h
-  pub modules : (i : ℕ) (h : Held ModuleType) → slice_get c.modules i ≡ Some h → slice_get d.modules i ≡ Some h
 
 -- each type that the one holds has the same trees in the other
 abbrev pub KeepsTrees : Collection → Collection → Type 0

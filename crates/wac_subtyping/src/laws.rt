@@ -1,8 +1,9 @@
 //! Laws of subtyping and of the trees of held types, each given to the caller of a call that does nothing else.
 ghost use Rattle.wac_collection.specs.Bound.{by_place};
+ghost use Rattle.wac_collection.specs.Collection.{IsKeptBy};
 ghost use Rattle.wac_subtyping.specs.Called.{by_binding};
 ghost use Rattle.wac_subtyping.specs.Subtype.{IsSubtype, by_name};
-ghost use Rattle.wac_subtyping.specs.TreeLaws.{IsDeepEnough, UnfoldsByParts, AliasesAgree, IsKeptBy, KeepsTrees, KeepsCalledTrees, GrowthKeepsTrees, GrowthKeepsCalledTrees};
+ghost use Rattle.wac_subtyping.specs.TreeLaws.{IsDeepEnough, UnfoldsByParts, AliasesAgree, KeepsTrees, KeepsCalledTrees, GrowthKeepsTrees, GrowthKeepsCalledTrees};
 
 use wac_collection::{ItemKind, Types};
 

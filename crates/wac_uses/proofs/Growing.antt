@@ -1,5 +1,5 @@
 -- What may be used stays so as the collection grows.
-use Rattle.std.proofs.Common.{◌≡◌, ◌≤◌, ℕ, zero, suc, Bool, ◌==◌, ◌&&◌, true, false, not, cond, is_some, is_none, List, [], ◌∷◌, ◌++◌, fold, length, slice_get, Option, Some, None, refl, sym, ap, ◌∙◌, subst, arith}
+use Rattle.std.proofs.Common.{◌≡◌, ℕ, suc, Bool, ◌==◌, ◌&&◌, true, false, not, cond, is_some, is_none, List, [], ◌∷◌, ◌++◌, fold, length, slice_get, Option, Some, None, refl, sym, ap, ◌∙◌, subst}
 use Rattle.std.proofs.lemmas.Bool.{and_parts}
 use Rattle.std.proofs.lemmas.Option.{slice_get_within}
 use Rattle.wac_primitives.specs.Name.{Name, find_name, option_case, same_name}
@@ -17,7 +17,7 @@ use Rattle.wac_collection.specs.Collection.{Collection, HasInterface, HasResourc
 use Rattle.wac_collection.specs.Held.{source_of}
 use Rattle.wac_collection.specs.Bound.{is_alias, lists_own, own_name}
 use Rattle.wac_collection.specs.Uses.{is_listed_as_used, is_there, is_type_item, is_used_by_id, name_there, same_type_item, used_item}
-use Rattle.wac_collection.proofs.Growth.{Grows, Keeps, before_kept, grows_interface, keeps_interface, type_before, type_within}
+use Rattle.wac_collection.proofs.Growth.{before_kept, keeps_interface, type_before, type_within}
 use Rattle.wac_collection.proofs.Steady.{item_same}
 use Rattle.wac_subtyping.specs.TreeLaws.{GrowthKeepsTrees, IsKeptBy}
 use Rattle.wac_entries.specs.Bindings.{AreHeld}
@@ -30,15 +30,6 @@ use Rattle.wac_subtyping.specs.Extended.{IsExtended}
 use Rattle.wac_terms.proofs.Found.{find_at, no_some, some_same}
 use Rattle.wac_uses.specs.KeptUses.{imported_interface, instance_of, lists_resource}
 use Rattle.wac_uses.specs.Using.{IsWithUses, MayHave, kept_use, kept_uses, may_use, with_use}
-
-length-kept : {A : Type 0} (xs ys : List A) → ((i : ℕ) (x : A) → slice_get xs i ≡ Some x → slice_get ys i ≡ Some x) → length xs ≤ length ys
-length-kept xs ys kept = by (length xs) refl where
-  by : (n : ℕ) → length xs ≡ n → length xs ≤ length ys
-  by zero is = omega (arith, is)
-  by (suc n) is =
-      let last = some-at xs n (omega (arith, is)) in
-      let low = slice_get_within ys n last.0 (kept n last.0 last.1) in
-      omega (arith, is, low)
 
 -- what is found in a held list is held
 pub found-held : (c : Collection) (listed : List (Name × ItemKind)) (n : Name) (k : ItemKind) → holds_all c (kind_types listed) ≡ true → find_name listed n ≡ Some k → holds_type c (kind_type k) ≡ true
@@ -76,11 +67,8 @@ imported-held rules d c es imports i held j is = of_item (item_at d.interfaces i
   of_item (Some it) h = of_id it.id h
 
 module _ (c m : Collection) (wf : IsWellFormed c) (x : IsKeptBy c m) where
-  keeps : Keeps c m
-  keeps = record { resources = x.resources; funcs = x.funcs; defined = x.defined; interfaces = x.interfaces; worlds = x.worlds; modules = x.modules }
-
   pub holds-kept : (t : AnyType) → holds_type c t ≡ true → holds_type m t ≡ true
-  holds-kept t held = type_within m (size c) t (before_kept c m keeps (size c) t (type_before c wf t held))
+  holds-kept t held = type_within m (size c) t (before_kept c m x (size c) t (type_before c wf t held))
 
   pub interface-held : (i : InterfaceId) → HasInterface c i → HasInterface m i
   interface-held i held = let h = some-at c.interfaces i.0 held in slice_get_within m.interfaces i.0 h.0 (x.interfaces i.0 h.0 h.1)
@@ -120,40 +108,9 @@ module _ (c m : Collection) (wf : IsWellFormed c) (x : IsKeptBy c m) where
       (λ i. cond (here i) (Some e.0) (rest i))
 
 module _ (c m : Collection) (wf : IsWellFormed c) (more : IsWellFormed m) (x : IsKeptBy c m) where
-  one : Interface
-  one = record { id = None; uses = []; exports = [] }
-
-  abbrev grown : Collection
-  grown = with_interface m one
-
-  from-c : Grows c grown
-  from-c =
-      let after = grows_interface m one in
-      let larger = after.grew in
-      let a = length-kept c.resources m.resources x.resources in
-      let b = length-kept c.funcs m.funcs x.funcs in
-      let d = length-kept c.defined m.defined x.defined in
-      let e = length-kept c.interfaces m.interfaces x.interfaces in
-      let f = length-kept c.worlds m.worlds x.worlds in
-      let g = length-kept c.modules m.modules x.modules in
-      record {
-        keeps = record {
-          resources = λ i h at. x.resources i h at;
-          funcs = λ i h at. x.funcs i h at;
-          defined = λ i h at. x.defined i h at;
-          interfaces = λ i h at. after.keeps.interfaces i h (x.interfaces i h at);
-          worlds = λ i h at. x.worlds i h at;
-          modules = λ i h at. x.modules i h at;
-        };
-        grew = omega (arith, larger, a, b, d, e, f, g);
-        resources_more = omega (arith, a);
-      }
-
   -- items are of one type where they were
   item-still : (a b : ItemKind) → holds_type c (kind_type a) ≡ true → holds_type c (kind_type b) ≡ true → same_type_item m a b ≡ same_type_item c a b
-  item-still a b ha hb =
-      sym (item_same m grown more (grows_interface m one) a b (holds-kept c m wf x (kind_type a) ha) (holds-kept c m wf x (kind_type b) hb))
-      ∙ item_same c grown wf from-c a b ha hb
+  item-still a b ha hb = item_same c m wf x a b ha hb
 
   own-same : (k : ItemKind) → holds_type c (kind_type k) ≡ true → listed_resource m k ≡ listed_resource c k
   own-same (kind.TypeItem (ty.Resource q)) held = ap (λ b. cond b None (Some q)) (alias-same c m wf x q (below q.0 (length c.resources) held))
@@ -223,12 +180,7 @@ module _ (c m : Collection) (wf : IsWellFormed c) (more : IsWellFormed m) (x : I
 -- ---- one interface more
 
 pub extended-interface : (c : Collection) → GrowthKeepsTrees c → (it : Interface) → IsExtended c (with_interface c it)
-extended-interface c g it =
-    let k = keeps_interface c it in
-    record {
-      kept = record { resources = k.resources; funcs = k.funcs; defined = k.defined; interfaces = k.interfaces; worlds = k.worlds; modules = k.modules };
-      trees = g.interface it;
-    }
+extended-interface c g it = record { kept = keeps_interface c it; trees = g.interface it }
 
 pub interface-added : (c m : Collection) (it : Interface) (w : InterfaceId) → w.0 ≡ length c.interfaces → m ≡ with_interface c it → item_at m.interfaces w.0 ≡ Some it
 interface-added c m it w at is =
