@@ -8,6 +8,7 @@ ghost use Rattle.wac_subtyping.specs.TreeLaws.{IsDeepEnough, UnfoldsByParts, Ali
 use wac_collection::{ItemKind, Types};
 
 /// Each item is a subtype of itself.
+#[tactic(auto, using(crate::proofs::Relation::sub_refl))]
 pub fn subtyping_is_reflexive(types: &Types, item: ItemKind)
     ensures { IsSubtype types.now item types.now item }
 {
@@ -16,6 +17,7 @@ pub fn subtyping_is_reflexive(types: &Types, item: ItemKind)
 }
 
 /// A subtype of a subtype is a subtype.
+#[tactic(auto, using(crate::proofs::Relation::sub_trans))]
 pub fn subtyping_is_transitive(
     at: &Types,
     a: ItemKind,
@@ -33,6 +35,7 @@ pub fn subtyping_is_transitive(
 }
 
 /// The tree of a held type is the same at each depth above the number of items.
+#[tactic(auto, using(crate::proofs::Trees::deep_enough))]
 pub fn trees_are_whole(types: &Types)
     ensures named { IsDeepEnough by_name types.now }
     ensures placed { IsDeepEnough (by_place types.now) types.now }
@@ -42,6 +45,7 @@ pub fn trees_are_whole(types: &Types)
 }
 
 /// The tree of a held type is made of the trees of its parts.
+#[tactic(auto, using(crate::proofs::Unfolding::unfolded_step))]
 pub fn trees_are_made_of_parts(types: &Types)
     ensures named { UnfoldsByParts by_name types.now }
     ensures placed { UnfoldsByParts (by_place types.now) types.now }
@@ -58,6 +62,7 @@ pub fn aliases_have_the_same_tree(types: &Types)
 }
 
 /// Each type that a collection holds keeps its trees when something is added.
+#[tactic(auto, using(crate::proofs::Kept::growth_keeps))]
 pub fn growth_keeps_trees(types: &Types)
     ensures { GrowthKeepsTrees types.now }
 {
@@ -65,6 +70,7 @@ pub fn growth_keeps_trees(types: &Types)
 }
 
 /// Each type that a collection holds keeps its tree by what binds resources when something is added.
+#[tactic(auto, using(crate::proofs::Kept::growth_keeps_called))]
 pub fn growth_keeps_called_trees(types: &Types)
     ensures { GrowthKeepsCalledTrees types.now }
 {
