@@ -17,7 +17,8 @@ use Rattle.wac_shapes.specs.declared.component.«Type».{«Type» as AnyType}
 use Rattle.wac_shapes.specs.declared.component.«Type».TheVariants as ty
 use Rattle.wac_shapes.specs.declared.component.ItemKind.{ItemKind}
 use Rattle.wac_shapes.specs.declared.component.ItemKind.TheVariants as kind
-use Rattle.wac_subtyping.proofs.Unfolding.{all_right, before_more, type_before}
+use Rattle.wac_collection.proofs.Growth.{before_more, type_before}
+use Rattle.wac_collection.proofs.Steady.{all_right}
 use Rattle.wac_entries.specs.Agreement.{compared, called_inside}
 use Rattle.wac_entries.specs.Classes.{Entry, by_names}
 use Rattle.wac_coding.specs.ItemCoding.{listing_under}

@@ -16,7 +16,9 @@ use Rattle.wac_shapes.specs.declared.component.ItemKind.TheVariants as kind
 use Rattle.wac_shapes.specs.declared.component.«Type».{«Type» as AnyType}
 use Rattle.wac_shapes.specs.declared.component.«Type».TheVariants as ty
 use Rattle.wac_shapes.proofs.Names.{take_at}
-use Rattle.wac_subtyping.proofs.Unfolding.{all_left, all_right, all_both, before_held, before_rank}
+use Rattle.wac_collection.proofs.Growth.{type_within}
+use Rattle.wac_collection.proofs.Steady.{all_left, all_right}
+use Rattle.wac_subtyping.proofs.Unfolding.{all_both, before_rank}
 use Rattle.wac_entries.specs.declared.scopes.Opener.{Opener}
 use Rattle.wac_entries.specs.declared.scopes.Opener.TheVariants as opener
 use Rattle.wac_entries.specs.declared.scopes.Scope.{Scope}
@@ -261,7 +263,7 @@ module _ (c : Collection) (wf : IsWellFormed c) (roots : List Opener) where
           let l = lists c wf s.opener (was.held n s here) in
           let w = at-of added p among in
           subst (λ (x : Scope). holds_type c (opener_type x.opener) ≡ true) (sym same)
-          (before_held c l.before (opener_type p) (all-at (λ o. IsBefore c l.before (opener_type o)) added w.0 p new-held w.1))
+          (type_within c l.before (opener_type p) (all-at (λ o. IsBefore c l.before (opener_type o)) added w.0 p new-held w.1))
 
       known-still : (i : ℕ) (o : Opener) (p : Option ℕ) → ComesFrom c roots ss i o p → ComesFrom c roots whole i o p
       known-still i o None from = from

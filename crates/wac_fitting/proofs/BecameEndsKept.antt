@@ -2,11 +2,10 @@
 use Rattle.std.proofs.Common.{◌≡◌, length, slice_get, sym, ap, ◌∙◌, List}
 use Rattle.std.proofs.lemmas.Option.{slice_get_within}
 use Rattle.wac_primitives.specs.Name.{Name}
-use Rattle.wac_collection.specs.Collection.{Collection, HasResource, IsWellFormed}
+use Rattle.wac_collection.specs.Collection.{Collection, HasResource, IsWellFormed, IsKeptBy}
 use Rattle.wac_collection.specs.Held.{resolved, source_of}
 use Rattle.wac_shapes.specs.declared.component.ResourceId.{ResourceId}
 use Rattle.wac_subtyping.specs.Subtype.{held_name, resource_names}
-use Rattle.wac_subtyping.specs.TreeLaws.{IsKeptBy}
 use Rattle.wac_terms.specs.declared.fresh.Fresh.{Fresh}
 use Rattle.wac_terms.specs.declared.parts.Union.{Union}
 use Rattle.wac_terms.specs.Became.{AreFresh, IsNew}

@@ -16,7 +16,8 @@ use Rattle.wac_collection.specs.Aliases.{target_of, value_resolved, value_resolv
 use Rattle.wac_collection.specs.Held.{part_at, option_tree, defined_tree, of_held, step}
 use Rattle.wac_collection.specs.Bound.{Bindings, by_place, held_tree}
 use Rattle.wac_subtyping.specs.Subtype.{type_tree}
-use Rattle.wac_subtyping.proofs.Unfolding.{before_held, value_more, type_before, defined_same, unfolded_step, unfolded_is}
+use Rattle.wac_collection.proofs.Growth.{type_within, value_more, type_before}
+use Rattle.wac_subtyping.proofs.Unfolding.{defined_same, unfolded_step, unfolded_is}
 use Rattle.wac_subtyping.proofs.Trees.{aliases_agree}
 use Rattle.wac_stacks.specs.Good.{IsHeld}
 use Rattle.wac_meaning.specs.Importable.{HasNoHandle}
@@ -111,8 +112,8 @@ module _ (c : Collection) (wf : IsWellFormed c) where
   bare_value : (n : ℕ) (v : ValueType) → IsValueBefore c n v → Free c (ty.Value v) → (m : Bindings) → held_tree c m (ty.Value v) ≡ bare (tree c (ty.Value v))
   unfolding bare
   bare_value n (val.Primitive p) before free m = held_step m (val.Primitive p) refl ∙ sym (ap bare (value_step c wf (val.Primitive p) refl))
-  bare_value n (val.Own r) before free m = absurd (own_handle c wf r (before_held c n (ty.Value (val.Own r)) before) free)
-  bare_value n (val.Borrow r) before free m = absurd (borrow_handle c wf r (before_held c n (ty.Value (val.Borrow r)) before) free)
+  bare_value n (val.Own r) before free m = absurd (own_handle c wf r (type_within c n (ty.Value (val.Own r)) before) free)
+  bare_value n (val.Borrow r) before free m = absurd (borrow_handle c wf r (type_within c n (ty.Value (val.Borrow r)) before) free)
   bare_value zero (val.Defined d) before free m = by (slice_get c.defined d.0) before where
     by : (o : Option (Held DefinedType)) → AddedBefore 0 o → held_tree c m (ty.Value (val.Defined d)) ≡ bare (tree c (ty.Value (val.Defined d)))
     by None b = absurd b
@@ -122,7 +123,7 @@ module _ (c : Collection) (wf : IsWellFormed c) where
         → held_tree c m (ty.Value (val.Defined d)) ≡ bare (tree c (ty.Value (val.Defined d)))
     by None is b later = absurd b
     by (Some h) is b later =
-        let held : holds_value c (val.Defined d) ≡ true = before_held c (suc n) (ty.Value (val.Defined d)) before in
+        let held : holds_value c (val.Defined d) ≡ true = type_within c (suc n) (ty.Value (val.Defined d)) before in
         let by_name : tree c (ty.Value (val.Defined d)) ≡ defined_tree (λ v. tree c (ty.Value v)) h.item = value_step c wf (val.Defined d) held ∙ ap (of_held (defined_tree (λ v. tree c (ty.Value v)))) is in
         let by_place : held_tree c m (ty.Value (val.Defined d)) ≡ defined_tree (λ v. held_tree c m (ty.Value v)) h.item = held_step m (val.Defined d) held ∙ ap (of_held (defined_tree (λ v. held_tree c m (ty.Value v)))) is in
         let parts = free_defined (λ v. tree c (ty.Value v)) h.item (subst HasNoHandle by_name free) in

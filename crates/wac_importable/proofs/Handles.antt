@@ -20,9 +20,9 @@ use Rattle.wac_collection.specs.Aliases.{target_of, value_resolved, value_resolv
 use Rattle.wac_collection.specs.Held.{resolved, part_at, option_tree, defined_tree, func_tree, of_held, step, unfolded}
 use Rattle.wac_collection.proofs.Ends.{end_is_held}
 use Rattle.wac_subtyping.specs.Subtype.{by_name, held_name, resource_names, type_tree}
-use Rattle.wac_subtyping.proofs.Unfolding.{all_map, before_held, value_more, type_before, unfolded_step, unfolded_is}
-use Rattle.wac_subtyping.proofs.Resolved.{resolved_held}
-use Rattle.wac_subtyping.proofs.Trees.{aliases_agree}
+use Rattle.wac_collection.proofs.Growth.{map_all, type_within, value_more, type_before}
+use Rattle.wac_subtyping.proofs.Unfolding.{unfolded_step, unfolded_is}
+use Rattle.wac_subtyping.proofs.Trees.{aliases_agree, resolved_held}
 use Rattle.wac_reach.specs.Reach.{IsIn, mentions, Reaches, at_once, further}
 use Rattle.wac_reach.proofs.Reaching.{mentioned_held}
 use Rattle.wac_listing.specs.Made.{MadeOf, itself, part}
@@ -105,15 +105,15 @@ module _ {L : Type 0} (t : ValueType → TypeTree L) where
   defined_there (def.Alias v) h = h.0
   defined_there (def.Flags names) h = tt
   defined_there (def.Enum names) h = tt
-  defined_there (def.Tuple vs) h = defined_free (def.Tuple vs) (all_map _ _ (λ v p. there_free (t v) p) _ h)
-  defined_there (def.List v) h = defined_free (def.List v) (all_map _ _ (λ v p. there_free (t v) p) (defined_values (def.List v)) h)
-  defined_there (def.FixedSizeList v n) h = defined_free (def.FixedSizeList v n) (all_map _ _ (λ v p. there_free (t v) p) (defined_values (def.FixedSizeList v n)) h)
-  defined_there (def.Option v) h = defined_free (def.Option v) (all_map _ _ (λ v p. there_free (t v) p) (defined_values (def.Option v)) h)
-  defined_there (def.Result ok err) h = defined_free (def.Result ok err) (all_map _ _ (λ v p. there_free (t v) p) _ h)
-  defined_there (def.Variant v) h = defined_free (def.Variant v) (all_map _ _ (λ v p. there_free (t v) p) _ h)
-  defined_there (def.Record r) h = defined_free (def.Record r) (all_map _ _ (λ v p. there_free (t v) p) _ h)
-  defined_there (def.Stream v) h = defined_free (def.Stream v) (all_map _ _ (λ v p. there_free (t v) p) _ h)
-  defined_there (def.Future v) h = defined_free (def.Future v) (all_map _ _ (λ v p. there_free (t v) p) _ h)
+  defined_there (def.Tuple vs) h = defined_free (def.Tuple vs) (map_all _ _ (λ v p. there_free (t v) p) _ h)
+  defined_there (def.List v) h = defined_free (def.List v) (map_all _ _ (λ v p. there_free (t v) p) (defined_values (def.List v)) h)
+  defined_there (def.FixedSizeList v n) h = defined_free (def.FixedSizeList v n) (map_all _ _ (λ v p. there_free (t v) p) (defined_values (def.FixedSizeList v n)) h)
+  defined_there (def.Option v) h = defined_free (def.Option v) (map_all _ _ (λ v p. there_free (t v) p) (defined_values (def.Option v)) h)
+  defined_there (def.Result ok err) h = defined_free (def.Result ok err) (map_all _ _ (λ v p. there_free (t v) p) _ h)
+  defined_there (def.Variant v) h = defined_free (def.Variant v) (map_all _ _ (λ v p. there_free (t v) p) _ h)
+  defined_there (def.Record r) h = defined_free (def.Record r) (map_all _ _ (λ v p. there_free (t v) p) _ h)
+  defined_there (def.Stream v) h = defined_free (def.Stream v) (map_all _ _ (λ v p. there_free (t v) p) _ h)
+  defined_there (def.Future v) h = defined_free (def.Future v) (map_all _ _ (λ v p. there_free (t v) p) _ h)
 
   func_free : (f : FuncType) → AllByRecursion (λ v. HasNoHandle (t v)) (func_values f) → HasNoHandle (func_tree t f)
   func_free f h = let both = first_maybe f.result (seconds f.params) h in (fields_free f.params both.1, both.0)
@@ -206,7 +206,7 @@ module _ (c : Collection) (wf : IsWellFormed c) where
     by : (o : Option (Held DefinedType)) → slice_get c.defined d.0 ≡ o → AddedBefore (suc n) o → ((v : ValueType) → IsValueBefore c n v → ReachesNone (ty.Value v) → FreeValue v) → FreeValue (val.Defined d)
     by None is b later = absurd b
     by (Some h) is b later =
-        let unfolds = value_step (val.Defined d) (before_held c (suc n) (ty.Value (val.Defined d)) before) in
+        let unfolds = value_step (val.Defined d) (type_within c (suc n) (ty.Value (val.Defined d)) before) in
         let mentioned : mentions c (ty.Value (val.Defined d)) ≡ defined_mentions h.item = ap (λ o. option_case (item_of o) [] defined_mentions) is in
         subst (λ x. IsDefinable (type_equal x)) (sym (unfolds ∙ ap (of_held (defined_tree (λ v. tree c (ty.Value v)))) is))
         (defined_there (λ v. tree c (ty.Value v)) h.item

@@ -22,7 +22,8 @@ use Rattle.wac_primitives.specs.Tree.{TypeTree, absent, resource, instance, comp
 use Rattle.wac_collection.specs.Collection.{Collection, IsWellFormed, AddedBefore, size, holds_type, item_at, item_of}
 use Rattle.wac_collection.specs.Held.{resolved, func_tree, interface_tree, world_tree, module_tree, of_held, unfolded}
 use Rattle.wac_subtyping.specs.Subtype.{IsPlain, by_name, resource_names, type_tree, kind_tree, listed_in}
-use Rattle.wac_subtyping.proofs.Unfolding.{type_before, unfolded_step, type_step, held_item}
+use Rattle.wac_collection.proofs.Growth.{type_before}
+use Rattle.wac_subtyping.proofs.Unfolding.{unfolded_step, type_step, held_item}
 use Rattle.wac_comparison.proofs.Subtyping.{func_plain}
 use Rattle.wac_comparison.proofs.Values.{value_plain as value_tree_plain}
 use Rattle.wac_meaning.specs.Importable.{HasNoHandle, IsPlainItem, IsPlainWhereThere, IsImportable, IsImportableKind, IsDefinable, IsDefinableKind}

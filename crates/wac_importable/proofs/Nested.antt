@@ -12,7 +12,7 @@ use Rattle.wac_shapes.specs.declared.component.«Type».{«Type» as AnyType}
 use Rattle.wac_shapes.specs.declared.component.«Type».TheVariants as ty
 use Rattle.wac_collection.specs.Collection.{Collection, IsWellFormed, IsBefore, size, holds_type, world_imports, world_exports}
 use Rattle.wac_subtyping.specs.Subtype.{type_tree, kind_tree}
-use Rattle.wac_subtyping.proofs.Unfolding.{type_before}
+use Rattle.wac_collection.proofs.Growth.{type_before}
 use Rattle.wac_reach.specs.Reach.{IsIn}
 use Rattle.wac_reach.proofs.Lists.{in_at}
 use Rattle.wac_worlds.specs.Nested.{type_inside, listed_in, IsInsideBy, IsInside, IsHolder, NamesOnce, AreTypesInside}

@@ -14,7 +14,7 @@ use Rattle.wac_shapes.specs.declared.component.«Type».TheVariants as ty
 use Rattle.wac_primitives.specs.Tree.{TypeTree, absent, instance, type_equal, instance_item}
 use Rattle.wac_collection.specs.Collection.{Collection, IsWellFormed, AddedBefore, IsBefore, size, holds_type, interface_exports, item_at, item_of}
 use Rattle.wac_collection.specs.declared.collection.Held.{Held}
-use Rattle.wac_subtyping.proofs.Unfolding.{type_before}
+use Rattle.wac_collection.proofs.Growth.{type_before}
 use Rattle.wac_subtyping.specs.Subtype.{Sub, IsPlain, IsSubtype, type_tree, kind_tree, listed_in}
 use Rattle.wac_comparison.proofs.Subtyping.{kind_there, listed_some}
 use Rattle.wac_entries.specs.Bindings.{AreHeld}

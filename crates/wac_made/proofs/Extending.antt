@@ -2,7 +2,7 @@
 use Rattle.std.proofs.Common.{◌≡◌, ℕ, zero, suc, ◌<◌, List, [], ◌∷◌, ◌++◌, length, Option, Some, None, true, nat_lt, refl, ap, sym, ◌∙◌, subst, arith}
 use Rattle.std.specs.Prelude.{slice_get}
 use Rattle.wac_primitives.specs.Name.{option_case}
-use Rattle.wac_collection.specs.Collection.{Collection, HasResource, HasFunc, HasDefined, HasInterface, HasWorld, HasModule, IsSourceBelow, IsWellFormed, holds_type, holds_value, interface_exports, item_at, item_of, size, with_resource, with_func, with_defined, with_interface}
+use Rattle.wac_collection.specs.Collection.{Collection, HasResource, HasFunc, HasDefined, HasInterface, HasWorld, HasModule, IsSourceBelow, IsWellFormed, holds_type, holds_value, interface_exports, item_at, item_of, size, with_resource, with_func, with_defined, with_interface, IsKeptBy}
 use Rattle.wac_collection.specs.Held.{resolved, resolved_in, source_of}
 use Rattle.wac_collection.specs.declared.collection.Held.{Held}
 use Rattle.wac_shapes.specs.declared.component.Resource.{Resource}
@@ -21,7 +21,7 @@ use Rattle.wac_shapes.specs.declared.component.ModuleTypeId.{ModuleTypeId}
 use Rattle.wac_shapes.specs.declared.component.«Type».{«Type» as AnyType}
 use Rattle.wac_shapes.specs.declared.component.«Type».TheVariants as ty
 use Rattle.wac_subtyping.specs.Subtype.{held_name, resource_names}
-use Rattle.wac_subtyping.specs.TreeLaws.{GrowthKeepsTrees, IsKeptBy}
+use Rattle.wac_subtyping.specs.TreeLaws.{GrowthKeepsTrees}
 use Rattle.wac_subtyping.specs.Extended.{IsExtended}
 use Rattle.wac_made.specs.Made.{AreThere, IsOfForm}
 use Rattle.wac_made.specs.Shapes.{shape_view}

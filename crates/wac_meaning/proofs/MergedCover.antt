@@ -18,7 +18,8 @@ use Rattle.wac_collection.specs.declared.collection.Held.{Held}
 use Rattle.wac_collection.specs.Held.{unfolded, of_held, interface_tree, item_tree, items_under}
 use Rattle.wac_collection.specs.Bound.{Bindings, by_place, binds_here, held_tree, held_item as placed_item}
 use Rattle.wac_subtyping.specs.Subtype.{Sub, by_name, resource_names, type_tree, kind_tree, IsSubtype}
-use Rattle.wac_subtyping.proofs.Unfolding.{before_held, unfolded_step, type_step}
+use Rattle.wac_collection.proofs.Growth.{type_within}
+use Rattle.wac_subtyping.proofs.Unfolding.{unfolded_step, type_step}
 use Rattle.wac_binary.specs.declared.sorts.Sort.{Sort}
 use Rattle.wac_binary.specs.declared.sorts.Sort.TheVariants as sort
 use Rattle.wac_binary.specs.HasMeaning.{IsOfSort}
@@ -55,7 +56,7 @@ module _ {L : Type 0} (f : Name × ItemKind → TypeTree L) where
 
 -- what the exports of an interface mention is held
 held_export : (c : Collection) → IsWellFormed c → (i : InterfaceId) (h : Held Interface) → slice_get c.interfaces i.0 ≡ Some h → (p : ℕ) (name : Name) (k : ItemKind) → slice_get h.item.exports p ≡ Some (name, k) → holds_type c (kind_type k) ≡ true
-held_export c wf i h is p name k at = before_held c h.before (kind_type k) (listed h.item.exports p (behind (used_types h.item.uses) (wf.interfaces i.0 h is).1) at) where
+held_export c wf i h is p name k at = type_within c h.before (kind_type k) (listed h.item.exports p (behind (used_types h.item.uses) (wf.interfaces i.0 h is).1) at) where
   behind : (ts : List AnyType) → AreBefore c h.before (ts ++ kind_types h.item.exports) → AreBefore c h.before (kind_types h.item.exports)
   behind [] all = all
   behind (t ∷ ts) all = behind ts all.1

@@ -2,7 +2,7 @@
 ghost use Rattle.std.specs.Prelude.{Contains, ℕ, ◌≡◌, ◌<◌, ◌∷◌, ◌++◌, ◌⊎◌, ◌↔◌, [], length, slice_get, IfOk, IfErr, IfSome, OnOk, None, Some, true};
 ghost use Rattle.std.specs.Option.{MatchOption};
 ghost use Rattle.std.specs.Result.{IsErrAnd};
-ghost use Rattle.wac_collection.specs.Collection.{holds_type};
+ghost use Rattle.wac_collection.specs.Collection.{holds_type, IsKeptBy};
 ghost use Rattle.wac_shapes.specs.Kinds.{kind_type};
 ghost use Rattle.wac_primitives.specs.Name.{Name as AName};
 ghost use Rattle.wac_merge.specs.Aggregate.{IsFault, unmerged};
@@ -19,7 +19,7 @@ ghost use Rattle.wac_terms.specs.Merge.{IsMerge, bound_resource, import_entries,
 ghost use Rattle.wac_unions.specs.MergedScope.{BindsAsClasses, BindsUnder, IsBoundAs};
 ghost use Rattle.wac_unions.specs.OneId.{HasOneIdEach};
 ghost use Rattle.wac_uses.specs.KeptUses.{KeepsUses};
-ghost use Rattle.wac_subtyping.specs.TreeLaws.{IsKeptBy, KeepsTrees};
+ghost use Rattle.wac_subtyping.specs.TreeLaws.{KeepsTrees};
 ghost use Rattle.wac_shapes.specs.declared.component.ResourceId.{ResourceId as AResource};
 
 use std::alloc::{AllocError, Global};

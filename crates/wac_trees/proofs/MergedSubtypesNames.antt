@@ -25,7 +25,9 @@ use Rattle.wac_shapes.specs.declared.component.ValueType.TheVariants as val
 use Rattle.wac_shapes.specs.declared.component.World.{World}
 use Rattle.wac_subtyping.specs.Called.{Called, bound_at, by_binding, called_at, itself, of_class, one_out, own_leaf, resource_name}
 use Rattle.wac_subtyping.specs.Subtype.{by_name, held_name, kind_tree, resource_names, type_tree}
-use Rattle.wac_subtyping.proofs.Unfolding.{all_left, all_map, all_right, before_held, values_all}
+use Rattle.wac_collection.proofs.Growth.{map_all, type_within}
+use Rattle.wac_collection.proofs.Steady.{all_left, all_right}
+use Rattle.wac_subtyping.proofs.Unfolding.{values_all}
 use Rattle.wac_entries.proofs.Walking.{resolved-held}
 
 -- ---- a tree with its leaves changed
@@ -173,13 +175,13 @@ module _ (c : Collection) (wf : IsWellFormed c) where
 
   module _ (u : Unfolding Called) (v : Unfolding Name) (each : (m : Names Called) (a : AnyType) → KeepsNames c m → holds_type c a ≡ true → renamed called_name (u m a) ≡ v (resource_names c) a) where
     values_named : (m : Names Called) → KeepsNames c m → (n : ℕ) (x : ValueType) → IsBefore c n (ty.Value x) → renamed called_name (u m (ty.Value x)) ≡ v (resource_names c) (ty.Value x)
-    values_named m keeps n x before = each m (ty.Value x) keeps (before_held c n (ty.Value x) before)
+    values_named m keeps n x before = each m (ty.Value x) keeps (type_within c n (ty.Value x) before)
 
     listed_named : (m : Names Called) → KeepsNames c m → (n : ℕ) (es : List (Name × ItemKind)) → AllByRecursion (IsBefore c n) (kind_types es) → (name : Name)
         → renamed called_name (items_under (map (λ e. (e.0, item_tree (u m) false e.1)) es) name) ≡ items_under (map (λ e. (e.0, item_tree (v (resource_names c)) false e.1)) es) name
     listed_named m keeps n es before =
         items_renamed called_name (u m) (v (resource_names c)) es
-        (all_map (IsBefore c n) (λ a. renamed called_name (u m a) ≡ v (resource_names c) a) (λ a b. each m a keeps (before_held c n a b)) (kind_types es) before)
+        (map_all (IsBefore c n) (λ a. renamed called_name (u m a) ≡ v (resource_names c) a) (λ a b. each m a keeps (type_within c n a b)) (kind_types es) before)
 
     step_named : (m : Names Called) (a : AnyType) → KeepsNames c m → holds_type c a ≡ true → renamed called_name (step (by_binding c) c u m a) ≡ step by_name c v (resource_names c) a
     step_named m (ty.Resource r) keeps held = leaf_renamed called_name resource resource (λ x. refl) (m (resolved c r)) (resource_names c (resolved c r)) (end_called m keeps r held)

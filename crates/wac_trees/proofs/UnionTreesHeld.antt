@@ -14,7 +14,8 @@ use Rattle.wac_shapes.specs.declared.component.ItemKind.{ItemKind}
 use Rattle.wac_shapes.specs.declared.component.«Type».TheVariants as ty
 use Rattle.wac_subtyping.specs.Called.{Called, by_binding}
 use Rattle.wac_subtyping.specs.TreeLaws.{IsDeepEnough}
-use Rattle.wac_subtyping.proofs.Unfolding.{all_right, before_held}
+use Rattle.wac_collection.proofs.Growth.{type_within}
+use Rattle.wac_collection.proofs.Steady.{all_right}
 use Rattle.wac_trees.proofs.UnionTreesNames.{items_found}
 use Rattle.wac_trees.proofs.UnionTreesOwn.{found_place}
 
@@ -84,4 +85,4 @@ listed_held c wf i it n k at found = by (slice_get c.interfaces i.0) refl at whe
       let P : Interface → Type 0 = λ x. AreBefore c h.before (interface_mentions x) in
       let all = all_right (IsBefore c h.before) (used_types it.uses) (kind_types it.exports) (subst P same (wf.interfaces i.0 h e).1) in
       let place = found_place it.exports n k found in
-      before_held c h.before (kind_type k) (listed_before c h.before it.exports place.0 (n, k) all place.1)
+      type_within c h.before (kind_type k) (listed_before c h.before it.exports place.0 (n, k) all place.1)

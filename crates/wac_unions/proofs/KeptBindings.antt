@@ -5,7 +5,7 @@ use Rattle.std.proofs.lemmas.Bool.{and_parts}
 use Rattle.wac_primitives.specs.Name.{Name, find_name, first_some, option_case}
 use Rattle.wac_shapes.specs.Kinds.{kind_type}
 use Rattle.wac_primitives.specs.Tree.{Place, named}
-use Rattle.wac_collection.specs.Collection.{Collection, HasResource, IsWellFormed, holds_all, holds_type, item_at, item_of, kind_types}
+use Rattle.wac_collection.specs.Collection.{Collection, HasResource, IsWellFormed, holds_all, holds_type, item_at, item_of, kind_types, IsKeptBy}
 use Rattle.wac_collection.specs.Held.{source_of}
 use Rattle.wac_collection.specs.Bound.{is_alias, lists_own, own_name}
 use Rattle.wac_shapes.specs.declared.component.Interface.{Interface}
@@ -15,7 +15,6 @@ use Rattle.wac_shapes.specs.declared.component.UsedType.{UsedType}
 use Rattle.wac_shapes.specs.declared.component.«Type».TheVariants as ty
 use Rattle.wac_shapes.specs.declared.component.ItemKind.{ItemKind}
 use Rattle.wac_shapes.specs.declared.component.ItemKind.TheVariants as kind
-use Rattle.wac_subtyping.specs.TreeLaws.{IsKeptBy}
 use Rattle.wac_entries.specs.Binding.{class_binds, first_binds, kind_binds}
 use Rattle.wac_entries.specs.Bindings.{AreHeld}
 use Rattle.wac_entries.specs.Classes.{Entry, by_names, members, same_class, same_track}

@@ -7,7 +7,7 @@ use Rattle.indexmap.specs.IndexMap.{insert_entry}
 use Rattle.wac_shapes.specs.contracts.component.InterfaceIdPartialEq.TheImpl as IdEq
 use Rattle.wac_shapes.specs.declared.component.InterfaceId.{InterfaceId}
 use Rattle.wac_shapes.proofs.Names.{key_passes}
-use Rattle.wac_subtyping.proofs.Unfolding.{all_map}
+use Rattle.wac_collection.proofs.Growth.{map_all}
 use Rattle.wac_subtyping.proofs.Telling.{both}
 use Rattle.wac_terms.specs.declared.parts.Part.{Part}
 use Rattle.wac_terms.specs.declared.parts.Union.{Union}
@@ -54,7 +54,7 @@ some_pairs (suc n) (x ∷ xs) counted e = λ none. cc none
 
 -- it is known still where unions and parts stay
 pub known_still : (us vs : List Union) (ps qs : List Part) (u : ℕ) (known : List (Key × ℕ)) → KeepsParts us vs → Extends ps qs → AreKnown us ps u known → AreKnown vs qs u known
-known_still us vs ps qs u known keeps more h = all_map (λ e. IsInner us ps u e.0.items (Some e.1)) (λ e. IsInner vs qs u e.0.items (Some e.1)) (λ e k. inner_still us vs ps qs u e.0.items (Some e.1) keeps more k) known h
+known_still us vs ps qs u known keeps more h = map_all (λ e. IsInner us ps u e.0.items (Some e.1)) (λ e. IsInner vs qs u e.0.items (Some e.1)) (λ e k. inner_still us vs ps qs u e.0.items (Some e.1) keeps more k) known h
 
 module _ (us : List Union) (ps : List Part) (u : ℕ) where
   -- the union that is found is that of these interfaces

@@ -9,7 +9,7 @@ use Rattle.wac_collection.specs.Collection.{Collection, IsWellFormed, kind_types
 use Rattle.wac_shapes.specs.Kinds.{kind_type}
 use Rattle.wac_shapes.specs.declared.component.ItemKind.{ItemKind}
 use Rattle.wac_shapes.proofs.Names.{same_name-true, same_name-from}
-use Rattle.wac_subtyping.proofs.Unfolding.{before_held}
+use Rattle.wac_collection.proofs.Growth.{type_within}
 use Rattle.wac_entries.specs.Scopes.{opened, opened_by}
 use Rattle.wac_entries.specs.Opening.{total, count_in}
 use Rattle.wac_entries.specs.declared.scopes.Opener.{Opener}
@@ -153,7 +153,7 @@ each_all P gs p (e ∷ es) h k = each_all P (with_listed gs e.0 (p, e.1)) p es (
 -- what is of a type before another is held
 held_kinds : (c : Collection) (n : ℕ) (ps : List Part) (p : ℕ) (es : List (Name × ItemKind)) → IsHeldPart c ps p → AllByRecursion (IsBefore c n) (kind_types es) → AllByRecursion (λ e. IsHeldListing c ps (p, e.1)) es
 held_kinds c n ps p [] here h = tt
-held_kinds c n ps p (e ∷ es) here h = ((here, before_held c n (kind_type e.1) h.0), held_kinds c n ps p es here h.1)
+held_kinds c n ps p (e ∷ es) here h = ((here, type_within c n (kind_type e.1) h.0), held_kinds c n ps p es here h.1)
 
 part_listed : (c : Collection) (ps : List Part) (p : ℕ) (x : Part) → slice_get ps p ≡ Some x → part_lists c ps p ≡ interface_exports c x.interface
 part_listed c ps p x at = ap (λ o. option_case o [] (λ (y : Part). interface_exports c y.interface)) at

@@ -10,7 +10,7 @@ use Rattle.wac_collection.specs.Collection.{Collection, IsWellFormed, HasInterfa
 use Rattle.wac_shapes.specs.declared.component.InterfaceId.{InterfaceId}
 use Rattle.wac_shapes.specs.declared.component.ItemKind.{ItemKind}
 use Rattle.wac_shapes.proofs.Names.{same_name-true}
-use Rattle.wac_subtyping.proofs.Unfolding.{all_map}
+use Rattle.wac_collection.proofs.Growth.{map_all}
 use Rattle.wac_terms.specs.declared.parts.Part.{Part}
 use Rattle.wac_terms.specs.declared.parts.Export.{Export}
 use Rattle.wac_terms.specs.declared.parts.Union.{Union}
@@ -62,10 +62,10 @@ module _ (c : Collection) where
   groups_push (h ∷ gs) g = let r = groups_push gs g in omega (arith, r)
 
   pub listing_still : (ps qs : List Part) → Extends ps qs → (ls : List (ℕ × ItemKind)) → AllByRecursion (IsHeldListing c ps) ls → AllByRecursion (IsHeldListing c qs) ls
-  listing_still ps qs more ls h = all_map (IsHeldListing c ps) (IsHeldListing c qs) (λ l k. (held_still c ps qs l.0 more k.0, k.1)) ls h
+  listing_still ps qs more ls h = map_all (IsHeldListing c ps) (IsHeldListing c qs) (λ l k. (held_still c ps qs l.0 more k.0, k.1)) ls h
 
   pub listing_parts : (ps : List Part) (ls : List (ℕ × ItemKind)) → AllByRecursion (IsHeldListing c ps) ls → AllByRecursion (λ l. IsHeldPart c ps l.0) ls
-  listing_parts ps ls h = all_map (IsHeldListing c ps) (λ l. IsHeldPart c ps l.0) (λ l k. k.0) ls h
+  listing_parts ps ls h = map_all (IsHeldListing c ps) (λ l. IsHeldPart c ps l.0) (λ l k. k.0) ls h
 
   pub open_next : IsWellFormed c → (us vs ws : List Union) (ps qs rs : List Part) (u : ℕ) (gs : List (Name × List (ℕ × ItemKind))) (es : List (Name × Export)) (g : Name × List (ℕ × ItemKind)) (e : Export) → u < length us
       → AllByRecursion (IsHeldGroup c ps) gs → AllByRecursion (IsHeldListing c ps) g.1 → AreOpen c us ps u gs vs qs es → IsUnited vs qs (united g.1) ws rs → IsExport c ws rs u g.0 g.1 e
@@ -160,7 +160,7 @@ module _ (c : Collection) where
         let kept = set_kept c vs qs u x z there same in
         let written-at : slice_get (set vs u z) u ≡ Some z = set_same c vs qs u x z there same vs u x there in
         let ready = exports_still vs (set vs u z) qs qs u x.parts.items es kept (extends_refl qs)
-        (all_map (IsHeldPart c ps) (IsHeldPart c qs) (λ p k. held_still c ps qs p h.parts k) x.parts.items (members_held c us ps u x seated at))
+        (map_all (IsHeldPart c ps) (IsHeldPart c qs) (λ p k. held_still c ps qs p h.parts k) x.parts.items (members_held c us ps u x seated at))
         (open_exports once vs qs es h) in
         record {
           kept = λ i y y-at. kept i y (h.unions i y y-at);

@@ -13,13 +13,13 @@ use Rattle.wac_shapes.specs.declared.component.«Type».TheVariants as ty
 use Rattle.wac_shapes.specs.declared.component.ItemKind.{ItemKind}
 use Rattle.wac_shapes.specs.declared.component.ItemKind.TheVariants as kind
 use Rattle.wac_collection.specs.declared.collection.Held.{Held}
-use Rattle.wac_collection.specs.Collection.{Collection, HasInterface, HasResource, IsWellFormed, holds_all, holds_type, interface_exports, item_at, item_of, kind_types, size, with_interface}
+use Rattle.wac_collection.specs.Collection.{Collection, HasInterface, HasResource, IsWellFormed, holds_all, holds_type, interface_exports, item_at, item_of, kind_types, size, with_interface, IsKeptBy}
 use Rattle.wac_collection.specs.Held.{source_of}
 use Rattle.wac_collection.specs.Bound.{is_alias, lists_own, own_name}
 use Rattle.wac_collection.specs.Uses.{is_listed_as_used, is_there, is_type_item, is_used_by_id, name_there, same_type_item, used_item}
 use Rattle.wac_collection.proofs.Growth.{before_kept, keeps_interface, type_before, type_within}
 use Rattle.wac_collection.proofs.Steady.{item_same}
-use Rattle.wac_subtyping.specs.TreeLaws.{GrowthKeepsTrees, IsKeptBy}
+use Rattle.wac_subtyping.specs.TreeLaws.{GrowthKeepsTrees}
 use Rattle.wac_entries.specs.Bindings.{AreHeld}
 use Rattle.wac_entries.specs.Classes.{Entry, NameRules, imported_as}
 use Rattle.wac_entries.proofs.Lists.{at-end, some-at}

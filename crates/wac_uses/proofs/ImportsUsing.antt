@@ -12,8 +12,7 @@ use Rattle.wac_shapes.specs.declared.component.UsedType.{UsedType}
 use Rattle.wac_shapes.specs.declared.component.ItemKind.{ItemKind}
 use Rattle.wac_shapes.specs.declared.component.ItemKind.TheVariants as kind
 use Rattle.wac_shapes.proofs.Names.{found_at, none_before, take_at}
-use Rattle.wac_collection.specs.Collection.{Collection, IsWellFormed, holds_all, holds_type, kind_types}
-use Rattle.wac_subtyping.specs.TreeLaws.{IsKeptBy}
+use Rattle.wac_collection.specs.Collection.{Collection, IsWellFormed, holds_all, holds_type, kind_types, IsKeptBy}
 use Rattle.wac_entries.specs.Bindings.{AreHeld}
 use Rattle.wac_entries.specs.Classes.{AreClasses, Entry, NameRules, by_names, class_names, members}
 use Rattle.wac_entries.proofs.Lists.{push-cases, some-at}

@@ -11,9 +11,8 @@ use Rattle.wac_shapes.specs.declared.component.ItemKind.{ItemKind}
 use Rattle.wac_shapes.specs.declared.component.ItemKind.TheVariants as kind
 use Rattle.wac_shapes.proofs.Names.{take_at}
 use Rattle.wac_collection.specs.Bound.{own_name}
-use Rattle.wac_collection.specs.Collection.{Collection, HasInterface, IsWellFormed, holds_all, interface_exports, item_at, item_of, kind_types}
+use Rattle.wac_collection.specs.Collection.{Collection, HasInterface, IsWellFormed, holds_all, interface_exports, item_at, item_of, kind_types, IsKeptBy}
 use Rattle.wac_collection.specs.declared.collection.Held.{Held}
-use Rattle.wac_subtyping.specs.TreeLaws.{IsKeptBy}
 use Rattle.wac_entries.specs.Classes.{is_instance}
 use Rattle.wac_entries.proofs.Lists.{set-cases, some-at}
 use Rattle.wac_entries.proofs.Places.{exports_held}
