@@ -2,16 +2,27 @@
 use Rattle.std.proofs.Common.{ℕ, zero, suc, true, ◌≡◌, ◌<◌, refl, ap, sym, subst, Option, Some, None, arith, slice_get}
 use Rattle.wac_primitives.specs.Name.{option_case}
 use Rattle.wac_collection.specs.declared.collection.Held.{Held}
+use Rattle.wac_shapes.specs.declared.component.Resource.{Resource}
+use Rattle.wac_shapes.specs.declared.component.ResourceAlias.{ResourceAlias}
 use Rattle.wac_shapes.specs.declared.component.ResourceId.{ResourceId}
 use Rattle.wac_shapes.specs.declared.component.DefinedType.{DefinedType}
 use Rattle.wac_shapes.specs.declared.component.DefinedType.TheVariants as def
 use Rattle.wac_shapes.specs.declared.component.DefinedTypeId.{DefinedTypeId}
 use Rattle.wac_shapes.specs.declared.component.ValueType.{ValueType}
 use Rattle.wac_shapes.specs.declared.component.ValueType.TheVariants as val
-use Rattle.wac_collection.specs.Collection.{Collection, IsWellFormed, IsValueBefore, AddedBefore, AreBefore, holds_value, defined_mentions, item_of}
+use Rattle.wac_collection.specs.Collection.{Collection, IsWellFormed, IsSourceBelow, IsValueBefore, AddedBefore, AreBefore, holds_value, defined_mentions, item_of}
 use Rattle.wac_collection.specs.Held.{resolved_in, source_of}
 use Rattle.wac_collection.specs.Aliases.{aliased, target_of, value_resolved_in}
 use Rattle.wac_collection.proofs.Growth.{value_more, value_within, added_within}
+
+-- an option by its cases: what holds of both, and what two answers agree on
+pub case_by : {A B : Type 0} (P : B → Type 0) (o : Option A) (z : B) (f : A → B) → (o ≡ None → P z) → ((a : A) → o ≡ Some a → P (f a)) → P (option_case o z f)
+case_by P None z f none some = none refl
+case_by P (Some a) z f none some = some a refl
+
+pub case_same : {A B : Type 0} (o : Option A) (z : B) (f g : A → B) → ((a : A) → o ≡ Some a → f a ≡ g a) → option_case o z f ≡ option_case o z g
+case_same None z f g same = refl
+case_same (Some a) z f g same = same a refl
 
 -- a resource that is no alias is its own end
 pub resource_ends : (n : ℕ) (c : Collection) (r : ResourceId) → source_of (slice_get c.resources r.0) ≡ None → resolved_in n c r ≡ r
@@ -25,17 +36,7 @@ value_ends (suc n) c v none = ap (λ o. option_case o v (λ target. value_resolv
 -- a definition that is another name for a type is an alias of it
 pub alias_is : (x : DefinedType) (t : ValueType) → aliased x ≡ Some t → x ≡ def.Alias t
 alias_is (def.Alias v) t h = let e : v ≡ t = cc in ap def.Alias e
-alias_is (def.Tuple vs) t h = cc
-alias_is (def.List v) t h = cc
-alias_is (def.FixedSizeList v n) t h = cc
-alias_is (def.Option v) t h = cc
-alias_is (def.Result ok err) t h = cc
-alias_is (def.Variant v) t h = cc
-alias_is (def.Record r) t h = cc
-alias_is (def.Flags names) t h = cc
-alias_is (def.Enum names) t h = cc
-alias_is (def.Stream v) t h = cc
-alias_is (def.Future v) t h = cc
+alias_is _ t h = cc
 
 -- what an alias says of its target
 pub record Leads (c : Collection) (v t : ValueType) : Type 0 where
@@ -58,10 +59,8 @@ defined_leads c wf d t (Some h) at some =
     }
 
 pub leads : (c : Collection) → IsWellFormed c → (v t : ValueType) → target_of c v ≡ Some t → Leads c v t
-leads c wf (val.Primitive p) t some = cc
-leads c wf (val.Own r) t some = cc
-leads c wf (val.Borrow r) t some = cc
 leads c wf (val.Defined d) t some = defined_leads c wf d t _ refl some
+leads c wf _ t some = cc
 
 none_first : {A : Type 0} (o : Option (Held A)) → AddedBefore zero o → ⊥
 none_first None b = b
@@ -69,11 +68,23 @@ none_first (Some h) b = omega (arith, b)
 
 -- the first item is no alias
 pub first_ends : (c : Collection) → IsWellFormed c → (v t : ValueType) → IsValueBefore c zero v → target_of c v ≡ Some t → ⊥
-first_ends c wf (val.Primitive p) t b some = cc
-first_ends c wf (val.Own r) t b some = cc
-first_ends c wf (val.Borrow r) t b some = cc
 first_ends c wf (val.Defined d) t b some = none_first _ b
+first_ends c wf _ t b some = cc
 
 pub no_target : (c : Collection) → IsWellFormed c → (v : ValueType) → (holds_value c v ≡ true → IsValueBefore c zero v) → (o : Option ValueType) → target_of c v ≡ o → target_of c v ≡ None
 no_target c wf v early None e = e
 no_target c wf v early (Some t) e = absurd (first_ends c wf v t (early (leads c wf v t e).from_held) e)
+
+-- what is at the end of a chain from what is held is held
+pub end_held : (c : Collection) → IsWellFormed c → (n : ℕ) (v : ValueType) → holds_value c v ≡ true → holds_value c (value_resolved_in n c v) ≡ true
+end_held c wf zero v held = held
+end_held c wf (suc n) v held = case_by (λ x. holds_value c x ≡ true) (target_of c v) v (value_resolved_in n c) (λ none. held) (λ t e. end_held c wf n t (leads c wf v t e).to_held)
+
+-- the source of an alias of a resource is before it
+pub source_below : (c : Collection) → IsWellFormed c → (r q : ResourceId) (o : Option (Held Resource)) → slice_get c.resources r.0 ≡ o → source_of o ≡ Some q → q.0 < r.0
+source_below c wf r q None at e = cc
+source_below c wf r q (Some h) at e = by h.item.alias (wf.sources r.0 h at) e
+  where
+    by : (a : Option ResourceAlias) → IsSourceBelow r.0 a → option_case a None (λ x. Some x.source) ≡ Some q → q.0 < r.0
+    by None b e = cc
+    by (Some a) b e = let same : a.source ≡ q = cc in let i = ap (λ x. x.0) same in omega (arith, b, i)

@@ -1,8 +1,9 @@
 -- The ends of aliases, as the collection grows.
-use Rattle.std.proofs.Common.{ℕ, zero, suc, Bool, true, false, List, [], ◌∷◌, ◌++◌, ◌≡◌, ◌<◌, ◌≤◌, ◌+◌, ◌-◌, length, set, refl, ap, sym, ◌∙◌, subst, Option, Some, None, arith, length-append, nat_lt, slice_get, inl, inr}
+use Rattle.std.proofs.Common.{ℕ, zero, suc, Bool, true, false, List, [], ◌∷◌, ◌++◌, ◌≡◌, ◌<◌, ◌≤◌, ◌+◌, ◌-◌, ◌==◌, length, set, refl, ap, sym, ◌∙◌, subst, Option, Some, None, arith, nat_lt, slice_get, inl, inr}
 use Rattle.std.proofs.Math.ListN.{get_or}
-use Rattle.std.proofs.lemmas.Bool.{cases_Bool}
-use Rattle.std.proofs.lemmas.Option.{slice_get_past}
+use Rattle.std.proofs.lemmas.Bool.{cases_Bool, eqb-true, false≢true}
+use Rattle.std.proofs.lemmas.Bool.Decides.{Decides-eqb, not_from_Decides}
+use Rattle.std.proofs.lemmas.Option.{slice_get_past, slice_get_within}
 use Rattle.std.proofs.lemmas.List.{get_or_past, get_or_default, get_or_append_left, get_or-append_right, get_or-set_same, get_or-set_other}
 use Rattle.wac_primitives.specs.Name.{option_case}
 use Rattle.wac_collection.specs.declared.collection.Held.{Held}
@@ -19,25 +20,17 @@ use Rattle.wac_shapes.specs.declared.component.DefinedType.TheVariants as def
 use Rattle.wac_shapes.specs.declared.component.DefinedTypeId.{DefinedTypeId}
 use Rattle.wac_shapes.specs.declared.component.ValueType.{ValueType}
 use Rattle.wac_shapes.specs.declared.component.ValueType.TheVariants as val
-use Rattle.wac_collection.specs.Collection.{Collection, size, IsWellFormed, IsValueBefore, IsSourceBelow, holds_value, holds_all, resource_mentions, defined_mentions, alias_types, value_types, func_mentions, with_resource, with_defined, with_func, with_interface, with_world, with_module, item_of}
+use Rattle.wac_collection.specs.Collection.{Collection, size, IsWellFormed, IsKeptBy, IsValueBefore, holds_value, holds_all, resource_mentions, defined_mentions, alias_types, value_types, func_mentions, with_resource, with_defined, with_func, with_interface, with_world, with_module, item_of}
 use Rattle.wac_collection.specs.Held.{resolved, resolved_in, source_of}
 use Rattle.wac_collection.specs.Aliases.{aliased, target_of, value_resolved, value_resolved_in}
 use Rattle.wac_collection.specs.Ends.{AreEnds, HasEnds, end_at}
-use Rattle.wac_collection.proofs.Growth.{Grows, get_where, get_new, grows_resource, grows_defined, grows_func, grows_interface, grows_world, grows_module, value_before}
-use Rattle.wac_collection.proofs.Steady.{resource_same, resource_same_in, value_same, value_same_in}
-use Rattle.wac_collection.proofs.Adding.{resource_added, defined_added, func_added, interface_added, world_added, module_added}
-use Rattle.wac_collection.proofs.Chains.{leads, no_target, resource_ends, value_ends, alias_is}
-
-there : {A : Type 0} (xs : List A) (i : ℕ) (x : A) → slice_get xs i ≡ Some x → i < length xs
-there [] i x h = cc
-there (y ∷ ys) zero x h = omega arith
-there (y ∷ ys) (suc i) x h = let l = there ys i x h in omega arith
+use Rattle.wac_collection.proofs.Growth.{added, get_where, get_new, longer, keeps_resource, keeps_defined, keeps_func, keeps_interface, keeps_world, keeps_module, value_before}
+use Rattle.wac_collection.proofs.Steady.{within, resource_same, resource_same_in, value_same, value_same_in}
+use Rattle.wac_collection.proofs.Adding.{resource_lawful, defined_lawful, func_lawful, interface_lawful, world_lawful, module_lawful}
+use Rattle.wac_collection.proofs.Chains.{case_by, leads, no_target, end_held, source_below, resource_ends, value_ends, alias_is}
 
 is_less : (i n : ℕ) → i < n → nat_lt i n ≡ true
 is_less i n h = grind arith
-
-less_is : (i n : ℕ) → nat_lt i n ≡ true → i < n
-less_is i n h = grind arith
 
 pub past : (i n : ℕ) → false ≡ nat_lt i n → n ≤ i
 past i n h = grind arith
@@ -46,10 +39,10 @@ past i n h = grind arith
 unheld_value : (c : Collection) (i : ℕ) → length c.defined ≤ i → value_resolved c (val.Defined (record { 0 = i })) ≡ val.Defined (record { 0 = i })
 unheld_value c i le = value_ends (size c) c (val.Defined (record { 0 = i })) (ap (λ o. option_case (item_of o) None aliased) (slice_get_past c.defined i le))
 
-module _ (c d : Collection) (wf : IsWellFormed c) (g : Grows c d) (rs : List ResourceId) (vs : List ValueType) (are : AreEnds c rs vs) where
+module _ (c d : Collection) (wf : IsWellFormed c) (g : IsKeptBy c d) (rs : List ResourceId) (vs : List ValueType) (are : AreEnds c rs vs) where
   old_resource : (i : ℕ) (e : ResourceId) → slice_get rs i ≡ Some e → e ≡ resolved d (record { 0 = i })
   old_resource i e is =
-      let lt = there rs i e is in
+      let lt = slice_get_within rs i e is in
       are.resource_end i e is ∙ sym (resource_same c d wf g (record { 0 = i }) (is_less i (length c.resources) (omega (arith, lt, are.resources_counted))))
 
   -- a definition that is not added has the end that it had
@@ -72,18 +65,18 @@ abbrev pub new_end : Collection → ℕ → Option ResourceAlias → ResourceId
 new_end c n None = record { 0 = n }
 new_end c n (Some a) = resolved c a.source
 
-new_resource_by : (c d : Collection) (wf : IsWellFormed c) (g : Grows c d) (r : ResourceId) (a : Option ResourceAlias) → holds_all c (alias_types a) ≡ true
+new_resource_by : (c d : Collection) (wf : IsWellFormed c) (g : IsKeptBy c d) (r : ResourceId) (a : Option ResourceAlias) → holds_all c (alias_types a) ≡ true
     → new_end c r.0 a ≡ option_case (option_case a None (λ x. Some x.source)) r (λ q. resolved_in (length c.resources) d q)
 new_resource_by c d wf g r None held = refl
 new_resource_by c d wf g r (Some a) held =
     let low : nat_lt a.source.0 (length c.resources) ≡ true = grind arith in
-    let lt = less_is _ _ low in
+    let lt = within _ _ low in
     sym (resource_same_in c d wf g (length c.resources) (length c.resources) a.source lt lt lt)
 
 pub resource_ends_pushed : (c : Collection) (x : Resource) → IsWellFormed c → holds_all c (resource_mentions x) ≡ true → (rs : List ResourceId) (vs : List ValueType) (e : ResourceId) → AreEnds c rs vs
     → e ≡ new_end c (length c.resources) x.alias → AreEnds (with_resource c x) (rs ++ e ∷ []) vs
 resource_ends_pushed c x wf held rs vs e are is = record {
-  resources_counted = omega (arith, length-append rs (e ∷ []), length-append c.resources (y ∷ []), are.resources_counted);
+  resources_counted = omega (arith, longer rs e, longer c.resources (added c x), are.resources_counted);
   resource_end = λ i f at. elim (get_where rs e i f at) [
     | inl old ↦ old_resource c d wf g rs vs are i f old
     | inr new ↦ sym new.1 ∙ is ∙ end i (new.0 ∙ are.resources_counted)
@@ -93,18 +86,14 @@ resource_ends_pushed c x wf held rs vs e are is = record {
   d : Collection
   d = with_resource c x
 
-  g : Grows c d
-  g = grows_resource c x
-
-  y : Held Resource
-  y = record { item = x; before = size c }
+  g : IsKeptBy c d
+  g = keeps_resource c x
 
   end : (i : ℕ) → i ≡ length c.resources → new_end c (length c.resources) x.alias ≡ resolved d (record { 0 = i })
   end i at =
       let r : ResourceId = record { 0 = length c.resources } in
-      let count : length d.resources ≡ suc (length c.resources) = omega (arith, length-append c.resources (y ∷ [])) in
       new_resource_by c d wf g r x.alias held
-      ∙ sym (ap (λ n. resolved_in n d r) count ∙ ap (λ o. option_case (source_of o) r (λ q. resolved_in (length c.resources) d q)) (get_new c.resources y))
+      ∙ sym (ap (λ n. resolved_in n d r) (longer c.resources (added c x)) ∙ ap (λ o. option_case (source_of o) r (λ q. resolved_in (length c.resources) d q)) (get_new c.resources (added c x)))
       ∙ sym (ap (λ n. resolved d (record { 0 = n })) at)
 
 -- the end of a new definition
@@ -112,7 +101,7 @@ abbrev pub new_value_end : Collection → ℕ → Option ValueType → ValueType
 new_value_end c n None = val.Defined (record { 0 = n })
 new_value_end c n (Some v) = value_resolved c v
 
-new_value_by : (c d : Collection) (wf : IsWellFormed c) (g : Grows c d) (x : DefinedType) (v : ValueType) (n : ℕ) (o : Option ValueType) → aliased x ≡ o → holds_all c (defined_mentions x) ≡ true
+new_value_by : (c d : Collection) (wf : IsWellFormed c) (g : IsKeptBy c d) (x : DefinedType) (v : ValueType) (n : ℕ) (o : Option ValueType) → aliased x ≡ o → holds_all c (defined_mentions x) ≡ true
     → v ≡ val.Defined (record { 0 = n }) → new_value_end c n o ≡ option_case o v (λ t. value_resolved_in (size c) d t)
 new_value_by c d wf g x v n None at held is = sym is
 new_value_by c d wf g x v n (Some t) at held is =
@@ -127,166 +116,101 @@ pub defined_ends_kept : (c : Collection) (x : DefinedType) → IsWellFormed c �
 defined_ends_kept c x wf held rs vs es are others is = record {
   resources_counted = are.resources_counted;
   resource_end = old_resource c d wf g rs vs are;
-  value_end = λ i. elim (cases_Bool (nat_lt i (length c.defined))) [
-    | inl t ↦ old i (λ h. let lt = less_is i (length c.defined) t in omega (arith, lt, h)) (λ p. let lt = less_is i (length c.defined) t in absurd (omega (arith, lt, p)))
-    | inr f ↦ elim (cases_Bool (nat_lt (length c.defined) i)) [
-      | inl t ↦ let lt = less_is (length c.defined) i t in old i (λ h. omega (arith, lt, h)) (λ p. omega (arith, lt, count))
-      | inr n ↦
-          let at : i ≡ length c.defined = let p = past i (length c.defined) (sym f) in let q = past (length c.defined) i (sym n) in omega (arith, p, q) in
-          ap (end_at es) at ∙ is ∙ end i at
-    ]
+  value_end = λ i. elim (cases_Bool (i == length c.defined)) [
+    | inl t ↦ let at = eqb-true i (length c.defined) t in ap (end_at es) at ∙ is ∙ end i at
+    | inr f ↦
+        let other = not_from_Decides _ (Decides-eqb i (length c.defined)) f in
+        others i other ∙ old_value c d wf g rs vs are i (λ p. omega (arith, p, other, count))
   ];
 } where
   d : Collection
   d = with_defined c x
 
-  g : Grows c d
-  g = grows_defined c x
-
-  y : Held DefinedType
-  y = record { item = x; before = size c }
+  g : IsKeptBy c d
+  g = keeps_defined c x
 
   count : length d.defined ≡ suc (length c.defined)
-  count = omega (arith, length-append c.defined (y ∷ []))
-
-  old : (i : ℕ) → (i ≡ length c.defined → ⊥) → (length c.defined ≤ i → length d.defined ≤ i) → end_at es i ≡ value_resolved d (val.Defined (record { 0 = i }))
-  old i other not = others i other ∙ old_value c d wf g rs vs are i not
+  count = longer c.defined (added c x)
 
   end : (i : ℕ) → i ≡ length c.defined → new_value_end c (length c.defined) (aliased x) ≡ value_resolved d (val.Defined (record { 0 = i }))
   end i at =
       let v : ValueType = val.Defined (record { 0 = length c.defined }) in
       let more : size d ≡ suc (size c) = omega (arith, count) in
       new_value_by c d wf g x v (length c.defined) _ refl held refl
-      ∙ sym (ap (λ n. value_resolved_in n d v) more ∙ ap (λ o. option_case (option_case (item_of o) None aliased) v (λ t. value_resolved_in (size c) d t)) (get_new c.defined y))
+      ∙ sym (ap (λ n. value_resolved_in n d v) more ∙ ap (λ o. option_case (option_case (item_of o) None aliased) v (λ t. value_resolved_in (size c) d t)) (get_new c.defined (added c x)))
       ∙ sym (ap (λ n. value_resolved d (val.Defined (record { 0 = n }))) at)
 
 -- what is at the end is no alias
-end_by : (c : Collection) → IsWellFormed c → (n : ℕ) (v : ValueType) (o : Option ValueType) → target_of c v ≡ o → IsValueBefore c (suc n) v
-    → ((t : ValueType) → IsValueBefore c n t → target_of c (value_resolved_in n c t) ≡ None) → target_of c (option_case o v (λ t. value_resolved_in n c t)) ≡ None
-end_by c wf n v None e b rest = e
-end_by c wf n v (Some t) e b rest = rest t ((leads c wf v t e).earlier n b)
-
 end_in : (c : Collection) → IsWellFormed c → (n : ℕ) (v : ValueType) → IsValueBefore c n v → target_of c (value_resolved_in n c v) ≡ None
 end_in c wf zero v b = no_target c wf v (λ h. b) _ refl
-end_in c wf (suc n) v b = end_by c wf n v _ refl b (λ t h. end_in c wf n t h)
-
-held_by : (c : Collection) → IsWellFormed c → (n : ℕ) (v : ValueType) (o : Option ValueType) → target_of c v ≡ o → holds_value c v ≡ true
-    → ((t : ValueType) → holds_value c t ≡ true → holds_value c (value_resolved_in n c t) ≡ true) → holds_value c (option_case o v (λ t. value_resolved_in n c t)) ≡ true
-held_by c wf n v None e held rest = held
-held_by c wf n v (Some t) e held rest = rest t (leads c wf v t e).to_held
-
-held_in : (c : Collection) → IsWellFormed c → (n : ℕ) (v : ValueType) → holds_value c v ≡ true → holds_value c (value_resolved_in n c v) ≡ true
-held_in c wf zero v h = h
-held_in c wf (suc n) v h = held_by c wf n v _ refl h (λ t a. held_in c wf n t a)
-
-unheld_by : (c : Collection) → IsWellFormed c → (v : ValueType) (o : Option ValueType) → target_of c v ≡ o → (holds_value c v ≡ true → ⊥) → target_of c v ≡ None
-unheld_by c wf v None e not = e
-unheld_by c wf v (Some t) e not = absurd (not (leads c wf v t e).from_held)
+end_in c wf (suc n) v b = case_by (λ x. target_of c x ≡ None) (target_of c v) v (value_resolved_in n c) (λ none. none) (λ t e. end_in c wf n t ((leads c wf v t e).earlier n b))
 
 pub end_no_alias : (c : Collection) → IsWellFormed c → (v : ValueType) → (b : Bool) → holds_value c v ≡ b → target_of c (value_resolved c v) ≡ None
 end_no_alias c wf v true h = end_in c wf (size c) v (value_before c wf v h)
 end_no_alias c wf v false h =
-    let none = unheld_by c wf v _ refl (λ t. clash (sym h ∙ t)) in
+    let none = no_target c wf v (λ t. absurd (false≢true (sym h ∙ t))) _ refl in
     ap (target_of c) (value_ends (size c) c v none) ∙ none
-  where
-    clash : false ≡ true → ⊥
-    clash e = cc
 
 pub end_is_held : (c : Collection) → IsWellFormed c → (v : ValueType) → (b : Bool) → holds_value c v ≡ b → holds_value c (value_resolved c v) ≡ holds_value c v
-end_is_held c wf v true h = held_in c wf (size c) v h ∙ sym h
+end_is_held c wf v true h = end_held c wf (size c) v h ∙ sym h
 end_is_held c wf v false h =
-    let none = unheld_by c wf v _ refl (λ t. clash (sym h ∙ t)) in
+    let none = no_target c wf v (λ t. absurd (false≢true (sym h ∙ t))) _ refl in
     ap (holds_value c) (value_ends (size c) c v none)
-  where
-    clash : false ≡ true → ⊥
-    clash e = cc
-
--- the source of an alias of a resource is before it
-source_below : (c : Collection) → IsWellFormed c → (r q : ResourceId) (o : Option (Held Resource)) → slice_get c.resources r.0 ≡ o → source_of o ≡ Some q → q.0 < r.0
-source_below c wf r q None at e = cc
-source_below c wf r q (Some h) at e = by h.item.alias (wf.sources r.0 h at) e
-  where
-    by : (a : Option ResourceAlias) → IsSourceBelow r.0 a → option_case a None (λ x. Some x.source) ≡ Some q → q.0 < r.0
-    by None b e = cc
-    by (Some a) b e = let same : a.source ≡ q = cc in let i = ap (λ x. x.0) same in omega (arith, b, i)
 
 -- a resource that is held, and no alias
 abbrev IsSource : Collection → ResourceId → Type 0
 IsSource c r = (r.0 < length c.resources) × (source_of (slice_get c.resources r.0) ≡ None)
 
-source_by : (c : Collection) → IsWellFormed c → (n : ℕ) (r : ResourceId) (s : Option ResourceId) → source_of (slice_get c.resources r.0) ≡ s → r.0 < length c.resources
-    → ((q : ResourceId) → q.0 < r.0 → IsSource c (resolved_in n c q)) → IsSource c (option_case s r (λ q. resolved_in n c q))
-source_by c wf n r None e lt rest = (lt, e)
-source_by c wf n r (Some q) e lt rest = rest q (source_below c wf r q _ refl e)
-
 -- what is at the end of the aliases of a resource is held, and no alias
 source_in : (c : Collection) → IsWellFormed c → (n : ℕ) (r : ResourceId) → r.0 < n → r.0 < length c.resources → IsSource c (resolved_in n c r)
 source_in c wf zero r below lt = absurd (omega (arith, below))
-source_in c wf (suc n) r below lt = source_by c wf n r _ refl lt (λ q less. source_in c wf n q (omega (arith, less, below)) (omega (arith, less, lt)))
+source_in c wf (suc n) r below lt = case_by (IsSource c) (source_of (slice_get c.resources r.0)) r (resolved_in n c) (λ none. (lt, none))
+    (λ q e. let less = source_below c wf r q _ refl e in source_in c wf n q (omega (arith, less, below)) (omega (arith, less, lt)))
 
 unheld_resource : (c : Collection) (r : ResourceId) → nat_lt r.0 (length c.resources) ≡ false → source_of (slice_get c.resources r.0) ≡ None
 unheld_resource c r h = ap source_of (slice_get_past c.resources r.0 (past r.0 (length c.resources) (sym h)))
 
 pub resource_end_no_alias : (c : Collection) → IsWellFormed c → (r : ResourceId) → (b : Bool) → nat_lt r.0 (length c.resources) ≡ b → source_of (slice_get c.resources (resolved c r).0) ≡ None
-resource_end_no_alias c wf r true h = let lt = less_is r.0 (length c.resources) h in (source_in c wf (length c.resources) r lt lt).1
+resource_end_no_alias c wf r true h = let lt = within r.0 (length c.resources) h in (source_in c wf (length c.resources) r lt lt).1
 resource_end_no_alias c wf r false h =
     let none = unheld_resource c r h in
     ap (λ q. source_of (slice_get c.resources q.0)) (resource_ends (length c.resources) c r none) ∙ none
 
 pub resource_end_is_held : (c : Collection) → IsWellFormed c → (r : ResourceId) → (b : Bool) → nat_lt r.0 (length c.resources) ≡ b → nat_lt (resolved c r).0 (length c.resources) ≡ nat_lt r.0 (length c.resources)
-resource_end_is_held c wf r true h = let lt = less_is r.0 (length c.resources) h in is_less _ _ (source_in c wf (length c.resources) r lt lt).0 ∙ sym h
+resource_end_is_held c wf r true h = let lt = within r.0 (length c.resources) h in is_less _ _ (source_in c wf (length c.resources) r lt lt).0 ∙ sym h
 resource_end_is_held c wf r false h = ap (λ q. nat_lt q.0 (length c.resources)) (resource_ends (length c.resources) c r (unheld_resource c r h))
 
 pub no_alias : (x : DefinedType) → ((v : ValueType) → x ≡ def.Alias v → ⊥) → aliased x ≡ None
 no_alias (def.Alias v) not = absurd (not v refl)
-no_alias (def.Tuple vs) not = refl
-no_alias (def.List v) not = refl
-no_alias (def.FixedSizeList v n) not = refl
-no_alias (def.Option v) not = refl
-no_alias (def.Result ok err) not = refl
-no_alias (def.Variant v) not = refl
-no_alias (def.Record r) not = refl
-no_alias (def.Flags names) not = refl
-no_alias (def.Enum names) not = refl
-no_alias (def.Stream v) not = refl
-no_alias (def.Future v) not = refl
+no_alias _ not = refl
 
 -- what is no definition is its own end
 pub plain_value : (c : Collection) (v : ValueType) → ((d : DefinedTypeId) → v ≡ val.Defined d → ⊥) → v ≡ value_resolved c v
-plain_value c (val.Primitive p) not = sym (value_ends (size c) c (val.Primitive p) refl)
-plain_value c (val.Own r) not = sym (value_ends (size c) c (val.Own r) refl)
-plain_value c (val.Borrow r) not = sym (value_ends (size c) c (val.Borrow r) refl)
 plain_value c (val.Defined d) not = absurd (not d refl)
+plain_value c v not = sym (value_ends (size c) c v refl)
 
--- the fields after a resource or a definition is added
+-- the list after an item is added
+counted : {A : Type 0} (c s : Collection) (x : A) (n : ℕ) (xs ys : List (Held A)) → c ≡ s → n ≡ size s → ys ≡ xs ++ record { item = x; before = n } ∷ [] → xs ++ added c x ∷ [] ≡ ys
+counted c s x n xs ys same at is = sym (is ∙ ap (λ k. xs ++ record { item = x; before = k } ∷ []) (at ∙ sym (ap size same)))
+
+-- the fields after an item is added
 pub resource_kept : (c s : Collection) (x : Resource) (n : ℕ) (xs : List (Held Resource)) (rs es : List ResourceId) (vs : List ValueType) (e : ResourceId) → HasEnds c rs vs → c ≡ s → n ≡ size s
     → holds_all s (resource_mentions x) ≡ true → xs ≡ c.resources ++ record { item = x; before = n } ∷ [] → es ≡ rs ++ e ∷ [] → e ≡ new_end s (length s.resources) x.alias
     → HasEnds (record c { resources = xs }) es vs
 resource_kept c s x n xs rs es vs e has same at held is more end =
-    let count : n ≡ size c = at ∙ sym (ap size same) in
     let here : holds_all c (resource_mentions x) ≡ true = ap (λ y. holds_all y (resource_mentions x)) same ∙ held in
-    let all : xs ≡ c.resources ++ record { item = x; before = size c } ∷ [] = is ∙ ap (λ k. c.resources ++ record { item = x; before = k } ∷ []) count in
     let last : e ≡ new_end c (length c.resources) x.alias = end ∙ sym (ap (λ y. new_end y (length y.resources) x.alias) same) in
-    let P : List (Held Resource) → Type 0 = λ ys. AreEnds (record c { resources = ys }) es vs in
-    let Q : List ResourceId → Type 0 = λ ys. AreEnds (with_resource c x) ys vs in
-    record {
-      lawful = resource_added c s x n xs has.lawful same at held is;
-      ends = subst P (sym all) (subst Q (sym more) (resource_ends_pushed c x has.lawful.ordered here rs vs e has.ends last));
-    }
+    let ends = subst (λ (qs : List ResourceId). AreEnds (with_resource c x) qs vs) (sym more) (resource_ends_pushed c x has.lawful.ordered here rs vs e has.ends last) in
+    subst (λ (ys : List (Held Resource)). HasEnds (record c { resources = ys }) es vs) (counted c s x n c.resources xs same at is) (record { lawful = resource_lawful c has.lawful x here; ends = ends })
 
 pub defined_kept : (c s : Collection) (x : DefinedType) (n : ℕ) (xs : List (Held DefinedType)) (rs : List ResourceId) (vs es : List ValueType) → HasEnds c rs vs → c ≡ s → n ≡ size s
     → holds_all s (defined_mentions x) ≡ true → xs ≡ c.defined ++ record { item = x; before = n } ∷ [] → ((i : ℕ) → (i ≡ length c.defined → ⊥) → end_at es i ≡ end_at vs i)
     → end_at es (length c.defined) ≡ new_value_end s (length s.defined) (aliased x) → HasEnds (record c { defined = xs }) rs es
 defined_kept c s x n xs rs vs es has same at held is others end =
-    let count : n ≡ size c = at ∙ sym (ap size same) in
     let here : holds_all c (defined_mentions x) ≡ true = ap (λ y. holds_all y (defined_mentions x)) same ∙ held in
-    let all : xs ≡ c.defined ++ record { item = x; before = size c } ∷ [] = is ∙ ap (λ k. c.defined ++ record { item = x; before = k } ∷ []) count in
     let last : end_at es (length c.defined) ≡ new_value_end c (length c.defined) (aliased x) = end ∙ sym (ap (λ y. new_value_end y (length y.defined) (aliased x)) same) in
-    let P : List (Held DefinedType) → Type 0 = λ ys. AreEnds (record c { defined = ys }) rs es in
-    record {
-      lawful = defined_added c s x n xs has.lawful same at held is;
-      ends = subst P (sym all) (defined_ends_kept c x has.lawful.ordered here rs vs es has.ends others last);
-    }
+    let ends = defined_ends_kept c x has.lawful.ordered here rs vs es has.ends others last in
+    subst (λ (ys : List (Held DefinedType)). HasEnds (record c { defined = ys }) rs es) (counted c s x n c.defined xs same at is) (record { lawful = defined_lawful c has.lawful x here; ends = ends })
 
 -- the end of what is not yet held
 pub own_end_before : (c : Collection) (rs : List ResourceId) (vs : List ValueType) (n : ℕ) → HasEnds c rs vs → length c.defined ≡ n → end_at vs (length c.defined) ≡ val.Defined (record { 0 = n })
@@ -302,7 +226,7 @@ end_put ws n k e at low = ap (λ j. end_at (set ws n e) j) (sym at) ∙ get_or-s
 -- a definition put behind the ends is its own, as it was before
 pub own_end : (vs : List ValueType) (i : ℕ) → end_at (vs ++ val.Defined (record { 0 = length vs }) ∷ []) i ≡ end_at vs i
 own_end vs i = elim (cases_Bool (nat_lt i (length vs))) [
-  | inl t ↦ get_or_append_left vs (val.Defined (record { 0 = length vs }) ∷ []) (val.Defined (record { 0 = i })) i (less_is i (length vs) t)
+  | inl t ↦ get_or_append_left vs (val.Defined (record { 0 = length vs }) ∷ []) (val.Defined (record { 0 = i })) i (within i (length vs) t)
   | inr f ↦
       let p = past i (length vs) (sym f) in
       get_or-append_right vs (val.Defined (record { 0 = length vs }) ∷ []) (length vs) i (val.Defined (record { 0 = i })) refl p ∙ own i (i - length vs) (omega (arith, p)) ∙ sym (get_or_past vs i (val.Defined (record { 0 = i })) p)
@@ -314,7 +238,7 @@ own_end vs i = elim (cases_Bool (nat_lt i (length vs))) [
 
 pub definition_there : (c s : Collection) (rs : List ResourceId) (vs ws : List ValueType) (i : ℕ) (e : ValueType) → HasEnds c rs vs → c ≡ s → ws ≡ vs → true ≡ nat_lt i (length ws) → e ≡ get_or ws i e → e ≡ value_resolved s (val.Defined (record { 0 = i }))
 definition_there c s rs vs ws i e has same read low is =
-    is ∙ get_or_default ws i e (val.Defined (record { 0 = i })) (less_is i (length ws) (sym low)) ∙ ap (λ xs. end_at xs i) read ∙ has.ends.value_end i ∙ ap (λ x. value_resolved x (val.Defined (record { 0 = i }))) same
+    is ∙ get_or_default ws i e (val.Defined (record { 0 = i })) (within i (length ws) (sym low)) ∙ ap (λ xs. end_at xs i) read ∙ has.ends.value_end i ∙ ap (λ x. value_resolved x (val.Defined (record { 0 = i }))) same
 
 pub definition_past : (c s : Collection) (rs : List ResourceId) (vs ws : List ValueType) (i : ℕ) → HasEnds c rs vs → c ≡ s → ws ≡ vs → length ws ≤ i → val.Defined (record { 0 = i }) ≡ value_resolved s (val.Defined (record { 0 = i }))
 definition_past c s rs vs ws i has same read past =
@@ -323,39 +247,23 @@ definition_past c s rs vs ws i has same read past =
 pub func_kept : (c s : Collection) (x : FuncType) (n : ℕ) (xs : List (Held FuncType)) (rs : List ResourceId) (vs : List ValueType) → HasEnds c rs vs → c ≡ s → n ≡ size s → holds_all s (func_mentions x) ≡ true
     → xs ≡ c.funcs ++ record { item = x; before = n } ∷ [] → HasEnds (record c { funcs = xs }) rs vs
 func_kept c s x n xs rs vs has same at held is =
-    let all : xs ≡ c.funcs ++ record { item = x; before = size c } ∷ [] = is ∙ ap (λ k. c.funcs ++ record { item = x; before = k } ∷ []) (at ∙ sym (ap size same)) in
-    let P : List (Held FuncType) → Type 0 = λ ys. AreEnds (record c { funcs = ys }) rs vs in
-    record {
-      lawful = func_added c s x n xs has.lawful same at held is;
-      ends = subst P (sym all) (ends_stay c (with_func c x) has.lawful.ordered (grows_func c x) rs vs has.ends refl refl);
-    }
+    let ends = ends_stay c (with_func c x) has.lawful.ordered (keeps_func c x) rs vs has.ends refl refl in
+    subst (λ (ys : List (Held FuncType)). HasEnds (record c { funcs = ys }) rs vs) (counted c s x n c.funcs xs same at is) (record { lawful = func_lawful c has.lawful x (ap (λ y. holds_all y (func_mentions x)) same ∙ held); ends = ends })
 
 pub interface_kept : (c s : Collection) (x : Interface) (n : ℕ) (xs : List (Held Interface)) (rs : List ResourceId) (vs : List ValueType) → HasEnds c rs vs → c ≡ s → n ≡ size s → interface_fault s x ≡ None
     → xs ≡ c.interfaces ++ record { item = x; before = n } ∷ [] → HasEnds (record c { interfaces = xs }) rs vs
 interface_kept c s x n xs rs vs has same at held is =
-    let all : xs ≡ c.interfaces ++ record { item = x; before = size c } ∷ [] = is ∙ ap (λ k. c.interfaces ++ record { item = x; before = k } ∷ []) (at ∙ sym (ap size same)) in
-    let P : List (Held Interface) → Type 0 = λ ys. AreEnds (record c { interfaces = ys }) rs vs in
-    record {
-      lawful = interface_added c s x n xs has.lawful same at held is;
-      ends = subst P (sym all) (ends_stay c (with_interface c x) has.lawful.ordered (grows_interface c x) rs vs has.ends refl refl);
-    }
+    let ends = ends_stay c (with_interface c x) has.lawful.ordered (keeps_interface c x) rs vs has.ends refl refl in
+    subst (λ (ys : List (Held Interface)). HasEnds (record c { interfaces = ys }) rs vs) (counted c s x n c.interfaces xs same at is) (record { lawful = interface_lawful c has.lawful x (ap (λ y. interface_fault y x) same ∙ held); ends = ends })
 
 pub world_kept : (c s : Collection) (x : World) (n : ℕ) (xs : List (Held World)) (rs : List ResourceId) (vs : List ValueType) → HasEnds c rs vs → c ≡ s → n ≡ size s → world_fault s x ≡ None
     → xs ≡ c.worlds ++ record { item = x; before = n } ∷ [] → HasEnds (record c { worlds = xs }) rs vs
 world_kept c s x n xs rs vs has same at held is =
-    let all : xs ≡ c.worlds ++ record { item = x; before = size c } ∷ [] = is ∙ ap (λ k. c.worlds ++ record { item = x; before = k } ∷ []) (at ∙ sym (ap size same)) in
-    let P : List (Held World) → Type 0 = λ ys. AreEnds (record c { worlds = ys }) rs vs in
-    record {
-      lawful = world_added c s x n xs has.lawful same at held is;
-      ends = subst P (sym all) (ends_stay c (with_world c x) has.lawful.ordered (grows_world c x) rs vs has.ends refl refl);
-    }
+    let ends = ends_stay c (with_world c x) has.lawful.ordered (keeps_world c x) rs vs has.ends refl refl in
+    subst (λ (ys : List (Held World)). HasEnds (record c { worlds = ys }) rs vs) (counted c s x n c.worlds xs same at is) (record { lawful = world_lawful c has.lawful x (ap (λ y. world_fault y x) same ∙ held); ends = ends })
 
 pub module_kept : (c s : Collection) (x : ModuleType) (n : ℕ) (xs : List (Held ModuleType)) (rs : List ResourceId) (vs : List ValueType) → HasEnds c rs vs → c ≡ s → n ≡ size s
     → xs ≡ c.modules ++ record { item = x; before = n } ∷ [] → HasEnds (record c { modules = xs }) rs vs
 module_kept c s x n xs rs vs has same at is =
-    let all : xs ≡ c.modules ++ record { item = x; before = size c } ∷ [] = is ∙ ap (λ k. c.modules ++ record { item = x; before = k } ∷ []) (at ∙ sym (ap size same)) in
-    let P : List (Held ModuleType) → Type 0 = λ ys. AreEnds (record c { modules = ys }) rs vs in
-    record {
-      lawful = module_added c s x n xs has.lawful same at is;
-      ends = subst P (sym all) (ends_stay c (with_module c x) has.lawful.ordered (grows_module c x) rs vs has.ends refl refl);
-    }
+    let ends = ends_stay c (with_module c x) has.lawful.ordered (keeps_module c x) rs vs has.ends refl refl in
+    subst (λ (ys : List (Held ModuleType)). HasEnds (record c { modules = ys }) rs vs) (counted c s x n c.modules xs same at is) (record { lawful = module_lawful c has.lawful x; ends = ends })

@@ -21,9 +21,10 @@ use Rattle.wac_shapes.specs.declared.component.ItemKind.{ItemKind}
 use Rattle.wac_shapes.specs.declared.component.ItemKind.TheVariants as kind
 use Rattle.wac_collection.specs.declared.collection.Held.{Held}
 use Rattle.wac_collection.specs.Collection.{Collection, size, item_at}
-use Rattle.wac_primitives.specs.Tree.{Side, imported, exported, Place, named, Leaf, Tree, absent, resource, primitive, own, borrow, record_of, variant_of, list_of, fixed_list_of, tuple_of, flags_of, enum_of, option_of, result_of, stream_of, future_of, function, instance, component, module_of, fresh, type_equal, function_item, instance_item, component_item, module_item, value_item, further_out, inside, moved, taken_at, taken_from}
-use Rattle.wac_collection.specs.Held.{source_of, resolved_in, resolved, part_at, items_under, option_tree, defined_tree, func_tree, item_tree, of_held, listed_tree, interface_tree, world_tree, module_tree, step, unfolded_to}
+use Rattle.wac_primitives.specs.Tree.{Side, imported, exported, Place, named, Leaf, Tree, absent, resource, own, borrow, record_of, variant_of, list_of, fixed_list_of, tuple_of, option_of, result_of, stream_of, future_of, function, instance, component, type_equal, function_item, instance_item, component_item, module_item, value_item, further_out, inside, moved, taken_at, taken_from}
+use Rattle.wac_collection.specs.Held.{source_of, resolved, part_at, items_under, option_tree, defined_tree, func_tree, item_tree, of_held, listed_tree, interface_tree, world_tree, module_tree, step, unfolded_to}
 use Rattle.wac_collection.specs.Bound.{Bindings, is_alias, lists_own, own_name, inside_interface, bound_by, bound_in_order, lists_type, first_bound, bound_by_imports, bound_in_world, same_side, same_path, is_here, binds_here, by_place, held_tree}
+use Rattle.wac_collection.proofs.Chains.{resource_ends}
 use Rattle.wac_collection.specs.HeldTrees.{changed_leaf, changed, BindsInstance, OwnIsItsEnd, FreshByOwnName, ItemsAreFound, FoundIsHeld, SameNamesAreEqual}
 
 abbrev pub Unfolder : Type 0
@@ -123,26 +124,18 @@ first_kept : (g : Leaf → Leaf) (a b : Option Leaf) → changed_leaf g a ≡ a 
 first_kept g None b p q = q
 first_kept g (Some l) b p q = p
 
+case_kept : (g : Leaf → Leaf) {A : Type 0} (o : Option A) (k : A → Option Leaf) → ((a : A) → changed_leaf g (k a) ≡ k a) → changed_leaf g (option_case o None k) ≡ option_case o None k
+case_kept g None k e = refl
+case_kept g (Some a) k e = e a
+
+if_kept : (g : Leaf → Leaf) (b : Bool) (o : Option Leaf) → changed_leaf g o ≡ o → changed_leaf g (if b then o else None) ≡ (if b then o else None)
+if_kept g true o e = e
+if_kept g false o e = refl
+
 bound_by_kept : (c : Collection) (uses : List (Name × UsedType)) (side : Side) (f : Leaf → Leaf) (n : Name) (k : ItemKind) (r : ResourceId) → changed_leaf (inside f) (bound_by c uses side (n, k) r) ≡ bound_by c uses side (n, k) r
-bound_by_kept c uses side f n (kind.TypeItem t) r = by_case (lists_own c uses r (n, kind.TypeItem t))
-  where
-    by_case : (b : Bool) → changed_leaf (inside f) (if b then Some (record { out = 0; side = side; path = named n ∷ [] }) else None) ≡ (if b then Some (record { out = 0; side = side; path = named n ∷ [] }) else None)
-    by_case true = refl
-    by_case false = refl
-bound_by_kept c uses side f n (kind.Instance i) r = by_case (item_at c.interfaces i.0)
-  where
-    by_name : (b : Bool) (o : Option Name) → changed_leaf (inside f) (if b then option_case o None (λ q. Some (record { out = 0; side = side; path = named n ∷ named q ∷ [] })) else None) ≡ (if b then option_case o None (λ q. Some (record { out = 0; side = side; path = named n ∷ named q ∷ [] })) else None)
-    by_name true None = refl
-    by_name true (Some q) = refl
-    by_name false o = refl
-
-    by_id : (i : Option Name) (o : Option Name) → changed_leaf (inside f) (option_case i None (λ id. if same_name id n then option_case o None (λ q. Some (record { out = 0; side = side; path = named n ∷ named q ∷ [] })) else None)) ≡ option_case i None (λ id. if same_name id n then option_case o None (λ q. Some (record { out = 0; side = side; path = named n ∷ named q ∷ [] })) else None)
-    by_id None o = refl
-    by_id (Some id) o = by_name (same_name id n) o
-
-    by_case : (o : Option Interface) → changed_leaf (inside f) (option_case o None (λ it. option_case it.id None (λ id. if same_name id n then option_case (own_name c it.uses it.exports r) None (λ q. Some (record { out = 0; side = side; path = named n ∷ named q ∷ [] })) else None))) ≡ option_case o None (λ it. option_case it.id None (λ id. if same_name id n then option_case (own_name c it.uses it.exports r) None (λ q. Some (record { out = 0; side = side; path = named n ∷ named q ∷ [] })) else None))
-    by_case None = refl
-    by_case (Some it) = by_id it.id (own_name c it.uses it.exports r)
+bound_by_kept c uses side f n (kind.TypeItem t) r = if_kept (inside f) (lists_own c uses r (n, kind.TypeItem t)) _ refl
+bound_by_kept c uses side f n (kind.Instance i) r = case_kept (inside f) (item_at c.interfaces i.0) _
+    (λ it. case_kept (inside f) it.id _ (λ id. if_kept (inside f) (same_name id n) _ (case_kept (inside f) (own_name c it.uses it.exports r) _ (λ q. refl))))
 bound_by_kept c uses side f n k r = refl
 
 order_kept : (c : Collection) (uses : List (Name × UsedType)) (side : Side) (f : Leaf → Leaf) (es : List (Name × ItemKind)) (r : ResourceId) → changed_leaf (inside f) (bound_in_order c uses side es r) ≡ bound_in_order c uses side es r
@@ -184,21 +177,16 @@ pub held_moves : (c : Collection) → Moves (held_tree c)
 unfolding held_tree
 held_moves c = unfolded_moves c (suc (size c))
 
-inside_inside : (f g : Leaf → Leaf) (o : ℕ) (s : Side) (p : List Place) → inside f (inside g (record { out = o; side = s; path = p })) ≡ inside (λ x. f (g x)) (record { out = o; side = s; path = p })
-inside_inside f g zero s p = refl
-inside_inside f g (suc o) s p = refl
-
-inside_two : (f g : Leaf → Leaf) → (λ l. inside f (inside g l)) ≡ inside (λ x. f (g x))
-inside_two f g = fun_ext (λ l. inside_inside f g l.out l.side l.path)
-
 under : (f g h : Leaf → Leaf) → (λ l. f (g l)) ≡ h → (λ l. inside f (inside g l)) ≡ inside h
-under f g h e = inside_two f g ∙ ap inside e
+under f g h e = fun_ext (λ l. by_out l.out l.side l.path) ∙ ap inside e
+  where
+    by_out : (o : ℕ) (s : Side) (p : List Place) → inside f (inside g (record { out = o; side = s; path = p })) ≡ inside (λ x. f (g x)) (record { out = o; side = s; path = p })
+    by_out zero s p = refl
+    by_out (suc o) s p = refl
 
 -- two changes of leaves are one
 pub moved_moved : (t : Tree) (f g h : Leaf → Leaf) → (λ l. f (g l)) ≡ h → moved f (moved g t) ≡ moved h t
-moved_moved absent f g h e = refl
 moved_moved (resource l) f g h e = ap (λ (k : Leaf → Leaf). resource (k l)) e
-moved_moved (primitive n) f g h e = refl
 moved_moved (own l) f g h e = ap (λ (k : Leaf → Leaf). own (k l)) e
 moved_moved (borrow l) f g h e = ap (λ (k : Leaf → Leaf). borrow (k l)) e
 moved_moved (record_of names parts) f g h e = ap (record_of names) (fun_ext (λ i. moved_moved (parts i) f g h e))
@@ -206,8 +194,6 @@ moved_moved (variant_of names parts) f g h e = ap (variant_of names) (fun_ext (�
 moved_moved (list_of t) f g h e = ap list_of (moved_moved t f g h e)
 moved_moved (fixed_list_of n t) f g h e = ap (fixed_list_of n) (moved_moved t f g h e)
 moved_moved (tuple_of n parts) f g h e = ap (tuple_of n) (fun_ext (λ i. moved_moved (parts i) f g h e))
-moved_moved (flags_of names) f g h e = refl
-moved_moved (enum_of names) f g h e = refl
 moved_moved (option_of t) f g h e = ap option_of (moved_moved t f g h e)
 moved_moved (result_of t u) f g h e = ap2 result_of (moved_moved t f g h e) (moved_moved u f g h e)
 moved_moved (stream_of t) f g h e = ap stream_of (moved_moved t f g h e)
@@ -215,14 +201,13 @@ moved_moved (future_of t) f g h e = ap future_of (moved_moved t f g h e)
 moved_moved (function is_async names params result) f g h e = ap2 (function is_async names) (fun_ext (λ i. moved_moved (params i) f g h e)) (moved_moved result f g h e)
 moved_moved (instance items) f g h e = ap instance (fun_ext (λ n. moved_moved (items n) (inside f) (inside g) (inside h) (under f g h e)))
 moved_moved (component imports exports) f g h e = ap2 component (fun_ext (λ n. moved_moved (imports n) (inside f) (inside g) (inside h) (under f g h e))) (fun_ext (λ n. moved_moved (exports n) (inside f) (inside g) (inside h) (under f g h e)))
-moved_moved (module_of imports exports) f g h e = refl
-moved_moved fresh f g h e = refl
 moved_moved (type_equal t) f g h e = ap type_equal (moved_moved t f g h e)
 moved_moved (function_item t) f g h e = ap function_item (moved_moved t f g h e)
 moved_moved (instance_item t) f g h e = ap instance_item (moved_moved t f g h e)
 moved_moved (component_item t) f g h e = ap component_item (moved_moved t f g h e)
 moved_moved (module_item t) f g h e = ap module_item (moved_moved t f g h e)
 moved_moved (value_item t) f g h e = ap value_item (moved_moved t f g h e)
+moved_moved _ f g h e = refl
 
 inside_id : ◌≡◌ {A = Leaf → Leaf} (inside (λ x. x)) (λ l. l)
 inside_id = fun_ext (λ l. by_out l.out l.side l.path)
@@ -233,9 +218,7 @@ inside_id = fun_ext (λ l. by_out l.out l.side l.path)
 
 -- no change of leaves leaves the tree
 pub moved_id : (t : Tree) (f : Leaf → Leaf) → f ≡ (λ l. l) → moved f t ≡ t
-moved_id absent f e = refl
 moved_id (resource l) f e = ap (λ (k : Leaf → Leaf). resource (k l)) e
-moved_id (primitive n) f e = refl
 moved_id (own l) f e = ap (λ (k : Leaf → Leaf). own (k l)) e
 moved_id (borrow l) f e = ap (λ (k : Leaf → Leaf). borrow (k l)) e
 moved_id (record_of names parts) f e = ap (record_of names) (fun_ext (λ i. moved_id (parts i) f e))
@@ -243,8 +226,6 @@ moved_id (variant_of names parts) f e = ap (variant_of names) (fun_ext (λ i. mo
 moved_id (list_of t) f e = ap list_of (moved_id t f e)
 moved_id (fixed_list_of n t) f e = ap (fixed_list_of n) (moved_id t f e)
 moved_id (tuple_of n parts) f e = ap (tuple_of n) (fun_ext (λ i. moved_id (parts i) f e))
-moved_id (flags_of names) f e = refl
-moved_id (enum_of names) f e = refl
 moved_id (option_of t) f e = ap option_of (moved_id t f e)
 moved_id (result_of t u) f e = ap2 result_of (moved_id t f e) (moved_id u f e)
 moved_id (stream_of t) f e = ap stream_of (moved_id t f e)
@@ -252,14 +233,13 @@ moved_id (future_of t) f e = ap future_of (moved_id t f e)
 moved_id (function is_async names params result) f e = ap2 (function is_async names) (fun_ext (λ i. moved_id (params i) f e)) (moved_id result f e)
 moved_id (instance items) f e = ap instance (fun_ext (λ n. moved_id (items n) (inside f) (ap inside e ∙ inside_id)))
 moved_id (component imports exports) f e = ap2 component (fun_ext (λ n. moved_id (imports n) (inside f) (ap inside e ∙ inside_id))) (fun_ext (λ n. moved_id (exports n) (inside f) (ap inside e ∙ inside_id)))
-moved_id (module_of imports exports) f e = refl
-moved_id fresh f e = refl
 moved_id (type_equal t) f e = ap type_equal (moved_id t f e)
 moved_id (function_item t) f e = ap function_item (moved_id t f e)
 moved_id (instance_item t) f e = ap instance_item (moved_id t f e)
 moved_id (component_item t) f e = ap component_item (moved_id t f e)
 moved_id (module_item t) f e = ap module_item (moved_id t f e)
 moved_id (value_item t) f e = ap value_item (moved_id t f e)
+moved_id _ f e = refl
 
 abbrev pub taken : Side → List Place → Leaf → Leaf
 taken side path l = taken_at side path l.out l.side l.path
@@ -292,28 +272,14 @@ own_no_alias c uses ((k, kind.TypeItem (ty.Resource q)) ∷ es) r n h = by_case 
     by_case true s false i z x more = same_id s ∙ i
     by_case true s true i z x more = more x
     by_case false s a i z x more = more x
-own_no_alias c uses ((k, kind.TypeItem (ty.Value v)) ∷ es) r n h = own_no_alias c uses es r n h
-own_no_alias c uses ((k, kind.TypeItem (ty.Func v)) ∷ es) r n h = own_no_alias c uses es r n h
-own_no_alias c uses ((k, kind.TypeItem (ty.Interface v)) ∷ es) r n h = own_no_alias c uses es r n h
-own_no_alias c uses ((k, kind.TypeItem (ty.World v)) ∷ es) r n h = own_no_alias c uses es r n h
-own_no_alias c uses ((k, kind.TypeItem (ty.Module v)) ∷ es) r n h = own_no_alias c uses es r n h
-own_no_alias c uses ((k, kind.Func v) ∷ es) r n h = own_no_alias c uses es r n h
-own_no_alias c uses ((k, kind.Instance v) ∷ es) r n h = own_no_alias c uses es r n h
-own_no_alias c uses ((k, kind.Component v) ∷ es) r n h = own_no_alias c uses es r n h
-own_no_alias c uses ((k, kind.Module v) ∷ es) r n h = own_no_alias c uses es r n h
-own_no_alias c uses ((k, kind.Value v) ∷ es) r n h = own_no_alias c uses es r n h
-
--- what is no alias is its own end
-resolved_self : (c : Collection) (k : ℕ) (r : ResourceId) → is_alias c r ≡ false → resolved_in k c r ≡ r
-resolved_self c zero r h = refl
-resolved_self c (suc k) r h = by_case (source_of (slice_get c.resources r.0)) h
-  where
-    by_case : (o : Option ResourceId) → is_some o ≡ false → option_case o r (λ source. resolved_in k c source) ≡ r
-    by_case None h = refl
-    by_case (Some x) h = let both : true ≡ false = h in cc
+own_no_alias c uses (e ∷ es) r n h = own_no_alias c uses es r n h
 
 pub own_is_end : OwnIsItsEnd
-own_is_end c i r n mine = resolved_self c (length c.resources) r (own_no_alias c i.uses i.exports r n mine)
+own_is_end c i r n mine = resource_ends (length c.resources) c r (none (source_of (slice_get c.resources r.0)) (own_no_alias c i.uses i.exports r n mine))
+  where
+    none : (o : Option ResourceId) → is_some o ≡ false → o ≡ None
+    none None h = refl
+    none (Some q) h = cc
 
 -- nothing from around is bound here
 not_here : (side : Side) (path : List Place) (o : Option Leaf) → is_here side path (option_case o None (λ l. Some (further_out l))) ≡ false
@@ -349,12 +315,12 @@ at_there (y ∷ ys) (suc i) x e = let h = at_there ys i x e in grind arith
 
 pub found_is_held : (c : Collection) → FoundIsHeld c
 found_is_held c = record {
-  resource = λ i x e. at_there c.resources i.0 x e;
-  func = λ i x e. at_there c.funcs i.0 x e;
-  defined = λ i x e. at_there c.defined i.0 x e;
-  interface = λ i x e. at_there c.interfaces i.0 x e;
-  world = λ i x e. at_there c.worlds i.0 x e;
-  module_type = λ i x e. at_there c.modules i.0 x e;
+  resource = λ i. at_there c.resources i.0;
+  func = λ i. at_there c.funcs i.0;
+  defined = λ i. at_there c.defined i.0;
+  interface = λ i. at_there c.interfaces i.0;
+  world = λ i. at_there c.worlds i.0;
+  module_type = λ i. at_there c.modules i.0;
 }
 
 pub same_names : SameNamesAreEqual

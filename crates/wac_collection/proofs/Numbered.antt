@@ -1,5 +1,5 @@
 -- The interfaces that are left of a collection's.
-use Rattle.std.proofs.Common.{ℕ, zero, suc, List, [], ◌∷◌, ◌≡◌, ◌∙◌, ◌+◌, Some, ap, arith}
+use Rattle.std.proofs.Common.{ℕ, zero, suc, List, [], ◌∷◌, ◌≡◌, ◌+◌, Some, add-one}
 use Rattle.std.specs.Prelude.{drop}
 use Rattle.wac_shapes.specs.declared.component.Interface.{Interface}
 use Rattle.wac_collection.specs.declared.collection.Held.{Held}
@@ -13,7 +13,4 @@ at_position k (y ∷ held) zero x h = cc
 at_position k (y ∷ held) (suc i) x h = at_position k held i x h
 
 pub numbered_at : (held : List (Held Interface)) (i : ℕ) (x : Interface) → item_at held i ≡ Some x → numbered i (drop i held) ≡ (record { 0 = i }, x) ∷ numbered (i + 1) (drop (i + 1) held)
-numbered_at held i x h = at_position i held i x h ∙ ap (λ n. (record { 0 = i }, x) ∷ numbered n (drop n held)) (next i)
-  where
-    next : (n : ℕ) → suc n ≡ n + 1
-    next n = omega arith
+numbered_at held i x h = rw add-one (at_position i held i x h)

@@ -14,22 +14,10 @@ use Rattle.wac_collection.specs.Package.{instance_with, package_fault}
 use Rattle.wac_collection.proofs.Growth.{all_within}
 use Rattle.wac_collection.proofs.Steady.{all_right}
 
-only_memory : (Id : Type 0) (e : AddTypeError) → AnswersBy {Id = Id} None (Err e) → e ≡ fault.OutOfMemory
-only_memory Id fault.NotHeld h = cc
-only_memory Id fault.UsedInterfaceUnnamed h = cc
-only_memory Id fault.UsedTypeMissing h = cc
-only_memory Id fault.UsedTypeDiffers h = cc
-only_memory Id fault.ResourceMisnamed h = cc
-only_memory Id fault.OutOfMemory h = refl
-
 -- the same error answers for whatever was to be made
 same_error : (I P : Type 0) (stands : Option AddTypeError) (e : AddTypeError) → AnswersBy {Id = I} stands (Err e) → AnswersBy {Id = P} stands (Err e)
-same_error I P stands fault.NotHeld h = h
-same_error I P stands fault.UsedInterfaceUnnamed h = h
-same_error I P stands fault.UsedTypeMissing h = h
-same_error I P stands fault.UsedTypeDiffers h = h
-same_error I P stands fault.ResourceMisnamed h = h
 same_error I P stands fault.OutOfMemory h = h
+same_error I P stands _ h = h
 
 -- the error that a `?` hands on
 pub handed_on : (I P : Type 0) (stands : Option AddTypeError) (r : Result P AddTypeError) (e : AddTypeError) → IsErrAnd r (λ y. y ≡ e) → AnswersBy {Id = I} stands (Err e) → AnswersBy {Id = P} stands r
@@ -45,13 +33,9 @@ exports_held c wf w (Some h) at =
     let listed = all_right (IsBefore c h.before) (used_types h.item.uses) (kind_types h.item.imports ++ kind_types h.item.exports) (wf.worlds w.0 h at).1 in
     all_within c h.before (kind_types h.item.exports) (all_right (IsBefore c h.before) (kind_types h.item.imports) (kind_types h.item.exports) listed)
 
--- where nothing stands against a package, its interface is refused for want of memory alone
-pub package_refused : (I P : Type 0) (c : Collection) → IsWellFormed c → (w : WorldId) (i : Interface) (e : AddTypeError) → i ≡ instance_with (world_exports c w) → package_fault c w ≡ None
-    → AnswersBy {Id = I} (interface_fault c i) (Err e) → AnswersBy {Id = P} (package_fault c w) (Err e)
-package_refused I P c wf w i e is nothing answer =
+-- what stands against a package is what stands against its interface, whose mentions are held
+pub package_refused : (I : Type 0) (c : Collection) → IsWellFormed c → (w : WorldId) (i : Interface) (e : AddTypeError) → i ≡ instance_with (world_exports c w) → AnswersBy {Id = I} (interface_fault c i) (Err e) → AnswersBy {Id = I} (package_fault c w) (Err e)
+package_refused I c wf w i e is answer =
     let opened : interface_fault c i ≡ first_some (unless (holds_all c (kind_types (world_exports c w))) fault.NotHeld) (package_fault c w) = ap (λ x. interface_fault c x) is in
-    let none : interface_fault c i ≡ None = opened ∙ ap (λ b. first_some (unless b fault.NotHeld) (package_fault c w)) (exports_held c wf w (slice_get c.worlds w.0) refl) ∙ nothing in
-    let Q : Option AddTypeError → Type 0 = λ o. AnswersBy {Id = I} o (Err e) in
-    let memory : e ≡ fault.OutOfMemory = only_memory I e (subst Q none answer) in
-    let R : AddTypeError → Type 0 = λ x. AnswersBy {Id = P} (package_fault c w) (Err x) in
-    subst R (sym memory) nothing
+    let same : interface_fault c i ≡ package_fault c w = opened ∙ ap (λ b. first_some (unless b fault.NotHeld) (package_fault c w)) (exports_held c wf w (slice_get c.worlds w.0) refl) in
+    subst (λ (o : Option AddTypeError). AnswersBy {Id = I} o (Err e)) same answer

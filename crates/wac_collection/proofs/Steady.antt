@@ -6,7 +6,6 @@ use Rattle.wac_primitives.specs.Name.{Name, same_name, find_name, option_case, f
 use Rattle.wac_collection.specs.declared.collection.Held.{Held}
 use Rattle.wac_collection.specs.declared.collection.AddTypeError.TheVariants as fault
 use Rattle.wac_shapes.specs.declared.component.ResourceId.{ResourceId}
-use Rattle.wac_shapes.specs.declared.component.ResourceAlias.{ResourceAlias}
 use Rattle.wac_shapes.specs.declared.component.UsedType.{UsedType}
 use Rattle.wac_shapes.specs.declared.component.Interface.{Interface}
 use Rattle.wac_shapes.specs.declared.component.InterfaceId.{InterfaceId}
@@ -17,13 +16,13 @@ use Rattle.wac_shapes.specs.declared.component.«Type».{«Type» as AnyType}
 use Rattle.wac_shapes.specs.declared.component.«Type».TheVariants as ty
 use Rattle.wac_shapes.specs.declared.component.ItemKind.{ItemKind}
 use Rattle.wac_shapes.specs.declared.component.ItemKind.TheVariants as kind
-use Rattle.wac_collection.specs.Collection.{Collection, size, IsWellFormed, IsBefore, IsValueBefore, AddedBefore, AreBefore, IsSourceBelow, holds_value, holds_type, kind_types, used_types, interface_mentions, world_mentions, interface_exports, item_of}
+use Rattle.wac_collection.specs.Collection.{Collection, size, IsWellFormed, IsKeptBy, IsBefore, IsValueBefore, AddedBefore, AreBefore, holds_value, holds_type, kind_types, used_types, interface_mentions, world_mentions, interface_exports, item_of}
 use Rattle.wac_shapes.specs.Kinds.{kind_type}
 use Rattle.wac_collection.specs.Held.{resolved_in, resolved, source_of}
 use Rattle.wac_collection.specs.Aliases.{aliased, target_of, value_resolved_in, value_resolved, handle_resolved, type_resolved}
 use Rattle.wac_collection.specs.Uses.{used_item, is_used_by_id, is_type_item, is_there, same_type, same_type_item, is_listed_as_used, is_named_right, named_right, unless, mention_fault, uses_fault, interface_fault, world_fault, name_there}
-use Rattle.wac_collection.proofs.Growth.{Grows, all_kept, all_within, type_within, value_more, value_before}
-use Rattle.wac_collection.proofs.Chains.{value_ends, leads, no_target}
+use Rattle.wac_collection.proofs.Growth.{all_kept, all_within, kept_size, no_longer, type_within, value_more, value_before}
+use Rattle.wac_collection.proofs.Chains.{case_same, value_ends, leads, no_target, end_held, source_below}
 
 -- what holds of two lists holds of each
 pub all_left : {A : Type 0} (P : A → Type 0) (xs ys : List A) → AllByRecursion P (xs ++ ys) → AllByRecursion P xs
@@ -51,7 +50,7 @@ at_lower [] i o e lt = absurd (omega (arith, lt))
 at_lower (x ∷ xs) zero o e lt = (x, sym e)
 at_lower (x ∷ xs) (suc i) o e lt = at_lower xs i o e (omega (arith, lt))
 
-within : (i n : ℕ) → nat_lt i n ≡ true → i < n
+pub within : (i n : ℕ) → nat_lt i n ≡ true → i < n
 within i n h = grind arith
 
 -- what stood at a position stands there still
@@ -59,94 +58,57 @@ same_at : {A : Type 0} (n : ℕ) (o p : Option (Held A)) → ((h : Held A) → o
 same_at n None p f b = absurd b
 same_at n (Some h) p f b = f h refl
 
-module _ (c d : Collection) (wf : IsWellFormed c) (g : Grows c d) where
+module _ (c d : Collection) (wf : IsWellFormed c) (g : IsKeptBy c d) where
   -- ends of aliases of resources
-  by_alias : (i j : ℕ) (r : ResourceId) (a : Option ResourceAlias) → r.0 < suc i → r.0 < suc j → r.0 < length c.resources → IsSourceBelow r.0 a
-      → ((q : ResourceId) → q.0 < i → q.0 < j → q.0 < length c.resources → resolved_in i d q ≡ resolved_in j c q)
-      → option_case (option_case a None (λ x. Some x.source)) r (λ q. resolved_in i d q) ≡ option_case (option_case a None (λ x. Some x.source)) r (λ q. resolved_in j c q)
-  by_alias i j r None li lj lt below rest = refl
-  by_alias i j r (Some a) li lj lt below rest = rest a.source (omega (arith, li, below)) (omega (arith, lj, below)) (omega (arith, lt, below))
-
   pub resource_same_in : (i j : ℕ) (r : ResourceId) → r.0 < i → r.0 < j → r.0 < length c.resources → resolved_in i d r ≡ resolved_in j c r
   resource_same_in zero j r li lj lt = absurd (omega (arith, li))
   resource_same_in (suc i) zero r li lj lt = absurd (omega (arith, lj))
   resource_same_in (suc i) (suc j) r li lj lt =
       let at = at_lower c.resources r.0 _ refl lt in
-      ap (λ o. option_case (source_of o) r (λ q. resolved_in i d q)) (g.keeps.resources r.0 at.0 at.1)
-      ∙ by_alias i j r at.0.item.alias li lj lt (wf.sources r.0 at.0 at.1) (λ q lqi lqj lq. resource_same_in i j q lqi lqj lq)
-      ∙ sym (ap (λ o. option_case (source_of o) r (λ q. resolved_in j c q)) at.1)
+      ap (λ o. option_case (source_of o) r (resolved_in i d)) (g.resources r.0 at.0 at.1 ∙ sym at.1)
+      ∙ case_same (source_of (slice_get c.resources r.0)) r (resolved_in i d) (resolved_in j c)
+      (λ q e. let below = source_below c wf r q _ refl e in resource_same_in i j q (omega (arith, li, below)) (omega (arith, lj, below)) (omega (arith, lt, below)))
 
   pub resource_same : (r : ResourceId) → nat_lt r.0 (length c.resources) ≡ true → resolved d r ≡ resolved c r
   resource_same r held =
       let lt = within _ _ held in
-      resource_same_in (length d.resources) (length c.resources) r (omega (arith, lt, g.resources_more)) lt lt
+      let more = no_longer c.resources d.resources g.resources in
+      resource_same_in (length d.resources) (length c.resources) r (omega (arith, lt, more)) lt lt
 
   -- ends of aliases of value types
   pub target_same : (n : ℕ) (v : ValueType) → IsValueBefore c n v → target_of d v ≡ target_of c v
-  target_same n (val.Primitive p) b = refl
-  target_same n (val.Own r) b = refl
-  target_same n (val.Borrow r) b = refl
-  target_same n (val.Defined e) b = ap (λ o. option_case (item_of o) None aliased) (same_at n _ _ (g.keeps.defined e.0) b)
-
-  value_by : (i j : ℕ) (v : ValueType) (o : Option ValueType) → target_of c v ≡ o → IsValueBefore c (suc i) v → IsValueBefore c (suc j) v
-      → ((t : ValueType) → IsValueBefore c i t → IsValueBefore c j t → value_resolved_in i d t ≡ value_resolved_in j c t)
-      → option_case o v (λ t. value_resolved_in i d t) ≡ option_case o v (λ t. value_resolved_in j c t)
-  value_by i j v None e bi bj rest = refl
-  value_by i j v (Some t) e bi bj rest =
-      let l = leads c wf v t e in
-      rest t (l.earlier i bi) (l.earlier j bj)
+  target_same n (val.Defined e) b = ap (λ o. option_case (item_of o) None aliased) (same_at n _ _ (g.defined e.0) b)
+  target_same n _ b = refl
 
   pub value_same_in : (i j : ℕ) (v : ValueType) → IsValueBefore c i v → IsValueBefore c j v → value_resolved_in i d v ≡ value_resolved_in j c v
   value_same_in zero j v bi bj = sym (value_ends j c v (no_target c wf v (λ h. bi) _ refl))
   value_same_in (suc i) zero v bi bj = value_ends (suc i) d v (target_same zero v bj ∙ no_target c wf v (λ h. bj) _ refl)
   value_same_in (suc i) (suc j) v bi bj =
-      ap (λ o. option_case o v (λ t. value_resolved_in i d t)) (target_same (suc i) v bi)
-      ∙ value_by i j v _ refl bi bj (λ t ti tj. value_same_in i j t ti tj)
+      ap (λ o. option_case o v (value_resolved_in i d)) (target_same (suc i) v bi)
+      ∙ case_same (target_of c v) v (value_resolved_in i d) (value_resolved_in j c) (λ t e. let l = leads c wf v t e in value_same_in i j t (l.earlier i bi) (l.earlier j bj))
 
   pub value_same : (v : ValueType) → holds_value c v ≡ true → value_resolved d v ≡ value_resolved c v
   value_same v held =
       let b = value_before c wf v held in
-      value_same_in (size d) (size c) v (value_more c (size c) (size d) v (omega (arith, g.grew)) b) b
-
-  end_by : (n : ℕ) (v : ValueType) (o : Option ValueType) → target_of c v ≡ o → holds_value c v ≡ true
-      → ((t : ValueType) → holds_value c t ≡ true → holds_value c (value_resolved_in n c t) ≡ true) → holds_value c (option_case o v (λ t. value_resolved_in n c t)) ≡ true
-  end_by n v None e held rest = held
-  end_by n v (Some t) e held rest = rest t (leads c wf v t e).to_held
-
-  pub end_held : (n : ℕ) (v : ValueType) → holds_value c v ≡ true → holds_value c (value_resolved_in n c v) ≡ true
-  end_held zero v held = held
-  end_held (suc n) v held = end_by n v _ refl held (λ t h. end_held n t h)
+      value_same_in (size d) (size c) v (value_more c (size c) (size d) v (kept_size c d g) b) b
 
   handle_same : (v : ValueType) → holds_value c v ≡ true → handle_resolved d v ≡ handle_resolved c v
-  handle_same (val.Primitive p) held = refl
   handle_same (val.Own r) held = ap val.Own (resource_same r held)
   handle_same (val.Borrow r) held = ap val.Borrow (resource_same r held)
-  handle_same (val.Defined e) held = refl
+  handle_same _ held = refl
 
   pub type_same : (t : AnyType) → holds_type c t ≡ true → type_resolved d t ≡ type_resolved c t
   type_same (ty.Resource r) held = ap ty.Resource (resource_same r held)
-  type_same (ty.Value v) held = ap ty.Value (ap (handle_resolved d) (value_same v held) ∙ handle_same (value_resolved c v) (end_held (size c) v held))
-  type_same (ty.Func f) held = refl
-  type_same (ty.Interface i) held = refl
-  type_same (ty.World w) held = refl
-  type_same (ty.Module m) held = refl
+  type_same (ty.Value v) held = ap ty.Value (ap (handle_resolved d) (value_same v held) ∙ handle_same (value_resolved c v) (end_held c wf (size c) v held))
+  type_same _ held = refl
 
   pub item_same : (a b : ItemKind) → holds_type c (kind_type a) ≡ true → holds_type c (kind_type b) ≡ true → same_type_item d a b ≡ same_type_item c a b
   item_same (kind.TypeItem s) (kind.TypeItem t) hs ht = ap (λ x. same_type x (type_resolved d t)) (type_same s hs) ∙ ap (same_type (type_resolved c s)) (type_same t ht)
-  item_same (kind.TypeItem s) (kind.Func t) hs ht = refl
-  item_same (kind.TypeItem s) (kind.Instance t) hs ht = refl
-  item_same (kind.TypeItem s) (kind.Component t) hs ht = refl
-  item_same (kind.TypeItem s) (kind.Module t) hs ht = refl
-  item_same (kind.TypeItem s) (kind.Value t) hs ht = refl
-  item_same (kind.Func s) b hs ht = refl
-  item_same (kind.Instance s) b hs ht = refl
-  item_same (kind.Component s) b hs ht = refl
-  item_same (kind.Module s) b hs ht = refl
-  item_same (kind.Value s) b hs ht = refl
+  item_same _ _ hs ht = refl
 
   -- what is used
   exports_same : (n : ℕ) (i : InterfaceId) → IsBefore c n (ty.Interface i) → interface_exports d i ≡ interface_exports c i
-  exports_same n i b = ap (λ o. option_case (item_of o) [] (λ x. x.exports)) (same_at n _ _ (g.keeps.interfaces i.0) b)
+  exports_same n i b = ap (λ o. option_case (item_of o) [] (λ x. x.exports)) (same_at n _ _ (g.interfaces i.0) b)
 
   used_same : (n : ℕ) (m : Name) (u : UsedType) → IsBefore c n (ty.Interface u.interface) → used_item d m u ≡ used_item c m u
   used_same n m u b = ap (λ es. find_name es (name_there m u)) (exports_same n u.interface b)
@@ -161,39 +123,21 @@ module _ (c d : Collection) (wf : IsWellFormed c) (g : Grows c d) where
   used_held n m u used found = used_by n u.interface (name_there m u) _ used refl found
 
   by_id_same : (n : ℕ) (u : UsedType) → IsBefore c n (ty.Interface u.interface) → is_used_by_id d u ≡ is_used_by_id c u
-  by_id_same n u b = ap (λ o. option_case (item_of o) false (λ i. is_some i.id)) (same_at n _ _ (g.keeps.interfaces u.interface.0) b)
+  by_id_same n u b = ap (λ o. option_case (item_of o) false (λ i. is_some i.id)) (same_at n _ _ (g.interfaces u.interface.0) b)
 
   there_same : (n : ℕ) (e : Name × UsedType) → IsBefore c n (ty.Interface e.1.interface) → is_there d e ≡ is_there c e
   there_same n e b = ap (λ o. option_case o false is_type_item) (used_same n e.0 e.1 b)
 
-  listed_used : (n : ℕ) (m : Name) (u : UsedType) (a : ItemKind) (o : Option ItemKind) → used_item c m u ≡ o → holds_type c (kind_type a) ≡ true
-      → option_case o false (λ used. same_type_item d a used) ≡ option_case o false (λ used. same_type_item c a used)
-  listed_used n m u a None e held = refl
-  listed_used n m u a (Some used) e held = item_same a used held (used_held n m u used e)
-
-  listed_by : (n : ℕ) (e : Name × UsedType) (o : Option ItemKind) → ((a : ItemKind) → o ≡ Some a → holds_type c (kind_type a) ≡ true) → IsBefore c n (ty.Interface e.1.interface)
-      → option_case o true (λ a. option_case (used_item d e.0 e.1) false (λ used. same_type_item d a used)) ≡ option_case o true (λ a. option_case (used_item c e.0 e.1) false (λ used. same_type_item c a used))
-  listed_by n e None held b = refl
-  listed_by n e (Some a) held b =
-      ap (λ o. option_case o false (λ used. same_type_item d a used)) (used_same n e.0 e.1 b)
-      ∙ listed_used n e.0 e.1 a _ refl (held a refl)
-
   listed_same : (n : ℕ) (listed : List (Name × ItemKind)) → AreBefore c n (kind_types listed) → (e : Name × UsedType) → IsBefore c n (ty.Interface e.1.interface) → is_listed_as_used d listed e ≡ is_listed_as_used c listed e
-  listed_same n listed items e b = listed_by n e (find_name listed e.0) (λ a found. type_within c n (kind_type a) (found_before c n listed e.0 a items found)) b
+  listed_same n listed items e b = case_same (find_name listed e.0) true _ _
+      (λ k found. let held = type_within c n (kind_type k) (found_before c n listed e.0 k items found) in
+      ap (λ o. option_case o false (same_type_item d k)) (used_same n e.0 e.1 b)
+      ∙ case_same (used_item c e.0 e.1) false (same_type_item d k) (same_type_item c k) (λ used is. item_same k used held (used_held n e.0 e.1 used is)))
 
   named_same : (n : ℕ) (uses : List (Name × UsedType)) (e : Name × ItemKind) → IsBefore c n (kind_type e.1) → is_named_right d uses e ≡ is_named_right c uses e
   named_same n uses (m, kind.TypeItem (ty.Resource r)) b =
-      ap (λ o. is_some (source_of o) || (is_some (find_name uses m) || option_case (item_of o) false (λ q. same_name q.name m))) (same_at n _ _ (g.keeps.resources r.0) b)
-  named_same n uses (m, kind.TypeItem (ty.Func f)) b = refl
-  named_same n uses (m, kind.TypeItem (ty.Value v)) b = refl
-  named_same n uses (m, kind.TypeItem (ty.Interface i)) b = refl
-  named_same n uses (m, kind.TypeItem (ty.World w)) b = refl
-  named_same n uses (m, kind.TypeItem (ty.Module x)) b = refl
-  named_same n uses (m, kind.Func f) b = refl
-  named_same n uses (m, kind.Instance i) b = refl
-  named_same n uses (m, kind.Component w) b = refl
-  named_same n uses (m, kind.Module x) b = refl
-  named_same n uses (m, kind.Value v) b = refl
+      ap (λ o. is_some (source_of o) || (is_some (find_name uses m) || option_case (item_of o) false (λ q. same_name q.name m))) (same_at n _ _ (g.resources r.0) b)
+  named_same n uses _ b = refl
 
   -- a test of all that is used, and of all that is listed
   over_uses : (n : ℕ) (p q : Name × UsedType → Bool) → ((e : Name × UsedType) → IsBefore c n (ty.Interface e.1.interface) → p e ≡ q e) → (uses : List (Name × UsedType)) → AreBefore c n (used_types uses) → list_all p uses ≡ list_all q uses
@@ -215,7 +159,7 @@ module _ (c d : Collection) (wf : IsWellFormed c) (g : Grows c d) where
   names_same n uses listed items = over_items n (is_named_right d uses) (is_named_right c uses) (λ e be. named_same n uses e be) listed items
 
   mentions_same : (n : ℕ) (ts : List AnyType) → AreBefore c n ts → mention_fault d ts ≡ mention_fault c ts
-  mentions_same n ts b = ap (λ x. unless x fault.NotHeld) (all_within d n ts (all_kept c d g.keeps n ts b) ∙ sym (all_within c n ts b))
+  mentions_same n ts b = ap (λ x. unless x fault.NotHeld) (all_within d n ts (all_kept c d g n ts b) ∙ sym (all_within c n ts b))
 
   pub interface_same : (n : ℕ) (i : Interface) → AreBefore c n (interface_mentions i) → interface_fault d i ≡ interface_fault c i
   interface_same n i b =

@@ -223,6 +223,15 @@ abbrev pub IsPartBelow : ℕ → ValueType → Type 0
 IsPartBelow i (val.Defined d) = d.0 < i
 IsPartBelow i v = Unit {0}
 
+-- what the one holds stands in the other, at the same positions
+pub record IsKeptBy (c d : Collection) : Type 0 where
+  pub resources : (i : ℕ) (h : Held Resource) → slice_get c.resources i ≡ Some h → slice_get d.resources i ≡ Some h
+  pub funcs : (i : ℕ) (h : Held FuncType) → slice_get c.funcs i ≡ Some h → slice_get d.funcs i ≡ Some h
+  pub defined : (i : ℕ) (h : Held DefinedType) → slice_get c.defined i ≡ Some h → slice_get d.defined i ≡ Some h
+  pub interfaces : (i : ℕ) (h : Held Interface) → slice_get c.interfaces i ≡ Some h → slice_get d.interfaces i ≡ Some h
+  pub worlds : (i : ℕ) (h : Held World) → slice_get c.worlds i ≡ Some h → slice_get d.worlds i ≡ Some h
+  pub modules : (i : ℕ) (h : Held ModuleType) → slice_get c.modules i ≡ Some h → slice_get d.modules i ≡ Some h
+
 -- every item mentions only items added before it
 pub record IsWellFormed (c : Collection) : Type 0 where
   pub resources : Each c.resources (λ h. (h.before < size c) × AreBefore c h.before (resource_mentions h.item))

@@ -1,10 +1,10 @@
 //! The collection: lists of items, each of which mentions only items added before it.
 ghost use Rattle.std.specs.Prelude.{ℕ, ◌≡◌, ◌<◌, ◌==◌, length, vec_len, Some, None, IfOk, IfErr, OnErr, OnOk, IfSome};
 ghost use Rattle.std.specs.Option.{option_copied};
-ghost use Rattle.wac_collection.specs.Collection.{IsWellFormed, empty, size, func_mentions, resource_mentions, defined_mentions, holds_value, holds_type, with_resource, with_func, with_defined, with_interface, with_world, with_module, item_at};
+ghost use Rattle.wac_collection.specs.Collection.{Collection, IsWellFormed, HasResource, HasFunc, HasDefined, HasInterface, HasWorld, HasModule, empty, size, func_mentions, resource_mentions, defined_mentions, holds_value, holds_type, with_resource, with_func, with_defined, with_interface, with_world, with_module, item_at};
 ghost use Rattle.wac_collection.specs.Held.{resolved};
 ghost use Rattle.wac_collection.specs.Aliases.{value_resolved};
-ghost use Rattle.wac_collection.specs.Ends.{end_at};
+ghost use Rattle.wac_collection.specs.Ends.{HasEnds, end_at};
 ghost use Rattle.wac_shapes.specs.declared.component.ValueType.TheVariants as val;
 ghost use Rattle.wac_collection.specs.declared.collection.AddTypeError.TheVariants.{OutOfMemory};
 ghost use Rattle.wac_collection.specs.Uses.{AnswersBy, mention_fault, interface_fault, world_fault, IsSound};
@@ -84,9 +84,6 @@ impl Drop for Types {
 }
 
 impl Model for Types {
-    ghost use Rattle.wac_collection.specs.Collection.{Collection};
-    ghost use Rattle.wac_collection.specs.Ends.{HasEnds};
-
     ghost Value = { Collection };
 
     ghost view = { λ t. record {
@@ -113,24 +110,16 @@ impl Clone for Types {
     ghost is_clone = { λ a b. b ≡ a };
 
     fn clone(&self) -> Result<Types, AllocError> {
-        let resources = self.resources.clone()?;
-        let resource_ends = self.resource_ends.clone()?;
-        let funcs = self.funcs.clone()?;
-        let defined = self.defined.clone()?;
-        let value_ends = self.value_ends.clone()?;
-        let interfaces = self.interfaces.clone()?;
-        let worlds = self.worlds.clone()?;
-        let modules = self.modules.clone()?;
         Ok(Types {
             alloc: self.alloc,
-            resources,
-            resource_ends,
-            funcs,
-            defined,
-            value_ends,
-            interfaces,
-            worlds,
-            modules,
+            resources: self.resources.clone()?,
+            resource_ends: self.resource_ends.clone()?,
+            funcs: self.funcs.clone()?,
+            defined: self.defined.clone()?,
+            value_ends: self.value_ends.clone()?,
+            interfaces: self.interfaces.clone()?,
+            worlds: self.worlds.clone()?,
+            modules: self.modules.clone()?,
         })
     }
 }
@@ -211,8 +200,7 @@ impl Types {
     {
         match value {
             ValueType::Primitive(_) => true,
-            ValueType::Borrow(id) => id.0 < self.resources.len(),
-            ValueType::Own(id) => id.0 < self.resources.len(),
+            ValueType::Borrow(id) | ValueType::Own(id) => id.0 < self.resources.len(),
             ValueType::Defined(id) => id.0 < self.defined.len(),
         }
     }
@@ -233,10 +221,7 @@ impl Types {
         ensures count { IfOk result (λ n. n ≡ size self.now) }
         ensures fault { IfErr result (λ e. e ≡ OutOfMemory) }
     {
-        match self.checked_count() {
-            Some(count) => Ok(count),
-            None => Err(AddTypeError::OutOfMemory),
-        }
+        self.checked_count().ok_or(AddTypeError::OutOfMemory)
     }
 
     /// Adds a resource. Answers `NotHeld` where it mentions an id that isn't held, and `OutOfMemory` where memory ran out; then nothing has changed.
@@ -406,8 +391,6 @@ impl Types {
 impl Index<FuncTypeId> for Types {
     type Output = FuncType;
 
-    ghost use Rattle.wac_collection.specs.Collection.{HasFunc, item_at};
-
     ghost can_index = { HasFunc };
 
     ghost index_gives = { λ c id func. item_at c.funcs id.0 ≡ Some func };
@@ -419,8 +402,6 @@ impl Index<FuncTypeId> for Types {
 
 impl Index<InterfaceId> for Types {
     type Output = Interface;
-
-    ghost use Rattle.wac_collection.specs.Collection.{HasInterface, item_at};
 
     ghost can_index = { HasInterface };
 
@@ -434,8 +415,6 @@ impl Index<InterfaceId> for Types {
 impl Index<WorldId> for Types {
     type Output = World;
 
-    ghost use Rattle.wac_collection.specs.Collection.{HasWorld, item_at};
-
     ghost can_index = { HasWorld };
 
     ghost index_gives = { λ c id world. item_at c.worlds id.0 ≡ Some world };
@@ -447,8 +426,6 @@ impl Index<WorldId> for Types {
 
 impl Index<ResourceId> for Types {
     type Output = Resource;
-
-    ghost use Rattle.wac_collection.specs.Collection.{HasResource, item_at};
 
     ghost can_index = { HasResource };
 
@@ -462,8 +439,6 @@ impl Index<ResourceId> for Types {
 impl Index<DefinedTypeId> for Types {
     type Output = DefinedType;
 
-    ghost use Rattle.wac_collection.specs.Collection.{HasDefined, item_at};
-
     ghost can_index = { HasDefined };
 
     ghost index_gives = { λ c id item. item_at c.defined id.0 ≡ Some item };
@@ -475,8 +450,6 @@ impl Index<DefinedTypeId> for Types {
 
 impl Index<ModuleTypeId> for Types {
     type Output = ModuleType;
-
-    ghost use Rattle.wac_collection.specs.Collection.{HasModule, item_at};
 
     ghost can_index = { HasModule };
 

@@ -1,5 +1,8 @@
 //! The interfaces of a collection, in order.
-ghost use Rattle.std.specs.Prelude.{◌≡◌};
+ghost use Rattle.std.specs.Prelude.{◌≡◌, List, drop};
+ghost use Rattle.std.specs.Iterator.{YieldsFirstBy, item_count};
+ghost use Rattle.wac_shapes.specs.declared.component.Interface.{Interface};
+ghost use Rattle.wac_shapes.specs.declared.component.InterfaceId.{InterfaceId};
 ghost use Rattle.wac_collection.specs.Interfaces.{numbered};
 
 use crate::collection::Types;
@@ -15,11 +18,6 @@ pub struct Interfaces<'a> {
 }
 
 impl<'a> Model for Interfaces<'a> {
-    ghost use Rattle.std.specs.Prelude.{List, drop};
-    ghost use Rattle.wac_collection.specs.Interfaces.{numbered};
-    ghost use Rattle.wac_shapes.specs.declared.component.InterfaceId.{InterfaceId};
-    ghost use Rattle.wac_shapes.specs.declared.component.Interface.{Interface};
-
     ghost Value = { List (InterfaceId × Interface) };
 
     ghost view = { λ s. numbered s.position (drop s.position s.held.now) };
@@ -27,8 +25,6 @@ impl<'a> Model for Interfaces<'a> {
 
 impl<'a> Iterator for Interfaces<'a> {
     type Item = (InterfaceId, &'a Interface);
-
-    ghost use Rattle.std.specs.Iterator.{YieldsFirstBy, item_count};
 
     ghost next_gives = { YieldsFirstBy (λ x. (x.0, x.1.now)) (λ s. s) };
 

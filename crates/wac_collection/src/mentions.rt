@@ -13,66 +13,44 @@ impl Types {
     {
         match resource.alias {
             None => true,
-            Some(alias) => match alias.owner {
-                None => self.contains(Type::Resource(alias.source)),
-                Some(owner) => {
-                    self.contains(Type::Resource(alias.source))
-                        && self.contains(Type::Interface(owner))
-                }
-            },
+            Some(alias) => {
+                self.contains(Type::Resource(alias.source))
+                    && alias
+                        .owner
+                        .is_none_or(|owner| self.contains(Type::Interface(owner)))
+            }
         }
     }
 
     fn contains_maybe(&self, value: Option<ValueType>) -> bool
         ensures { result ≡ holds_all self.now (value_types (and_maybe value [])) }
     {
-        match value {
-            Some(value) => self.contains_value(value),
-            None => true,
-        }
+        value.is_none_or(|value| self.contains_value(value))
     }
 
     fn contains_values(&self, values: &[ValueType]) -> bool
         ensures { result ≡ holds_all self.now (value_types values.now) }
     {
-        for i in 0..values.len() {
-            if !self.contains_value(values[i]) {
-                return false;
-            }
-        }
-        true
+        values.iter().all(|value| self.contains_value(*value))
     }
 
     fn contains_params(&self, params: &Named<ValueType>) -> bool
         ensures { result ≡ holds_all self.now (value_types (seconds params.now)) }
     {
-        for i in 0..params.len() {
-            if !self.contains_value(*params.value_at(i)) {
-                return false;
-            }
-        }
-        true
+        params.iter().all(|(_, value)| self.contains_value(*value))
     }
 
     fn contains_cases(&self, cases: &Named<Option<ValueType>>) -> bool
         ensures { result ≡ holds_all self.now (value_types (case_values cases.now)) }
     {
-        for i in 0..cases.len() {
-            if !self.contains_maybe(*cases.value_at(i)) {
-                return false;
-            }
-        }
-        true
+        cases.iter().all(|(_, value)| self.contains_maybe(*value))
     }
 
+    #[tactic(auto, using(crate::proofs::Mentioned::maybe_first))]
     pub(crate) fn contains_func(&self, func: &FuncType) -> bool
         ensures { result ≡ holds_all self.now (func_mentions func.now) }
     {
-        if let Some(value) = func.result {
-            self.contains_value(value) && self.contains_params(&func.params)
-        } else {
-            self.contains_params(&func.params)
-        }
+        self.contains_maybe(func.result) && self.contains_params(&func.params)
     }
 
     pub(crate) fn contains_defined(&self, defined: &DefinedType) -> bool
@@ -80,44 +58,31 @@ impl Types {
     {
         match defined {
             DefinedType::Tuple(types) => self.contains_values(types.as_slice()),
-            DefinedType::List(value) => self.contains_value(*value),
-            DefinedType::FixedSizeList(value, _) => self.contains_value(*value),
-            DefinedType::Option(value) => self.contains_value(*value),
+            DefinedType::List(value)
+            | DefinedType::FixedSizeList(value, _)
+            | DefinedType::Option(value)
+            | DefinedType::Alias(value) => self.contains_value(*value),
             DefinedType::Result { ok, err } => {
                 self.contains_maybe(*ok) && self.contains_maybe(*err)
             }
             DefinedType::Variant(variant) => self.contains_cases(&variant.cases),
             DefinedType::Record(record) => self.contains_params(&record.fields),
-            DefinedType::Flags(_) => true,
-            DefinedType::Enum(_) => true,
-            DefinedType::Alias(value) => self.contains_value(*value),
-            DefinedType::Stream(value) => self.contains_maybe(*value),
-            DefinedType::Future(value) => self.contains_maybe(*value),
+            DefinedType::Flags(_) | DefinedType::Enum(_) => true,
+            DefinedType::Stream(value) | DefinedType::Future(value) => self.contains_maybe(*value),
         }
     }
 
     fn contains_used(&self, uses: &Named<UsedType>) -> bool
         ensures { result ≡ holds_all self.now (used_types uses.now) }
     {
-        for i in 0..uses.len() {
-            let used = uses.value_at(i);
-            if !self.contains(Type::Interface(used.interface)) {
-                return false;
-            }
-        }
-        true
+        uses.iter()
+            .all(|(_, used)| self.contains(Type::Interface(used.interface)))
     }
 
     fn contains_items(&self, items: &Named<ItemKind>) -> bool
         ensures { result ≡ holds_all self.now (kind_types items.now) }
     {
-        for i in 0..items.len() {
-            let kind = *items.value_at(i);
-            if !self.contains(kind.ty()) {
-                return false;
-            }
-        }
-        true
+        items.iter().all(|(_, kind)| self.contains(kind.ty()))
     }
 
     pub(crate) fn contains_interface(&self, interface: &Interface) -> bool

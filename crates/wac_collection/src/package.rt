@@ -3,8 +3,8 @@ ghost use Rattle.std.specs.Prelude.{◌≡◌, ◌↔◌, true, length, IfOk, On
 ghost use Rattle.std.specs.Option.{option_map};
 ghost use Rattle.semver.specs.Identifiers.{parts_of};
 ghost use Rattle.wac_collection.specs.Collection.{holds_type, world_exports};
-ghost use Rattle.wac_collection.specs.Uses.{AnswersBy, same_item};
-ghost use Rattle.wac_collection.specs.Package.{instance_with, with_instance_of, package_fault, HoldsPackage};
+ghost use Rattle.wac_collection.specs.Uses.{AnswersBy};
+ghost use Rattle.wac_collection.specs.Package.{PackageParts, instance_with, with_instance_of, package_fault, HoldsPackage};
 ghost use Rattle.wac_shapes.specs.declared.component.«Type».TheVariants.{World as world_type};
 
 use crate::collection::{AddTypeError, Types};
@@ -34,8 +34,6 @@ impl Drop for Package {
 }
 
 impl Model for Package {
-    ghost use Rattle.wac_collection.specs.Package.{PackageParts};
-
     ghost Value = { PackageParts };
 
     ghost view = { λ p. record {
@@ -76,15 +74,13 @@ impl Package {
         let Ok(key) = PackageKey::new(types.allocator(), name, version) else {
             return Err(AddTypeError::OutOfMemory);
         };
-        match types.add_interface(interface) {
-            Ok(instance_type) => Ok(Package {
-                key,
-                bytes,
-                world,
-                instance_type,
-            }),
-            Err(fault) => Err(fault),
-        }
+        let instance_type = types.add_interface(interface)?;
+        Ok(Package {
+            key,
+            bytes,
+            world,
+            instance_type,
+        })
     }
 
     /// The package's name.
@@ -135,11 +131,9 @@ impl Clone for Package {
     ghost is_clone = { λ a b. b ≡ a };
 
     fn clone(&self) -> Result<Package, AllocError> {
-        let key = self.key.clone()?;
-        let bytes = self.bytes.clone()?;
         Ok(Package {
-            key,
-            bytes,
+            key: self.key.clone()?,
+            bytes: self.bytes.clone()?,
             world: self.world,
             instance_type: self.instance_type,
         })
@@ -155,18 +149,17 @@ fn instance_of(types: &Types, world: WorldId) -> Result<Interface, AddTypeError>
     let alloc = types.allocator();
     let uses = Named::new(alloc);
     let items = &types[world].exports;
-    let named_right = types.named_right(&uses, items);
-    if !named_right {
+    if !types.named_right(&uses, items) {
         return Err(AddTypeError::ResourceMisnamed);
     }
-    match items.copied(alloc) {
-        Ok(exports) => Ok(Interface {
-            id: None,
-            uses,
-            exports,
-        }),
-        Err(_) => Err(AddTypeError::OutOfMemory),
-    }
+    let Ok(exports) = items.copied(alloc) else {
+        return Err(AddTypeError::OutOfMemory);
+    };
+    Ok(Interface {
+        id: None,
+        uses,
+        exports,
+    })
 }
 
 impl Types {
@@ -186,21 +179,6 @@ impl Types {
 // Whether the same items are listed in the same order.
 fn same_items(a: &Named<ItemKind>, b: &Named<ItemKind>) -> bool
     ensures { IsTrue result ↔ (a.now ≡ b.now) }
-{
-    if a.len() != b.len() {
-        return false;
-    }
-    for i in 0..a.len() {
-        if a.name_at(i) != b.name_at(i) || !same_item(*a.value_at(i), *b.value_at(i)) {
-            return false;
-        }
-    }
-    true
-}
-
-// Whether two items have the same sort and the same id.
-fn same_item(a: ItemKind, b: ItemKind) -> bool
-    ensures { result ≡ same_item a b }
 {
     a == b
 }

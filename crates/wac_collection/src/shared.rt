@@ -1,8 +1,9 @@
 //! The items of a collection, which its clones share.
-ghost use Rattle.std.specs.Prelude.{◌≡◌, ◌<◌, ◌++◌, ◌∷◌, [], Some, IfErr, IfOk, OnErr, OnOk, length};
+ghost use Rattle.std.specs.Prelude.{List, ◌≡◌, ◌<◌, ◌++◌, ◌∷◌, [], Some, IfErr, IfOk, OnErr, OnOk, length};
 ghost use Rattle.std.specs.Option.{option_copied};
 ghost use Rattle.wac_collection.specs.Collection.{item_at};
 ghost use Rattle.wac_collection.specs.Items.{entries};
+ghost use Rattle.wac_collection.specs.declared.collection.Held.{Held};
 ghost use Rattle.wac_collection.specs.declared.collection.AddTypeError.TheVariants.{OutOfMemory};
 
 use crate::collection::AddTypeError;
@@ -18,8 +19,6 @@ struct Shared<T> {
 }
 
 impl<T> Model for Shared<T> {
-    ghost use Rattle.wac_collection.specs.declared.collection.Held.{Held};
-
     ghost Value = { Held T };
 
     ghost view = { λ s. record { item = s.item.value; before = s.before } };
@@ -55,10 +54,6 @@ struct Lists<T> {
 }
 
 impl<T> Model for Lists<T> {
-    ghost use Rattle.std.specs.Prelude.{List, ◌++◌};
-    ghost use Rattle.wac_collection.specs.declared.collection.Held.{Held};
-    ghost use Rattle.wac_collection.specs.Items.{entries};
-
     ghost Value = { List (Held T) };
 
     ghost view = { λ s. entries s.first ++ entries s.rest };
@@ -72,9 +67,6 @@ pub(crate) struct Items<T> {
 }
 
 impl<T> Model for Items<T> {
-    ghost use Rattle.std.specs.Prelude.{List, ◌≡◌, length};
-    ghost use Rattle.wac_collection.specs.declared.collection.Held.{Held};
-
     ghost Value = { List (Held T) };
 
     ghost view = { λ s. s.lists };
@@ -86,10 +78,11 @@ impl<T: Drop> Clone for Items<T> {
     ghost is_clone = { λ a b. b ≡ a };
 
     fn clone(&self) -> Result<Items<T>, AllocError> {
-        let first = same_list(&self.lists.first)?;
-        let rest = same_list(&self.lists.rest)?;
         Ok(Items {
-            lists: Lists { first, rest },
+            lists: Lists {
+                first: same_list(&self.lists.first)?,
+                rest: same_list(&self.lists.rest)?,
+            },
             len: self.len,
         })
     }
@@ -119,10 +112,7 @@ impl<T: Drop> Lists<T> {
             }
             index -= first.len();
         }
-        match &self.rest {
-            Some(rest) => Some(rest.get(index)?.item()),
-            None => None,
-        }
+        Some(self.rest.as_ref()?.get(index)?.item())
     }
 
     /// Puts an item behind the others. Answers `AllocError` where memory ran out; then nothing has changed.
@@ -207,10 +197,7 @@ impl<T: Drop> Items<T> {
         requires { index < length self.now }
         ensures { item_at self.now index ≡ Some result.now }
     {
-        match self.get(index) {
-            Some(item) => item,
-            None => unreachable!(),
-        }
+        self.get(index).unwrap()
     }
 }
 
@@ -225,17 +212,13 @@ pub(crate) fn hold<T: Drop>(
     ensures refused { OnErr result (items.new ≡ items.old) }
     ensures fault { IfErr result (λ e. e ≡ OutOfMemory) }
 {
-    let Some(len) = items.len.checked_add(1) else {
-        return Err(AddTypeError::OutOfMemory);
-    };
+    let len = items.len.checked_add(1).ok_or(AddTypeError::OutOfMemory)?;
     let Ok(item) = Arc::new(alloc, item) else {
         return Err(AddTypeError::OutOfMemory);
     };
-    match items.lists.put(alloc, Shared { item, before }) {
-        Ok(()) => {
-            items.len = len;
-            Ok(())
-        }
-        Err(_) => Err(AddTypeError::OutOfMemory),
-    }
+    let Ok(()) = items.lists.put(alloc, Shared { item, before }) else {
+        return Err(AddTypeError::OutOfMemory);
+    };
+    items.len = len;
+    Ok(())
 }

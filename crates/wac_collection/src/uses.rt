@@ -26,30 +26,23 @@ impl Types {
         ensures { result ≡ used_item self.now name.now used.now }
     {
         let interface = self.find_interface(used.interface)?;
-        match &used.name {
-            Some(text) => interface.exports.get(text.as_str()).copied(),
-            None => interface.exports.get(name).copied(),
-        }
+        let name = used.name.as_ref().map_or(name, |text| text.as_str());
+        interface.exports.get(name).copied()
     }
 
     // Whether the interface that a type is used from has an id.
     fn is_used_by_id(&self, used: &UsedType) -> bool
         ensures { result ≡ is_used_by_id self.now used.now }
     {
-        match self.find_interface(used.interface) {
-            Some(interface) => interface.id.is_some(),
-            None => false,
-        }
+        self.find_interface(used.interface)
+            .is_some_and(|interface| interface.id.is_some())
     }
 
     // Whether that interface exports a type item of the used name.
     fn is_there(&self, name: &str, used: &UsedType) -> bool
         ensures { result ≡ is_there self.now (name.now, used.now) }
     {
-        match self.used_item(name, used) {
-            Some(ItemKind::TypeItem(_)) => true,
-            _ => false,
-        }
+        matches!(self.used_item(name, used), Some(ItemKind::TypeItem(_)))
     }
 
     // Whether two items are type items of the same type, at the ends of aliases.
@@ -83,13 +76,10 @@ impl Types {
     {
         match kind {
             ItemKind::TypeItem(Type::Resource(id)) => {
-                if uses.get(name).is_some() {
-                    return true;
-                }
-                match self.find_resource(id) {
-                    None => false,
-                    Some(resource) => resource.alias.is_some() || is_named(resource, name),
-                }
+                uses.get(name).is_some()
+                    || self.find_resource(id).is_some_and(|resource| {
+                        resource.alias.is_some() || is_named(resource, name)
+                    })
             }
             _ => true,
         }
@@ -98,45 +88,28 @@ impl Types {
     fn used_by_id(&self, uses: &Named<UsedType>) -> bool
         ensures { result ≡ used_by_id self.now uses.now }
     {
-        for i in 0..uses.len() {
-            if !self.is_used_by_id(uses.value_at(i)) {
-                return false;
-            }
-        }
-        true
+        uses.iter().all(|(_, used)| self.is_used_by_id(used))
     }
 
     fn are_there(&self, uses: &Named<UsedType>) -> bool
         ensures { result ≡ are_there self.now uses.now }
     {
-        for i in 0..uses.len() {
-            if !self.is_there(uses.name_at(i), uses.value_at(i)) {
-                return false;
-            }
-        }
-        true
+        uses.iter().all(|(name, used)| self.is_there(name, used))
     }
 
     fn listed_as_used(&self, uses: &Named<UsedType>, listed: &Named<ItemKind>) -> bool
         ensures { result ≡ listed_as_used self.now uses.now listed.now }
     {
-        for i in 0..uses.len() {
-            if !self.is_listed_as_used(listed, uses.name_at(i), uses.value_at(i)) {
-                return false;
-            }
-        }
-        true
+        uses.iter()
+            .all(|(name, used)| self.is_listed_as_used(listed, name, used))
     }
 
     pub(crate) fn named_right(&self, uses: &Named<UsedType>, listed: &Named<ItemKind>) -> bool
         ensures { result ≡ named_right self.now uses.now listed.now }
     {
-        for i in 0..listed.len() {
-            if !self.is_named_right(uses, listed.name_at(i), *listed.value_at(i)) {
-                return false;
-            }
-        }
-        true
+        listed
+            .iter()
+            .all(|(name, kind)| self.is_named_right(uses, name, *kind))
     }
 
     // The lowest error that stands against uses beside these items.

@@ -1,20 +1,34 @@
-use Rattle.std.proofs.Common.{◌≡◌, Some, sym, ◌∙◌, arith, refl, below_more}
-use Rattle.wac_collection.proofs.Ids.{same_item-true}
-use Rattle.wac_shapes.proofs.Names.{ne-false}
-use Rattle.wac_shapes.proofs.Loops.{same_lists, entry_at}
+use Rattle.std.proofs.Common.{◌&&◌, ◌≡◌, ap, rules, Decides}
+use Rattle.std.specs.Cmp.Lexicographic.{bytes_decides}
+use Rattle.std.proofs.lemmas.Bool.Decides.{Decides-and, Decides-at, Decides-like}
+use Rattle.std.proofs.lemmas.Slice.Eq.{slice_eq-Decides}
+use Rattle.wac_primitives.specs.Name.{Name}
+use Rattle.wac_shapes.specs.contracts.component.ValueTypePartialEq.TheImpl as ValueEq
+use Rattle.wac_shapes.specs.contracts.component.TypePartialEq.TheImpl as TypeEq
+use Rattle.wac_shapes.specs.contracts.component.ItemKindPartialEq.TheImpl as KindEq
+use Rattle.wac_shapes.specs.Equal.{same_text}
+use Rattle.wac_shapes.specs.declared.component.ValueType.{ValueType}
+use Rattle.wac_shapes.specs.declared.component.«Type».{«Type» as AnyType}
+use Rattle.wac_shapes.specs.declared.component.ItemKind.{ItemKind}
+use Rattle.wac_shapes.specs.declared.component.ItemKind.TheVariants as kind
+use Rattle.wac_collection.specs.Uses.{same_value, same_type, same_item}
+use Rattle.wac_collection.proofs.Ids.{item_decides}
 use Rattle.wac_collection.proofs.package.same_items.Goals as goal
 
-pub loop-i-preserved : goal.loop-i-preserved
-loop-i-preserved c =
-    let name : c.name_at.result.now ≡ c.name_at-in-loop-i.result.now = ne-false c.ne.result _ _ c.ne.ensures c.if-ne.false in
-    let value : c.value_at.result.now ≡ c.value_at-else-ne.result.now = same_item-true _ _ (sym c.same_item.ensures ∙ c.if-not-same_item.false) in
-    let first = entry_at c.args.a.now c.loop-i.i _ _ c.name_at.ensures c.value_at.ensures in
-    let second = entry_at c.args.b.now c.loop-i.i _ _ c.name_at-in-loop-i.ensures c.value_at-else-ne.ensures in
-    below_more _ _ c.loop-i.invariant (first ∙ (λ j. Some (name j, value j)) ∙ sym second)
+value_eq : (a b : ValueType) → (ValueEq.ghosts).eq a b ≡ same_value a b
+value_eq a b = search rules
+
+type_eq : (a b : AnyType) → (TypeEq.ghosts).eq a b ≡ same_type a b
+type_eq a b = search rules
+
+-- the derived `==` is that of sorts and ids
+kind_eq : (a b : ItemKind) → (KindEq.ghosts).eq a b ≡ same_item a b
+kind_eq (kind.TypeItem s) (kind.TypeItem t) = type_eq s t
+kind_eq (kind.Value s) (kind.Value t) = value_eq s t
+kind_eq _ _ = search rules
+
+entries_decide : (a b : Name × ItemKind) → Decides (same_text a.0 b.0 && (KindEq.ghosts).eq a.1 b.1) (a ≡ b)
+entries_decide a b = Decides-like _ (λ e i. (e.0 i, e.1 i)) (λ e. (ap (λ x. x.0) e, ap (λ x. x.1) e)) (Decides-and _ _ (bytes_decides a.0 b.0) (Decides-at _ _ (kind_eq a.1 b.1) (item_decides a.1 b.1)))
 
 pub returns : goal.returns
-returns c = (
-  λ p. same_lists c.args.a.now c.args.b.now (omega (arith, c.if-len.false, c.len.ensures, c.len-2.ensures))
-      (λ k lt. c.loop-i.invariant k (omega (arith, lt, c.loop-i-test.false, c.len-i-end.ensures))),
-  λ e. refl,
-)
+returns c = slice_eq-Decides entries_decide _ _ _ c.eq.ensures

@@ -1,18 +1,10 @@
-use Rattle.std.proofs.Common.{◌∙◌, sym, ap, refl, arith, add-one}
-use Rattle.wac_collection.specs.Collection.{holds_all, kind_types, holds_type}
+use Rattle.std.proofs.Common.{◌∙◌, sym, rules}
+use Rattle.std.proofs.lemmas.Iterator.Consumers.{YieldsList-from_first}
+use Rattle.std.proofs.lemmas.Iterator.Search.{all_from_yields_List}
 use Rattle.wac_shapes.specs.Kinds.{kind_type}
-use Rattle.wac_shapes.proofs.Loops.{entry_of, stops, goes, ends}
+use Rattle.wac_collection.specs.Collection.{holds_type}
+use Rattle.wac_collection.proofs.Mentioned.{items_held}
 use Rattle.wac_collection.proofs.collection.Types.contains_items.Goals as goal
 
-pub returns-then-not-contains : goal.returns-then-not-contains
-returns-then-not-contains c =
-    let e = entry_of c.args.items.now c.loop-i.i c.value_at.result.now c.value_at.ensures in
-    stops (λ es. holds_all c.args.self.now (kind_types es)) c.args.items.now _ _ e.entry (holds_type c.args.self.now (kind_type e.entry.1)) c.loop-i.invariant e.left (refl) (ap (λ x. (holds_type c.args.self.now (kind_type x))) e.is ∙ sym (ap (holds_type c.args.self.now) c.ty.ensures) ∙ sym c.contains.ensures ∙ c.if-not-contains.true)
-
-pub loop-i-preserved : goal.loop-i-preserved
-loop-i-preserved c =
-    let e = entry_of c.args.items.now c.loop-i.i c.value_at.result.now c.value_at.ensures in
-    rw add-one (goes (λ es. holds_all c.args.self.now (kind_types es)) c.args.items.now _ _ e.entry (holds_type c.args.self.now (kind_type e.entry.1)) c.loop-i.invariant e.left (refl) (ap (λ x. (holds_type c.args.self.now (kind_type x))) e.is ∙ sym (ap (holds_type c.args.self.now) c.ty.ensures) ∙ sym c.contains.ensures ∙ c.if-not-contains.false))
-
 pub returns : goal.returns
-returns c = ends (λ es. holds_all c.args.self.now (kind_types es)) c.args.items.now c.loop-i.i (omega (arith, c.loop-i-test.false, c.len-i-end.ensures)) c.loop-i.invariant
+returns c = all_from_yields_List (λ e. holds_type c.args.self.now (kind_type e.1)) _ _ _ c.all.ensures.ran (YieldsList-from_first _ _ c.args.items.now c.iter.ensures) (λ x b q k. search rules) ∙ sym (items_held c.args.self.now c.args.items.now)

@@ -1,17 +1,9 @@
-use Rattle.std.proofs.Common.{◌∙◌, sym, ap, refl, arith, add-one}
-use Rattle.wac_collection.specs.Collection.{holds_all, value_types, seconds, holds_value}
-use Rattle.wac_shapes.proofs.Loops.{entry_of, stops, goes, ends}
+use Rattle.std.proofs.Common.{◌∙◌, sym, rules}
+use Rattle.std.proofs.lemmas.Iterator.Consumers.{YieldsList-from_first}
+use Rattle.std.proofs.lemmas.Iterator.Search.{all_from_yields_List}
+use Rattle.wac_collection.specs.Collection.{holds_value}
+use Rattle.wac_collection.proofs.Mentioned.{params_held}
 use Rattle.wac_collection.proofs.collection.Types.contains_params.Goals as goal
 
-pub returns-then-not-contains_value : goal.returns-then-not-contains_value
-returns-then-not-contains_value c =
-    let e = entry_of c.args.params.now c.loop-i.i c.value_at.result.now c.value_at.ensures in
-    stops (λ es. holds_all c.args.self.now (value_types (seconds es))) c.args.params.now _ _ e.entry (holds_value c.args.self.now e.entry.1) c.loop-i.invariant e.left (refl) (ap (λ x. (holds_value c.args.self.now x)) e.is ∙ sym c.contains_value.ensures ∙ c.if-not-contains_value.true)
-
-pub loop-i-preserved : goal.loop-i-preserved
-loop-i-preserved c =
-    let e = entry_of c.args.params.now c.loop-i.i c.value_at.result.now c.value_at.ensures in
-    rw add-one (goes (λ es. holds_all c.args.self.now (value_types (seconds es))) c.args.params.now _ _ e.entry (holds_value c.args.self.now e.entry.1) c.loop-i.invariant e.left (refl) (ap (λ x. (holds_value c.args.self.now x)) e.is ∙ sym c.contains_value.ensures ∙ c.if-not-contains_value.false))
-
 pub returns : goal.returns
-returns c = ends (λ es. holds_all c.args.self.now (value_types (seconds es))) c.args.params.now c.loop-i.i (omega (arith, c.loop-i-test.false, c.len-i-end.ensures)) c.loop-i.invariant
+returns c = all_from_yields_List (λ e. holds_value c.args.self.now e.1) _ _ _ c.all.ensures.ran (YieldsList-from_first _ _ c.args.params.now c.iter.ensures) (λ x b q k. search rules) ∙ sym (params_held c.args.self.now c.args.params.now)

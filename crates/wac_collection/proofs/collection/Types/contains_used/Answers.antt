@@ -1,18 +1,10 @@
-use Rattle.std.proofs.Common.{◌∙◌, sym, ap, refl, arith, add-one}
-use Rattle.wac_collection.specs.Collection.{holds_all, used_types, holds_type}
+use Rattle.std.proofs.Common.{◌∙◌, sym, rules}
+use Rattle.std.proofs.lemmas.Iterator.Consumers.{YieldsList-from_first}
+use Rattle.std.proofs.lemmas.Iterator.Search.{all_from_yields_List}
 use Rattle.wac_shapes.specs.declared.component.«Type».TheVariants as ty
-use Rattle.wac_shapes.proofs.Loops.{entry_of, stops, goes, ends}
+use Rattle.wac_collection.specs.Collection.{holds_type}
+use Rattle.wac_collection.proofs.Mentioned.{used_held}
 use Rattle.wac_collection.proofs.collection.Types.contains_used.Goals as goal
 
-pub returns-then-not-contains : goal.returns-then-not-contains
-returns-then-not-contains c =
-    let e = entry_of c.args.uses.now c.loop-i.i c.value_at-used.result.now c.value_at-used.ensures in
-    stops (λ es. holds_all c.args.self.now (used_types es)) c.args.uses.now _ _ e.entry (holds_type c.args.self.now (ty.Interface e.entry.1.interface)) c.loop-i.invariant e.left (refl) (ap (λ x. (holds_type c.args.self.now (ty.Interface x.interface))) e.is ∙ sym c.contains.ensures ∙ c.if-not-contains.true)
-
-pub loop-i-preserved : goal.loop-i-preserved
-loop-i-preserved c =
-    let e = entry_of c.args.uses.now c.loop-i.i c.value_at-used.result.now c.value_at-used.ensures in
-    rw add-one (goes (λ es. holds_all c.args.self.now (used_types es)) c.args.uses.now _ _ e.entry (holds_type c.args.self.now (ty.Interface e.entry.1.interface)) c.loop-i.invariant e.left (refl) (ap (λ x. (holds_type c.args.self.now (ty.Interface x.interface))) e.is ∙ sym c.contains.ensures ∙ c.if-not-contains.false))
-
 pub returns : goal.returns
-returns c = ends (λ es. holds_all c.args.self.now (used_types es)) c.args.uses.now c.loop-i.i (omega (arith, c.loop-i-test.false, c.len-i-end.ensures)) c.loop-i.invariant
+returns c = all_from_yields_List (λ e. holds_type c.args.self.now (ty.Interface e.1.interface)) _ _ _ c.all.ensures.ran (YieldsList-from_first _ _ c.args.uses.now c.iter.ensures) (λ x b q k. search rules) ∙ sym (used_held c.args.self.now c.args.uses.now)

@@ -1,7 +1,0 @@
-use Rattle.std.proofs.Common.{◌≡◌, drop}
-use Rattle.wac_collection.specs.Collection.{holds_all, value_types}
-use Rattle.wac_collection.proofs.collection.Types.contains_values.Given as goal
-
--- what is left is held as all is
-abbrev pub invariant-loop-i : goal.invariant-loop-i
-invariant-loop-i l = holds_all l.self (value_types (drop l.i l.values)) ≡ holds_all l.self (value_types l.values)
