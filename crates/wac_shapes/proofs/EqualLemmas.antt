@@ -1,14 +1,14 @@
--- What `==` answers of entries, seen by their bytes, and of names alone.
-use Rattle.std.proofs.Common.{ℕ, suc, Bool, true, false, not, ◌&&◌, ◌≤◌, ◌∙◌, sym, ap, List, [], ◌∷◌, map, length, slice_get, drop, Some, ◌≡◌, refl}
+-- What `==` answers of entries, by what is seen of them, and of two lists, as far as a loop has come.
+use Rattle.std.proofs.Common.{ℕ, suc, Bool, true, false, not, ◌&&◌, ◌∙◌, ◌≤◌, sym, ap, List, [], ◌∷◌, map, length, slice_get, drop, drop_of_length-le, Some, ◌≡◌, refl}
+use Rattle.std.proofs.lemmas.Bool.{not-true, not-false}
 use Rattle.std.specs.Cmp.Lexicographic.{pointwise}
-use Rattle.std.proofs.Math.ListN.{drop_of_length-le}
 use Rattle.wac_primitives.specs.Name.{Name}
 use Rattle.wac_shapes.specs.Named.{names_of}
 use Rattle.wac_shapes.specs.Equal.{same_text, same_labels, same_named}
 use Rattle.wac_shapes.proofs.Loops.{drop_at}
 
 -- a comparison of lists is one of what is seen of their items
-pointwise_seen : {A B : Type 0} (f : A → B) (E : A → A → Bool) (F : B → B → Bool) → ((a b : A) → E a b ≡ F (f a) (f b)) → (xs ys : List A) → pointwise E xs ys ≡ pointwise F (map f xs) (map f ys)
+pub pointwise_seen : {A B : Type 0} (f : A → B) (E : A → A → Bool) (F : B → B → Bool) → ((a b : A) → E a b ≡ F (f a) (f b)) → (xs ys : List A) → pointwise E xs ys ≡ pointwise F (map f xs) (map f ys)
 pointwise_seen f E F same [] [] = refl
 pointwise_seen f E F same [] (y ∷ ys) = refl
 pointwise_seen f E F same (x ∷ xs) [] = refl
@@ -24,35 +24,20 @@ seen_by_names E always xs ys = pointwise_seen (λ e. e.0) _ same_text (λ a b. f
 
 -- answers of `!=`
 pub not_true : (b : Bool) → true ≡ not b → b ≡ false
-not_true true h = let no : true ≡ false = h in cc
-not_true false h = refl
+not_true b h = not-true b (sym h)
 
 pub not_false : (b : Bool) → false ≡ not b → b ≡ true
-not_false true h = refl
-not_false false h = let no : false ≡ true = h in cc
+not_false b h = not-false b (sym h)
 
-pub first_fails : (a b : Bool) → a ≡ false → (a && b) ≡ false
-first_fails true b h = cc
-first_fails false b h = refl
+-- a comparison of two lists, one further on, and at the end
+module _ {A : Type 0} (E : A → A → Bool) (xs ys : List A) (i : ℕ) where
+  pub compared_more : (x y : A) (b : Bool) → slice_get xs i ≡ Some x → slice_get ys i ≡ Some y → E x y ≡ b → pointwise E (drop i xs) (drop i ys) ≡ pointwise E xs ys
+      → (b && pointwise E (drop (suc i) xs) (drop (suc i) ys)) ≡ pointwise E xs ys
+  compared_more x y b here there is so_far =
+      let first : pointwise E (drop i xs) (drop i ys) ≡ (E x y && pointwise E (drop (suc i) xs) (drop (suc i) ys)) = (λ j. pointwise E (drop_at xs i x here j) (drop_at ys i y there j)) in
+      ap (λ c. c && pointwise E (drop (suc i) xs) (drop (suc i) ys)) (sym is) ∙ sym first ∙ so_far
 
-pub second_fails : (a b : Bool) → b ≡ false → (a && b) ≡ false
-second_fails true b h = h
-second_fails false b h = refl
-
-pub both_hold : (a b : Bool) → a ≡ true → b ≡ true → (a && b) ≡ true
-both_hold true b h k = k
-both_hold false b h k = cc
-
--- a comparison of two lists, as far as a loop has come
-module _ {A : Type 0} (E : A → A → Bool) where
-  at_both : (xs ys : List A) (i : ℕ) (x y : A) → slice_get xs i ≡ Some x → slice_get ys i ≡ Some y → pointwise E (drop i xs) (drop i ys) ≡ (E x y && pointwise E (drop (suc i) xs) (drop (suc i) ys))
-  at_both xs ys i x y a b = ap (λ l. pointwise E l (drop i ys)) (drop_at xs i x a) ∙ ap (pointwise E (x ∷ drop (suc i) xs)) (drop_at ys i y b)
-
-  pub rest_differ : (xs ys : List A) (i : ℕ) (x y : A) → slice_get xs i ≡ Some x → slice_get ys i ≡ Some y → pointwise E (drop i xs) (drop i ys) ≡ pointwise E xs ys → E x y ≡ false → false ≡ pointwise E xs ys
-  rest_differ xs ys i x y a b inv f = sym (sym inv ∙ at_both xs ys i x y a b ∙ ap (λ c. c && pointwise E (drop (suc i) xs) (drop (suc i) ys)) f)
-
-  pub rest_same : (xs ys : List A) (i : ℕ) (x y : A) → slice_get xs i ≡ Some x → slice_get ys i ≡ Some y → pointwise E (drop i xs) (drop i ys) ≡ pointwise E xs ys → E x y ≡ true → pointwise E (drop (suc i) xs) (drop (suc i) ys) ≡ pointwise E xs ys
-  rest_same xs ys i x y a b inv t = sym (at_both xs ys i x y a b ∙ ap (λ c. c && pointwise E (drop (suc i) xs) (drop (suc i) ys)) t) ∙ inv
-
-  pub none_left : (xs ys : List A) (i : ℕ) → length xs ≤ i → length ys ≤ i → pointwise E (drop i xs) (drop i ys) ≡ pointwise E xs ys → true ≡ pointwise E xs ys
-  none_left xs ys i le more inv = sym (sym inv ∙ ap (λ l. pointwise E l (drop i ys)) (drop_of_length-le xs le) ∙ ap (pointwise E []) (drop_of_length-le ys more))
+  pub compared_all : length xs ≤ i → length ys ≤ i → pointwise E (drop i xs) (drop i ys) ≡ pointwise E xs ys → true ≡ pointwise E xs ys
+  compared_all le more so_far =
+      let left : pointwise E (drop i xs) (drop i ys) ≡ true = (λ j. pointwise E (drop_of_length-le xs le j) (drop_of_length-le ys more j)) in
+      sym left ∙ so_far

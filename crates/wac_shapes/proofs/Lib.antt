@@ -1,4 +1,5 @@
 pub mod Names
+pub mod Keyed
 pub mod EqualLemmas
 pub mod Loops
 pub mod AsGiven

@@ -1,9 +1,14 @@
 -- Values under a module and a name, in the order given.
-use Rattle.std.specs.Prelude.{ℕ, suc, ◌≡◌, Bool, false, ◌&&◌, if◌then◌else◌, List, [], ◌∷◌, Option, Some, None}
+use Rattle.std.specs.Prelude.{◌≡◌, Bool, true, false, ◌&&◌, ◌++◌, if◌then◌else◌, List, [], ◌∷◌, map, string_bytes, Option, Some, None}
 use Rattle.std.specs.Cmp.{IsEquivalence, IsPartialEquivalence, on_per, on_equiv, and_per, and_equiv, partial_equiv_from_equiv}
+use Rattle.std.specs.Cmp.Lexicographic.{bytes_decides}
+use Rattle.std.specs.Hash as fed
+use Rattle.std.specs.declared.string.String.{String}
+use Rattle.std.proofs.Common.{ap}
+use Rattle.std.proofs.lemmas.Bool.{and_parts}
 use Rattle.wac_primitives.specs.Name.{Name, same_name}
-use Rattle.wac_shapes.specs.Named.{find_under}
 use Rattle.wac_shapes.specs.Equal.{same_text, text_equiv}
+use Rattle.wac_shapes.specs.declared.imports.ImportKey.{ImportKey}
 
 -- a module, and a name there
 abbrev pub Pair : Type 0
@@ -22,15 +27,36 @@ abbrev pub NoImportTwice : {V : Type 0} → List (Pair × V) → Type 0
 NoImportTwice [] = Unit {0}
 NoImportTwice (e ∷ rest) = (find_import rest e.0.0 e.0.1 ≡ None) × NoImportTwice rest
 
--- where a module and a name stand, counted on from i; the first, where they stand twice
-abbrev pub position_under : {V : Type 0} → ℕ → Name → Name → List (Pair × V) → Option ℕ
-position_under i m n [] = None
-position_under i m n (e ∷ rest) = if same_pair m n e.0 then Some i else position_under (suc i) m n rest
+-- what a key of two texts stands for, and one that is borrowed
+abbrev pub pair_of : {A : Type 0} → String A × String A → Pair
+pair_of k = (string_bytes k.0, string_bytes k.1)
 
--- positions by module and then by name are those of the entries, of which no two are under the same names
-pub record ArePositions {V : Type 0} (positions : List (Name × List (Name × ℕ))) (es : List (Pair × V)) : Type 0 where
-  pub once : NoImportTwice es
-  pub at : (m n : Name) → find_under positions m n ≡ position_under 0 m n es
+abbrev pub borrowed_pair : ImportKey → Pair
+borrowed_pair k = (k.source.now, k.name.now)
+
+-- the entries of a map, each module and name as its bytes
+abbrev pub by_pairs : {A V : Type 0} → List ((String A × String A) × V) → List (Pair × V)
+by_pairs es = map (λ e. (pair_of e.0, e.1)) es
+
+-- when `==` answers that two keys are equal, and what a hash of one is fed
+abbrev pub same_key : Pair → Pair → Bool
+same_key a b = same_text a.0 b.0 && same_text a.1 b.1
+
+pub key_equiv : IsEquivalence same_key
+key_equiv = and_equiv (on_equiv (λ p. p.0) text_equiv) (on_equiv (λ p. p.1) text_equiv)
+
+pub same_key-true : (a b : Pair) → same_key a b ≡ true → a ≡ b
+same_key-true a b e =
+    let parts = and_parts (same_text a.0 b.0) (same_text a.1 b.1) e in
+    let source = (bytes_decides a.0 b.0).0 parts.0 in
+    let name = (bytes_decides a.1 b.1).0 parts.1 in
+    (λ i. (source i, name i))
+
+abbrev pub key_writes : Pair → fed.HashWrites
+key_writes p = fed.str p.0 ++ fed.str p.1
+
+pub same_key_writes : (a b : Pair) → same_key a b ≡ true → key_writes a ≡ key_writes b
+same_key_writes a b e = ap key_writes (same_key-true a b e)
 
 -- under the same names a clone, by C
 abbrev pub IsImportClone : {V : Type 0} → (V → V → Type 0) → Pair × V → Pair × V → Type 0
@@ -39,10 +65,10 @@ IsImportClone C e f = (f.0 ≡ e.0) × C e.1 f.1
 module _ {V : Type 0} where
   -- when `==` answers that they are equal: under the same names, with an equal value
   abbrev pub same_import : (V → V → Bool) → Pair × V → Pair × V → Bool
-  same_import E a b = (same_text a.0.0 b.0.0 && same_text a.0.1 b.0.1) && E a.1 b.1
+  same_import E a b = same_key a.0 b.0 && E a.1 b.1
 
   pub import_per : {E : V → V → Bool} → IsPartialEquivalence E → IsPartialEquivalence (same_import E)
-  import_per laws = and_per (and_per (on_per (λ e. e.0.0) (partial_equiv_from_equiv text_equiv)) (on_per (λ e. e.0.1) (partial_equiv_from_equiv text_equiv))) (on_per (λ e. e.1) laws)
+  import_per laws = and_per (on_per (λ e. e.0) (partial_equiv_from_equiv key_equiv)) (on_per (λ e. e.1) laws)
 
   pub import_equiv : {E : V → V → Bool} → IsEquivalence E → IsEquivalence (same_import E)
-  import_equiv laws = and_equiv (and_equiv (on_equiv (λ e. e.0.0) text_equiv) (on_equiv (λ e. e.0.1) text_equiv)) (on_equiv (λ e. e.1) laws)
+  import_equiv laws = and_equiv (on_equiv (λ e. e.0) key_equiv) (on_equiv (λ e. e.1) laws)

@@ -1,10 +1,11 @@
 -- Entries under names, in order.
-use Rattle.std.specs.Prelude.{ℕ, suc, ◌≡◌, if◌then◌else◌, List, [], ◌∷◌, ◌++◌, map, string_bytes, Option, Some, None, Box}
+use Rattle.std.specs.Prelude.{ℕ, suc, ◌≡◌, if◌then◌else◌, List, [], ◌∷◌, map, string_bytes, Option, Some, None, Box}
 use Rattle.std.specs.List.{AllZip}
 use Rattle.std.specs.Borrow.{Bor}
 use Rattle.std.specs.declared.string.String.{String}
-use Rattle.wac_primitives.specs.Name.{Name, same_name, find_name, option_case}
 use Rattle.std.specs.Option.{option_copied}
+use Rattle.indexmap.specs.IndexMap.{IndexMap}
+use Rattle.wac_primitives.specs.Name.{Name, same_name, find_name}
 use Rattle.wac_shapes.specs.declared.component.InterfaceId.{InterfaceId}
 use Rattle.wac_shapes.specs.declared.component.UsedType.{UsedType}
 
@@ -45,16 +46,7 @@ given_names names = map (λ n. n.now) names
 abbrev pub used_pairs : List (Bor (List ℕ) × InterfaceId × Option (Bor (List ℕ))) → List (Name × UsedType)
 used_pairs es = map (λ e. (e.0.now, record { interface = e.1; name = option_copied e.2 })) es
 
--- what stands under two names
-abbrev pub find_under : {V : Type 0} → List (Name × List (Name × V)) → Name → Name → Option V
-find_under es m n = option_case (find_name es m) None (λ inner. find_name inner n)
-
--- with a value under two names, behind the others under the first
-abbrev pub inserted_under : {V : Type 0} → List (Name × List (Name × V)) → Name → Name → V → List (Name × List (Name × V))
-inserted_under [] m n v = (m, (n, v) ∷ []) ∷ []
-inserted_under (e ∷ rest) m n v = if same_name m e.0 then (e.0, e.1 ++ (n, v) ∷ []) ∷ rest else e ∷ inserted_under rest m n v
-
--- what stands in a box, where there is one
-abbrev pub unboxed : {X A : Type 0} → Option (Box (List X) A) → List X
-unboxed None = []
-unboxed (Some b) = b.value
+-- what a map holds, each name as its bytes; nothing where there is no map
+abbrev pub mapped : {A V S Z : Type 0} → Option (Box (IndexMap (String A) V S) Z) → List (Name × V)
+mapped None = []
+mapped (Some b) = by_bytes b.value.entries

@@ -170,18 +170,12 @@ pub struct ResourceAlias {
 }
 
 /// A resource.
-#[derive(Clone, Debug, PartialEq, Eq)]
+#[derive(Clone, Debug, Drop, PartialEq, Eq)]
 pub struct Resource {
     /// Its name.
     pub name: Text,
     /// The resource that it is an alias of, where it is one.
     pub alias: Option<ResourceAlias>,
-}
-
-impl Drop for Resource {
-    fn drop(self) {
-        let Resource { name: _, alias: _ } = self;
-    }
 }
 
 impl Resource {
@@ -209,16 +203,10 @@ impl Resource {
 }
 
 /// A variant.
-#[derive(Clone, Debug, PartialEq, Eq)]
+#[derive(Clone, Debug, Drop, PartialEq, Eq)]
 pub struct Variant {
     /// The cases, in order, each with the type of its payload where it has one.
     pub cases: Named<Option<ValueType>>,
-}
-
-impl Drop for Variant {
-    fn drop(self) {
-        let Variant { cases: _ } = self;
-    }
 }
 
 impl Variant {
@@ -228,24 +216,16 @@ impl Variant {
         ensures names { OnOk result (NoNameTwice (named_pairs cases.now)) }
         ensures name_twice { result ≡ Err ShapeError.NameTwice → NoNameTwice (named_pairs cases.now) → ⊥ }
     {
-        match Named::from_pairs(alloc, cases) {
-            Ok(cases) => Ok(Variant { cases }),
-            Err(fault) => Err(fault),
-        }
+        let cases = Named::from_pairs(alloc, cases)?;
+        Ok(Variant { cases })
     }
 }
 
 /// A record.
-#[derive(Clone, Debug, PartialEq, Eq)]
+#[derive(Clone, Debug, Drop, PartialEq, Eq)]
 pub struct Record {
     /// The fields, in order.
     pub fields: Named<ValueType>,
-}
-
-impl Drop for Record {
-    fn drop(self) {
-        let Record { fields: _ } = self;
-    }
 }
 
 impl Record {
@@ -255,22 +235,14 @@ impl Record {
         ensures names { OnOk result (NoNameTwice (named_pairs fields.now)) }
         ensures name_twice { result ≡ Err ShapeError.NameTwice → NoNameTwice (named_pairs fields.now) → ⊥ }
     {
-        match Named::from_pairs(alloc, fields) {
-            Ok(fields) => Ok(Record { fields }),
-            Err(fault) => Err(fault),
-        }
+        let fields = Named::from_pairs(alloc, fields)?;
+        Ok(Record { fields })
     }
 }
 
 /// Flags.
-#[derive(Clone, Debug, PartialEq, Eq)]
+#[derive(Clone, Debug, Drop, PartialEq, Eq)]
 pub struct Flags(pub Labels);
-
-impl Drop for Flags {
-    fn drop(self) {
-        let Flags(_) = self;
-    }
-}
 
 impl Flags {
     /// Flags of these names, in the order given. Answers `NameTwice` where a name is given twice, and `OutOfMemory` where memory ran out.
@@ -279,22 +251,14 @@ impl Flags {
         ensures names { OnOk result (NoNameTwice (labelled (given_names names.now))) }
         ensures name_twice { result ≡ Err ShapeError.NameTwice → NoNameTwice (labelled (given_names names.now)) → ⊥ }
     {
-        match Labels::new(alloc, names) {
-            Ok(labels) => Ok(Flags(labels)),
-            Err(fault) => Err(fault),
-        }
+        let labels = Labels::new(alloc, names)?;
+        Ok(Flags(labels))
     }
 }
 
 /// An enumeration.
-#[derive(Clone, Debug, PartialEq, Eq)]
+#[derive(Clone, Debug, Drop, PartialEq, Eq)]
 pub struct Enum(pub Labels);
-
-impl Drop for Enum {
-    fn drop(self) {
-        let Enum(_) = self;
-    }
-}
 
 impl Enum {
     /// An enumeration of these names, in the order given. Answers `NameTwice` where a name is given twice, and `OutOfMemory` where memory ran out.
@@ -303,10 +267,8 @@ impl Enum {
         ensures names { OnOk result (NoNameTwice (labelled (given_names names.now))) }
         ensures name_twice { result ≡ Err ShapeError.NameTwice → NoNameTwice (labelled (given_names names.now)) → ⊥ }
     {
-        match Labels::new(alloc, names) {
-            Ok(labels) => Ok(Enum(labels)),
-            Err(fault) => Err(fault),
-        }
+        let labels = Labels::new(alloc, names)?;
+        Ok(Enum(labels))
     }
 }
 
@@ -406,14 +368,12 @@ impl FuncType {
         ensures names { OnOk result (NoNameTwice (named_pairs params.now)) }
         ensures name_twice { result ≡ Err ShapeError.NameTwice → NoNameTwice (named_pairs params.now) → ⊥ }
     {
-        match Named::from_pairs(alloc, params) {
-            Ok(params) => Ok(FuncType {
-                params,
-                result: returned,
-                is_async,
-            }),
-            Err(fault) => Err(fault),
-        }
+        let params = Named::from_pairs(alloc, params)?;
+        Ok(FuncType {
+            params,
+            result: returned,
+            is_async,
+        })
     }
 }
 
@@ -445,16 +405,15 @@ fn used_types(
     ensures name_twice { result ≡ Err ShapeError.NameTwice → NoNameTwice (used_pairs uses.now) → ⊥ }
 {
     let mut named = Named::new(alloc);
-    for i in 0..uses.len() {
-        let (name, interface, there) = uses[i];
-        let Ok(there) = optional_text(alloc, there) else {
+    for used in uses {
+        let Ok(name) = optional_text(alloc, used.2) else {
             return Err(ShapeError::OutOfMemory);
         };
-        let used = UsedType {
-            interface,
-            name: there,
+        let item = UsedType {
+            interface: used.1,
+            name,
         };
-        match named.insert(alloc, name, used) {
+        match named.insert(alloc, used.0, item) {
             Ok(()) => {}
             Err(fault) => return Err(fault),
         }
@@ -515,14 +474,9 @@ impl Interface {
         let Ok(id) = optional_text(alloc, id) else {
             return Err(ShapeError::OutOfMemory);
         };
-        let uses = match used_types(alloc, uses) {
-            Ok(uses) => uses,
-            Err(fault) => return Err(fault),
-        };
-        match Named::from_pairs(alloc, exports) {
-            Ok(exports) => Ok(Interface { id, uses, exports }),
-            Err(fault) => Err(fault),
-        }
+        let uses = used_types(alloc, uses)?;
+        let exports = Named::from_pairs(alloc, exports)?;
+        Ok(Interface { id, uses, exports })
     }
 }
 
@@ -583,23 +537,15 @@ impl World {
         let Ok(id) = optional_text(alloc, id) else {
             return Err(ShapeError::OutOfMemory);
         };
-        let uses = match used_types(alloc, uses) {
-            Ok(uses) => uses,
-            Err(fault) => return Err(fault),
-        };
-        let imports = match Named::from_pairs(alloc, imports) {
-            Ok(imports) => imports,
-            Err(fault) => return Err(fault),
-        };
-        match Named::from_pairs(alloc, exports) {
-            Ok(exports) => Ok(World {
-                id,
-                uses,
-                imports,
-                exports,
-            }),
-            Err(fault) => Err(fault),
-        }
+        let uses = used_types(alloc, uses)?;
+        let imports = Named::from_pairs(alloc, imports)?;
+        let exports = Named::from_pairs(alloc, exports)?;
+        Ok(World {
+            id,
+            uses,
+            imports,
+            exports,
+        })
     }
 }
 

@@ -1,184 +1,106 @@
 //! Values under a module and a name, in the order given.
-ghost use Rattle.std.specs.Prelude.{◌≡◌, ◌<◌, ◌++◌, ◌∷◌, ◌↔◌, IsTrue, [], length, slice_get, Some, Err, OnOk, OnErr, IfOk, IsSome};
+ghost use Rattle.std.specs.Prelude.{◌≡◌, ◌<◌, ◌++◌, ◌∷◌, ◌↔◌, IsTrue, List, [], length, slice_get, Some, Err, OnOk, OnErr, IsSome};
+ghost use Rattle.std.specs.Cmp.Lexicographic.{pointwise, lists_per, lists_equiv};
+ghost use Rattle.std.specs.Iterator.{YieldsFirstBy, item_count};
+ghost use Rattle.std.specs.List.{AllZip};
 ghost use Rattle.std.specs.Option.{option_copied};
-ghost use Rattle.wac_shapes.specs.Imports.{find_import, position_under, NoImportTwice};
+ghost use Rattle.wac_shapes.specs.Imports.{Pair, find_import, NoImportTwice, IsImportClone, same_import, import_per, import_equiv, by_pairs, pair_of, borrowed_pair, same_key, key_equiv, same_key_writes};
 
-use crate::mapped::Mapped;
-use crate::named::{ShapeError, Text};
+use crate::named::ShapeError;
+use indexmap::{Equivalent, IndexMap, map};
 use std::alloc::{AllocError, Global};
+use std::fmt;
 use std::marker::Model;
-use std::{fmt, slice};
 
-// A value, and the module and the name that it stands under.
-#[derive(Drop)]
-struct CoreImport<V> {
-    module: Text,
-    name: Text,
-    value: V,
+// A module and a name where they are, to look up what stands under them.
+#[derive(Clone, Copy, PartialEq, Eq, Hash)]
+struct ImportKey<'a> {
+    source: &'a str,
+    name: &'a str,
 }
 
-impl<V> Model for CoreImport<V> {
-    ghost use Rattle.wac_shapes.specs.Imports.{Pair};
+impl<'a> Equivalent<(String, String)> for ImportKey<'a> {
+    ghost equivalent = { λ q k. same_key (borrowed_pair q) (pair_of k) };
 
-    ghost Value = { Pair × V };
+    ghost respects_hash = { λ q k e. same_key_writes (borrowed_pair q) (pair_of k) e };
 
-    ghost view = { λ i. ((i.module, i.name), i.value) };
-}
+    ghost respects_eq = { λ q x y. key_equiv.congr (borrowed_pair q) (pair_of x) (pair_of y) };
 
-impl<V: Clone> Clone for CoreImport<V> {
-    ghost use Rattle.wac_shapes.specs.Imports.{IsImportClone};
-
-    ghost is_clone = { IsImportClone V.is_clone };
-
-    fn clone(&self) -> Result<CoreImport<V>, AllocError> {
-        let module = self.module.clone()?;
-        let name = self.name.clone()?;
-        let value = self.value.clone()?;
-        Ok(CoreImport {
-            module,
-            name,
-            value,
-        })
-    }
-}
-
-impl<V: PartialEq> PartialEq for CoreImport<V> {
-    ghost use Rattle.wac_shapes.specs.Imports.{same_import, import_per};
-
-    ghost eq = { same_import V.eq };
-
-    ghost laws = { import_per V.laws };
-
-    fn eq(&self, other: &CoreImport<V>) -> bool {
-        self.module == other.module && self.name == other.name && self.value == other.value
-    }
-}
-
-impl<V: Eq> Eq for CoreImport<V> {
-    ghost use Rattle.wac_shapes.specs.Imports.{import_equiv};
-
-    ghost laws = { import_equiv V.Eq.laws };
-}
-
-impl<V: Drop> CoreImport<V> {
-    // A value under a module and a name, which are copied.
-    fn new(alloc: Global, source: &str, name: &str, value: V) -> Result<CoreImport<V>, AllocError>
-        ensures { IfOk result (λ i. i ≡ ((source.now, name.now), value)) }
-    {
-        let module = Text::new(alloc, source)?;
-        let name = Text::new(alloc, name)?;
-        Ok(CoreImport {
-            module,
-            name,
-            value,
-        })
+    fn equivalent(&self, key: &(String, String)) -> bool {
+        self.source == key.0.as_str() && self.name == key.1.as_str()
     }
 }
 
 /// Values under a module and a name, in the order given. No name of a module stands twice. It shows as a map.
 pub struct CoreImports<V> {
-    // In the order given.
-    entries: Vec<CoreImport<V>>,
-    // The positions there, by module and then by name.
-    positions: Mapped<Mapped<usize>>,
+    entries: IndexMap<(String, String), V>,
 }
 
 impl<V: Drop> Drop for CoreImports<V> {
     fn drop(self) {
-        let CoreImports {
-            entries: _,
-            positions: _,
-        } = self;
+        let CoreImports { entries: _ } = self;
     }
 }
 
 impl<V> Model for CoreImports<V> {
-    ghost use Rattle.std.specs.Prelude.{List};
-    ghost use Rattle.wac_shapes.specs.Imports.{Pair, ArePositions};
-
     ghost Value = { List (Pair × V) };
 
-    ghost view = { λ i. i.entries.items };
-
-    ghost invariant = { λ i. ArePositions i.positions i.entries.items };
+    ghost view = { λ i. by_pairs i.entries.entries };
 }
 
 /// The clone has the same modules and names in the same order, and under them clones of the values. Answers `AllocError` where memory ran out.
 impl<V: Clone> Clone for CoreImports<V> {
-    ghost use Rattle.std.specs.List.{AllZip};
-    ghost use Rattle.wac_shapes.specs.Imports.{IsImportClone};
-
     ghost is_clone = { λ a b. AllZip (IsImportClone V.is_clone) a b };
 
     fn clone(&self) -> Result<CoreImports<V>, AllocError> {
         let entries = self.entries.clone()?;
-        let positions = self.positions.clone()?;
-        Ok(CoreImports { entries, positions })
+        Ok(CoreImports { entries })
     }
 }
 
 /// They are equal where the same names of the same modules stand in the same order, each with an equal value.
 impl<V: PartialEq> PartialEq for CoreImports<V> {
-    ghost use Rattle.std.specs.Cmp.Lexicographic.{pointwise, lists_per};
-    ghost use Rattle.wac_shapes.specs.Imports.{same_import, import_per};
-
     ghost eq = { pointwise (same_import V.eq) };
 
     ghost laws = { lists_per (import_per V.laws) };
 
     fn eq(&self, other: &CoreImports<V>) -> bool {
-        self.entries == other.entries
+        self.entries.as_slice() == other.entries.as_slice()
     }
 }
 
 impl<V: Eq> Eq for CoreImports<V> {
-    ghost use Rattle.std.specs.Cmp.Lexicographic.{lists_equiv};
-    ghost use Rattle.wac_shapes.specs.Imports.{import_equiv};
-
     ghost laws = { lists_equiv (import_equiv V.Eq.laws) };
 }
 
 impl<V: fmt::Debug> fmt::Debug for CoreImports<V> {
     fn fmt<W: fmt::Write>(&self, f: &mut fmt::Formatter<W>) -> fmt::Result {
-        let mut out = f.debug_map();
-        for (names, value) in self {
-            out.entry(&names, value);
-        }
-        out.finish()
+        f.debug_map().entries(self).finish()
     }
 }
 
 /// Values under a module and a name that are still to come, in order.
 #[derive(Drop)]
 pub struct CoreImportEntries<'a, V> {
-    entries: slice::Iter<'a, CoreImport<V>>,
+    entries: map::Iter<'a, (String, String), V>,
 }
 
 impl<'a, V> Model for CoreImportEntries<'a, V> {
-    ghost use Rattle.std.specs.Prelude.{List};
-    ghost use Rattle.std.specs.Slice.Iter.{iter_rest};
-    ghost use Rattle.wac_shapes.specs.Imports.{Pair};
-
     ghost Value = { List (Pair × V) };
 
-    ghost view = { λ e. iter_rest e.entries };
+    ghost view = { λ e. by_pairs e.entries };
 }
 
 impl<'a, V> Iterator for CoreImportEntries<'a, V> {
     type Item = ((&'a str, &'a str), &'a V);
-
-    ghost use Rattle.std.specs.Iterator.{YieldsFirstBy, item_count};
 
     ghost next_gives = { YieldsFirstBy (λ x. ((x.0.0.now, x.0.1.now), x.1.now)) (λ s. s) };
 
     ghost remaining = { item_count (λ s. s) };
 
     fn next(&mut self) -> Option<((&'a str, &'a str), &'a V)> {
-        let import = self.entries.next()?;
-        Some((
-            (import.module.as_str(), import.name.as_str()),
-            &import.value,
-        ))
+        let (names, value) = self.entries.next()?;
+        Some(((names.0.as_str(), names.1.as_str()), value))
     }
 }
 
@@ -200,8 +122,7 @@ impl<V> CoreImports<V> {
         ensures { result ≡ [] }
     {
         CoreImports {
-            entries: Vec::new(alloc),
-            positions: Mapped::new(alloc),
+            entries: IndexMap::new(alloc),
         }
     }
 
@@ -209,7 +130,8 @@ impl<V> CoreImports<V> {
     pub fn law(&self)
         ensures { NoImportTwice self.now }
     {
-        let _ = &self.entries;
+        // The length comes with the law that no key of the map stands twice.
+        let _ = self.entries.len();
     }
 
     /// The values under their modules and names, in order.
@@ -235,20 +157,11 @@ impl<V> CoreImports<V> {
         self.entries.is_empty()
     }
 
-    // The position of a name of a module.
-    fn position(&self, source: &str, name: &str) -> Option<usize>
-        ensures { result ≡ position_under 0 source.now name.now self.now }
-    {
-        let position = self.positions.get(source)?.get(name)?;
-        Some(*position)
-    }
-
     /// The value under a module and a name.
     pub fn get(&self, source: &str, name: &str) -> Option<&V>
         ensures { option_copied result ≡ find_import self.now source.now name.now }
     {
-        let position = self.position(source, name)?;
-        Some(&self.entries[position].value)
+        self.entries.get(ImportKey { source, name })
     }
 
     /// The module, the name and the value at a position, which is one of the list.
@@ -256,11 +169,8 @@ impl<V> CoreImports<V> {
         requires { index < length self.now }
         ensures { slice_get self.now index ≡ Some ((result.0.0.now, result.0.1.now), result.1.now) }
     {
-        let import = &self.entries[index];
-        (
-            (import.module.as_str(), import.name.as_str()),
-            &import.value,
-        )
+        let (names, value) = self.entries.get_index(index).unwrap();
+        ((names.0.as_str(), names.1.as_str()), value)
     }
 }
 
@@ -278,21 +188,18 @@ impl<V: Drop> CoreImports<V> {
         ensures refused { OnErr result (self.new ≡ self.old) }
         ensures name_twice { (result ≡ Err ShapeError.NameTwice) ↔ IsSome (find_import self.old source.now name.now) }
     {
-        if let Some(_) = self.position(source, name) {
+        if let Some(_) = self.get(source, name) {
             return Err(ShapeError::NameTwice);
         }
-        let position = self.entries.len();
-        let Ok(import) = CoreImport::new(alloc, source, name, value) else {
+        let Ok(source) = String::from_str(alloc, source) else {
             return Err(ShapeError::OutOfMemory);
         };
-        if self.entries.reserve(1).is_err() {
+        let Ok(name) = String::from_str(alloc, name) else {
             return Err(ShapeError::OutOfMemory);
+        };
+        match self.entries.insert((source, name), value) {
+            Ok(_) => Ok(()),
+            Err(_) => Err(ShapeError::OutOfMemory),
         }
-        match self.positions.insert_under(alloc, source, name, position) {
-            Ok(()) => {}
-            Err(fault) => return Err(fault),
-        }
-        self.entries.push(import).unwrap();
-        Ok(())
     }
 }

@@ -1,11 +1,18 @@
 //! Texts, and values under names in order.
 ghost use Rattle.std.specs.Prelude.{◌≡◌, ◌<◌, ◌++◌, ◌∷◌, ◌↔◌, ℕ, List, [], length, slice_get, Some, Err, IfOk, OnOk, OnErr, IsOk, IsSome, string_bytes};
+ghost use Rattle.std.specs.Cmp.{partial_equiv_from_equiv};
+ghost use Rattle.std.specs.Cmp.Lexicographic.{pointwise, lists_per, lists_equiv};
+ghost use Rattle.std.specs.Iterator.{YieldsFirstBy, item_count};
+ghost use Rattle.std.specs.List.{AllZip};
 ghost use Rattle.std.specs.Option.{option_map, option_copied};
+ghost use Rattle.std.specs.Slice.Iter.{iter_rest};
 ghost use Rattle.std.specs.Str.{bytes_eq};
-ghost use Rattle.wac_primitives.specs.Name.{find_name};
-ghost use Rattle.wac_shapes.specs.Named.{named_at, named_pairs, labelled, given_names, NoNameTwice};
+ghost use Rattle.wac_primitives.specs.Name.{Name, find_name};
+ghost use Rattle.wac_shapes.specs.Equal.{same_text, text_equiv, same_labels, labels_equiv, same_named, named_per, named_equiv};
+ghost use Rattle.wac_shapes.specs.Named.{named_at, by_bytes, named_pairs, names_of, labelled, given_names, AreNamedClones, NoNameTwice};
 
-use crate::mapped::{MappedEntries, Rest};
+use crate::mapped::Rest;
+use indexmap::map;
 use std::alloc::{AllocError, Global};
 use std::marker::Model;
 use std::{fmt, slice};
@@ -27,7 +34,7 @@ pub struct Text {
     text: String,
 }
 
-/// What texts, sequences, labels and values under names hold is let go of here, and not anew by each crate that drops one.
+/// What texts, sequences and values under names hold is let go of here, and not anew by each crate that drops one.
 impl Drop for Text {
     fn drop(self) {
         let Text { text: _ } = self;
@@ -55,9 +62,6 @@ impl Clone for Text {
 
 /// Texts are equal where their bytes are.
 impl PartialEq for Text {
-    ghost use Rattle.wac_shapes.specs.Equal.{same_text, text_equiv};
-    ghost use Rattle.std.specs.Cmp.{partial_equiv_from_equiv};
-
     ghost eq = { same_text };
 
     ghost laws = { partial_equiv_from_equiv text_equiv };
@@ -68,8 +72,6 @@ impl PartialEq for Text {
 }
 
 impl Eq for Text {
-    ghost use Rattle.wac_shapes.specs.Equal.{text_equiv};
-
     ghost laws = { text_equiv };
 }
 
@@ -108,8 +110,6 @@ impl<T: Drop> Drop for Sequence<T> {
 }
 
 impl<T> Model for Sequence<T> {
-    ghost use Rattle.std.specs.Prelude.{List};
-
     ghost Value = { List T };
 
     ghost view = { λ s. s.items.items };
@@ -117,8 +117,6 @@ impl<T> Model for Sequence<T> {
 
 /// The clone has clones of the values, in the same order. Answers `AllocError` where memory ran out.
 impl<T: Clone> Clone for Sequence<T> {
-    ghost use Rattle.std.specs.List.{AllZip};
-
     ghost is_clone = { λ a b. AllZip T.is_clone a b };
 
     fn clone(&self) -> Result<Sequence<T>, AllocError> {
@@ -130,9 +128,6 @@ impl<T: Clone> Clone for Sequence<T> {
 
 /// Sequences are equal where they have equal values in the same order.
 impl<T: PartialEq> PartialEq for Sequence<T> {
-    ghost use Rattle.std.specs.Cmp.Lexicographic.{pointwise};
-    ghost use Rattle.std.specs.Cmp.Lexicographic.{lists_per};
-
     ghost eq = { pointwise T.eq };
 
     ghost laws = { lists_per T.laws };
@@ -143,8 +138,6 @@ impl<T: PartialEq> PartialEq for Sequence<T> {
 }
 
 impl<T: Eq> Eq for Sequence<T> {
-    ghost use Rattle.std.specs.Cmp.Lexicographic.{lists_equiv};
-
     ghost laws = { lists_equiv T.Eq.laws };
 }
 
@@ -175,21 +168,12 @@ impl<T: Copy> Sequence<T> {
 }
 
 /// Names in order. None stands twice. It shows as a list of the names.
+#[derive(Drop)]
 pub struct Labels {
     names: Named<()>,
 }
 
-impl Drop for Labels {
-    fn drop(self) {
-        let Labels { names: _ } = self;
-    }
-}
-
 impl Model for Labels {
-    ghost use Rattle.std.specs.Prelude.{List};
-    ghost use Rattle.wac_primitives.specs.Name.{Name};
-    ghost use Rattle.wac_shapes.specs.Named.{names_of};
-
     ghost Value = { List Name };
 
     ghost view = { λ l. names_of l.names };
@@ -208,9 +192,6 @@ impl Clone for Labels {
 
 /// Labels are equal where they have the same names in the same order.
 impl PartialEq for Labels {
-    ghost use Rattle.wac_shapes.specs.Equal.{same_labels, labels_equiv};
-    ghost use Rattle.std.specs.Cmp.{partial_equiv_from_equiv};
-
     ghost eq = { same_labels };
 
     ghost laws = { partial_equiv_from_equiv labels_equiv };
@@ -221,18 +202,12 @@ impl PartialEq for Labels {
 }
 
 impl Eq for Labels {
-    ghost use Rattle.wac_shapes.specs.Equal.{labels_equiv};
-
     ghost laws = { labels_equiv };
 }
 
 impl fmt::Debug for Labels {
     fn fmt<W: fmt::Write>(&self, f: &mut fmt::Formatter<W>) -> fmt::Result {
-        let mut out = f.debug_list();
-        for name in self {
-            out.entry(&name);
-        }
-        out.finish()
+        f.debug_list().entries(self).finish()
     }
 }
 
@@ -258,8 +233,8 @@ impl Labels {
         let Ok(mut labels) = Named::with_capacity(alloc, names.len()) else {
             return Err(ShapeError::OutOfMemory);
         };
-        for i in 0..names.len() {
-            match labels.insert(alloc, names[i], ()) {
+        for name in names {
+            match labels.insert(alloc, *name, ()) {
                 Ok(()) => {}
                 Err(fault) => return Err(fault),
             }
@@ -307,10 +282,6 @@ pub struct LabelNames<'a> {
 }
 
 impl<'a> Model for LabelNames<'a> {
-    ghost use Rattle.std.specs.Prelude.{List};
-    ghost use Rattle.wac_primitives.specs.Name.{Name};
-    ghost use Rattle.wac_shapes.specs.Named.{names_of};
-
     ghost Value = { List Name };
 
     ghost view = { λ n. names_of n.entries };
@@ -318,8 +289,6 @@ impl<'a> Model for LabelNames<'a> {
 
 impl<'a> Iterator for LabelNames<'a> {
     type Item = &'a str;
-
-    ghost use Rattle.std.specs.Iterator.{YieldsFirstBy, item_count};
 
     ghost next_gives = { YieldsFirstBy (λ x. x.now) (λ s. s) };
 
@@ -345,8 +314,6 @@ struct Entry<V> {
 }
 
 impl<V> Model for Entry<V> {
-    ghost use Rattle.std.specs.Prelude.{List, ℕ, string_bytes};
-
     ghost Value = { List ℕ × V };
 
     ghost view = { λ e. (string_bytes e.name, e.value) };
@@ -385,14 +352,14 @@ fn is_same(a: &str, b: &str) -> bool
     a == b
 }
 
-// The position of a name in a list.
-fn position_among<V>(entries: &[Entry<V>], name: &str) -> Option<usize>
-    ensures { result ≡ option_map (λ p. p.0) (named_at 0 name.now entries.now) }
+// The position of a name in a list, and the value under it.
+fn found_among<'a, V>(entries: &'a [Entry<V>], name: &str) -> Option<(usize, &'a V)>
+    ensures { option_map (λ p. (p.0, p.1.now)) result ≡ named_at 0 name.now entries.now }
 {
     for i in 0..entries.len() {
-        let entry = &entries[i];
-        if is_same(name, entry.name.as_str()) {
-            return Some(i);
+        let (key, value) = entries[i].pair();
+        if is_same(name, key) {
+            return Some((i, value));
         }
     }
     None
@@ -413,9 +380,6 @@ impl<V: Drop> Drop for Named<V> {
 }
 
 impl<V> Model for Named<V> {
-    ghost use Rattle.std.specs.Prelude.{List, ℕ, ◌++◌};
-    ghost use Rattle.wac_shapes.specs.Named.{NoNameTwice};
-
     ghost Value = { List (List ℕ × V) };
 
     ghost view = { λ n. n.few.items ++ n.rest };
@@ -425,8 +389,6 @@ impl<V> Model for Named<V> {
 
 /// The clone has the same names in the same order, and under them clones of the values. Answers `AllocError` where memory ran out.
 impl<V: Clone> Clone for Named<V> {
-    ghost use Rattle.wac_shapes.specs.Named.{AreNamedClones};
-
     ghost is_clone = { λ a b. AreNamedClones V.is_clone a b };
 
     fn clone(&self) -> Result<Named<V>, AllocError> {
@@ -438,8 +400,6 @@ impl<V: Clone> Clone for Named<V> {
 
 /// They are equal where the same names stand in the same order, each with an equal value.
 impl<V: PartialEq> PartialEq for Named<V> {
-    ghost use Rattle.wac_shapes.specs.Equal.{same_named, named_per};
-
     ghost eq = { same_named V.eq };
 
     ghost laws = { named_per V.laws };
@@ -449,12 +409,7 @@ impl<V: PartialEq> PartialEq for Named<V> {
             return false;
         }
         for i in 0..self.len() {
-            let (name, value) = self.entry_at(i);
-            let (other_name, other_value) = other.entry_at(i);
-            if name != other_name {
-                return false;
-            }
-            if value != other_value {
+            if self.entry_at(i) != other.entry_at(i) {
                 return false;
             }
         }
@@ -463,18 +418,12 @@ impl<V: PartialEq> PartialEq for Named<V> {
 }
 
 impl<V: Eq> Eq for Named<V> {
-    ghost use Rattle.wac_shapes.specs.Equal.{named_equiv};
-
     ghost laws = { named_equiv V.Eq.laws };
 }
 
 impl<V: fmt::Debug> fmt::Debug for Named<V> {
     fn fmt<W: fmt::Write>(&self, f: &mut fmt::Formatter<W>) -> fmt::Result {
-        let mut out = f.debug_map();
-        for (name, value) in self {
-            out.entry(&name, value);
-        }
-        out.finish()
+        f.debug_map().entries(self).finish()
     }
 }
 
@@ -482,23 +431,17 @@ impl<V: fmt::Debug> fmt::Debug for Named<V> {
 #[derive(Drop)]
 pub struct Entries<'a, V> {
     few: slice::Iter<'a, Entry<V>>,
-    rest: MappedEntries<'a, V>,
+    rest: map::Iter<'a, String, V>,
 }
 
 impl<'a, V> Model for Entries<'a, V> {
-    ghost use Rattle.std.specs.Prelude.{List, ◌++◌};
-    ghost use Rattle.std.specs.Slice.Iter.{iter_rest};
-    ghost use Rattle.wac_primitives.specs.Name.{Name};
-
     ghost Value = { List (Name × V) };
 
-    ghost view = { λ e. iter_rest e.few ++ e.rest };
+    ghost view = { λ e. iter_rest e.few ++ by_bytes e.rest };
 }
 
 impl<'a, V> Iterator for Entries<'a, V> {
     type Item = (&'a str, &'a V);
-
-    ghost use Rattle.std.specs.Iterator.{YieldsFirstBy, item_count};
 
     ghost next_gives = { YieldsFirstBy (λ x. (x.0.now, x.1.now)) (λ s. s) };
 
@@ -507,7 +450,10 @@ impl<'a, V> Iterator for Entries<'a, V> {
     fn next(&mut self) -> Option<(&'a str, &'a V)> {
         match self.few.next() {
             Some(entry) => Some((entry.name.as_str(), &entry.value)),
-            None => self.rest.next(),
+            None => {
+                let (name, value) = self.rest.next()?;
+                Some((name.as_str(), value))
+            }
         }
     }
 }
@@ -583,11 +529,8 @@ impl<V> Named<V> {
     pub fn get_full(&self, name: &str) -> Option<(usize, &V)>
         ensures { option_map (λ p. (p.0, p.1.now)) result ≡ named_at 0 name.now self.now }
     {
-        match position_among(self.few.as_slice(), name) {
-            Some(index) => {
-                let (_, value) = self.few[index].pair();
-                Some((index, value))
-            }
+        match found_among(self.few.as_slice(), name) {
+            Some(found) => Some(found),
             None => {
                 let (index, value) = self.rest.get_full(name)?;
                 Some((self.few.len() + index, value))
@@ -670,9 +613,8 @@ impl<V: Copy> Named<V> {
         let Ok(mut named) = Named::with_capacity(alloc, pairs.len()) else {
             return Err(ShapeError::OutOfMemory);
         };
-        for i in 0..pairs.len() {
-            let (name, value) = pairs[i];
-            match named.insert(alloc, name, value) {
+        for pair in pairs {
+            match named.insert(alloc, pair.0, pair.1) {
                 Ok(()) => {}
                 Err(fault) => return Err(fault),
             }

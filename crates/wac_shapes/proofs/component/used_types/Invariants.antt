@@ -3,5 +3,5 @@ use Rattle.wac_shapes.specs.Named.{used_pairs}
 use Rattle.wac_shapes.proofs.component.used_types.Given as goal
 
 -- those so far
-abbrev pub invariant-loop-i : goal.invariant-loop-i
-invariant-loop-i l = l.named ≡ take l.i (used_pairs l.uses)
+abbrev pub invariant-loop-used : goal.invariant-loop-used
+invariant-loop-used l = l.named ≡ used_pairs (take l.used-index l.uses)

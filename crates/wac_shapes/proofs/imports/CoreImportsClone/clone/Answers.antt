@@ -1,6 +1,10 @@
-use Rattle.wac_shapes.proofs.Pairs.{positions_cloned}
+use Rattle.std.proofs.Common.{subst, List}
+use Rattle.std.specs.List.{AllZip}
+use Rattle.wac_shapes.specs.Imports.{Pair, IsImportClone, by_pairs, pair_of}
+use Rattle.wac_shapes.proofs.Keyed.{clones-seen}
 use Rattle.wac_shapes.proofs.imports.CoreImportsClone.clone.Goals as goal
 
-pub invariant_of-result : goal.invariant_of-result
-invariant_of-result g c =
-    positions_cloned g.V.Clone.is_clone c.self.inside.positions c.in_ok-positions.positions c.self.inside.entries.items c.in_ok-entries.entries.items c.self.invariant c.in_ok-positions.ensures.cases c.in_ok-entries.ensures.cases.0
+pub returns : goal.returns
+returns g c =
+    let P : List (Pair × _) → Type 0 = λ es. AllZip (IsImportClone g.V.Clone.is_clone) es (by_pairs c.in_ok-entries.entries.entries) in
+    record { cases = subst P c.self.view_is (clones-seen pair_of _ g.V.Clone.is_clone (λ k l same i. (same.0 i, same.1 i)) _ _ c.in_ok-entries.ensures.cases) }

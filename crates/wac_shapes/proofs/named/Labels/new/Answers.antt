@@ -1,22 +1,24 @@
-use Rattle.std.proofs.Common.{◌≡◌, ◌∙◌, ap, subst, Err, List}
+use Rattle.std.proofs.Common.{◌≡◌, ◌∙◌, ap, sym, subst, Err, List}
+use Rattle.std.proofs.lemmas.Simd.{map-map}
 use Rattle.wac_primitives.specs.Name.{Name}
-use Rattle.wac_shapes.specs.Named.{NoNameTwice, names_of, given_names}
+use Rattle.wac_shapes.specs.Named.{NoNameTwice, names_of}
 use Rattle.wac_shapes.specs.declared.named.ShapeError.TheVariants.{NameTwice}
-use Rattle.wac_shapes.proofs.AsGiven.{label_more, label_twice, all_labels, names_of-labelled}
+use Rattle.wac_shapes.proofs.AsGiven.{given_more, given_all, given_twice}
 use Rattle.wac_shapes.proofs.named.Labels.new.Goals as goal
 
 pub returns-in-Err-clause-name_twice : goal.returns-in-Err-clause-name_twice
 returns-in-Err-clause-name_twice c e once =
     let fault : c.in-Err.fault ≡ NameTwice = cc e in
-    label_twice c.args.names.now c.loop-i.labels c.loop-i.i _ c.loop-i-test.true c.loop-i.invariant (c.in-Err.ensures.name_twice.0 (ap Err fault)) once
+    let P : List (Name × Unit {0}) → Type 0 = λ es. NoNameTwice es in
+    given_twice (λ n. (n.now, tt)) c.args.names.now c.loop-name.name-index _ _ c.loop-name-test.true c.loop-name.invariant (c.in-Err.ensures.name_twice.0 (ap Err fault)) (subst P (map-map _ _ c.args.names.now) once)
 
-pub loop-i-preserved : goal.loop-i-preserved
-loop-i-preserved c = label_more c.args.names.now c.loop-i.labels c.insert.new.self c.loop-i.i _ c.loop-i-test.true c.loop-i.invariant c.in-Ok-insert.ensures.inserted
+pub loop-name-preserved : goal.loop-name-preserved
+loop-name-preserved c = given_more (λ n. (n.now, tt)) c.args.names.now c.loop-name.name-index _ _ _ c.loop-name-test.true c.loop-name.invariant c.in-Ok-insert.ensures.inserted
 
 pub returns-clause-built : goal.returns-clause-built
-returns-clause-built c = ap names_of (all_labels c.args.names.now c.loop-i.labels c.loop-i.i c.loop-i-test.false c.loop-i.invariant) ∙ names_of-labelled (given_names c.args.names.now)
+returns-clause-built c = ap names_of (given_all _ c.args.names.now c.loop-name.name-index c.loop-name.labels c.loop-name-test.false c.loop-name.invariant) ∙ map-map _ _ c.args.names.now
 
 pub returns-clause-names : goal.returns-clause-names
 returns-clause-names c =
     let P : List (Name × Unit {0}) → Type 0 = λ es. NoNameTwice es in
-    subst P (all_labels c.args.names.now c.loop-i.labels c.loop-i.i c.loop-i-test.false c.loop-i.invariant) c.law.ensures
+    subst P (given_all _ c.args.names.now c.loop-name.name-index c.loop-name.labels c.loop-name-test.false c.loop-name.invariant ∙ sym (map-map _ _ c.args.names.now)) c.law.ensures

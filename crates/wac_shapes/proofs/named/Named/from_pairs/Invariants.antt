@@ -3,5 +3,5 @@ use Rattle.wac_shapes.specs.Named.{named_pairs}
 use Rattle.wac_shapes.proofs.named.Named.from_pairs.Given as goal
 
 -- those so far
-abbrev pub invariant-loop-i : goal.invariant-loop-i
-invariant-loop-i g l = l.named ≡ take l.i (named_pairs l.pairs)
+abbrev pub invariant-loop-pair : goal.invariant-loop-pair
+invariant-loop-pair g l = l.named ≡ named_pairs (take l.pair-index l.pairs)

@@ -1,6 +1,6 @@
 use Rattle.std.proofs.Common.{◌≡◌, drop}
 use Rattle.wac_shapes.specs.Named.{named_at}
-use Rattle.wac_shapes.proofs.named.position_among.Given as goal
+use Rattle.wac_shapes.proofs.named.found_among.Given as goal
 
 -- what is sought among the rest is what is sought among all
 abbrev pub invariant-loop-i : goal.invariant-loop-i
