@@ -1,6 +1,7 @@
 -- Questions that settle a statement, from those that settle its parts.
-use Rattle.std.proofs.Common.{cond, Result, Ok, Err, IfOk, ℕ, zero, suc, Bool, true, false, List, [], ◌∷◌, ◌++◌, ◌≡◌, ◌<◌, ◌≤◌, length, refl, ap, sym, ◌∙◌, subst, arith, append_assoc, slice_index_or, ◌⊎◌, inl, inr}
+use Rattle.std.proofs.Common.{cond, ℕ, Bool, true, false, List, [], ◌∷◌, ◌++◌, ◌≡◌, ◌<◌, ◌≤◌, refl, ap, sym, ◌∙◌, subst, arith, append_assoc, ◌⊎◌, inl, inr}
 use Rattle.std.proofs.lemmas.List.{append-nil}
+use Rattle.std.proofs.lemmas.List.Elements.{All-contains, All-from_recursion}
 use Rattle.std.specs.List.{AllByRecursion, Contains, list_any}
 use Rattle.indexmap.specs.IndexSet.{insert_key}
 use Rattle.indexmap.proofs.CallerLemmas.{Contains-insert_key}
@@ -19,12 +20,15 @@ use Rattle.wac_subtyping.proofs.Unfolding.{all_map, all_left, all_both}
 use Rattle.wac_comparison.proofs.Lighter.{Lowers}
 
 pub all_at : {A : Type 0} (P : A → Type 0) (xs : List A) (x : A) → AllByRecursion P xs → Contains xs x → P x
-all_at P xs x h c = by xs c.0 h c.1 c.2
-  where
-    by : (xs : List _) (k : ℕ) → AllByRecursion P xs → k < length xs → slice_index_or xs k x ≡ x → P x
-    by [] k h lt e = absurd (omega (arith, lt))
-    by (y ∷ ys) zero h lt e = subst P e h.0
-    by (y ∷ ys) (suc k) h lt e = by ys k h.1 (omega (arith, lt)) e
+all_at P xs x h c = All-contains P xs x (All-from_recursion P xs h) c
+
+-- what holds of a question holds of those that were added where it was put
+pub all_only : (P : Question → Type 0) (q : Question) (added : List Question) → AllByRecursion (λ r. r ≡ q) added → P q → AllByRecursion P added
+all_only P q added only h = all_map (λ r. r ≡ q) P (λ r e. subst P (sym e) h) added only
+
+pub swapped : {A B : Type 0} → A ⊎ B → B ⊎ A
+swapped (inl a) = inr a
+swapped (inr b) = inl b
 
 -- what is the same where some answers are yes is so where more are
 pub same_more : (p : Collection × Collection) (qs added : List Question) (u v : _) → AreSame p qs u v → AreSame p (qs ++ added) u v
@@ -58,12 +62,12 @@ module _ (p : Collection × Collection) (n : ℕ) where
   settles_put o k q s same held below = record {
     added = s.added;
     grown = s.grown;
-    asked = all_map (λ r. r ≡ q) (IsAskableQuestion p) (λ r e. let P : Question → Type 0 = IsAskableQuestion p in subst P (sym e) held) s.added s.only;
+    asked = all_only (IsAskableQuestion p) q s.added s.only held;
     joined = λ j.
         let P : List Question → Type 0 = λ x. AreLinked p x k.classes.links.entries in
         let Q : _ → Type 0 = λ x. AreLinked p (o.questions.keys ++ s.added) x.links.entries in
         subst P (sym s.grown) (subst Q (sym same) (linked_more p o.questions.keys s.added o.classes.links.entries j));
-    complete = λ y. all_map (λ r. r ≡ q) (IsYes p) (λ r e. let P : Question → Type 0 = IsYes p in subst P (sym e) y) s.added s.only;
+    complete = λ y. all_only (IsYes p) q s.added s.only y;
     sound = λ _ h. all_at (IsYesBelow p n) k.questions.keys q h s.there below;
   }
 
@@ -98,9 +102,13 @@ rests_on t x y a b ps qs u v o k la lb f g asks = record {
     by n (inl le) = inl (below x a ps n la.lower le)
     by n (inr le) = inr (below y b qs n lb.lower le)
 
-pub if_ok : {A E : Type 0} (r : Result A E) (P Q : A → Type 0) → ((a : A) → P a → Q a) → IfOk r P → IfOk r Q
-if_ok (Ok a) P Q f h = f a h
-if_ok (Err e) P Q f h = tt
+-- a question whether types are so is settled by what its answer rests on
+pub asks_rested : {E : Type 0} (t : Bool) (x y : Collection) (a b : AnyType) (o k : Asked) → RestsOn t x y a b o k E → Asks t x y (a ∷ []) (b ∷ []) o k E
+asks_rested t x y a b o k s = record { settles = λ n ha hb below. s.settles n (by n below) }
+  where
+    by : (n : ℕ) → AreBelow x n (a ∷ []) ⊎ AreBelow y n (b ∷ []) → (type_weight x a ≤ n) ⊎ (type_weight y b ≤ n)
+    by n (inl h) = let lt = h.0 in inl (omega (arith, lt))
+    by n (inr h) = let lt = h.0 in inr (omega (arith, lt))
 
 -- a key that was inserted was put
 pub puts_inserted : (eq : Question → Question → Bool) → ((a b : Question) → eq a b ≡ true → a ≡ b) → (o k : List Question) (q : Question) → k ≡ insert_key eq o q → Puts o k q
@@ -109,6 +117,3 @@ puts_inserted eq same o k q e = let P : List Question → Type 0 = λ x. Puts o 
     by : (b : Bool) → list_any (eq q) o ≡ b → Puts o (insert_key eq o q) q
     by true h = record { added = []; grown = ap (λ b. cond b o (o ++ q ∷ [])) h ∙ sym (append-nil o); only = tt; there = Contains-insert_key eq same o q }
     by false h = record { added = q ∷ []; grown = ap (λ b. cond b o (o ++ q ∷ [])) h; only = (refl, tt); there = Contains-insert_key eq same o q }
-
-pub differ : false ≡ true → ⊥
-differ e = cc e

@@ -1,15 +1,15 @@
 -- `==` tells core types apart.
 use Rattle.std.proofs.Common.{ℕ, Bool, true, IsTrue, ◌↔◌, ◌≡◌, refl, ap, sym, subst, ◌∙◌, List, Option, Some}
 use Rattle.std.specs.Bool.{Decides}
-use Rattle.std.specs.Cmp.Lexicographic.{pointwise}
-use Rattle.std.proofs.lemmas.Slice.Eq.{slice_eq-Decides, bytes_eq-Decides}
+use Rattle.std.proofs.lemmas.Option.{same_Some}
+use Rattle.std.proofs.lemmas.Slice.Eq.{bytes_eq-Decides}
 use Rattle.std.specs.Str.{bytes_eq}
 use Rattle.wac_primitives.specs.contracts.core_types.CoreTypePartialEq.TheImpl as CoreEq
 use Rattle.wac_primitives.specs.declared.core_types.CoreType.{CoreType}
 use Rattle.wac_primitives.specs.declared.core_types.CoreType.TheVariants.{I32, I64, F32, F64, V128, Ref}
 use Rattle.wac_primitives.specs.declared.core_types.CoreRefType.TheVariants.{FuncRef, ExternRef}
 
-pub core_type_same : (a b : CoreType) → (CoreEq.ghosts).eq a b ≡ true → a ≡ b
+core_type_same : (a b : CoreType) → (CoreEq.ghosts).eq a b ≡ true → a ≡ b
 core_type_same I32 I32 e = refl
 core_type_same I64 I64 e = refl
 core_type_same F32 F32 e = refl
@@ -20,25 +20,15 @@ core_type_same (Ref ExternRef) (Ref ExternRef) e = refl
 core_type_same _ _ e = cc e
 
 core_type_itself : (a : CoreType) → (CoreEq.ghosts).eq a a ≡ true
-core_type_itself I32 = refl
-core_type_itself I64 = refl
-core_type_itself F32 = refl
-core_type_itself F64 = refl
-core_type_itself V128 = refl
 core_type_itself (Ref FuncRef) = refl
-core_type_itself (Ref ExternRef) = refl
+core_type_itself (Ref _) = refl
+core_type_itself _ = refl
 
-core_type_decides : (a b : CoreType) → Decides ((CoreEq.ghosts).eq a b) (a ≡ b)
+pub core_type_decides : (a b : CoreType) → Decides ((CoreEq.ghosts).eq a b) (a ≡ b)
 core_type_decides a b = (core_type_same a b, λ e. let P : CoreType → Type 0 = λ z. (CoreEq.ghosts).eq a z ≡ true in subst P e (core_type_itself a))
-
-pub core_lists : (xs ys : List CoreType) (r : Bool) → r ≡ pointwise (CoreEq.ghosts).eq xs ys → (IsTrue r ↔ (xs ≡ ys))
-core_lists xs ys r e = slice_eq-Decides core_type_decides xs ys r e
 
 -- names that texts are compared for
 pub called_same : (r : Bool) (a b m n : List ℕ) (o p : Option (List ℕ)) → r ≡ bytes_eq a b → a ≡ m → b ≡ n → o ≡ Some m → p ≡ Some n → (IsTrue r ↔ (o ≡ p))
 called_same r a b m n o p e f g h k =
     let d = bytes_eq-Decides a b in
-    (λ t. h ∙ ap Some (sym f ∙ d.0 (sym e ∙ t) ∙ g) ∙ sym k, λ q. e ∙ d.1 (f ∙ same m n (sym h ∙ q ∙ k) ∙ sym g))
-  where
-    same : (m n : List ℕ) → Some m ≡ Some n → m ≡ n
-    same m n e = cc
+    (λ t. h ∙ ap Some (sym f ∙ d.0 (sym e ∙ t) ∙ g) ∙ sym k, λ q. e ∙ d.1 (f ∙ same_Some m n (sym h ∙ q ∙ k) ∙ sym g))

@@ -7,8 +7,6 @@ use Rattle.wac_shapes.specs.declared.component.FuncTypeId.{FuncTypeId}
 use Rattle.wac_shapes.specs.declared.component.DefinedType.{DefinedType}
 use Rattle.wac_shapes.specs.declared.component.DefinedType.TheVariants as def
 use Rattle.wac_shapes.specs.declared.component.DefinedTypeId.{DefinedTypeId}
-use Rattle.wac_shapes.specs.declared.component.InterfaceId.{InterfaceId}
-use Rattle.wac_shapes.specs.declared.component.WorldId.{WorldId}
 use Rattle.wac_shapes.specs.declared.component.ResourceId.{ResourceId}
 use Rattle.wac_shapes.specs.declared.component.ValueType.{ValueType}
 use Rattle.wac_shapes.specs.declared.component.ValueType.TheVariants as val
@@ -24,7 +22,7 @@ use Rattle.wac_subtyping.specs.Ranks.{type_rank}
 use Rattle.wac_comparison.specs.Weights.{total, weight, heaviest, type_weight}
 use Rattle.wac_comparison.specs.Questions.{AreHeld, AreBelow}
 use Rattle.wac_subtyping.proofs.Unfolding.{all_map, before_held, before_rank}
-use Rattle.wac_comparison.proofs.Opens.{Opens, opens_func, opens_defined, primitive_in}
+use Rattle.wac_comparison.proofs.Opens.{Opens, in_case, opens_func, opens_defined, primitive_in}
 
 pub own_in : (c : Collection) (r : ResourceId) → value_in c (val.Own r) ≡ option_case (resource_names c (resolved c r)) absent own
 unfolding type_tree
@@ -75,42 +73,23 @@ module _ {L : Type 0} (t : ValueType → TypeTree L) (n : ℕ) where
   light_defined (def.Result ok err) e h = light_optional ok _ (omega (arith, h)) (light_optional err [] (omega (arith, h)) tt)
   light_defined (def.Variant v) e h = light_cases v.cases (omega (arith, h))
   light_defined (def.Record r) e h = light_seconds r.fields (omega (arith, h))
-  light_defined (def.Flags names) e h = tt
-  light_defined (def.Enum names) e h = tt
   light_defined (def.Alias v) e h = cc
   light_defined (def.Stream v) e h = light_optional v [] (omega (arith, h)) tt
   light_defined (def.Future v) e h = light_optional v [] (omega (arith, h)) tt
+  light_defined _ e h = tt
 
 light_types : (c : Collection) (n : ℕ) (vs : List ValueType) → AllByRecursion (λ v. weight (value_in c v) < n) vs → AreBelow c n (value_types vs)
 light_types c n [] h = tt
 light_types c n (v ∷ vs) h = (h.0, light_types c n vs h.1)
 
-weightless_own : (o : Option Name) → weight (option_case o absent own) ≡ 0
-weightless_own None = refl
-weightless_own (Some n) = refl
-
-weightless_borrow : (o : Option Name) → weight (option_case o absent borrow) ≡ 0
-weightless_borrow None = refl
-weightless_borrow (Some n) = refl
-
-weightless_resource : (o : Option Name) → weight (option_case o absent resource) ≡ 0
-weightless_resource None = refl
-weightless_resource (Some n) = refl
-
 -- how heavy what is held may be
 bounded : (c : Collection) (m : ℕ) (t : AnyType) → IsBefore c m t → type_weight c t ≤ suc (heaviest c + m)
-bounded c m (ty.Resource r) h = let e = ap weight (resource_in c r) ∙ weightless_resource (resource_names c (resolved c r)) in omega (arith, e)
-bounded c m (ty.Func f) h =
-    let w : ℕ → ℕ = λ i. weight (type_tree c (ty.Func (record { 0 = i }))) in
-    let l = total_at (length c.funcs) f.0 w (before_held c m (ty.Func f) h) in
-    omega (arith, l)
+bounded c m (ty.Resource r) h = let e = ap weight (resource_in c r) ∙ in_case (λ t. weight t ≡ 0) (resource_names c (resolved c r)) absent resource refl (λ n. refl) in omega (arith, e)
+bounded c m (ty.Func f) h = let l = total_at (length c.funcs) f.0 (λ i. weight (type_tree c (ty.Func (record { 0 = i })))) (before_held c m (ty.Func f) h) in omega (arith, l)
 bounded c m (ty.Value (val.Primitive p)) h = let e = ap weight (primitive_in c p) in omega (arith, e)
-bounded c m (ty.Value (val.Own r)) h = let e = ap weight (own_in c r) ∙ weightless_own (resource_names c (resolved c r)) in omega (arith, e)
-bounded c m (ty.Value (val.Borrow r)) h = let e = ap weight (borrow_in c r) ∙ weightless_borrow (resource_names c (resolved c r)) in omega (arith, e)
-bounded c m (ty.Value (val.Defined d)) h =
-    let w : ℕ → ℕ = λ i. weight (type_tree c (ty.Value (val.Defined (record { 0 = i })))) in
-    let l = total_at (length c.defined) d.0 w (before_held c m (ty.Value (val.Defined d)) h) in
-    omega (arith, l)
+bounded c m (ty.Value (val.Own r)) h = let e = ap weight (own_in c r) ∙ in_case (λ t. weight t ≡ 0) (resource_names c (resolved c r)) absent own refl (λ n. refl) in omega (arith, e)
+bounded c m (ty.Value (val.Borrow r)) h = let e = ap weight (borrow_in c r) ∙ in_case (λ t. weight t ≡ 0) (resource_names c (resolved c r)) absent borrow refl (λ n. refl) in omega (arith, e)
+bounded c m (ty.Value (val.Defined d)) h = let l = total_at (length c.defined) d.0 (λ i. weight (type_tree c (ty.Value (val.Defined (record { 0 = i }))))) (before_held c m (ty.Value (val.Defined d)) h) in omega (arith, l)
 bounded c m (ty.Interface i) h = let r = before_rank c m (ty.Interface i) h in omega (arith, r)
 bounded c m (ty.World i) h = let r = before_rank c m (ty.World i) h in omega (arith, r)
 bounded c m (ty.Module i) h = let r = before_rank c m (ty.Module i) h in omega (arith, r)
@@ -136,17 +115,12 @@ lowers_defined c wf d x at plain =
     let w : weight (defined_in c x) ≤ weight (value_in c (val.Defined d)) = let e = ap weight o.is in omega (arith, e) in
     record { held = held_of c _ (defined_mentions x) o.held; lower = light_types c _ (defined_values x) (light_defined (value_in c) _ x plain w); is = o.is }
 
-lowered : (c : Collection) (a : AnyType) (parts : List AnyType) (tree : TypeTree Name) → type_weight c a ≡ suc (heaviest c + type_rank c a) → Opens c a parts tree → Lowers c a parts tree
-lowered c a parts tree w o =
+-- what is no value type and no function is heavier than all that are
+pub lowers : (c : Collection) (a : AnyType) (parts : List AnyType) (tree : TypeTree Name) → type_weight c a ≡ suc (heaviest c + type_rank c a) → Opens c a parts tree → Lowers c a parts tree
+lowers c a parts tree w o =
     let r = o.rank in
     record {
       held = held_of c _ parts o.held;
       lower = all_map (IsBefore c o.before) (λ t. type_weight c t < type_weight c a) (λ t h. let b = bounded c o.before t h in omega (arith, b, w, r)) parts o.held;
       is = o.is;
     }
-
-pub lowers_interface : (c : Collection) (i : InterfaceId) (parts : List AnyType) (tree : TypeTree Name) → Opens c (ty.Interface i) parts tree → Lowers c (ty.Interface i) parts tree
-lowers_interface c i parts tree o = lowered c (ty.Interface i) parts tree refl o
-
-pub lowers_world : (c : Collection) (i : WorldId) (parts : List AnyType) (tree : TypeTree Name) → Opens c (ty.World i) parts tree → Lowers c (ty.World i) parts tree
-lowers_world c i parts tree o = lowered c (ty.World i) parts tree refl o

@@ -1,6 +1,7 @@
 -- What the types that a comparison opens are made of.
-use Rattle.std.proofs.Common.{ℕ, suc, List, ◌≡◌, refl, ap, ◌∙◌, subst, Some}
-use Rattle.wac_primitives.specs.Name.{Name}
+use Rattle.std.proofs.Common.{ℕ, suc, true, List, [], ◌≡◌, length, refl, ap, ◌∙◌, subst, Option, Some, None, nat_lt, slice_get}
+use Rattle.wac_primitives.specs.Name.{Name, option_case}
+use Rattle.wac_collection.specs.declared.collection.Held.{Held}
 use Rattle.wac_primitives.specs.declared.component.PrimitiveType.{PrimitiveType}
 use Rattle.wac_shapes.specs.declared.component.FuncType.{FuncType}
 use Rattle.wac_shapes.specs.declared.component.FuncTypeId.{FuncTypeId}
@@ -15,14 +16,18 @@ use Rattle.wac_shapes.specs.declared.core_types.ModuleType.{ModuleType}
 use Rattle.wac_shapes.specs.declared.component.ValueType.TheVariants as val
 use Rattle.wac_shapes.specs.declared.component.«Type».{«Type» as AnyType}
 use Rattle.wac_shapes.specs.declared.component.«Type».TheVariants as ty
-use Rattle.wac_collection.specs.Collection.{Collection, func_mentions, defined_mentions, interface_mentions, world_mentions, used_types, kind_types, IsWellFormed, IsBefore, AreBefore, item_at}
+use Rattle.wac_collection.specs.Collection.{Collection, func_mentions, defined_mentions, world_mentions, used_types, kind_types, IsWellFormed, IsBefore, AreBefore, item_at}
 use Rattle.wac_primitives.specs.Tree.{TypeTree, primitive, instance}
 use Rattle.wac_collection.specs.Held.{module_tree, of_held}
-use Rattle.wac_subtyping.specs.Subtype.{type_tree}
-use Rattle.wac_subtyping.specs.Subtype.{listed_in}
+use Rattle.wac_subtyping.specs.Subtype.{type_tree, listed_in}
 use Rattle.wac_comparison.specs.Compare.{value_in, func_in, defined_in, world_in}
 use Rattle.wac_subtyping.specs.Ranks.{rank_of_held, type_rank}
 use Rattle.wac_subtyping.proofs.Unfolding.{all_right, held_item, within, type_step}
+
+-- what holds of the one and of each of the others
+pub in_case : {A B : Type 0} (P : B → Type 0) (o : Option A) (b : B) (f : A → B) → P b → ((a : A) → P (f a)) → P (option_case o b f)
+in_case P None b f h g = h
+in_case P (Some a) b f h g = g a
 
 pub primitive_in : (c : Collection) (p : PrimitiveType) → value_in c (val.Primitive p) ≡ primitive p
 unfolding type_tree
@@ -35,54 +40,36 @@ pub record Opens (c : Collection) (a : AnyType) (parts : List AnyType) (tree : T
   pub held : AreBefore c before parts
   pub is : type_tree c a ≡ tree
 
+module _ {A : Type 0} (c : Collection) (a : AnyType) (mentions : A → List AnyType) (tree : A → TypeTree Name) where
+  opens : (xs : List (Held A)) (i : ℕ) → ((h : Held A) → slice_get xs i ≡ Some h → AreBefore c h.before (mentions h.item)) → type_rank c a ≡ rank_of_held (slice_get xs i)
+      → (nat_lt i (length xs) ≡ true → type_tree c a ≡ of_held tree (slice_get xs i)) → (x : A) → item_at xs i ≡ Some x → Opens c a (mentions x) (tree x)
+  opens xs i before rank step x at =
+      let h = held_item _ x at in
+      let P : A → Type 0 = λ y. AreBefore c h.0.before (mentions y) in
+      record {
+        before = h.0.before;
+        rank = rank ∙ ap rank_of_held h.1;
+        held = subst P h.2 (before h.0 h.1);
+        is = step (within xs i h.0 h.1) ∙ ap (of_held tree) h.1 ∙ ap tree h.2;
+      }
+
 pub opens_func : (c : Collection) → IsWellFormed c → (f : FuncTypeId) (x : FuncType) → item_at c.funcs f.0 ≡ Some x → Opens c (ty.Func f) (func_mentions x) (func_in c x)
 unfolding type_tree
-opens_func c wf f x at =
-    let h = held_item _ x at in
-    record {
-      before = h.0.before;
-      rank = ap rank_of_held h.1;
-      held = let P : FuncType → Type 0 = λ y. AreBefore c h.0.before (func_mentions y) in subst P h.2 (wf.funcs f.0 h.0 h.1).1;
-      is = type_step c wf (ty.Func f) (within c.funcs f.0 h.0 h.1) ∙ ap (of_held (func_in c)) h.1 ∙ ap (func_in c) h.2;
-    }
+opens_func c wf f = opens c (ty.Func f) func_mentions (func_in c) c.funcs f.0 (λ h e. (wf.funcs f.0 h e).1) refl (type_step c wf (ty.Func f))
 
 pub opens_defined : (c : Collection) → IsWellFormed c → (f : DefinedTypeId) (x : DefinedType) → item_at c.defined f.0 ≡ Some x → Opens c (ty.Value (val.Defined f)) (defined_mentions x) (defined_in c x)
 unfolding type_tree
-opens_defined c wf f x at =
-    let h = held_item _ x at in
-    record {
-      before = h.0.before;
-      rank = ap rank_of_held h.1;
-      held = let P : DefinedType → Type 0 = λ y. AreBefore c h.0.before (defined_mentions y) in subst P h.2 (wf.defined f.0 h.0 h.1).1;
-      is = type_step c wf (ty.Value (val.Defined f)) (within c.defined f.0 h.0 h.1) ∙ ap (of_held (defined_in c)) h.1 ∙ ap (defined_in c) h.2;
-    }
+opens_defined c wf f = opens c (ty.Value (val.Defined f)) defined_mentions (defined_in c) c.defined f.0 (λ h e. (wf.defined f.0 h e).1) refl (type_step c wf (ty.Value (val.Defined f)))
 
 pub opens_interface : (c : Collection) → IsWellFormed c → (i : InterfaceId) (x : Interface) → item_at c.interfaces i.0 ≡ Some x → Opens c (ty.Interface i) (kind_types x.exports) (instance (listed_in c x.exports))
 unfolding type_tree
-opens_interface c wf i x at =
-    let h = held_item _ x at in
-    let P : Interface → Type 0 = λ y. AreBefore c h.0.before (interface_mentions y) in
-    let f : Interface → TypeTree Name = λ y. instance (listed_in c y.exports) in
-    record {
-      before = h.0.before;
-      rank = ap rank_of_held h.1;
-      held = all_right (IsBefore c h.0.before) (used_types x.uses) (kind_types x.exports) (subst P h.2 (wf.interfaces i.0 h.0 h.1).1);
-      is = type_step c wf (ty.Interface i) (within c.interfaces i.0 h.0 h.1) ∙ ap (of_held f) h.1 ∙ ap f h.2;
-    }
+opens_interface c wf i = opens c (ty.Interface i) (λ x. kind_types x.exports) (λ x. instance (listed_in c x.exports)) c.interfaces i.0
+    (λ h e. all_right (IsBefore c h.before) (used_types h.item.uses) (kind_types h.item.exports) (wf.interfaces i.0 h e).1) refl (type_step c wf (ty.Interface i))
 
 pub opens_world : (c : Collection) → IsWellFormed c → (i : WorldId) (x : World) → item_at c.worlds i.0 ≡ Some x → Opens c (ty.World i) (world_mentions x) (world_in c x)
 unfolding type_tree
-opens_world c wf i x at =
-    let h = held_item _ x at in
-    let P : World → Type 0 = λ y. AreBefore c h.0.before (world_mentions y) in
-    record {
-      before = h.0.before;
-      rank = ap rank_of_held h.1;
-      held = subst P h.2 (wf.worlds i.0 h.0 h.1).1;
-      is = type_step c wf (ty.World i) (within c.worlds i.0 h.0 h.1) ∙ ap (of_held (world_in c)) h.1 ∙ ap (world_in c) h.2;
-    }
+opens_world c wf i = opens c (ty.World i) world_mentions (world_in c) c.worlds i.0 (λ h e. (wf.worlds i.0 h e).1) refl (type_step c wf (ty.World i))
 
-pub opens_module : (c : Collection) → IsWellFormed c → (i : ModuleTypeId) (x : ModuleType) → item_at c.modules i.0 ≡ Some x → type_tree c (ty.Module i) ≡ module_tree x
-opens_module c wf i x at =
-    let h = held_item _ x at in
-    type_step c wf (ty.Module i) (within c.modules i.0 h.0 h.1) ∙ ap (of_held module_tree) h.1 ∙ ap module_tree h.2
+pub opens_module : (c : Collection) → IsWellFormed c → (i : ModuleTypeId) (x : ModuleType) → item_at c.modules i.0 ≡ Some x → Opens c (ty.Module i) [] (module_tree x)
+unfolding type_tree
+opens_module c wf i = opens c (ty.Module i) (λ x. []) module_tree c.modules i.0 (λ h e. tt) refl (type_step c wf (ty.Module i))

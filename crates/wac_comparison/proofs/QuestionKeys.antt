@@ -1,8 +1,7 @@
 -- `==` tells questions apart.
-use Rattle.std.proofs.Common.{eq-eqb, Bool, true, false, ◌&&◌, ◌≡◌, refl, ap, sym, subst, rules}
-use Rattle.std.proofs.lemmas.Bool.{eqb-true}
-use denote.Enum.Bare.{same_true, true_same}
-use Rattle.std.specs.Cmp.{IsEquivalence}
+use Rattle.std.proofs.Common.{Bool, true, false, ◌≡◌, refl, ap, rules}
+use Rattle.std.proofs.lemmas.Bool.{and_parts, eqb-true}
+use denote.Enum.Bare.{same_true}
 use Rattle.std.specs.Bool.{beq}
 use Rattle.wac_primitives.specs.contracts.component.PrimitiveType.{the_type}
 use Rattle.wac_shapes.specs.contracts.component.ValueTypePartialEq.TheImpl as ValueEq
@@ -32,20 +31,15 @@ same_type (ty.World r) (ty.World s) e = ap (λ n. ty.World (record { 0 = n })) (
 same_type (ty.Module r) (ty.Module s) e = ap (λ n. ty.Module (record { 0 = n })) (eqb-true r.0 s.0 e)
 same_type _ _ e = cc e
 
-both : (p q : Bool) → (p && q) ≡ true → (p ≡ true) × (q ≡ true)
-both true q e = (refl, e)
-both false q e = cc e
-
 same_flag : (a b : Bool) → beq a b ≡ true → a ≡ b
 same_flag true true e = refl
-same_flag true false e = cc e
-same_flag false true e = cc e
 same_flag false false e = refl
+same_flag _ _ e = cc e
 
 pub same_question : (a b : Question) → (QuestionEq.eq-value).it a b ≡ true → a ≡ b
 same_question a b e =
-    let h = both (beq a.turned b.turned) _ e in
-    let k = both ((TypeEq.ghosts).eq a.first b.first) _ h.1 in
+    let h = and_parts (beq a.turned b.turned) _ e in
+    let k = and_parts ((TypeEq.ghosts).eq a.first b.first) _ h.1 in
     let t = same_flag a.turned b.turned h.0 in
     let f = same_type a.first b.first k.0 in
     let s = same_type a.second b.second k.1 in
@@ -53,47 +47,7 @@ same_question a b e =
 
 pub same_node : (a b : Node) → (NodeEq.eq-value).it a b ≡ true → a ≡ b
 same_node a b e =
-    let h = both (beq a.turned b.turned) _ e in
+    let h = and_parts (beq a.turned b.turned) _ e in
     let t = same_flag a.turned b.turned h.0 in
     let f = same_type a.ty b.ty h.1 in
     (λ i. record { turned = t i; ty = f i })
-
-value_itself : (v : ValueType) → (ValueEq.ghosts).eq v v ≡ true
-value_itself (val.Primitive p) = true_same the_type p p refl
-value_itself (val.Own r) = eq-eqb r.0 r.0 refl
-value_itself (val.Borrow r) = eq-eqb r.0 r.0 refl
-value_itself (val.Defined r) = eq-eqb r.0 r.0 refl
-
-type_itself : (v : AnyType) → (TypeEq.ghosts).eq v v ≡ true
-type_itself (ty.Resource r) = eq-eqb r.0 r.0 refl
-type_itself (ty.Func r) = eq-eqb r.0 r.0 refl
-type_itself (ty.Value v) = value_itself v
-type_itself (ty.Interface r) = eq-eqb r.0 r.0 refl
-type_itself (ty.World r) = eq-eqb r.0 r.0 refl
-type_itself (ty.Module r) = eq-eqb r.0 r.0 refl
-
-flag_itself : (a : Bool) → beq a a ≡ true
-flag_itself true = refl
-flag_itself false = refl
-
-all_three : (p q r : Bool) → p ≡ true → q ≡ true → r ≡ true → (p && (q && r)) ≡ true
-all_three p q r a b c = rw (a, b, c) refl
-
-question_itself : (a : Question) → (QuestionEq.eq-value).it a a ≡ true
-question_itself a = all_three _ _ _ (flag_itself a.turned) (type_itself a.first) (type_itself a.second)
-
--- a test that tells all things apart is an equivalence
-exact_laws : {K : Type 0} (E : K → K → Bool) → ((a b : K) → E a b ≡ true → a ≡ b) → ((a : K) → E a a ≡ true) → IsEquivalence E
-exact_laws E same itself = record {
-  refl = itself;
-  symm = λ x y. by (E x y) (E y x) (λ h. let P : _ → Type 0 = λ z. E z x ≡ true in subst P (same x y h) (itself x)) (λ h. let P : _ → Type 0 = λ z. E z y ≡ true in subst P (same y x h) (itself y));
-  congr = λ x y z h. ap (λ w. E w z) (same x y h);
-}
-  where
-    by : (p q : Bool) → (p ≡ true → q ≡ true) → (q ≡ true → p ≡ true) → p ≡ q
-    by true q f g = sym (f refl)
-    by false true f g = g refl
-    by false false f g = refl
-
-pub question_laws : IsEquivalence (QuestionEq.eq-value).it
-question_laws = exact_laws (QuestionEq.eq-value).it same_question question_itself

@@ -1,5 +1,6 @@
 -- The tree of a held type is of the type's sort, so it is there.
 use Rattle.std.proofs.Common.{ℕ, zero, suc, true, List, [], ◌∷◌, ◌≡◌, ◌≢◌, ◌<◌, length, refl, ap, sym, ◌∙◌, subst, Option, Some, None, arith, nat_lt, slice_get}
+use Rattle.std.proofs.lemmas.Bool.{ltb-true}
 use Rattle.wac_primitives.specs.Name.{Name, option_case}
 use Rattle.wac_collection.specs.declared.collection.Held.{Held}
 use Rattle.wac_shapes.specs.declared.component.Resource.{Resource}
@@ -10,10 +11,8 @@ use Rattle.wac_shapes.specs.declared.component.ValueType.{ValueType}
 use Rattle.wac_shapes.specs.declared.component.ValueType.TheVariants as val
 use Rattle.wac_shapes.specs.declared.component.«Type».{«Type» as AnyType}
 use Rattle.wac_shapes.specs.declared.component.«Type».TheVariants as ty
-use Rattle.wac_shapes.specs.declared.component.ItemKind.{ItemKind}
-use Rattle.wac_shapes.specs.declared.component.ItemKind.TheVariants as kind
 use Rattle.wac_collection.specs.Collection.{Collection, size, item_of, item_at, defined_mentions, IsWellFormed, IsBefore, IsValueBefore, AreBefore, AddedBefore, holds_type}
-use Rattle.wac_primitives.specs.Tree.{TypeTree, absent, own, borrow, resource, function, instance, component, module_of, fresh, type_equal, function_item, instance_item, component_item, module_item, value_item}
+use Rattle.wac_primitives.specs.Tree.{TypeTree, absent, own, borrow, resource, function, instance, component, module_of}
 use Rattle.wac_collection.specs.Held.{of_held, defined_tree, resolved, unfolded_to}
 use Rattle.wac_subtyping.specs.Subtype.{Sub, by_name, held_name, resource_names, type_tree}
 use Rattle.wac_comparison.specs.Questions.{AreThere}
@@ -28,13 +27,6 @@ tree_sort (function b ns ps r) = 2
 tree_sort (instance es) = 4
 tree_sort (component is es) = 5
 tree_sort (module_of is es) = 6
-tree_sort fresh = 7
-tree_sort (type_equal t) = 8
-tree_sort (function_item t) = 9
-tree_sort (instance_item t) = 10
-tree_sort (component_item t) = 11
-tree_sort (module_item t) = 12
-tree_sort (value_item t) = 13
 tree_sort _ = 3
 
 abbrev pub type_sort : AnyType → ℕ
@@ -45,23 +37,9 @@ type_sort (ty.Interface i) = 4
 type_sort (ty.World w) = 5
 type_sort (ty.Module m) = 6
 
-abbrev pub kind_sort : ItemKind → ℕ
-kind_sort (kind.TypeItem t) = 8
-kind_sort (kind.Func f) = 9
-kind_sort (kind.Instance i) = 10
-kind_sort (kind.Component w) = 11
-kind_sort (kind.Module m) = 12
-kind_sort (kind.Value v) = 13
-
 pub sub_sort : {L : Type 0} (a b : TypeTree L) → Sub a b → tree_sort a ≡ tree_sort b
 sub_sort a b (Sub.same _ q) = refl
-sub_sort a b (Sub.instances _ _ f) = refl
-sub_sort a b (Sub.components _ _ _ _ f g) = refl
-sub_sort a b (Sub.modules _ _ _ _ f g) = refl
-sub_sort a b (Sub.type_items _ _ s t) = refl
-sub_sort a b (Sub.instance_items _ _ s) = refl
-sub_sort a b (Sub.component_items _ _ s) = refl
-sub_sort a b (Sub.module_items _ _ s) = refl
+sub_sort a b _ = refl
 
 name_there : (P : Option Name → Type 0) (xs : List (Held Resource)) (i : ℕ) → ((n : Name) → P (Some n)) → nat_lt i (length xs) ≡ true → P (held_name (slice_get xs i))
 name_there P [] i f h = absurd (grind arith)
@@ -78,17 +56,7 @@ sort_held t s n (Some x) f h = f x refl h
 
 sort_defined : {L : Type 0} (t : ValueType → TypeTree L) (d : DefinedType) → ((v : ValueType) → d ≡ def.Alias v → tree_sort (t v) ≡ 3) → tree_sort (defined_tree t d) ≡ 3
 sort_defined t (def.Alias v) f = f v refl
-sort_defined t (def.Tuple vs) f = refl
-sort_defined t (def.List v) f = refl
-sort_defined t (def.FixedSizeList v n) f = refl
-sort_defined t (def.Option v) f = refl
-sort_defined t (def.Result v w) f = refl
-sort_defined t (def.Variant v) f = refl
-sort_defined t (def.Record v) f = refl
-sort_defined t (def.Flags v) f = refl
-sort_defined t (def.Enum v) f = refl
-sort_defined t (def.Stream v) f = refl
-sort_defined t (def.Future v) f = refl
+sort_defined t _ f = refl
 
 module _ (c : Collection) (wf : IsWellFormed c) where
   value_sort_to : (k : ℕ) (v : ValueType) → IsValueBefore c k v → tree_sort (unfolded_to by_name c (suc k) (resource_names c) (ty.Value v)) ≡ 3
@@ -114,16 +82,12 @@ module _ (c : Collection) (wf : IsWellFormed c) where
   unfolding type_tree
   type_tree_sort a h = sort_to (size c) a (type_before c wf a h)
 
-sort_there : {L : Type 0} (t : TypeTree L) (a : AnyType) → tree_sort t ≡ type_sort a → t ≢ absent
-sort_there t (ty.Resource r) h e = let k : 0 ≡ 1 = sym (ap tree_sort e) ∙ h in cc k
-sort_there t (ty.Func r) h e = let k : 0 ≡ 2 = sym (ap tree_sort e) ∙ h in cc k
-sort_there t (ty.Value r) h e = let k : 0 ≡ 3 = sym (ap tree_sort e) ∙ h in cc k
-sort_there t (ty.Interface r) h e = let k : 0 ≡ 4 = sym (ap tree_sort e) ∙ h in cc k
-sort_there t (ty.World r) h e = let k : 0 ≡ 5 = sym (ap tree_sort e) ∙ h in cc k
-sort_there t (ty.Module r) h e = let k : 0 ≡ 6 = sym (ap tree_sort e) ∙ h in cc k
+some_sort : (a : AnyType) → 0 ≡ type_sort a → ⊥
+some_sort (ty.Resource r) e = cc
+some_sort _ e = cc
 
 pub type_there : (c : Collection) → IsWellFormed c → (a : AnyType) → holds_type c a ≡ true → type_tree c a ≢ absent
-type_there c wf a h = sort_there (type_tree c a) a (type_tree_sort c wf a h)
+type_there c wf a h e = some_sort a (sym (ap tree_sort e) ∙ type_tree_sort c wf a h)
 
 pub are_there : (c : Collection) → IsWellFormed c → (n : ℕ) (ts : List AnyType) → AreBefore c n ts → AreThere c ts
 are_there c wf n ts = all_map (IsBefore c n) (λ t. type_tree c t ≢ absent) (λ t b. type_there c wf t (before_held c n t b)) ts
@@ -133,10 +97,7 @@ pub sorts_differ : (c d : Collection) → IsWellFormed c → IsWellFormed d → 
 sorts_differ c d wc wd a b ha hb n s = n (sym (type_tree_sort c wc a ha) ∙ sub_sort _ _ s ∙ type_tree_sort d wd b hb)
 
 pub resolved_less : (c : Collection) → IsWellFormed c → (r : ResourceId) → holds_type c (ty.Resource r) ≡ true → (resolved c r).0 < length c.resources
-resolved_less c wf r h = let k = resolved_held c wf r h in less (resolved c r).0 (length c.resources) k
-  where
-    less : (i n : ℕ) → nat_lt i n ≡ true → i < n
-    less i n e = grind arith
+resolved_less c wf r h = ltb-true (resolved c r).0 (length c.resources) (resolved_held c wf r h)
 
 -- what a resource is called, from the item
 pub resource_called : (c : Collection) (r q : ResourceId) (x : Resource) → q ≡ resolved c r → item_at c.resources q.0 ≡ Some x → resource_names c (resolved c r) ≡ Some x.name

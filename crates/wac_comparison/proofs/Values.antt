@@ -1,7 +1,7 @@
 -- Trees of value types, and what is asked of them.
-use Rattle.std.proofs.Common.{ℕ, zero, suc, Bool, true, ◌<◌, ◌⊎◌, inl, inr, List, [], ◌∷◌, ◌≡◌, ap, sym, ◌∙◌, subst, Option, Some, None, slice_get}
+use Rattle.std.proofs.Common.{ℕ, zero, suc, Bool, true, ◌<◌, ◌⊎◌, inl, inr, List, [], ◌∷◌, ◌≡◌, ◌↔◌, ap, sym, ◌∙◌, Option, Some, None, slice_get}
 use Rattle.std.specs.List.{AllByRecursion}
-use Rattle.wac_primitives.specs.Name.{Name, option_case}
+use Rattle.wac_primitives.specs.Name.{Name}
 use Rattle.wac_comparison.specs.declared.questions.Asked.{Asked}
 use Rattle.wac_collection.specs.declared.collection.Held.{Held}
 use Rattle.wac_primitives.specs.declared.component.PrimitiveType.{PrimitiveType}
@@ -11,38 +11,35 @@ use Rattle.wac_shapes.specs.declared.component.DefinedType.{DefinedType}
 use Rattle.wac_shapes.specs.declared.component.DefinedType.TheVariants as def
 use Rattle.wac_shapes.specs.declared.component.«Type».{«Type» as AnyType}
 use Rattle.wac_shapes.specs.declared.component.«Type».TheVariants as ty
-use Rattle.wac_collection.specs.Collection.{Collection, size, and_maybe, value_types, holds_type}
-use Rattle.wac_primitives.specs.Tree.{TypeTree, absent, primitive, own, borrow}
+use Rattle.wac_collection.specs.Collection.{Collection, size, holds_type}
+use Rattle.wac_primitives.specs.Tree.{TypeTree, absent, primitive, own, borrow, list_of, fixed_list_of, option_of, result_of, stream_of, future_of, function_item, value_item}
 use Rattle.wac_collection.specs.Held.{defined_tree, of_held, resolved, unfolded_to}
 use Rattle.wac_subtyping.specs.Subtype.{Sub, IsPlain, by_name, resource_names, type_tree}
-use Rattle.wac_comparison.specs.Compare.{value_in, optional_in}
-use Rattle.wac_comparison.specs.Questions.{AreBelow, AreThere, Refutes}
+use Rattle.wac_comparison.specs.Compare.{value_in}
+use Rattle.wac_comparison.specs.Questions.{AreBelow}
 use Rattle.wac_comparison.specs.Weights.{type_weight}
 use Rattle.wac_comparison.specs.Settling.{Asks}
-use Rattle.wac_comparison.proofs.Opens.{primitive_in}
+use Rattle.wac_comparison.proofs.Opens.{in_case, primitive_in}
 use Rattle.wac_subtyping.proofs.Relation.{plain_sub, plain_same}
 use Rattle.wac_comparison.proofs.Asking.{settles_now, settles_then, settles_iff}
 
--- the tree of a primitive, by its name
-pub primitive_inj : {L : Type 0} (p q : PrimitiveType) → (let tree : PrimitiveType → TypeTree L = primitive in tree p ≡ tree q) → p ≡ q
-primitive_inj p q e = cc
-
-pub primitives_same : (c d : Collection) (p q : PrimitiveType) → p ≡ q → value_in c (val.Primitive p) ≡ value_in d (val.Primitive q)
-primitives_same c d p q e = primitive_in c p ∙ ap primitive e ∙ sym (primitive_in d q)
-
-pub primitives_inj : (c d : Collection) (p q : PrimitiveType) → value_in c (val.Primitive p) ≡ value_in d (val.Primitive q) → p ≡ q
-primitives_inj c d p q e = primitive_inj p q (sym (primitive_in c p) ∙ e ∙ primitive_in d q)
-
 module _ {L : Type 0} where
-  plain_own : (o : Option L) → IsPlain (option_case o absent own)
-  plain_own None = tt
-  plain_own (Some l) = tt
+  -- what a tree of one or two others has in it
+  abbrev pub inner : TypeTree L → TypeTree L
+  inner (list_of t) = t
+  inner (fixed_list_of n t) = t
+  inner (option_of t) = t
+  inner (result_of t u) = t
+  inner (stream_of t) = t
+  inner (future_of t) = t
+  inner (function_item t) = t
+  inner (value_item t) = t
+  inner _ = absent
 
-  plain_borrow : (o : Option L) → IsPlain (option_case o absent borrow)
-  plain_borrow None = tt
-  plain_borrow (Some l) = tt
+  primitive_inj : (p q : PrimitiveType) → (let tree : PrimitiveType → TypeTree L = primitive in tree p ≡ tree q) → p ≡ q
+  primitive_inj p q e = cc
 
-  plain_held : (t : DefinedType → TypeTree L) → ((d : DefinedType) → IsPlain (t d)) → (o : Option (Held DefinedType)) → IsPlain (of_held t o)
+  pub plain_held : {A : Type 0} (t : A → TypeTree L) → ((a : A) → IsPlain (t a)) → (o : Option (Held A)) → IsPlain (of_held t o)
   plain_held t f None = tt
   plain_held t f (Some h) = f h.item
 
@@ -50,12 +47,18 @@ module _ {L : Type 0} where
   plain_defined t f (def.Alias v) = f v
   plain_defined t f _ = tt
 
+pub primitives_same : (c d : Collection) (p q : PrimitiveType) → p ≡ q → value_in c (val.Primitive p) ≡ value_in d (val.Primitive q)
+primitives_same c d p q e = primitive_in c p ∙ ap primitive e ∙ sym (primitive_in d q)
+
+pub primitives_inj : (c d : Collection) (p q : PrimitiveType) → value_in c (val.Primitive p) ≡ value_in d (val.Primitive q) → p ≡ q
+primitives_inj c d p q e = primitive_inj p q (sym (primitive_in c p) ∙ e ∙ primitive_in d q)
+
 -- trees of value types are plain
 plain_to : (c : Collection) (k : ℕ) (v : ValueType) → IsPlain (unfolded_to by_name c k (resource_names c) (ty.Value v))
 plain_to c zero v = tt
 plain_to c (suc k) (val.Primitive p) = tt
-plain_to c (suc k) (val.Own r) = plain_own (resource_names c (resolved c r))
-plain_to c (suc k) (val.Borrow r) = plain_borrow (resource_names c (resolved c r))
+plain_to c (suc k) (val.Own r) = in_case IsPlain (resource_names c (resolved c r)) absent own tt (λ n. tt)
+plain_to c (suc k) (val.Borrow r) = in_case IsPlain (resource_names c (resolved c r)) absent borrow tt (λ n. tt)
 plain_to c (suc k) (val.Defined d) =
     let t : ValueType → TypeTree Name = λ v. unfolded_to by_name c k (resource_names c) (ty.Value v) in
     plain_held (defined_tree t) (plain_defined t (plain_to c k)) (slice_get c.defined d.0)
@@ -63,6 +66,12 @@ plain_to c (suc k) (val.Defined d) =
 pub value_plain : (c : Collection) (v : ValueType) → IsPlain (value_in c v)
 unfolding type_tree
 value_plain c v = plain_to c (suc (size c)) v
+
+pub values_are : (x y : Collection) (v w : ValueType) → (value_in x v ≡ value_in y w) ↔ Sub (value_in x v) (value_in y w)
+values_are x y v w = (plain_same (value_in x v) (value_in y w) (value_plain x v), plain_sub (value_in x v) (value_in y w) (value_plain x v))
+
+pub sub_to : {L : Type 0} (a b u v : TypeTree L) → a ≡ u → b ≡ v → Sub u v → Sub a b
+sub_to a b u v e f s = rw (e, f) s
 
 module _ {t : Bool} {x y : Collection} where
   pub asks_now : {E : Type 0} {ps qs : List AnyType} {o : Asked} → E → Asks t x y ps qs o o E
@@ -85,28 +94,4 @@ module _ {t : Bool} {x y : Collection} where
   asks_then s r = record { settles = λ n hp hq b. settles_then _ _ _ _ _ (s.settles n hp hq b) (r.settles n hp hq b) }
 
   pub asks_values : (v w : ValueType) {o k : Asked} → Asks t x y (ty.Value v ∷ []) (ty.Value w ∷ []) o k (Sub (value_in x v) (value_in y w)) → Asks t x y (ty.Value v ∷ []) (ty.Value w ∷ []) o k (value_in x v ≡ value_in y w)
-  asks_values v w s = asks_iff (plain_sub (value_in x v) (value_in y w) (value_plain x v)) (plain_same (value_in x v) (value_in y w) (value_plain x v)) s
-
-pub optionals_none : (t : Bool) (x y : Collection) (v w : Option ValueType) (o : Asked) → v ≡ None → w ≡ None
-    → Asks t x y (value_types (and_maybe v [])) (value_types (and_maybe w [])) o o (optional_in x v ≡ optional_in y w)
-optionals_none t x y v w o e f = asks_now (ap (optional_in x) e ∙ sym (ap (optional_in y) f))
-
-pub first_lacks : (x y : Collection) (v w : Option ValueType) (b : ValueType) → v ≡ None → w ≡ Some b → Refutes x y (value_types (and_maybe v [])) (value_types (and_maybe w [])) (optional_in x v ≡ optional_in y w)
-first_lacks x y v w b e f = record {
-  refutes = λ hx hy q.
-      let P : Option ValueType → Type 0 = λ u. AreThere y (value_types (and_maybe u [])) in
-      (subst P f hy).0 (sym (ap (optional_in y) f) ∙ sym q ∙ ap (optional_in x) e);
-}
-
-pub second_lacks : (x y : Collection) (v w : Option ValueType) (a : ValueType) → v ≡ Some a → w ≡ None → Refutes x y (value_types (and_maybe v [])) (value_types (and_maybe w [])) (optional_in x v ≡ optional_in y w)
-second_lacks x y v w a e f = record {
-  refutes = λ hx hy q.
-      let P : Option ValueType → Type 0 = λ u. AreThere x (value_types (and_maybe u [])) in
-      (subst P e hx).0 (sym (ap (optional_in x) e) ∙ q ∙ ap (optional_in y) f);
-}
-
-pub primitives_along : (x y : Collection) (v w : ValueType) (p q : PrimitiveType) → v ≡ val.Primitive p → w ≡ val.Primitive q → p ≡ q → value_in x v ≡ value_in y w
-primitives_along x y v w p q a b e = ap (value_in x) a ∙ primitives_same x y p q e ∙ sym (ap (value_in y) b)
-
-pub primitives_back : (x y : Collection) (v w : ValueType) (p q : PrimitiveType) → v ≡ val.Primitive p → w ≡ val.Primitive q → value_in x v ≡ value_in y w → p ≡ q
-primitives_back x y v w p q a b e = primitives_inj x y p q (sym (ap (value_in x) a) ∙ e ∙ ap (value_in y) b)
+  asks_values v w s = let iff = values_are x y v w in asks_iff iff.1 iff.0 s

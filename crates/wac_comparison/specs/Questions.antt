@@ -1,5 +1,5 @@
 -- The questions of a comparison: pairs of types of which the first is to be a subtype of the second.
-use Rattle.std.specs.Prelude.{ℕ, ◌<◌, ◌≡◌, ◌≢◌, Bool, true, false, None, List, ◌++◌, ◌⊎◌}
+use Rattle.std.specs.Prelude.{ℕ, ◌<◌, ◌≡◌, ◌≢◌, Bool, true, false, not, None, List, ◌++◌, ◌⊎◌}
 use Rattle.std.specs.List.{AllByRecursion, Contains}
 use Rattle.wac_comparison.specs.declared.questions.Question.{Question}
 use Rattle.wac_shapes.specs.declared.component.«Type».{«Type» as AnyType}
@@ -21,8 +21,7 @@ first_of_pair false p = p.0
 first_of_pair true p = p.1
 
 abbrev pub second_of_pair : Bool → Collection × Collection → Collection
-second_of_pair false p = p.1
-second_of_pair true p = p.0
+second_of_pair t p = first_of_pair (not t) p
 
 -- a type that is no alias of a value type
 abbrev pub IsEnd : Collection → AnyType → Type 0

@@ -1,8 +1,7 @@
 //! What a comparison asks: types part by part, listed items name by name.
-ghost use Rattle.std.specs.Prelude.{◌≡◌, ◌≢◌, ◌↔◌, [], ◌∷◌, map, not, true, None, Err, IfOk, IsTrue};
+ghost use Rattle.std.specs.Prelude.{◌≡◌, ◌≢◌, [], ◌∷◌, map, not, true, None, Err, IfOk, IsTrue};
 ghost use Rattle.std.specs.Option.{option_copied};
 ghost use Rattle.wac_primitives.specs.Name.{find_name};
-ghost use Rattle.wac_primitives.specs.Tree.{fixed_list_of};
 ghost use Rattle.wac_collection.specs.Collection.{kind_types, value_types, and_maybe, seconds, case_values, func_mentions, defined_mentions, holds_type};
 ghost use Rattle.wac_shapes.specs.Kinds.{kind_type};
 ghost use Rattle.wac_collection.specs.Held.{resolved};
@@ -13,7 +12,7 @@ ghost use Rattle.wac_comparison.specs.Questions.{IsEnd, IsPlainType, Refutes};
 ghost use Rattle.wac_comparison.specs.Settling.{Asks, RestsOn, HasEnd};
 ghost use Rattle.wac_shapes.specs.declared.component.«Type».TheVariants as ty;
 
-use crate::fault::TypeFault;
+use crate::fault::{Answer, TypeFault};
 use crate::questions::{Asked, Question};
 use crate::small::has_small_parts;
 use wac_collection::{
@@ -47,7 +46,7 @@ impl<'a> Comparison<'a> {
     }
 
     // Asks whether one type is a subtype of another.
-    fn ask_type(self, asked: &mut Asked, a: Type, b: Type) -> Result<(), TypeFault>
+    fn ask_type(self, asked: &mut Asked, a: Type, b: Type) -> Answer
         ensures asked { IfOk result (λ _. Asks self.entry.turned self.entry.first.now self.entry.second.now (a ∷ []) (b ∷ []) asked.old asked.new (Sub (type_tree self.entry.first.now a) (type_tree self.entry.second.now b))) }
         ensures no_mismatch { result ≢ Err TypeFault.Mismatch }
     {
@@ -58,19 +57,14 @@ impl<'a> Comparison<'a> {
             first,
             second,
         };
-        if are_plain(first, second) {
+        if is_plain(first) && is_plain(second) {
             return asked.put_plain(question);
         }
         asked.put(question)
     }
 
     /// Asks whether one value type is another, which is a question of its own unless both are primitives.
-    pub(crate) fn ask_part(
-        self,
-        asked: &mut Asked,
-        v: ValueType,
-        w: ValueType,
-    ) -> Result<(), TypeFault>
+    pub(crate) fn ask_part(self, asked: &mut Asked, v: ValueType, w: ValueType) -> Answer
         ensures asked { IfOk result (λ _. Asks self.entry.turned self.entry.first.now self.entry.second.now (ty.Value v ∷ []) (ty.Value w ∷ []) asked.old asked.new (value_in self.entry.first.now v ≡ value_in self.entry.second.now w)) }
         ensures mismatch { result ≡ Err TypeFault.Mismatch → value_in self.entry.first.now v ≡ value_in self.entry.second.now w → ⊥ }
     {
@@ -81,12 +75,7 @@ impl<'a> Comparison<'a> {
     }
 
     // Asks whether both are there and one is the other, or neither is there.
-    fn ask_optional(
-        self,
-        asked: &mut Asked,
-        v: Option<ValueType>,
-        w: Option<ValueType>,
-    ) -> Result<(), TypeFault>
+    fn ask_optional(self, asked: &mut Asked, v: Option<ValueType>, w: Option<ValueType>) -> Answer
         ensures asked { IfOk result (λ _. Asks self.entry.turned self.entry.first.now self.entry.second.now (value_types (and_maybe v [])) (value_types (and_maybe w [])) asked.old asked.new (optional_in self.entry.first.now v ≡ optional_in self.entry.second.now w)) }
         ensures mismatch { result ≡ Err TypeFault.Mismatch → Refutes self.entry.first.now self.entry.second.now (value_types (and_maybe v [])) (value_types (and_maybe w [])) (optional_in self.entry.first.now v ≡ optional_in self.entry.second.now w) }
     {
@@ -98,12 +87,7 @@ impl<'a> Comparison<'a> {
     }
 
     // Asks whether the value types of one list are those of the other.
-    fn ask_values(
-        self,
-        asked: &mut Asked,
-        vs: &[ValueType],
-        ws: &[ValueType],
-    ) -> Result<(), TypeFault>
+    fn ask_values(self, asked: &mut Asked, vs: &[ValueType], ws: &[ValueType]) -> Answer
         ensures asked { IfOk result (λ _. Asks self.entry.turned self.entry.first.now self.entry.second.now (value_types vs.now) (value_types ws.now) asked.old asked.new (map (value_in self.entry.first.now) vs.now ≡ map (value_in self.entry.second.now) ws.now)) }
         ensures mismatch { result ≡ Err TypeFault.Mismatch → map (value_in self.entry.first.now) vs.now ≡ map (value_in self.entry.second.now) ws.now → ⊥ }
     {
@@ -117,12 +101,7 @@ impl<'a> Comparison<'a> {
     }
 
     // Asks whether the names of one list are those of the other, and the value types under them.
-    fn ask_named(
-        self,
-        asked: &mut Asked,
-        vs: &Named<ValueType>,
-        ws: &Named<ValueType>,
-    ) -> Result<(), TypeFault>
+    fn ask_named(self, asked: &mut Asked, vs: &Named<ValueType>, ws: &Named<ValueType>) -> Answer
         ensures asked { IfOk result (λ _. Asks self.entry.turned self.entry.first.now self.entry.second.now (value_types (seconds vs.now)) (value_types (seconds ws.now)) asked.old asked.new (map (entry_in self.entry.first.now) vs.now ≡ map (entry_in self.entry.second.now) ws.now)) }
         ensures mismatch { result ≡ Err TypeFault.Mismatch → map (entry_in self.entry.first.now) vs.now ≡ map (entry_in self.entry.second.now) ws.now → ⊥ }
     {
@@ -146,7 +125,7 @@ impl<'a> Comparison<'a> {
         asked: &mut Asked,
         cs: &Named<Option<ValueType>>,
         ds: &Named<Option<ValueType>>,
-    ) -> Result<(), TypeFault>
+    ) -> Answer
         ensures asked { IfOk result (λ _. Asks self.entry.turned self.entry.first.now self.entry.second.now (value_types (case_values cs.now)) (value_types (case_values ds.now)) asked.old asked.new (map (case_in self.entry.first.now) cs.now ≡ map (case_in self.entry.second.now) ds.now)) }
         ensures mismatch { result ≡ Err TypeFault.Mismatch → Refutes self.entry.first.now self.entry.second.now (value_types (case_values cs.now)) (value_types (case_values ds.now)) (map (case_in self.entry.first.now) cs.now ≡ map (case_in self.entry.second.now) ds.now) }
     {
@@ -154,10 +133,12 @@ impl<'a> Comparison<'a> {
             return Err(TypeFault::Mismatch);
         }
         for i in 0..cs.len() {
-            if cs.name_at(i) != ds.name_at(i) {
+            let (case, v) = cs.entry_at(i);
+            let (other, w) = ds.entry_at(i);
+            if case != other {
                 return Err(TypeFault::Mismatch);
             }
-            self.ask_optional(asked, *cs.value_at(i), *ds.value_at(i))?;
+            self.ask_optional(asked, *v, *w)?;
         }
         Ok(())
     }
@@ -175,48 +156,23 @@ impl<'a> Comparison<'a> {
     }
 
     // Asks whether one function type is the other. Those of few parameters under short names are looked into at once.
-    fn ask_func_type(self, asked: &mut Asked, i: FuncTypeId, j: FuncTypeId) -> Result<(), TypeFault>
+    fn ask_func_type(self, asked: &mut Asked, i: FuncTypeId, j: FuncTypeId) -> Answer
         ensures asked { IfOk result (λ _. Asks self.entry.turned self.entry.first.now self.entry.second.now (ty.Func i ∷ []) (ty.Func j ∷ []) asked.old asked.new (Sub (type_tree self.entry.first.now (ty.Func i)) (type_tree self.entry.second.now (ty.Func j)))) }
         ensures mismatch { result ≡ Err TypeFault.Mismatch → Sub (type_tree self.entry.first.now (ty.Func i)) (type_tree self.entry.second.now (ty.Func j)) → ⊥ }
     {
         self.first.law();
         self.second.law();
-        if !self.first.contains(Type::Func(i)) || !self.second.contains(Type::Func(j)) {
-            return self.ask_type(asked, Type::Func(i), Type::Func(j));
+        if self.first.contains(Type::Func(i)) && self.second.contains(Type::Func(j)) {
+            let f = &self.first[i];
+            if has_small_parts(&f.params) {
+                return self.ask_func(asked, f, &self.second[j]);
+            }
         }
-        let f = &self.first[i];
-        let g = &self.second[j];
-        if !has_small_parts(&f.params) {
-            return self.ask_type(asked, Type::Func(i), Type::Func(j));
-        }
-        self.ask_func(asked, f, g)
-    }
-
-    // Asks whether lists of fixed lengths have the same length, and the same value type.
-    fn ask_fixed(
-        self,
-        asked: &mut Asked,
-        v: ValueType,
-        m: u32,
-        w: ValueType,
-        n: u32,
-    ) -> Result<(), TypeFault>
-        ensures asked { IfOk result (λ _. Asks self.entry.turned self.entry.first.now self.entry.second.now (ty.Value v ∷ []) (ty.Value w ∷ []) asked.old asked.new (fixed_list_of m (value_in self.entry.first.now v) ≡ fixed_list_of n (value_in self.entry.second.now w))) }
-        ensures mismatch { result ≡ Err TypeFault.Mismatch → fixed_list_of m (value_in self.entry.first.now v) ≡ fixed_list_of n (value_in self.entry.second.now w) → ⊥ }
-    {
-        if m != n {
-            return Err(TypeFault::Mismatch);
-        }
-        self.ask_value(asked, v, w)
+        self.ask_type(asked, Type::Func(i), Type::Func(j))
     }
 
     // Asks whether one definition is the other; neither is an alias.
-    fn ask_defined(
-        self,
-        asked: &mut Asked,
-        d: &DefinedType,
-        e: &DefinedType,
-    ) -> Result<(), TypeFault>
+    fn ask_defined(self, asked: &mut Asked, d: &DefinedType, e: &DefinedType) -> Answer
         requires first { aliased d.now ≡ None }
         requires second { aliased e.now ≡ None }
         ensures asked { IfOk result (λ _. Asks self.entry.turned self.entry.first.now self.entry.second.now (defined_mentions d.now) (defined_mentions e.now) asked.old asked.new (defined_in self.entry.first.now d.now ≡ defined_in self.entry.second.now e.now)) }
@@ -227,8 +183,8 @@ impl<'a> Comparison<'a> {
                 self.ask_values(asked, vs.as_slice(), ws.as_slice())
             }
             (DefinedType::List(v), DefinedType::List(w)) => self.ask_value(asked, *v, *w),
-            (DefinedType::FixedSizeList(v, m), DefinedType::FixedSizeList(w, n)) => {
-                self.ask_fixed(asked, *v, *m, *w, *n)
+            (DefinedType::FixedSizeList(v, m), DefinedType::FixedSizeList(w, n)) if *m == *n => {
+                self.ask_value(asked, *v, *w)
             }
             (DefinedType::Option(v), DefinedType::Option(w)) => self.ask_value(asked, *v, *w),
             (DefinedType::Result { ok: v, err: f }, DefinedType::Result { ok: w, err: g }) => {
@@ -256,7 +212,11 @@ impl<'a> Comparison<'a> {
         ensures same { IfOk result (λ _. resource_names self.entry.first.now (resolved self.entry.first.now r) ≡ resource_names self.entry.second.now (resolved self.entry.second.now s)) }
         ensures mismatch { result ≡ Err TypeFault.Mismatch → resource_names self.entry.first.now (resolved self.entry.first.now r) ≡ resource_names self.entry.second.now (resolved self.entry.second.now s) → ⊥ }
     {
-        if same_resource(r, self.first, s, self.second) {
+        self.first.law();
+        self.second.law();
+        let first = &self.first[self.first.resolve_resource(r)];
+        let second = &self.second[self.second.resolve_resource(s)];
+        if first.name.as_str() == second.name.as_str() {
             Ok(())
         } else {
             Err(TypeFault::Mismatch)
@@ -300,8 +260,9 @@ impl<'a> Comparison<'a> {
     {
         ys.law();
         for i in 0..ys.len() {
-            match item_near(xs, i, ys.name_at(i)) {
-                Some(x) => self.ask_kinds(asked, *x, *ys.value_at(i))?,
+            let (name, y) = ys.entry_at(i);
+            match item_near(xs, i, name) {
+                Some(x) => self.ask_kinds(asked, *x, *y)?,
                 None => return Err(TypeFault::Mismatch),
             }
         }
@@ -357,51 +318,16 @@ fn is_plain(ty: Type) -> bool
     }
 }
 
-// Whether each is a subtype of its equal alone.
-fn are_plain(a: Type, b: Type) -> bool
-    ensures { IsTrue result → IsPlainType a × IsPlainType b }
-{
-    is_plain(a) && is_plain(b)
-}
-
-// Whether the names are the same, in the same order.
-fn same_labels(xs: &Labels, ys: &Labels) -> bool
-    ensures { IsTrue result ↔ (xs.now ≡ ys.now) }
-{
-    if xs.len() != ys.len() {
-        return false;
-    }
-    for i in 0..xs.len() {
-        if xs.name_at(i) != ys.name_at(i) {
-            return false;
-        }
-    }
-    true
-}
-
-// The same, with `Mismatch` for no.
-fn ask_labels(xs: &Labels, ys: &Labels) -> Result<(), TypeFault>
+// Asks whether the names are the same, in the same order.
+fn ask_labels(xs: &Labels, ys: &Labels) -> Answer
     ensures same { IfOk result (λ _. xs.now ≡ ys.now) }
     ensures mismatch { result ≡ Err TypeFault.Mismatch → xs.now ≡ ys.now → ⊥ }
 {
-    if same_labels(xs, ys) {
+    if xs == ys {
         Ok(())
     } else {
         Err(TypeFault::Mismatch)
     }
-}
-
-// Whether the resources at the ends of the aliases have the same name.
-fn same_resource(r: ResourceId, at: &Types, s: ResourceId, bt: &Types) -> bool
-    requires first { holds_type at.now (ty.Resource r) ≡ true }
-    requires second { holds_type bt.now (ty.Resource s) ≡ true }
-    ensures { IsTrue result ↔ (resource_names at.now (resolved at.now r) ≡ resource_names bt.now (resolved bt.now s)) }
-{
-    at.law();
-    bt.law();
-    let first = &at[at.resolve_resource(r)];
-    let second = &bt[bt.resolve_resource(s)];
-    first.name.as_str() == second.name.as_str()
 }
 
 // The item under a name, looked for at a position first.
@@ -416,7 +342,7 @@ fn item_near<'a>(items: &'a Named<ItemKind>, index: usize, name: &str) -> Option
 }
 
 // Whether the primitives are the same.
-fn same_primitive(p: PrimitiveType, q: PrimitiveType) -> Result<(), TypeFault>
+fn same_primitive(p: PrimitiveType, q: PrimitiveType) -> Answer
     ensures same { IfOk result (λ _. p ≡ q) }
     ensures mismatch { result ≡ Err TypeFault.Mismatch → p ≡ q → ⊥ }
 {

@@ -130,9 +130,10 @@ fn offers_core(xs: &Named<CoreExtern>, ys: &Named<CoreExtern>) -> bool
 {
     ys.law();
     for i in 0..ys.len() {
-        match xs.get(ys.name_at(i)) {
+        let (name, item) = ys.entry_at(i);
+        match xs.get(name) {
             Some(x) => {
-                if !is_core_subtype(x, ys.value_at(i)) {
+                if !is_core_subtype(x, item) {
                     return false;
                 }
             }

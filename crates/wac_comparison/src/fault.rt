@@ -11,3 +11,6 @@ pub enum TypeFault {
     #[error("OutOfMemory")]
     OutOfMemory,
 }
+
+/// What a step of a comparison answers.
+pub(crate) type Answer = Result<(), TypeFault>;

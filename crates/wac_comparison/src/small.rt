@@ -1,12 +1,12 @@
 //! Small types, which are looked into wherever they are mentioned.
-ghost use Rattle.std.specs.Prelude.{◌≡◌, ◌≤◌, [], ◌∷◌, length, slice_get, map, Err, EachIndex, IfSome, IfOk, IsTrue};
+ghost use Rattle.std.specs.Prelude.{◌≡◌, ◌≤◌, [], ◌∷◌, length, map, All, Err, IfOk, IsTrue};
 ghost use Rattle.std.specs.Option.{option_copied};
 ghost use Rattle.wac_comparison.specs.Compare.{definition_in, value_in, entry_in};
 ghost use Rattle.wac_comparison.specs.Settling.{Asks};
 ghost use Rattle.wac_shapes.specs.declared.component.«Type».TheVariants as ty;
 
 use crate::comparison::Comparison;
-use crate::fault::TypeFault;
+use crate::fault::{Answer, TypeFault};
 use crate::questions::Asked;
 use wac_collection::{DefinedType, Named, Types, ValueType};
 
@@ -64,12 +64,7 @@ impl<'a> Comparison<'a> {
     }
 
     /// Asks whether one value type is another. Lists, options and small records are looked into at once, which takes no longer than a question does.
-    pub(crate) fn ask_value(
-        self,
-        asked: &mut Asked,
-        v: ValueType,
-        w: ValueType,
-    ) -> Result<(), TypeFault>
+    pub(crate) fn ask_value(self, asked: &mut Asked, v: ValueType, w: ValueType) -> Answer
         ensures asked { IfOk result (λ _. Asks self.entry.turned self.entry.first.now self.entry.second.now (ty.Value v ∷ []) (ty.Value w ∷ []) asked.old asked.new (value_in self.entry.first.now v ≡ value_in self.entry.second.now w)) }
         ensures mismatch { result ≡ Err TypeFault.Mismatch → value_in self.entry.first.now v ≡ value_in self.entry.second.now w → ⊥ }
     {
@@ -81,12 +76,8 @@ impl<'a> Comparison<'a> {
         match (d, e) {
             (DefinedType::List(a), DefinedType::List(b)) => self.ask_part(asked, *a, *b),
             (DefinedType::Option(a), DefinedType::Option(b)) => self.ask_part(asked, *a, *b),
-            (DefinedType::Record(r), DefinedType::Record(s)) => {
-                if self.have_same_fields(&r.fields, &s.fields) {
-                    return Ok(());
-                }
-                self.ask_part(asked, v, w)
-            }
+            (DefinedType::Record(r), DefinedType::Record(s))
+                if self.have_same_fields(&r.fields, &s.fields) => Ok(()),
             _ => self.ask_part(asked, v, w),
         }
     }
@@ -105,15 +96,10 @@ fn definition(types: &Types, v: ValueType) -> Option<&DefinedType>
 /// Whether there are few parts, all under short names.
 pub(crate) fn has_small_parts(parts: &Named<ValueType>) -> bool
     ensures few { IsTrue result → length parts.now ≤ 8 }
-    ensures short { IsTrue result → EachIndex parts.now (λ i. IfSome (slice_get parts.now i) (λ e. length e.0 ≤ 32)) }
+    ensures short { IsTrue result → All (λ e. length e.0 ≤ 32) parts.now }
 {
     if parts.len() > FEW_PARTS {
         return false;
     }
-    for i in 0..parts.len() {
-        if parts.name_at(i).len() > SHORT_NAME {
-            return false;
-        }
-    }
-    true
+    parts.iter().all(|(name, _)| name.len() <= SHORT_NAME)
 }

@@ -1,10 +1,5 @@
-use Rattle.std.proofs.Common.{sym, subst}
-use Rattle.wac_shapes.specs.declared.component.«Type».TheVariants as ty
-use Rattle.wac_comparison.specs.Settling.{HasEnd}
 use Rattle.wac_comparison.proofs.Answering.{value_end}
 use Rattle.wac_comparison.proofs.comparison.end.Goals as goal
 
 pub returns-in-Value : goal.returns-in-Value
-returns-in-Value c =
-    subst (λ t. HasEnd c.args.types.now t (ty.Value c.resolve_value_type.result)) (sym c.in-Value.is)
-    (value_end c.args.types.now c.law.ensures _ _ c.resolve_value_type.ensures.end c.resolve_value_type.ensures.no_alias c.resolve_value_type.ensures.held)
+returns-in-Value c = rw c.in-Value.is (value_end c.args.types.now c.law.ensures _ _ c.resolve_value_type.ensures.end c.resolve_value_type.ensures.no_alias c.resolve_value_type.ensures.held)

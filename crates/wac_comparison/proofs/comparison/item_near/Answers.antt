@@ -2,7 +2,7 @@ use Rattle.std.proofs.Common.{ap, sym, ◌∙◌}
 use Rattle.semver.specs.OrderLaws.{same_text}
 use Rattle.wac_primitives.specs.Name.{find_name}
 use Rattle.wac_shapes.proofs.Names.{find_name-at}
-use Rattle.wac_comparison.proofs.Agreeing.{entry_at}
+use Rattle.wac_shapes.proofs.Loops.{entry_at}
 use Rattle.wac_comparison.proofs.comparison.item_near.Goals as goal
 
 pub returns-then-eq : goal.returns-then-eq

@@ -1,13 +1,12 @@
-use Rattle.std.proofs.Common.{◌≡◌, ◌≤◌, length, Option, Some, None, arith, ap, below_more}
-use Rattle.std.specs.Option.{IfSome, option_map}
-use Rattle.wac_primitives.specs.Name.{Name}
-use Rattle.wac_shapes.specs.declared.component.ValueType.{ValueType}
+use Rattle.std.proofs.Common.{ℕ, length, ◌<◌, ◌≤◌, HoldsAt, rules}
+use Rattle.std.proofs.lemmas.Bool.{MatchBool-at_true}
+use Rattle.std.proofs.lemmas.Iterator.{cases_from_all}
+use Rattle.std.proofs.lemmas.Iterator.Consumers.{YieldsList-from_first}
+use Rattle.std.proofs.lemmas.List.Elements.{All-from_all_within}
+use borrow.Author.Tests.{tests}
 use Rattle.wac_comparison.proofs.small.has_small_parts.Goals as goal
 
--- what has a short name
-short_name : (o : Option (Name × ValueType)) (n : Name) → option_map (λ e. e.0) o ≡ Some n → length n ≤ 32 → IfSome o (λ e. length e.0 ≤ 32)
-short_name None n e le = cc
-short_name (Some x) n e le = let same : x.0 ≡ n = cc in let lens = ap length same in omega (arith, lens, le)
-
-pub loop-i-preserved : goal.loop-i-preserved
-loop-i-preserved c = below_more _ _ c.loop-i.invariant (short_name _ _ c.name_at.ensures (omega (arith, c.if-name_at-gt-SHORT_NAME.false)))
+pub returns-clause-short : goal.returns-clause-short
+returns-clause-short c = λ h. All-from_all_within (λ e. length e.0 ≤ 32) c.args.parts.now
+    (MatchBool-at_true _ ((k : ℕ) × (k < length c.args.parts.now) × HoldsAt (λ e. Unit {0}) c.args.parts.now k) h
+    (cases_from_all _ _ _ (λ e. length e.0 ≤ 32) (λ e. Unit {0}) c.all.ensures.ran (YieldsList-from_first (λ x. (x.0.now, x.1.now)) (λ s. s) c.args.parts.now c.iter.ensures) (λ x q k. search (rules, tests)) (λ x q k. tt)))

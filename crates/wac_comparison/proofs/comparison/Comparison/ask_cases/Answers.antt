@@ -1,11 +1,11 @@
-use Rattle.std.proofs.Common.{arith, map, ◌≢◌}
+use Rattle.std.proofs.Common.{arith, map, ap, ◌≢◌}
 use Rattle.wac_collection.specs.Collection.{value_types, case_values}
 use Rattle.wac_primitives.specs.Tree.{absent}
 use Rattle.wac_subtyping.specs.Subtype.{type_tree}
 use Rattle.wac_comparison.specs.Compare.{optional_in, case_in}
 use Rattle.wac_shapes.proofs.Names.{ne-true, ne-false}
 use Rattle.wac_comparison.proofs.Values.{asks_of}
-use Rattle.wac_comparison.proofs.Agreeing.{get_map, entry_at, handed_on, agree_none, agree_more, agree_maps, under_name, under_apart, case_names_differ, lengths_differ, case_among, differ_at}
+use Rattle.wac_comparison.proofs.Agreeing.{handed_on, agree_none, agree_more, agree_maps, under_name, lengths_differ, case_among, differ_at}
 use Rattle.wac_comparison.proofs.comparison.Comparison.ask_cases.Goals as goal
 
 pub returns-then-len-clause-mismatch : goal.returns-then-len-clause-mismatch
@@ -15,31 +15,27 @@ pub loop-i-init : goal.loop-i-init
 loop-i-init c = agree_none (map (case_in c.args.self.first.now) c.args.cs.now) (map (case_in c.args.self.second.now) c.args.ds.now)
 
 pub returns-then-ne-clause-mismatch : goal.returns-then-ne-clause-mismatch
-returns-then-ne-clause-mismatch c = λ _. record { refutes = λ hx hy. case_names_differ c.args.self.first.now c.args.self.second.now c.args.cs.now c.args.ds.now c.loop-i.i c.name_at.result.now c.name_at-in-loop-i.result.now c.name_at.ensures c.name_at-in-loop-i.ensures (ne-true _ _ _ c.ne.ensures c.if-ne.true) }
+returns-then-ne-clause-mismatch c = λ _. record {
+  refutes = λ hx hy. differ_at (case_in c.args.self.first.now) (case_in c.args.self.second.now) c.args.cs.now c.args.ds.now c.loop-i.i _ _ c.entry_at.ensures c.entry_at-in-loop-i.ensures (λ e. ne-true _ _ _ c.ne.ensures c.if-ne.true (ap (λ u. u.0) e));
+}
 
 pub returns-in_err-ask_optional-clause-mismatch : goal.returns-in_err-ask_optional-clause-mismatch
-returns-in_err-ask_optional-clause-mismatch c = λ is.
-    let v = entry_at c.args.cs.now c.loop-i.i c.name_at.result.now c.value_at.result.now c.name_at.ensures c.value_at.ensures in
-    let w = entry_at c.args.ds.now c.loop-i.i c.name_at-in-loop-i.result.now c.value_at-in-loop-i.result.now c.name_at-in-loop-i.ensures c.value_at-in-loop-i.ensures in
-    let m = c.in_err-ask_optional.ensures.mismatch (handed_on c.from_residual.result _ _ c.from_residual.ensures.1 is) in
-    record {
-      refutes = λ hx hy. differ_at c.loop-i.i (map (case_in c.args.self.first.now) c.args.cs.now) (map (case_in c.args.self.second.now) c.args.ds.now) _ _
-          (get_map (case_in c.args.self.first.now) c.args.cs.now c.loop-i.i _ v) (get_map (case_in c.args.self.second.now) c.args.ds.now c.loop-i.i _ w)
-          (under_apart c.name_at.result.now c.name_at-in-loop-i.result.now (optional_in c.args.self.first.now c.value_at.result.now) (optional_in c.args.self.second.now c.value_at-in-loop-i.result.now)
-          (m.refutes (case_among (λ t. type_tree c.args.self.first.now t ≢ absent) c.args.cs.now c.loop-i.i _ _ v hx) (case_among (λ t. type_tree c.args.self.second.now t ≢ absent) c.args.ds.now c.loop-i.i _ _ w hy)));
-    }
+returns-in_err-ask_optional-clause-mismatch c = λ is. record {
+  refutes = λ hx hy.
+      let v = c.entry_at.ensures in
+      let w = c.entry_at-in-loop-i.ensures in
+      let m = c.in_err-ask_optional.ensures.mismatch (handed_on c.from_residual.result _ _ c.from_residual.ensures.1 is) in
+      let there = m.refutes (case_among (λ t. type_tree c.args.self.first.now t ≢ absent) c.args.cs.now c.loop-i.i _ _ v hx) (case_among (λ t. type_tree c.args.self.second.now t ≢ absent) c.args.ds.now c.loop-i.i _ _ w hy) in
+      differ_at (case_in c.args.self.first.now) (case_in c.args.self.second.now) c.args.cs.now c.args.ds.now c.loop-i.i _ _ v w (λ e. there (ap (λ u. u.1) e));
+}
 
 pub loop-i-preserved : goal.loop-i-preserved
 loop-i-preserved c =
-    let v = entry_at c.args.cs.now c.loop-i.i c.name_at.result.now c.value_at.result.now c.name_at.ensures c.value_at.ensures in
-    let w = entry_at c.args.ds.now c.loop-i.i c.name_at-in-loop-i.result.now c.value_at-in-loop-i.result.now c.name_at-in-loop-i.ensures c.value_at-in-loop-i.ensures in
-    agree_more c.loop-i.i (map (case_in c.args.self.first.now) c.args.cs.now) (map (case_in c.args.self.second.now) c.args.ds.now) _ _
-    (get_map (case_in c.args.self.first.now) c.args.cs.now c.loop-i.i _ v) (get_map (case_in c.args.self.second.now) c.args.ds.now c.loop-i.i _ w)
-    c.loop-i.invariant
-    (under_name c.name_at.result.now c.name_at-in-loop-i.result.now (optional_in c.args.self.first.now c.value_at.result.now) (optional_in c.args.self.second.now c.value_at-in-loop-i.result.now) (ne-false _ _ _ c.ne.ensures c.if-ne.false)
-    (asks_of (value_types (case_values c.args.cs.now)) (value_types (case_values c.args.ds.now))
-    (λ P. case_among P c.args.cs.now c.loop-i.i _ _ v) (λ P. case_among P c.args.ds.now c.loop-i.i _ _ w)
-    c.in_ok-ask_optional.ensures.asked))
+    let v = c.entry_at.ensures in
+    let w = c.entry_at-in-loop-i.ensures in
+    agree_more (case_in c.args.self.first.now) (case_in c.args.self.second.now) c.loop-i.i c.args.cs.now c.args.ds.now _ _ v w c.loop-i.invariant
+    (under_name c.entry_at.result.0.now c.entry_at-in-loop-i.result.0.now (optional_in c.args.self.first.now c.entry_at.result.1.now) (optional_in c.args.self.second.now c.entry_at-in-loop-i.result.1.now) (ne-false _ _ _ c.ne.ensures c.if-ne.false)
+    (asks_of (value_types (case_values c.args.cs.now)) (value_types (case_values c.args.ds.now)) (λ P. case_among P c.args.cs.now c.loop-i.i _ _ v) (λ P. case_among P c.args.ds.now c.loop-i.i _ _ w) c.in_ok-ask_optional.ensures.asked))
 
 pub returns-clause-asked : goal.returns-clause-asked
 returns-clause-asked c = agree_maps (case_in c.args.self.first.now) (case_in c.args.self.second.now) c.loop-i.i c.args.cs.now c.args.ds.now (omega (arith, c.if-len.false, c.len.ensures, c.len-2.ensures)) (omega (arith, c.loop-i-test.false, c.len-i-end.ensures)) c.loop-i.invariant

@@ -1,7 +1,7 @@
 use Rattle.std.proofs.Common.{map}
 use Rattle.wac_collection.specs.Collection.{value_types}
 use Rattle.wac_comparison.specs.Compare.{value_in}
-use Rattle.wac_comparison.proofs.Below.{AgreeBelow}
+use Rattle.wac_comparison.proofs.Agreeing.{AgreeBelow}
 use Rattle.wac_comparison.specs.Settling.{Asks}
 use Rattle.wac_comparison.proofs.comparison.Comparison.ask_values.Given as goal
 

@@ -1,6 +1,6 @@
 use Rattle.std.proofs.Common.{map}
 use Rattle.wac_comparison.specs.Compare.{entry_in}
-use Rattle.wac_comparison.proofs.Below.{AgreeBelow}
+use Rattle.wac_comparison.proofs.Agreeing.{AgreeBelow}
 use Rattle.wac_comparison.proofs.comparison.Comparison.have_same_fields.Given as goal
 
 -- those so far are the same
