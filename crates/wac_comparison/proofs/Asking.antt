@@ -16,7 +16,9 @@ use Rattle.wac_comparison.specs.Weights.{type_weight}
 use Rattle.wac_comparison.specs.Questions.{in_order, first_of_pair, second_of_pair, IsAskable, IsAskableQuestion, IsYes, IsYesBelow, AreBelow, Puts}
 use Rattle.wac_comparison.specs.Classes.{AreLinked, AreSame}
 use Rattle.wac_comparison.specs.Settling.{Settles, Asks, RestsOn}
-use Rattle.wac_subtyping.proofs.Unfolding.{all_map, all_left, all_both}
+use Rattle.wac_collection.proofs.Steady.{all_left}
+use Rattle.wac_collection.proofs.Growth.{map_all}
+use Rattle.wac_subtyping.proofs.Unfolding.{all_both}
 use Rattle.wac_comparison.proofs.Lighter.{Lowers}
 
 pub all_at : {A : Type 0} (P : A → Type 0) (xs : List A) (x : A) → AllByRecursion P xs → Contains xs x → P x
@@ -24,7 +26,7 @@ all_at P xs x h c = All-contains P xs x (All-from_recursion P xs h) c
 
 -- what holds of a question holds of those that were added where it was put
 pub all_only : (P : Question → Type 0) (q : Question) (added : List Question) → AllByRecursion (λ r. r ≡ q) added → P q → AllByRecursion P added
-all_only P q added only h = all_map (λ r. r ≡ q) P (λ r e. subst P (sym e) h) added only
+all_only P q added only h = map_all (λ r. r ≡ q) P (λ r e. subst P (sym e) h) added only
 
 pub swapped : {A B : Type 0} → A ⊎ B → B ⊎ A
 swapped (inl a) = inr a
@@ -96,7 +98,7 @@ rests_on t x y a b ps qs u v o k la lb f g asks = record {
 }
   where
     below : (c : Collection) (a : AnyType) (ps : List AnyType) (n : ℕ) → AreBelow c (type_weight c a) ps → type_weight c a ≤ n → AreBelow c n ps
-    below c a ps n h le = all_map (λ t. type_weight c t < type_weight c a) (λ t. type_weight c t < n) (λ t lt. omega (arith, lt, le)) ps h
+    below c a ps n h le = map_all (λ t. type_weight c t < type_weight c a) (λ t. type_weight c t < n) (λ t lt. omega (arith, lt, le)) ps h
 
     by : (n : ℕ) → (type_weight x a ≤ n) ⊎ (type_weight y b ≤ n) → AreBelow x n ps ⊎ AreBelow y n qs
     by n (inl le) = inl (below x a ps n la.lower le)

@@ -15,7 +15,9 @@ use Rattle.wac_comparison.specs.Weights.{type_weight}
 use Rattle.wac_comparison.specs.Questions.{in_order, first_of_pair, second_of_pair, IsAskableQuestion, IsYes, IsYesBelow}
 use Rattle.wac_comparison.specs.Classes.{AreLinked}
 use Rattle.wac_comparison.specs.Settling.{AreJoined, Settles, Asks, RestsOn}
-use Rattle.wac_subtyping.proofs.Unfolding.{all_map, all_left, all_right, all_both}
+use Rattle.wac_collection.proofs.Steady.{all_left, all_right}
+use Rattle.wac_collection.proofs.Growth.{map_all}
+use Rattle.wac_subtyping.proofs.Unfolding.{all_both}
 
 pub record Compares (c d : Collection) (a b : ItemKind) (asked : Asked) (next : ℕ) : Type 0 where
   pub held : AllByRecursion (IsAskableQuestion (c, d)) asked.questions.keys
@@ -59,7 +61,7 @@ compares_first c d a b o asked none apart ha hb asks =
       joined = s.joined joined;
       carried = λ k h. h;
       back = λ e. rw is (s.complete e);
-      forth = λ h. s.sound joined (all_map (IsYes p) (IsYesBelow p (suc m)) (λ q y _. y) asked.questions.keys h);
+      forth = λ h. s.sound joined (map_all (IsYes p) (IsYesBelow p (suc m)) (λ q y _. y) asked.questions.keys h);
     }
 
 -- the collections of a question, in the order of the first one
@@ -87,7 +89,7 @@ module _ (c d : Collection) (a b : ItemKind) (o asked : Asked) (i : ℕ) (q : Qu
       let n = min first second in
       let less : n < k = omega (arith, below) in
       let least : (first ≤ n) ⊎ (second ≤ n) = elim (cases_lt first second) [ inl h ↦ inl (omega (arith, h)) | inr h ↦ inr (omega (arith, h)) ] in
-      let weaken = all_map (IsYesBelow (c, d) k) (IsYesBelow (c, d) n) (λ r y b. y (elim b [ inl h ↦ inl (omega (arith, h, less)) | inr h ↦ inr (omega (arith, h, less)) ])) in
+      let weaken = map_all (IsYesBelow (c, d) k) (IsYesBelow (c, d) n) (λ r y b. y (elim b [ inl h ↦ inl (omega (arith, h, less)) | inr h ↦ inr (omega (arith, h, less)) ])) in
       let self : IsYesBelow (c, d) n q = λ b. absurd (omega (arith, b)) in
       let L : List Question → Type 0 = AllByRecursion (IsYesBelow (c, d) n) in
       let all = w.carried n (subst L (sym (drop_at o.questions.keys i q at)) (self, weaken (drop (suc i) o.questions.keys) old)) in

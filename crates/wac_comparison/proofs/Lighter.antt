@@ -21,7 +21,8 @@ use Rattle.wac_comparison.specs.Compare.{value_in, func_in, defined_in}
 use Rattle.wac_subtyping.specs.Ranks.{type_rank}
 use Rattle.wac_comparison.specs.Weights.{total, weight, heaviest, type_weight}
 use Rattle.wac_comparison.specs.Questions.{AreHeld, AreBelow}
-use Rattle.wac_subtyping.proofs.Unfolding.{all_map, before_held, before_rank}
+use Rattle.wac_collection.proofs.Growth.{map_all, type_within}
+use Rattle.wac_subtyping.proofs.Unfolding.{before_rank}
 use Rattle.wac_comparison.proofs.Opens.{Opens, in_case, opens_func, opens_defined, primitive_in}
 
 pub own_in : (c : Collection) (r : ResourceId) → value_in c (val.Own r) ≡ option_case (resource_names c (resolved c r)) absent own
@@ -85,11 +86,11 @@ light_types c n (v ∷ vs) h = (h.0, light_types c n vs h.1)
 -- how heavy what is held may be
 bounded : (c : Collection) (m : ℕ) (t : AnyType) → IsBefore c m t → type_weight c t ≤ suc (heaviest c + m)
 bounded c m (ty.Resource r) h = let e = ap weight (resource_in c r) ∙ in_case (λ t. weight t ≡ 0) (resource_names c (resolved c r)) absent resource refl (λ n. refl) in omega (arith, e)
-bounded c m (ty.Func f) h = let l = total_at (length c.funcs) f.0 (λ i. weight (type_tree c (ty.Func (record { 0 = i })))) (before_held c m (ty.Func f) h) in omega (arith, l)
+bounded c m (ty.Func f) h = let l = total_at (length c.funcs) f.0 (λ i. weight (type_tree c (ty.Func (record { 0 = i })))) (type_within c m (ty.Func f) h) in omega (arith, l)
 bounded c m (ty.Value (val.Primitive p)) h = let e = ap weight (primitive_in c p) in omega (arith, e)
 bounded c m (ty.Value (val.Own r)) h = let e = ap weight (own_in c r) ∙ in_case (λ t. weight t ≡ 0) (resource_names c (resolved c r)) absent own refl (λ n. refl) in omega (arith, e)
 bounded c m (ty.Value (val.Borrow r)) h = let e = ap weight (borrow_in c r) ∙ in_case (λ t. weight t ≡ 0) (resource_names c (resolved c r)) absent borrow refl (λ n. refl) in omega (arith, e)
-bounded c m (ty.Value (val.Defined d)) h = let l = total_at (length c.defined) d.0 (λ i. weight (type_tree c (ty.Value (val.Defined (record { 0 = i }))))) (before_held c m (ty.Value (val.Defined d)) h) in omega (arith, l)
+bounded c m (ty.Value (val.Defined d)) h = let l = total_at (length c.defined) d.0 (λ i. weight (type_tree c (ty.Value (val.Defined (record { 0 = i }))))) (type_within c m (ty.Value (val.Defined d)) h) in omega (arith, l)
 bounded c m (ty.Interface i) h = let r = before_rank c m (ty.Interface i) h in omega (arith, r)
 bounded c m (ty.World i) h = let r = before_rank c m (ty.World i) h in omega (arith, r)
 bounded c m (ty.Module i) h = let r = before_rank c m (ty.Module i) h in omega (arith, r)
@@ -101,7 +102,7 @@ pub record Lowers (c : Collection) (a : AnyType) (parts : List AnyType) (tree : 
   pub is : type_tree c a ≡ tree
 
 held_of : (c : Collection) (n : ℕ) (ts : List AnyType) → AreBefore c n ts → AreHeld c ts
-held_of c n ts h = all_map (IsBefore c n) (λ t. holds_type c t ≡ true) (before_held c n) ts h
+held_of c n ts h = map_all (IsBefore c n) (λ t. holds_type c t ≡ true) (type_within c n) ts h
 
 pub lowers_func : (c : Collection) → IsWellFormed c → (f : FuncTypeId) (x : FuncType) → item_at c.funcs f.0 ≡ Some x → Lowers c (ty.Func f) (func_mentions x) (func_in c x)
 lowers_func c wf f x at =
@@ -121,6 +122,6 @@ lowers c a parts tree w o =
     let r = o.rank in
     record {
       held = held_of c _ parts o.held;
-      lower = all_map (IsBefore c o.before) (λ t. type_weight c t < type_weight c a) (λ t h. let b = bounded c o.before t h in omega (arith, b, w, r)) parts o.held;
+      lower = map_all (IsBefore c o.before) (λ t. type_weight c t < type_weight c a) (λ t h. let b = bounded c o.before t h in omega (arith, b, w, r)) parts o.held;
       is = o.is;
     }

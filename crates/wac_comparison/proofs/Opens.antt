@@ -22,7 +22,8 @@ use Rattle.wac_collection.specs.Held.{module_tree, of_held}
 use Rattle.wac_subtyping.specs.Subtype.{type_tree, listed_in}
 use Rattle.wac_comparison.specs.Compare.{value_in, func_in, defined_in, world_in}
 use Rattle.wac_subtyping.specs.Ranks.{rank_of_held, type_rank}
-use Rattle.wac_subtyping.proofs.Unfolding.{all_right, held_item, within, type_step}
+use Rattle.wac_collection.proofs.Steady.{all_right}
+use Rattle.wac_subtyping.proofs.Unfolding.{held_item, within, type_step}
 
 -- what holds of the one and of each of the others
 pub in_case : {A B : Type 0} (P : B → Type 0) (o : Option A) (b : B) (f : A → B) → P b → ((a : A) → P (f a)) → P (option_case o b f)

@@ -16,8 +16,8 @@ use Rattle.wac_primitives.specs.Tree.{TypeTree, absent, own, borrow, resource, f
 use Rattle.wac_collection.specs.Held.{of_held, defined_tree, resolved, unfolded_to}
 use Rattle.wac_subtyping.specs.Subtype.{Sub, by_name, held_name, resource_names, type_tree}
 use Rattle.wac_comparison.specs.Questions.{AreThere}
-use Rattle.wac_subtyping.proofs.Unfolding.{all_map, before_more, before_held, type_before}
-use Rattle.wac_subtyping.proofs.Resolved.{resolved_held}
+use Rattle.wac_collection.proofs.Growth.{map_all, before_more, type_within, type_before}
+use Rattle.wac_subtyping.proofs.Trees.{resolved_held}
 
 -- what sort of thing a tree is of
 abbrev pub tree_sort : {L : Type 0} → TypeTree L → ℕ
@@ -61,8 +61,8 @@ sort_defined t _ f = refl
 module _ (c : Collection) (wf : IsWellFormed c) where
   value_sort_to : (k : ℕ) (v : ValueType) → IsValueBefore c k v → tree_sort (unfolded_to by_name c (suc k) (resource_names c) (ty.Value v)) ≡ 3
   value_sort_to k (val.Primitive p) h = refl
-  value_sort_to k (val.Own r) h = name_of_resource c wf r (λ o. tree_sort (option_case o absent own) ≡ 3) (λ n. refl) (before_held c k (ty.Resource r) h)
-  value_sort_to k (val.Borrow r) h = name_of_resource c wf r (λ o. tree_sort (option_case o absent borrow) ≡ 3) (λ n. refl) (before_held c k (ty.Resource r) h)
+  value_sort_to k (val.Own r) h = name_of_resource c wf r (λ o. tree_sort (option_case o absent own) ≡ 3) (λ n. refl) (type_within c k (ty.Resource r) h)
+  value_sort_to k (val.Borrow r) h = name_of_resource c wf r (λ o. tree_sort (option_case o absent borrow) ≡ 3) (λ n. refl) (type_within c k (ty.Resource r) h)
   value_sort_to zero (val.Defined d) h = sort_held _ 3 0 (slice_get c.defined d.0) (λ x e lt. absurd (omega (arith, lt))) h
   value_sort_to (suc k) (val.Defined d) h = sort_held _ 3 (suc k) (slice_get c.defined d.0)
       (λ x e lt. sort_defined (λ v. unfolded_to by_name c (suc k) (resource_names c) (ty.Value v)) x.item
@@ -71,7 +71,7 @@ module _ (c : Collection) (wf : IsWellFormed c) where
       value_sort_to k v (before_more c x.before k (ty.Value v) (omega (arith, lt)) b.0))) h
 
   sort_to : (k : ℕ) (a : AnyType) → IsBefore c k a → tree_sort (unfolded_to by_name c (suc k) (resource_names c) a) ≡ type_sort a
-  sort_to k (ty.Resource r) h = name_of_resource c wf r (λ o. tree_sort (option_case o absent resource) ≡ 1) (λ n. refl) (before_held c k (ty.Resource r) h)
+  sort_to k (ty.Resource r) h = name_of_resource c wf r (λ o. tree_sort (option_case o absent resource) ≡ 1) (λ n. refl) (type_within c k (ty.Resource r) h)
   sort_to k (ty.Func f) h = sort_held _ 2 k (slice_get c.funcs f.0) (λ x e lt. refl) h
   sort_to k (ty.Value v) h = value_sort_to k v h
   sort_to k (ty.Interface f) h = sort_held _ 4 k (slice_get c.interfaces f.0) (λ x e lt. refl) h
@@ -90,7 +90,7 @@ pub type_there : (c : Collection) → IsWellFormed c → (a : AnyType) → holds
 type_there c wf a h e = some_sort a (sym (ap tree_sort e) ∙ type_tree_sort c wf a h)
 
 pub are_there : (c : Collection) → IsWellFormed c → (n : ℕ) (ts : List AnyType) → AreBefore c n ts → AreThere c ts
-are_there c wf n ts = all_map (IsBefore c n) (λ t. type_tree c t ≢ absent) (λ t b. type_there c wf t (before_held c n t b)) ts
+are_there c wf n ts = map_all (IsBefore c n) (λ t. type_tree c t ≢ absent) (λ t b. type_there c wf t (type_within c n t b)) ts
 
 -- types of different sorts are no subtypes
 pub sorts_differ : (c d : Collection) → IsWellFormed c → IsWellFormed d → (a b : AnyType) → holds_type c a ≡ true → holds_type d b ≡ true → (type_sort a ≡ type_sort b → ⊥) → Sub (type_tree c a) (type_tree d b) → ⊥

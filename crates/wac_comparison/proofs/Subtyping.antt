@@ -18,7 +18,7 @@ use Rattle.wac_subtyping.specs.Subtype.{Sub, IsPlain, by_name, resource_names, t
 use Rattle.wac_comparison.specs.Compare.{world_in, Offers}
 use Rattle.wac_comparison.specs.Settling.{Asks}
 use Rattle.wac_shapes.proofs.Names.{find_name-at, find_position}
-use Rattle.wac_subtyping.proofs.Unfolding.{all_left, all_right}
+use Rattle.wac_collection.proofs.Steady.{all_left, all_right}
 use Rattle.wac_subtyping.proofs.Relation.{plain_sub, plain_same}
 use Rattle.wac_comparison.proofs.Asking.{swapped}
 use Rattle.wac_comparison.proofs.Values.{plain_held, sub_to, asks_now, asks_iff, asks_of, asks_then}
