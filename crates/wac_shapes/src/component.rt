@@ -170,12 +170,18 @@ pub struct ResourceAlias {
 }
 
 /// A resource.
-#[derive(Clone, Debug, Drop, PartialEq, Eq)]
+#[derive(Clone, Debug, PartialEq, Eq)]
 pub struct Resource {
     /// Its name.
     pub name: Text,
     /// The resource that it is an alias of, where it is one.
     pub alias: Option<ResourceAlias>,
+}
+
+impl Drop for Resource {
+    fn drop(self) {
+        let Resource { name: _, alias: _ } = self;
+    }
 }
 
 impl Resource {
@@ -203,10 +209,16 @@ impl Resource {
 }
 
 /// A variant.
-#[derive(Clone, Debug, Drop, PartialEq, Eq)]
+#[derive(Clone, Debug, PartialEq, Eq)]
 pub struct Variant {
     /// The cases, in order, each with the type of its payload where it has one.
     pub cases: Named<Option<ValueType>>,
+}
+
+impl Drop for Variant {
+    fn drop(self) {
+        let Variant { cases: _ } = self;
+    }
 }
 
 impl Variant {
@@ -222,10 +234,16 @@ impl Variant {
 }
 
 /// A record.
-#[derive(Clone, Debug, Drop, PartialEq, Eq)]
+#[derive(Clone, Debug, PartialEq, Eq)]
 pub struct Record {
     /// The fields, in order.
     pub fields: Named<ValueType>,
+}
+
+impl Drop for Record {
+    fn drop(self) {
+        let Record { fields: _ } = self;
+    }
 }
 
 impl Record {
@@ -241,8 +259,14 @@ impl Record {
 }
 
 /// Flags.
-#[derive(Clone, Debug, Drop, PartialEq, Eq)]
+#[derive(Clone, Debug, PartialEq, Eq)]
 pub struct Flags(pub Labels);
+
+impl Drop for Flags {
+    fn drop(self) {
+        let Flags(_) = self;
+    }
+}
 
 impl Flags {
     /// Flags of these names, in the order given. Answers `NameTwice` where a name is given twice, and `OutOfMemory` where memory ran out.
@@ -257,8 +281,14 @@ impl Flags {
 }
 
 /// An enumeration.
-#[derive(Clone, Debug, Drop, PartialEq, Eq)]
+#[derive(Clone, Debug, PartialEq, Eq)]
 pub struct Enum(pub Labels);
+
+impl Drop for Enum {
+    fn drop(self) {
+        let Enum(_) = self;
+    }
+}
 
 impl Enum {
     /// An enumeration of these names, in the order given. Answers `NameTwice` where a name is given twice, and `OutOfMemory` where memory ran out.

@@ -34,7 +34,7 @@ pub struct Text {
     text: String,
 }
 
-/// What texts, sequences and values under names hold is let go of here, and not anew by each crate that drops one.
+/// What texts, sequences, labels and values under names hold is let go of here, and not anew by each crate that drops one.
 impl Drop for Text {
     fn drop(self) {
         let Text { text: _ } = self;
@@ -168,9 +168,14 @@ impl<T: Copy> Sequence<T> {
 }
 
 /// Names in order. None stands twice. It shows as a list of the names.
-#[derive(Drop)]
 pub struct Labels {
     names: Named<()>,
+}
+
+impl Drop for Labels {
+    fn drop(self) {
+        let Labels { names: _ } = self;
+    }
 }
 
 impl Model for Labels {
