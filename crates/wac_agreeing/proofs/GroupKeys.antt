@@ -3,7 +3,7 @@ use Rattle.std.proofs.Common.{◌≡◌, ℕ, zero, ◌<◌, Bool, true, false, 
 use Rattle.std.specs.Prelude.{slice_get}
 use Rattle.std.specs.List.{list_any}
 use Rattle.std.specs.Cmp.Lexicographic.{pointwise}
-use Rattle.std.proofs.lemmas.Bool.{eqb-true}
+use Rattle.std.proofs.lemmas.Bool.{eqb-true, and_parts as both}
 use Rattle.std.proofs.lemmas.List.{map-append}
 use Rattle.indexmap.specs.IndexSet.{insert_key}
 use Rattle.wac_tables.specs.Nodes as table
@@ -13,7 +13,6 @@ use Rattle.wac_tables.specs.contracts.nodes.ItemPartialEq.TheImpl as ItemEq
 use Rattle.wac_tables.specs.declared.nodes.Item.{Item as AnItem}
 use Rattle.wac_tables.specs.declared.nodes.Item.TheVariants as item
 use Rattle.wac_entries.proofs.Lists.{any-found, at-end}
-use Rattle.wac_subtyping.proofs.Telling.{both}
 use Rattle.wac_terms.proofs.Found.{get_map, no_some, some_same}
 use Rattle.wac_agreeing.specs.Fitting.{Fits}
 use Rattle.wac_agreeing.specs.Rows.{groups_view, Row, row_view}

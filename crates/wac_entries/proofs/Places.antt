@@ -7,7 +7,7 @@ use Rattle.std.specs.Option.{option_map, option_copied}
 use Rattle.std.specs.Prelude.{string_bytes}
 use Rattle.std.specs.declared.string.String.{String}
 use Rattle.std.proofs.lemmas.List.{map-append}
-use Rattle.std.proofs.lemmas.Bool.{cases_Bool, eqb-true, ltb-true, false≢true}
+use Rattle.std.proofs.lemmas.Bool.{cases_Bool, eqb-true, ltb-true, false≢true, and_parts as both}
 use Rattle.std.proofs.lemmas.List.Elements.{filter-append}
 use Rattle.wac_primitives.specs.Name.{Name, same_name, find_name, option_case, first_some}
 use Rattle.wac_primitives.specs.Tree.{Side, named, Leaf}
@@ -27,7 +27,6 @@ use Rattle.wac_shapes.specs.declared.component.ItemKind.{ItemKind}
 use Rattle.wac_shapes.specs.declared.component.ItemKind.TheVariants as kind
 use Rattle.wac_collection.proofs.Growth.{all_within}
 use Rattle.wac_shapes.proofs.Names.{take_at}
-use Rattle.wac_subtyping.proofs.Telling.{both}
 use Rattle.wac_subtyping.specs.CalledViews.{path_view}
 use Rattle.wac_entries.specs.Places.{Adds, bound_by_instance, find_resource, given_path, leaf_at, only, own_at, own_resource, under}
 

@@ -1,6 +1,6 @@
 -- `==` tells scopes apart.
 use Rattle.std.proofs.Common.{◌≡◌, ℕ, true, nat_eq, List, get_or, slice_get, position, Option, Some, None, refl, sym, ap, ◌∙◌, subst, eq-eqb}
-use Rattle.std.proofs.lemmas.Bool.{eqb-true}
+use Rattle.std.proofs.lemmas.Bool.{eqb-true, and_parts as both}
 use Rattle.std.proofs.lemmas.List.Quantifiers.{position-Some}
 use Rattle.std.proofs.lemmas.Option.{slice_get-get_or}
 use Rattle.std.specs.Option.{option_eq}
@@ -9,7 +9,7 @@ use Rattle.wac_entries.specs.contracts.scopes.ScopePartialEq.TheImpl as ScopeEq
 use Rattle.wac_entries.specs.declared.scopes.Opener.{Opener}
 use Rattle.wac_entries.specs.declared.scopes.Opener.TheVariants as opener
 use Rattle.wac_entries.specs.declared.scopes.Scope.{Scope}
-use Rattle.wac_subtyping.proofs.Telling.{both, and_true}
+use Rattle.wac_subtyping.proofs.Telling.{and_true}
 
 same-opener : (a b : Opener) → (OpenerEq.ghosts).eq a b ≡ true → a ≡ b
 same-opener (opener.Interface i) (opener.Interface j) e = ap (λ n. opener.Interface (record { 0 = n })) (eqb-true i.0 j.0 e)

@@ -1,6 +1,6 @@
 -- `==` tells keys of definitions and of function types apart by what they stand for, and what one more of them leaves.
 use Rattle.std.proofs.Common.{◌≡◌, Bool, true, false, cond, ◌&&◌, ℕ, ◌+◌, nat_eq, List, [], ◌∷◌, ◌++◌, map, take, Option, Some, None, refl, ap, sym, ◌∙◌, subst, eq-eqb, rules, add-one, ◌⊎◌, inl, inr}
-use Rattle.std.proofs.lemmas.Bool.{cases_Bool, eqb-true}
+use Rattle.std.proofs.lemmas.Bool.{cases_Bool, eqb-true, and_parts as both}
 use Rattle.std.proofs.lemmas.List.{map-append}
 use Rattle.std.specs.Cmp.Lexicographic.{pointwise, pointwise_decides}
 use Rattle.std.specs.HashMap.{get, get_by}
@@ -19,7 +19,7 @@ use Rattle.wac_shapes.specs.declared.component.ValueType.{ValueType}
 use Rattle.wac_shapes.specs.declared.component.ValueType.TheVariants as val
 use Rattle.wac_shapes.proofs.Names.{take_at}
 use Rattle.wac_collection.specs.Collection.{Collection, HasDefined, item_at, seconds}
-use Rattle.wac_subtyping.proofs.Telling.{Tells, both, and_true, list_itself, list_same, Text, text_eq, text_tells}
+use Rattle.wac_subtyping.proofs.Telling.{Tells, and_true, list_itself, list_same, Text, text_eq, text_tells}
 use Rattle.wac_made.specs.contracts.made.FormPartialEq.TheImpl as FormEq
 use Rattle.wac_made.specs.contracts.made.FuncFormPartialEq.TheImpl as FuncFormEq
 use Rattle.wac_made.specs.contracts.shapes.ShapePartialEq.TheImpl as ShapeEq

@@ -1,6 +1,6 @@
 -- `==` tells names of resources apart by what they stand for.
 use Rattle.std.proofs.Common.{◌≡◌, true, nat_eq, [], refl, ap, eq-eqb}
-use Rattle.std.proofs.lemmas.Bool.{eqb-true}
+use Rattle.std.proofs.lemmas.Bool.{eqb-true, and_parts as both}
 use Rattle.std.specs.Cmp.Lexicographic.{pointwise}
 use Rattle.std.specs.Prelude.{string_bytes}
 use Rattle.wac_primitives.specs.Name.{Name}
@@ -14,7 +14,7 @@ use Rattle.wac_subtyping.specs.declared.called.Side.TheVariants.{Imported, Expor
 use Rattle.wac_subtyping.specs.declared.called.Called.{Called}
 use Rattle.wac_subtyping.specs.declared.called.Called.TheVariants as called
 use Rattle.wac_subtyping.specs.CalledViews.{side_view, path_view, called_view}
-use Rattle.wac_subtyping.proofs.Telling.{Tells, both, and_true, list_same, list_itself, Text, text_eq, text_tells}
+use Rattle.wac_subtyping.proofs.Telling.{Tells, and_true, list_same, list_itself, Text, text_eq, text_tells}
 
 side_there : (a b : ASide) → (SideEq.ghosts).eq a b ≡ true → side_view a ≡ side_view b
 side_there Imported Imported e = refl

@@ -1,6 +1,6 @@
 -- `==` tells nodes apart by what they stand for.
 use Rattle.std.proofs.Common.{subst, Global, Vec, ◌≡◌, ℕ, Bool, true, false, ◌&&◌, nat_eq, List, map, Option, Some, None, refl, ap, eq-eqb, rules}
-use Rattle.std.proofs.lemmas.Bool.{eqb-true}
+use Rattle.std.proofs.lemmas.Bool.{eqb-true, and_parts as both}
 use Rattle.std.specs.Cmp.Lexicographic.{pointwise, pointwise_decides, bytes_decides}
 use Rattle.std.specs.Bool.{beq}
 use Rattle.std.specs.Option.{option_eq}
@@ -28,7 +28,7 @@ use Rattle.wac_tables.specs.declared.nodes.Node.TheVariants as node
 use Rattle.wac_subtyping.specs.CalledViews.{called_view}
 use Rattle.wac_tables.specs.NodeViews.{named, item_view, listed, core_view, core_items, core_modules, node_view}
 use Rattle.wac_tables.specs.Nodes as table
-use Rattle.wac_subtyping.proofs.Telling.{Tells, both, and_true, list_same, list_itself, Text, text_eq, text_tells, Borrowed, bytes, borrowed_eq, borrowed_tells}
+use Rattle.wac_subtyping.proofs.Telling.{Tells, and_true, list_same, list_itself, Text, text_eq, text_tells, Borrowed, bytes, borrowed_eq, borrowed_tells}
 use Rattle.wac_tables.proofs.CalledKeys.{called_tells}
 
 number_tells : (x y : ℕ) → (nat_eq x y ≡ true → x ≡ y) × (x ≡ y → nat_eq x y ≡ true)

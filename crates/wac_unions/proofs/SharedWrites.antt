@@ -1,6 +1,6 @@
 -- Interfaces that `==` tells apart, and what a union becomes that lists other than the first that is one interface alone.
 use Rattle.std.proofs.Common.{◌≡◌, Bool, true, ◌&&◌, List, [], ◌∷◌, Option, Some, None, inl, refl, sym, ap, ◌∙◌, subst, eq-eqb, rules}
-use Rattle.std.proofs.lemmas.Bool.{eqb-true}
+use Rattle.std.proofs.lemmas.Bool.{eqb-true, and_parts as both}
 use Rattle.std.specs.Cmp.Lexicographic.{bytes_decides, pointwise, pointwise_decides}
 use Rattle.std.specs.Option.{option_eq}
 use denote.Enum.Bare.{same_true, true_same}
@@ -22,7 +22,7 @@ use Rattle.wac_shapes.specs.declared.component.ValueType.TheVariants as val
 use Rattle.wac_shapes.specs.declared.component.«Type».{«Type» as AnyType}
 use Rattle.wac_shapes.specs.declared.component.«Type».TheVariants as ty
 use Rattle.wac_collection.specs.Collection.{Collection, HasInterface, item_at}
-use Rattle.wac_subtyping.proofs.Telling.{and_true, both}
+use Rattle.wac_subtyping.proofs.Telling.{and_true}
 use Rattle.wac_terms.proofs.Found.{some_same}
 use Rattle.wac_unions.specs.SharedUnions.{Shares}
 

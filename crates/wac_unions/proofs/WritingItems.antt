@@ -2,7 +2,7 @@
 use Rattle.std.proofs.Common.{◌≡◌, ℕ, Bool, true, false, List, [], ◌∷◌, ◌++◌, length, Option, Some, None, Result, Ok, Err, IfOk, is_some, refl, sym, ap, ◌∙◌, subst, arith, inl, inr}
 use Rattle.std.specs.Prelude.{slice_get}
 use Rattle.std.specs.List.{AllZip, list_all}
-use Rattle.std.proofs.lemmas.Bool.{and_from, false≢true, or_cases, or_left, or_right}
+use Rattle.std.proofs.lemmas.Bool.{and_from, false≢true, or_cases, or_left, or_right, and_parts as both}
 use Rattle.std.proofs.lemmas.Option.{slice_get_within}
 use Rattle.wac_primitives.specs.Name.{Name, option_case, same_name}
 use Rattle.wac_collection.specs.Collection.{Collection, HasResource, holds_all, holds_type, item_of, kind_types, resource_mentions, size, with_resource}
@@ -32,7 +32,6 @@ use Rattle.wac_terms.specs.declared.parts.Part.{Part}
 use Rattle.wac_renaming.proofs.StillRenamed.{still_alias, still_renamed}
 use Rattle.wac_made.proofs.Extending.{still_holds}
 use Rattle.wac_entries.proofs.Lists.{at-end}
-use Rattle.wac_subtyping.proofs.Telling.{both}
 
 -- ---- aliases
 

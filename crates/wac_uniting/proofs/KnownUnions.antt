@@ -1,6 +1,6 @@
 -- Unions that are known by what they unite.
 use Rattle.std.proofs.Common.{arith, Global, ◌≡◌, ◌≢◌, ◌==◌, length, ℕ, zero, suc, Bool, true, false, cond, ◌&&◌, nat_eq, List, [], ◌∷◌, slice_get, Vec, Some, inl, inr, refl, sym, subst}
-use Rattle.std.proofs.lemmas.Bool.{cases_Bool, eqb-true}
+use Rattle.std.proofs.lemmas.Bool.{cases_Bool, eqb-true, and_parts as both}
 use Rattle.std.specs.Cmp.Lexicographic.{pointwise}
 use Rattle.std.specs.Map.{lookup_key}
 use Rattle.indexmap.specs.IndexMap.{insert_entry}
@@ -8,7 +8,6 @@ use Rattle.wac_shapes.specs.contracts.component.InterfaceIdPartialEq.TheImpl as 
 use Rattle.wac_shapes.specs.declared.component.InterfaceId.{InterfaceId}
 use Rattle.wac_shapes.proofs.Names.{key_passes}
 use Rattle.wac_collection.proofs.Growth.{map_all}
-use Rattle.wac_subtyping.proofs.Telling.{both}
 use Rattle.wac_terms.specs.declared.parts.Part.{Part}
 use Rattle.wac_terms.specs.declared.parts.Union.{Union}
 use Rattle.wac_terms.specs.Unions.{IsInner}

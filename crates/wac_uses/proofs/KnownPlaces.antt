@@ -1,6 +1,6 @@
 -- Places that are known by the interface that stands there and what it is made of.
 use Rattle.std.proofs.Common.{Global, ◌≡◌, ◌<◌, ℕ, zero, suc, Bool, true, cond, ◌&&◌, List, [], ◌∷◌, ◌++◌, length, slice_get, Vec, Some, inl, inr, refl, sym, ap, ◌∙◌, subst, arith}
-use Rattle.std.proofs.lemmas.Bool.{cases_Bool, eqb-true}
+use Rattle.std.proofs.lemmas.Bool.{cases_Bool, eqb-true, and_parts as both}
 use Rattle.std.specs.Cmp.Lexicographic.{pointwise}
 use Rattle.std.specs.Map.{lookup_key}
 use Rattle.indexmap.specs.IndexMap.{insert_entry}
@@ -10,7 +10,6 @@ use Rattle.wac_shapes.proofs.Names.{key_passes}
 use Rattle.wac_shapes.specs.declared.component.ItemKind.{ItemKind}
 use Rattle.wac_shapes.specs.declared.component.ItemKind.TheVariants as kind
 use Rattle.wac_entries.proofs.Lists.{at-end}
-use Rattle.wac_subtyping.proofs.Telling.{both}
 use Rattle.wac_terms.proofs.Found.{no_some, some_same}
 use Rattle.wac_uses.specs.Using.{AreKnown, IsItemPlaced, StandsBehind}
 

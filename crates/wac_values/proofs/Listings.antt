@@ -1,6 +1,6 @@
 -- What one more listed item adds to a table.
 use Rattle.std.proofs.Common.{◌≡◌, ℕ, zero, suc, nat_lt, nat_eq, Bool, true, false, not, cond, ◌&&◌, ◌||◌, List, [], ◌∷◌, ◌++◌, take, slice_get, Option, Some, None, refl, sym, ap, ◌∙◌, arith}
-use Rattle.std.proofs.lemmas.Bool.{le-ltb}
+use Rattle.std.proofs.lemmas.Bool.{le-ltb, and_parts as both}
 use Rattle.std.proofs.lemmas.List.Folds.{list_any-append}
 use Rattle.wac_primitives.specs.Name.{Name, option_case, first_some}
 use Rattle.wac_shapes.proofs.Names.{take_at}
@@ -13,7 +13,6 @@ use Rattle.wac_shapes.specs.declared.component.UsedType.{UsedType}
 use Rattle.wac_shapes.specs.declared.component.«Type».TheVariants as ty
 use Rattle.wac_shapes.specs.declared.component.ItemKind.{ItemKind}
 use Rattle.wac_shapes.specs.declared.component.ItemKind.TheVariants as kind
-use Rattle.wac_subtyping.proofs.Telling.{both}
 use Rattle.wac_terms.specs.Values.{is_value, listed_value, used_value, uses_value, value_name}
 use Rattle.wac_terms.specs.ValueBindings.{find_value}
 use Rattle.wac_values.specs.Listings.{Found, Takes, better, exported, found, has_value, listed_by, only, stays}
