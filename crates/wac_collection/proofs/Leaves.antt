@@ -25,7 +25,7 @@ use Rattle.wac_primitives.specs.Tree.{Side, imported, exported, Place, named, Le
 use Rattle.wac_collection.specs.Held.{source_of, resolved, part_at, items_under, option_tree, defined_tree, func_tree, item_tree, of_held, listed_tree, interface_tree, world_tree, module_tree, step, unfolded_to}
 use Rattle.wac_collection.specs.Bound.{Bindings, is_alias, lists_own, own_name, inside_interface, bound_by, bound_in_order, lists_type, first_bound, bound_by_imports, bound_in_world, same_side, same_path, is_here, binds_here, by_place, held_tree}
 use Rattle.wac_collection.proofs.Chains.{resource_ends}
-use Rattle.wac_collection.specs.HeldTrees.{changed_leaf, changed, BindsInstance, OwnIsItsEnd, FreshByOwnName, ItemsAreFound, FoundIsHeld, SameNamesAreEqual}
+use Rattle.wac_collection.specs.HeldTrees.{MovesTwice, MovesNothing, changed_leaf, changed, BindsInstance, OwnIsItsEnd, FreshByOwnName, ItemsAreFound, FoundIsHeld, SameNamesAreEqual}
 
 abbrev pub Unfolder : Type 0
 Unfolder = Bindings → AnyType → Tree
@@ -325,3 +325,9 @@ found_is_held c = record {
 
 pub same_names : SameNamesAreEqual
 same_names a b = (λ s. same_name-true a b s, λ e. same_name-from a b e)
+
+pub twice_moved : MovesTwice
+twice_moved t f g = moved_moved t f g (λ l. f (g l)) refl
+
+pub unmoved : MovesNothing
+unmoved t = moved_id t (λ l. l) refl

@@ -10,6 +10,7 @@ use wac_shapes::{ResourceId, Type, ValueType};
 
 impl Types {
     /// The resource at the end of the aliases: held where the first is, and never an alias.
+    #[tactic(auto, using(crate::proofs::Ends::resource_end_is_held, crate::proofs::Ends::resource_end_no_alias))]
     pub fn resolve_resource(&self, id: ResourceId) -> ResourceId
         ensures end { result ≡ resolved self.now id }
         ensures held { holds_type self.now (ty.Resource result) ≡ holds_type self.now (ty.Resource id) }
@@ -20,6 +21,7 @@ impl Types {
     }
 
     /// The value type at the end of the aliases: held where the first is, and never an alias.
+    #[tactic(auto, using(crate::proofs::Ends::end_is_held, crate::proofs::Ends::end_no_alias))]
     pub fn resolve_value_type(&self, value: ValueType) -> ValueType
         ensures end { result ≡ value_resolved self.now value }
         ensures held { holds_value self.now result ≡ holds_value self.now value }

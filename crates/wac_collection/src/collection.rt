@@ -125,6 +125,7 @@ impl Clone for Types {
 }
 
 /// Keeps the ends of all definitions through one; those that were not kept are their own. No end changes where memory ran out either.
+#[tactic(auto, using(crate::proofs::Ends::own_end))]
 fn fill_ends(ends: &mut Vec<ValueType>, last: usize) -> Result<(), AllocError>
     ensures same { (i : ℕ) → end_at ends.new.items i ≡ end_at ends.old.items i }
     ensures through { OnOk result (last < vec_len ends.new) }
@@ -341,6 +342,7 @@ impl Types {
     }
 
     // The value type at the end of the aliases; the value type itself where it isn't held.
+    #[tactic(auto, using(crate::proofs::Ends::plain_value))]
     pub(crate) fn value_end(&self, value: ValueType) -> ValueType
         ensures { result ≡ value_resolved self.now value }
     {

@@ -30,6 +30,7 @@ impl<'a> Iterator for Interfaces<'a> {
 
     ghost remaining = { item_count (λ s. s) };
 
+    #[tactic(auto, using(crate::proofs::Numbered::numbered_at))]
     fn next(&mut self) -> Option<(InterfaceId, &'a Interface)> {
         if self.position >= self.held.len() {
             return None;

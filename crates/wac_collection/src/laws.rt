@@ -4,6 +4,7 @@ ghost use Rattle.wac_collection.specs.HeldTrees.{MovesWithBindings, MovesTwice, 
 use crate::collection::Types;
 
 /// What a change of the leaves of a held tree gives, two in a row, and none.
+#[tactic(auto, using(crate::proofs::Leaves::held_moves, crate::proofs::Leaves::twice_moved, crate::proofs::Leaves::unmoved))]
 pub fn leaves_change()
     ensures bindings { MovesWithBindings }
     ensures twice { MovesTwice }
@@ -11,6 +12,7 @@ pub fn leaves_change()
 {}
 
 /// What an instance has is what is held inside its interface, and which of its type items are fresh.
+#[tactic(auto, using(crate::proofs::Leaves::held_taken, crate::proofs::Leaves::own_is_end, crate::proofs::Leaves::fresh_in_interface, crate::proofs::Leaves::items_found))]
 pub fn instances_are_held()
     ensures taken { TakenIsHeld }
     ensures own { OwnIsItsEnd }
@@ -19,6 +21,7 @@ pub fn instances_are_held()
 {}
 
 /// What is found in a collection is held.
+#[tactic(auto, using(crate::proofs::Leaves::found_is_held))]
 pub fn found_is_held(types: &Types)
     ensures { FoundIsHeld types.now }
 {
@@ -26,6 +29,7 @@ pub fn found_is_held(types: &Types)
 }
 
 /// Names are the same exactly where they are equal.
+#[tactic(auto, using(crate::proofs::Leaves::same_names))]
 pub fn same_names_are_equal()
     ensures { SameNamesAreEqual }
 {}

@@ -49,6 +49,7 @@ impl Package {
     /// A package of a held world. Adds the interface of its instances: one without an id, with the world's exports. Answers
     /// `ResourceMisnamed` where the world exports a resource under another name than its own, unless it is an alias, and
     /// `OutOfMemory` where memory ran out; then the collection is as it was.
+    #[tactic(auto, using(crate::proofs::Packages::handed_on, crate::proofs::Packages::package_refused))]
     pub fn new(
         name: &str,
         version: Option<&Version>,
@@ -177,6 +178,7 @@ impl Types {
 }
 
 // Whether the same items are listed in the same order.
+#[tactic(auto, using(crate::proofs::Ids::same_entries))]
 fn same_items(a: &Named<ItemKind>, b: &Named<ItemKind>) -> bool
     ensures { IsTrue result ↔ (a.now ≡ b.now) }
 {

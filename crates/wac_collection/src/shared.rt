@@ -80,23 +80,11 @@ impl<T: Drop> Clone for Items<T> {
     fn clone(&self) -> Result<Items<T>, AllocError> {
         Ok(Items {
             lists: Lists {
-                first: same_list(&self.lists.first)?,
-                rest: same_list(&self.lists.rest)?,
+                first: self.lists.first.clone()?,
+                rest: self.lists.rest.clone()?,
             },
             len: self.len,
         })
-    }
-}
-
-/// The same list, if there is one.
-fn same_list<T: Drop>(
-    list: &Option<Arc<Vec<Shared<T>>>>,
-) -> Result<Option<Arc<Vec<Shared<T>>>>, AllocError>
-    ensures { IfOk result (λ r. entries r ≡ entries list.now) }
-{
-    match list {
-        Some(list) => Ok(Some(list.clone()?)),
-        None => Ok(None),
     }
 }
 
@@ -134,20 +122,13 @@ impl<T: Drop> Lists<T> {
         ensures put { OnOk result (self.new ≡ self.old ++ item ∷ []) }
         ensures kept { OnErr result (self.new ≡ self.old) }
     {
-        self.keep();
+        if self.first.is_none() {
+            self.first = self.rest.take();
+        }
         let mut own = copied(alloc, &self.rest)?;
         own.push(item)?;
         self.rest = Some(Arc::new(alloc, own)?);
         Ok(())
-    }
-
-    /// Keeps the rest as the first list, where there is none yet.
-    fn keep(&mut self)
-        ensures { self.new ≡ self.old }
-    {
-        if self.first.is_none() {
-            self.first = self.rest.take();
-        }
     }
 }
 

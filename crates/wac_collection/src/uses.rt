@@ -14,6 +14,7 @@ fn same_type(a: Type, b: Type) -> bool
 }
 
 // Whether a resource has this name.
+#[tactic(auto, using(crate::proofs::Ids::same_bytes))]
 fn is_named(resource: &Resource, name: &str) -> bool
     ensures { result ≡ same_name resource.now.name name.now }
 {
