@@ -1,12 +1,10 @@
 -- What `==` answers of questions, and of what stands in types.
-use Rattle.std.proofs.Common.{ℕ, Bool, true, false, ◌≡◌, refl, ap, sym, subst, ◌∙◌, List, Option, Some, rules}
+use Rattle.std.proofs.Common.{Bool, true, false, ◌≡◌, refl, ap, sym, subst, ◌∙◌, List, rules}
 use Rattle.std.proofs.lemmas.Bool.{and_parts, eqb-true}
-use Rattle.std.proofs.lemmas.Option.{same_Some}
 use Rattle.std.proofs.lemmas.Slice.Eq.{slice_eq-Decides, bytes_eq-Decides}
 use denote.Enum.Bare.{same_true, true_same}
 use Rattle.std.specs.Bool.{beq, Decides}
 use Rattle.std.specs.Cmp.Lexicographic.{pointwise}
-use Rattle.std.specs.Str.{bytes_eq}
 use Rattle.wac_primitives.specs.Name.{Name}
 use Rattle.wac_primitives.specs.contracts.component.PrimitiveType.{the_type}
 use Rattle.wac_primitives.specs.contracts.component.PrimitiveTypePartialEq.TheImpl as PrimitiveEq
@@ -90,9 +88,3 @@ core_type_decides a b = (core_type_same a b, λ e. let P : CoreType → Type 0 =
 
 pub core_types_told : (xs ys : List CoreType) (r : Bool) → r ≡ pointwise (CoreEq.ghosts).eq xs ys → Decides r (xs ≡ ys)
 core_types_told = slice_eq-Decides core_type_decides
-
--- names that texts are compared for
-pub called_same : (r : Bool) (a b m n : List ℕ) (o p : Option (List ℕ)) → r ≡ bytes_eq a b → a ≡ m → b ≡ n → o ≡ Some m → p ≡ Some n → Decides r (o ≡ p)
-called_same r a b m n o p e f g h k =
-    let d = bytes_eq-Decides a b in
-    (λ t. h ∙ ap Some (sym f ∙ d.0 (sym e ∙ t) ∙ g) ∙ sym k, λ q. e ∙ d.1 (f ∙ same_Some m n (sym h ∙ q ∙ k) ∙ sym g))
