@@ -71,8 +71,5 @@ module _ {t : Bool} {x y : Collection} {ps qs : List AnyType} where
   under_name m n a b e s = asks_iff (λ p i. (e i, p i)) (λ p. ap (λ u. u.1) p) s
 
 module _ {A B C : Type 0} (f : A → C) (g : B → C) (xs : List A) (ys : List B) where
-  pub lengths_differ : (length xs ≡ length ys → ⊥) → map f xs ≡ map g ys → ⊥
-  lengths_differ n e = n (sym (length-map xs f) ∙ ap length e ∙ length-map ys g)
-
   pub differ_at : (i : ℕ) (a : A) (b : B) → slice_get xs i ≡ Some a → slice_get ys i ≡ Some b → (f a ≡ g b → ⊥) → map f xs ≡ map g ys → ⊥
   differ_at i a b sa sb n e = n (same_Some _ _ (sym (get_map f xs i a sa) ∙ ap (λ l. slice_get l i) e ∙ get_map g ys i b sb))

@@ -9,7 +9,7 @@ use Rattle.wac_shapes.specs.declared.component.Record.{Record}
 use Rattle.wac_shapes.specs.declared.component.DefinedType.TheVariants as def
 use Rattle.wac_shapes.specs.declared.component.FuncType.{FuncType}
 use Rattle.wac_collection.specs.Collection.{Collection, seconds, and_maybe, value_types, func_mentions}
-use Rattle.wac_primitives.specs.Tree.{TypeTree, absent, record_of, variant_of, tuple_of, result_of, function}
+use Rattle.wac_primitives.specs.Tree.{TypeTree, absent, record_of, variant_of, tuple_of, flags_of, enum_of, result_of, function}
 use Rattle.wac_collection.specs.Held.{part_at}
 use Rattle.wac_comparison.specs.Compare.{value_in, optional_in, func_in, defined_in, entry_in}
 use Rattle.wac_comparison.specs.Settling.{Asks}
@@ -21,6 +21,8 @@ module _ {L : Type 0} where
   abbrev pub names_in : TypeTree L → List Name
   names_in (record_of names parts) = names
   names_in (variant_of names parts) = names
+  names_in (flags_of names) = names
+  names_in (enum_of names) = names
   names_in (function is_async names params result) = names
   names_in _ = []
 

@@ -1,7 +1,7 @@
 pub mod Opens
 pub mod Lighter
 pub mod Asking
-pub mod QuestionKeys
+pub mod Equal
 pub mod Sorts
 pub mod Values
 pub mod Agreeing
@@ -10,7 +10,6 @@ pub mod Answering
 pub mod Typing
 pub mod Joining
 pub mod Comparing
-pub mod CoreTypes
 pub mod Offers
 pub mod CoreItems
 pub mod Subtyping

@@ -1,6 +1,5 @@
 -- The tree of a held type is of the type's sort, so it is there.
 use Rattle.std.proofs.Common.{ℕ, zero, suc, true, List, [], ◌∷◌, ◌≡◌, ◌≢◌, ◌<◌, length, refl, ap, sym, ◌∙◌, subst, Option, Some, None, arith, nat_lt, slice_get}
-use Rattle.std.proofs.lemmas.Bool.{ltb-true}
 use Rattle.wac_primitives.specs.Name.{Name, option_case}
 use Rattle.wac_collection.specs.declared.collection.Held.{Held}
 use Rattle.wac_shapes.specs.declared.component.Resource.{Resource}
@@ -11,7 +10,7 @@ use Rattle.wac_shapes.specs.declared.component.ValueType.{ValueType}
 use Rattle.wac_shapes.specs.declared.component.ValueType.TheVariants as val
 use Rattle.wac_shapes.specs.declared.component.«Type».{«Type» as AnyType}
 use Rattle.wac_shapes.specs.declared.component.«Type».TheVariants as ty
-use Rattle.wac_collection.specs.Collection.{Collection, size, item_of, item_at, defined_mentions, IsWellFormed, IsBefore, IsValueBefore, AreBefore, AddedBefore, holds_type}
+use Rattle.wac_collection.specs.Collection.{Collection, size, defined_mentions, IsWellFormed, IsBefore, IsValueBefore, AreBefore, AddedBefore, holds_type}
 use Rattle.wac_primitives.specs.Tree.{TypeTree, absent, own, borrow, resource, function, instance, component, module_of}
 use Rattle.wac_collection.specs.Held.{of_held, defined_tree, resolved, unfolded_to}
 use Rattle.wac_subtyping.specs.Subtype.{Sub, by_name, held_name, resource_names, type_tree}
@@ -95,14 +94,3 @@ are_there c wf n ts = map_all (IsBefore c n) (λ t. type_tree c t ≢ absent) (�
 -- types of different sorts are no subtypes
 pub sorts_differ : (c d : Collection) → IsWellFormed c → IsWellFormed d → (a b : AnyType) → holds_type c a ≡ true → holds_type d b ≡ true → (type_sort a ≡ type_sort b → ⊥) → Sub (type_tree c a) (type_tree d b) → ⊥
 sorts_differ c d wc wd a b ha hb n s = n (sym (type_tree_sort c wc a ha) ∙ sub_sort _ _ s ∙ type_tree_sort d wd b hb)
-
-pub resolved_less : (c : Collection) → IsWellFormed c → (r : ResourceId) → holds_type c (ty.Resource r) ≡ true → (resolved c r).0 < length c.resources
-resolved_less c wf r h = ltb-true (resolved c r).0 (length c.resources) (resolved_held c wf r h)
-
--- what a resource is called, from the item
-pub resource_called : (c : Collection) (r q : ResourceId) (x : Resource) → q ≡ resolved c r → item_at c.resources q.0 ≡ Some x → resource_names c (resolved c r) ≡ Some x.name
-resource_called c r q x e at = ap (resource_names c) (sym e) ∙ by (slice_get c.resources q.0) at
-  where
-    by : (o : Option (Held Resource)) → item_of o ≡ Some x → held_name o ≡ Some x.name
-    by None h = cc
-    by (Some y) h = let same : y.item ≡ x = cc in ap (λ z. Some z.name) same

@@ -12,12 +12,11 @@ ghost use Rattle.wac_comparison.specs.Questions.{IsEnd, IsPlainType, Refutes};
 ghost use Rattle.wac_comparison.specs.Settling.{Asks, RestsOn, HasEnd};
 ghost use Rattle.wac_shapes.specs.declared.component.«Type».TheVariants as ty;
 
-use crate::fault::{Answer, TypeFault};
+use crate::fault::{Answer, TypeFault, told};
 use crate::questions::{Asked, Question};
 use crate::small::has_small_parts;
 use wac_collection::{
-    DefinedType, FuncType, FuncTypeId, ItemKind, Labels, Named, PrimitiveType, ResourceId, Type,
-    Types, ValueType,
+    DefinedType, FuncType, FuncTypeId, ItemKind, Named, ResourceId, Type, Types, ValueType,
 };
 
 /// A comparison of types of two collections: the first is asked to be a subtype of the second, or the same.
@@ -69,7 +68,7 @@ impl<'a> Comparison<'a> {
         ensures mismatch { result ≡ Err TypeFault.Mismatch → value_in self.entry.first.now v ≡ value_in self.entry.second.now w → ⊥ }
     {
         match (v, w) {
-            (ValueType::Primitive(p), ValueType::Primitive(q)) => same_primitive(p, q),
+            (ValueType::Primitive(p), ValueType::Primitive(q)) => told(p == q),
             _ => self.ask_type(asked, Type::Value(v), Type::Value(w)),
         }
     }
@@ -197,8 +196,8 @@ impl<'a> Comparison<'a> {
             (DefinedType::Record(v), DefinedType::Record(w)) => {
                 self.ask_named(asked, &v.fields, &w.fields)
             }
-            (DefinedType::Flags(v), DefinedType::Flags(w)) => ask_labels(&v.0, &w.0),
-            (DefinedType::Enum(v), DefinedType::Enum(w)) => ask_labels(&v.0, &w.0),
+            (DefinedType::Flags(v), DefinedType::Flags(w)) => told(v.0 == w.0),
+            (DefinedType::Enum(v), DefinedType::Enum(w)) => told(v.0 == w.0),
             (DefinedType::Stream(v), DefinedType::Stream(w)) => self.ask_optional(asked, *v, *w),
             (DefinedType::Future(v), DefinedType::Future(w)) => self.ask_optional(asked, *v, *w),
             _ => Err(TypeFault::Mismatch),
@@ -216,11 +215,7 @@ impl<'a> Comparison<'a> {
         self.second.law();
         let first = &self.first[self.first.resolve_resource(r)];
         let second = &self.second[self.second.resolve_resource(s)];
-        if first.name.as_str() == second.name.as_str() {
-            Ok(())
-        } else {
-            Err(TypeFault::Mismatch)
-        }
+        told(first.name.as_str() == second.name.as_str())
     }
 
     /// Asks whether one item is a subtype of the other.
@@ -286,7 +281,7 @@ impl<'a> Comparison<'a> {
         self.first.law();
         self.second.law();
         match (v, w) {
-            (ValueType::Primitive(p), ValueType::Primitive(q)) => same_primitive(p, q),
+            (ValueType::Primitive(p), ValueType::Primitive(q)) => told(p == q),
             (ValueType::Own(r), ValueType::Own(s)) => self.ask_resource(r, s),
             (ValueType::Borrow(r), ValueType::Borrow(s)) => self.ask_resource(r, s),
             (ValueType::Defined(d), ValueType::Defined(e)) => {
@@ -318,18 +313,6 @@ fn is_plain(ty: Type) -> bool
     }
 }
 
-// Asks whether the names are the same, in the same order.
-fn ask_labels(xs: &Labels, ys: &Labels) -> Answer
-    ensures same { IfOk result (λ _. xs.now ≡ ys.now) }
-    ensures mismatch { result ≡ Err TypeFault.Mismatch → xs.now ≡ ys.now → ⊥ }
-{
-    if xs == ys {
-        Ok(())
-    } else {
-        Err(TypeFault::Mismatch)
-    }
-}
-
 // The item under a name, looked for at a position first.
 fn item_near<'a>(items: &'a Named<ItemKind>, index: usize, name: &str) -> Option<&'a ItemKind>
     ensures { option_copied result ≡ find_name items.now name.now }
@@ -339,16 +322,4 @@ fn item_near<'a>(items: &'a Named<ItemKind>, index: usize, name: &str) -> Option
         return Some(items.value_at(index));
     }
     items.get(name)
-}
-
-// Whether the primitives are the same.
-fn same_primitive(p: PrimitiveType, q: PrimitiveType) -> Answer
-    ensures same { IfOk result (λ _. p ≡ q) }
-    ensures mismatch { result ≡ Err TypeFault.Mismatch → p ≡ q → ⊥ }
-{
-    if p == q {
-        Ok(())
-    } else {
-        Err(TypeFault::Mismatch)
-    }
 }

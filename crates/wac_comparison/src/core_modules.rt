@@ -4,7 +4,7 @@ ghost use Rattle.wac_collection.specs.Held.{core_item};
 ghost use Rattle.wac_subtyping.specs.Subtype.{IsCoreSubtype, IsMaximumWithin};
 ghost use Rattle.wac_comparison.specs.Compare.{IsTableSubtype, IsMemorySubtype, OffersCore, OffersModules};
 
-use wac_collection::{CoreExtern, CoreFuncType, CoreImports, CoreType, ModuleType, Named};
+use wac_collection::{CoreExtern, CoreFuncType, CoreImports, ModuleType, Named};
 
 // Whether a greatest size is one that the second allows.
 fn is_maximum_within(a: Option<u64>, b: Option<u64>) -> bool
@@ -24,19 +24,12 @@ fn is_within(initial: u64, maximum: Option<u64>, least: u64, most: Option<u64>) 
     least <= initial && is_maximum_within(maximum, most)
 }
 
-// Whether the core types of one list are those of the other.
-fn same_core_types(xs: &[CoreType], ys: &[CoreType]) -> bool
-    ensures { IsTrue result ↔ (xs.now ≡ ys.now) }
-{
-    xs == ys
-}
-
 // Whether the parameters and results of one core function are those of the other.
+#[tactic(auto, using(crate::proofs::Equal::core_types_told))]
 fn same_core_func(f: &CoreFuncType, g: &CoreFuncType) -> bool
     ensures { IsTrue result ↔ ((f.now.params ≡ g.now.params) × (f.now.results ≡ g.now.results)) }
 {
-    same_core_types(f.params.as_slice(), g.params.as_slice())
-        && same_core_types(f.results.as_slice(), g.results.as_slice())
+    f.params == g.params && f.results == g.results
 }
 
 // Whether both are tables, and one is a subtype of the other.

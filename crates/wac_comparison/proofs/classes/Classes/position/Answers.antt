@@ -1,7 +1,7 @@
 use Rattle.std.proofs.Common.{sym, ◌∙◌}
 use Rattle.indexmap.proofs.CallerLemmas.{insert_entry-new}
 use Rattle.wac_comparison.specs.contracts.classes.NodePartialEq.TheImpl as NodeEq
-use Rattle.wac_comparison.proofs.QuestionKeys.{same_node}
+use Rattle.wac_comparison.proofs.Equal.{same_node}
 use Rattle.wac_comparison.proofs.Joining.{node_found, node_new}
 use Rattle.wac_comparison.proofs.classes.Classes.position.Goals as goal
 

@@ -1,8 +1,10 @@
 use Rattle.std.proofs.Common.{ap, sym, ◌∙◌, None}
+use Rattle.std.proofs.lemmas.Bool.{iff_false}
 use Rattle.std.proofs.lemmas.Result.{IfOk-weaker}
 use Rattle.wac_primitives.specs.Name.{option_case}
 use Rattle.wac_primitives.specs.Tree.{absent, own, borrow}
 use Rattle.wac_collection.specs.Aliases.{aliased}
+use Rattle.wac_comparison.proofs.Equal.{primitives_told}
 use Rattle.wac_comparison.proofs.Asking.{rests_now}
 use Rattle.wac_comparison.proofs.Lighter.{own_in, borrow_in}
 use Rattle.wac_comparison.proofs.Values.{primitives_same, primitives_inj}
@@ -10,11 +12,12 @@ use Rattle.wac_comparison.proofs.Answering.{definitions_rest, definitions_differ
 use Rattle.wac_comparison.proofs.comparison.Comparison.answer_value.Goals as goal
 
 pub returns-in-Primitive-Primitive-clause-settled : goal.returns-in-Primitive-Primitive-clause-settled
-returns-in-Primitive-Primitive-clause-settled c = rw (c.in-Primitive-Primitive.is-0, c.in-Primitive-Primitive.is-1) (IfOk-weaker c.same_primitive.result _ _
-    (λ _ e. rests_now c.args.self.turned c.args.self.first.now c.args.self.second.now _ _ _ (primitives_same c.args.self.first.now c.args.self.second.now _ _ e)) c.same_primitive.ensures.same)
+returns-in-Primitive-Primitive-clause-settled c = rw (c.in-Primitive-Primitive.is-0, c.in-Primitive-Primitive.is-1)
+    (IfOk-weaker c.told.result _ _ (λ _ e. rests_now c.args.self.turned c.args.self.first.now c.args.self.second.now _ _ _ (primitives_same c.args.self.first.now c.args.self.second.now _ _ ((primitives_told c.in-Primitive-Primitive.p c.in-Primitive-Primitive.q _ c.eq.ensures).0 e))) c.told.ensures.yes)
 
 pub returns-in-Primitive-Primitive-clause-mismatch : goal.returns-in-Primitive-Primitive-clause-mismatch
-returns-in-Primitive-Primitive-clause-mismatch c = λ is. rw (c.in-Primitive-Primitive.is-0, c.in-Primitive-Primitive.is-1) (λ e. c.same_primitive.ensures.mismatch is (primitives_inj c.args.self.first.now c.args.self.second.now _ _ e))
+returns-in-Primitive-Primitive-clause-mismatch c = λ is. rw (c.in-Primitive-Primitive.is-0, c.in-Primitive-Primitive.is-1)
+    (λ e. iff_false (primitives_told c.in-Primitive-Primitive.p c.in-Primitive-Primitive.q _ c.eq.ensures) (c.told.ensures.no is) (primitives_inj c.args.self.first.now c.args.self.second.now _ _ e))
 
 pub returns-in-Own-Own-clause-settled : goal.returns-in-Own-Own-clause-settled
 returns-in-Own-Own-clause-settled c =

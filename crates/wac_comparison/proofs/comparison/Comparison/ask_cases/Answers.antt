@@ -5,11 +5,8 @@ use Rattle.wac_subtyping.specs.Subtype.{type_tree}
 use Rattle.wac_comparison.specs.Compare.{optional_in, case_in}
 use Rattle.wac_shapes.proofs.Names.{ne-true, ne-false}
 use Rattle.wac_comparison.proofs.Values.{asks_of}
-use Rattle.wac_comparison.proofs.Agreeing.{handed_on, agree_none, agree_more, agree_maps, under_name, lengths_differ, case_among, differ_at}
+use Rattle.wac_comparison.proofs.Agreeing.{handed_on, agree_none, agree_more, agree_maps, under_name, case_among, differ_at}
 use Rattle.wac_comparison.proofs.comparison.Comparison.ask_cases.Goals as goal
-
-pub returns-then-len-clause-mismatch : goal.returns-then-len-clause-mismatch
-returns-then-len-clause-mismatch c = λ _. record { refutes = λ hx hy. lengths_differ (case_in c.args.self.first.now) (case_in c.args.self.second.now) c.args.cs.now c.args.ds.now (λ e. omega (arith, e, c.if-len.true, c.len.ensures, c.len-2.ensures)) }
 
 pub loop-i-init : goal.loop-i-init
 loop-i-init c = agree_none (map (case_in c.args.self.first.now) c.args.cs.now) (map (case_in c.args.self.second.now) c.args.ds.now)

@@ -1,8 +1,10 @@
 use Rattle.std.proofs.Common.{ap, []}
+use Rattle.std.proofs.lemmas.Bool.{iff_false}
 use Rattle.std.proofs.lemmas.Result.{IfOk-weaker}
 use Rattle.wac_primitives.specs.Tree.{record_of, variant_of, list_of, fixed_list_of, option_of, result_of, flags_of, enum_of, stream_of, future_of}
 use Rattle.wac_collection.specs.Collection.{and_maybe}
 use Rattle.wac_comparison.specs.Compare.{value_in, optional_in}
+use Rattle.wac_comparison.proofs.Equal.{labels_told}
 use Rattle.wac_comparison.proofs.Values.{inner, asks_now, asks_iff}
 use Rattle.wac_comparison.proofs.Definitions.{names_in, parts_in, last_in, tuples_from, tuples_back, entries_from, entries_back, records_back, asks_both}
 use Rattle.wac_comparison.proofs.comparison.Comparison.ask_defined.Goals as goal
@@ -58,10 +60,16 @@ returns-in-Record-Record-clause-mismatch c = λ is. rw (c.in-Record-Record.is-0,
 })
 
 pub returns-in-Flags-Flags-clause-asked : goal.returns-in-Flags-Flags-clause-asked
-returns-in-Flags-Flags-clause-asked c = rw (c.in-Flags-Flags.is-0, c.in-Flags-Flags.is-1) (IfOk-weaker c.ask_labels.result _ _ (λ _ h. asks_now (ap flags_of h)) c.ask_labels.ensures.same)
+returns-in-Flags-Flags-clause-asked c = rw (c.in-Flags-Flags.is-0, c.in-Flags-Flags.is-1) (IfOk-weaker c.told.result _ _ (λ _ e. asks_now (ap flags_of ((labels_told _ _ _ c.eq.ensures).0 e))) c.told.ensures.yes)
+
+pub returns-in-Flags-Flags-clause-mismatch : goal.returns-in-Flags-Flags-clause-mismatch
+returns-in-Flags-Flags-clause-mismatch c = λ is. rw (c.in-Flags-Flags.is-0, c.in-Flags-Flags.is-1) (record { refutes = λ hx hy h. iff_false (labels_told _ _ _ c.eq.ensures) (c.told.ensures.no is) (ap names_in h) })
 
 pub returns-in-Enum-Enum-clause-asked : goal.returns-in-Enum-Enum-clause-asked
-returns-in-Enum-Enum-clause-asked c = rw (c.in-Enum-Enum.is-0, c.in-Enum-Enum.is-1) (IfOk-weaker c.ask_labels-in-Enum-Enum.result _ _ (λ _ h. asks_now (ap enum_of h)) c.ask_labels-in-Enum-Enum.ensures.same)
+returns-in-Enum-Enum-clause-asked c = rw (c.in-Enum-Enum.is-0, c.in-Enum-Enum.is-1) (IfOk-weaker c.told-in-Enum-Enum.result _ _ (λ _ e. asks_now (ap enum_of ((labels_told _ _ _ c.eq-in-Enum-Enum.ensures).0 e))) c.told-in-Enum-Enum.ensures.yes)
+
+pub returns-in-Enum-Enum-clause-mismatch : goal.returns-in-Enum-Enum-clause-mismatch
+returns-in-Enum-Enum-clause-mismatch c = λ is. rw (c.in-Enum-Enum.is-0, c.in-Enum-Enum.is-1) (record { refutes = λ hx hy h. iff_false (labels_told _ _ _ c.eq-in-Enum-Enum.ensures) (c.told-in-Enum-Enum.ensures.no is) (ap names_in h) })
 
 pub returns-in-Stream-Stream-clause-asked : goal.returns-in-Stream-Stream-clause-asked
 returns-in-Stream-Stream-clause-asked c = rw (c.in-Stream-Stream.is-0, c.in-Stream-Stream.is-1)

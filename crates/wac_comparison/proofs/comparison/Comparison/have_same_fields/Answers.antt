@@ -6,9 +6,6 @@ use Rattle.wac_shapes.proofs.Names.{ne-false}
 use Rattle.wac_comparison.proofs.Agreeing.{get_map, maps_agree}
 use Rattle.wac_comparison.proofs.comparison.Comparison.have_same_fields.Goals as goal
 
-pub loop-i-init : goal.loop-i-init
-loop-i-init c = λ k lt. absurd (omega (arith, lt))
-
 pub loop-i-preserved : goal.loop-i-preserved
 loop-i-preserved c =
     let x = c.args.self.first.now in

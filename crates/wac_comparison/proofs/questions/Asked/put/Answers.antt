@@ -1,5 +1,5 @@
 use Rattle.wac_comparison.proofs.Asking.{puts_inserted}
-use Rattle.wac_comparison.proofs.QuestionKeys.{same_question}
+use Rattle.wac_comparison.proofs.Equal.{same_question}
 use Rattle.wac_comparison.proofs.questions.Asked.put.Goals as goal
 
 pub returns-in-Ok-clause-put : goal.returns-in-Ok-clause-put

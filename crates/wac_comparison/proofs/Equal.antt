@@ -1,9 +1,19 @@
--- `==` tells questions apart.
-use Rattle.std.proofs.Common.{Bool, true, false, ◌≡◌, refl, ap, rules}
+-- What `==` answers of questions, and of what stands in types.
+use Rattle.std.proofs.Common.{Bool, true, false, ◌≡◌, refl, ap, sym, subst, ◌∙◌, List, rules}
 use Rattle.std.proofs.lemmas.Bool.{and_parts, eqb-true}
-use denote.Enum.Bare.{same_true}
-use Rattle.std.specs.Bool.{beq}
+use Rattle.std.proofs.lemmas.Slice.Eq.{slice_eq-Decides, bytes_eq-Decides}
+use denote.Enum.Bare.{same_true, true_same}
+use Rattle.std.specs.Bool.{beq, Decides}
+use Rattle.std.specs.Cmp.Lexicographic.{pointwise}
+use Rattle.wac_primitives.specs.Name.{Name}
 use Rattle.wac_primitives.specs.contracts.component.PrimitiveType.{the_type}
+use Rattle.wac_primitives.specs.contracts.component.PrimitiveTypePartialEq.TheImpl as PrimitiveEq
+use Rattle.wac_primitives.specs.contracts.core_types.CoreTypePartialEq.TheImpl as CoreEq
+use Rattle.wac_primitives.specs.declared.component.PrimitiveType.{PrimitiveType}
+use Rattle.wac_primitives.specs.declared.core_types.CoreType.{CoreType}
+use Rattle.wac_primitives.specs.declared.core_types.CoreType.TheVariants.{I32, I64, F32, F64, V128, Ref}
+use Rattle.wac_primitives.specs.declared.core_types.CoreRefType.TheVariants.{FuncRef, ExternRef}
+use Rattle.wac_shapes.specs.Equal.{same_labels}
 use Rattle.wac_shapes.specs.contracts.component.ValueTypePartialEq.TheImpl as ValueEq
 use Rattle.wac_shapes.specs.contracts.component.TypePartialEq.TheImpl as TypeEq
 use Rattle.wac_comparison.specs.contracts.questions.QuestionPartialEq.TheImpl as QuestionEq
@@ -51,3 +61,30 @@ same_node a b e =
     let t = same_flag a.turned b.turned h.0 in
     let f = same_type a.ty b.ty h.1 in
     (λ i. record { turned = t i; ty = f i })
+
+pub primitives_told : (p q : PrimitiveType) (r : Bool) → r ≡ (PrimitiveEq.ghosts).eq p q → Decides r (p ≡ q)
+primitives_told p q r e = (λ t. same_true the_type (search rules) p q (sym e ∙ t), λ s. e ∙ true_same the_type p q s)
+
+pub labels_told : (xs ys : List Name) (r : Bool) → r ≡ same_labels xs ys → Decides r (xs ≡ ys)
+labels_told = slice_eq-Decides bytes_eq-Decides
+
+core_type_same : (a b : CoreType) → (CoreEq.ghosts).eq a b ≡ true → a ≡ b
+core_type_same I32 I32 e = refl
+core_type_same I64 I64 e = refl
+core_type_same F32 F32 e = refl
+core_type_same F64 F64 e = refl
+core_type_same V128 V128 e = refl
+core_type_same (Ref FuncRef) (Ref FuncRef) e = refl
+core_type_same (Ref ExternRef) (Ref ExternRef) e = refl
+core_type_same _ _ e = cc e
+
+core_type_itself : (a : CoreType) → (CoreEq.ghosts).eq a a ≡ true
+core_type_itself (Ref FuncRef) = refl
+core_type_itself (Ref _) = refl
+core_type_itself _ = refl
+
+core_type_decides : (a b : CoreType) → Decides ((CoreEq.ghosts).eq a b) (a ≡ b)
+core_type_decides a b = (core_type_same a b, λ e. let P : CoreType → Type 0 = λ z. (CoreEq.ghosts).eq a z ≡ true in subst P e (core_type_itself a))
+
+pub core_types_told : (xs ys : List CoreType) (r : Bool) → r ≡ pointwise (CoreEq.ghosts).eq xs ys → Decides r (xs ≡ ys)
+core_types_told = slice_eq-Decides core_type_decides
