@@ -236,10 +236,9 @@ impl Types {
         }
         let id = ResourceId(self.resources.len());
         let before = self.count()?;
-        let end = match resource.alias {
-            Some(alias) => self.resource_end(alias.source),
-            None => id,
-        };
+        let end = resource
+            .alias
+            .map_or(id, |alias| self.resource_end(alias.source));
         if self.resource_ends.reserve(1).is_err() {
             return Err(AddTypeError::OutOfMemory);
         }
@@ -335,10 +334,7 @@ impl Types {
     pub(crate) fn resource_end(&self, id: ResourceId) -> ResourceId
         ensures { result ≡ resolved self.now id }
     {
-        match self.resource_ends.get(id.0) {
-            Some(end) => *end,
-            None => id,
-        }
+        self.resource_ends.get(id.0).copied().unwrap_or(id)
     }
 
     // The value type at the end of the aliases; the value type itself where it isn't held.

@@ -11,15 +11,12 @@ impl Types {
     pub(crate) fn contains_alias(&self, resource: &Resource) -> bool
         ensures { result ≡ holds_all self.now (resource_mentions resource.now) }
     {
-        match resource.alias {
-            None => true,
-            Some(alias) => {
-                self.contains(Type::Resource(alias.source))
-                    && alias
-                        .owner
-                        .is_none_or(|owner| self.contains(Type::Interface(owner)))
-            }
-        }
+        resource.alias.is_none_or(|alias| {
+            self.contains(Type::Resource(alias.source))
+                && alias
+                    .owner
+                    .is_none_or(|owner| self.contains(Type::Interface(owner)))
+        })
     }
 
     fn contains_maybe(&self, value: Option<ValueType>) -> bool

@@ -62,13 +62,10 @@ impl Types {
     fn is_listed_as_used(&self, listed: &Named<ItemKind>, name: &str, used: &UsedType) -> bool
         ensures { result ≡ is_listed_as_used self.now listed.now (name.now, used.now) }
     {
-        match listed.get(name) {
-            None => true,
-            Some(kind) => match self.used_item(name, used) {
-                None => false,
-                Some(used) => self.same_type_item(*kind, used),
-            },
-        }
+        listed.get(name).is_none_or(|kind| {
+            self.used_item(name, used)
+                .is_some_and(|used| self.same_type_item(*kind, used))
+        })
     }
 
     // Whether an item, where it is an own resource, is listed under the resource's own name.
