@@ -19,13 +19,13 @@ at i v = Some (i, v)
 
 module _ {V : Type 0} where
   -- what stands under a name is what stands at its position
-  pub found_named : (es : List (Name × V)) (i : ℕ) (n : Name) → find_name es n ≡ option_map (λ p. p.1) (named_at i n es)
+  pub found_named : (es : List (Name × V)) (i : ℕ) (n : Name) → option_map (λ p. p.1) (named_at i n es) ≡ find_name es n
   found_named [] i n = refl
-  found_named (e ∷ es) i n = by (same_name n e.0) (find_name es n) (named_at (suc i) n es) (found_named es (suc i) n)
+  found_named (e ∷ es) i n = by (same_name n e.0) (found_named es (suc i) n)
     where
-      by : (b : Bool) (o : Option V) (p : Option (ℕ × V)) → o ≡ option_map (λ p. p.1) p → cond b (Some e.1) o ≡ option_map (λ p. p.1) (cond b (Some (i, e.1)) p)
-      by true o p h = refl
-      by false o p h = h
+      by : (b : Bool) → option_map (λ p. p.1) (named_at (suc i) n es) ≡ find_name es n → option_map (λ p. p.1) (cond b (at i e.1) (named_at (suc i) n es)) ≡ cond b (Some e.1) (find_name es n)
+      by true later = refl
+      by false later = later
 
   -- a name is sought in the first list, and then in the second
   sought : (es rest : List (Name × V)) (i : ℕ) (n : Name) → named_at i n (es ++ rest) ≡ first_some (named_at i n es) (named_at (i + length es) n rest)

@@ -249,6 +249,7 @@ impl Labels {
     }
 
     /// The law of all names in order: none stands twice.
+    #[tactic(auto, using(crate::proofs::AsGiven::labelled_names_of))]
     pub fn law(&self)
         ensures { NoNameTwice (labelled self.now) }
     {
@@ -629,6 +630,7 @@ impl<V: Copy> Named<V> {
     }
 
     /// The same, in memory of its own.
+    #[tactic(auto, using(crate::proofs::Names::taken))]
     pub fn copied(&self, alloc: Global) -> Result<Named<V>, AllocError>
         ensures { IfOk result (λ n. n ≡ self.now) }
     {
