@@ -1,5 +1,5 @@
 -- What `==` answers of entries, by what is seen of them, and of two lists, as far as a loop has come.
-use Rattle.std.proofs.Common.{ℕ, suc, Bool, true, false, not, ◌&&◌, ◌∙◌, ◌≤◌, sym, ap, List, [], ◌∷◌, map, length, slice_get, drop, drop_of_length-le, Some, ◌≡◌, refl}
+use Rattle.std.proofs.Common.{ℕ, suc, Bool, true, false, not, ◌&&◌, ◌∙◌, sym, ap, List, [], ◌∷◌, map, slice_get, drop, Some, ◌≡◌, refl}
 use Rattle.std.proofs.lemmas.Bool.{not-true, not-false}
 use Rattle.std.specs.Cmp.Lexicographic.{pointwise}
 use Rattle.wac_primitives.specs.Name.{Name}
@@ -29,15 +29,9 @@ not_true b h = not-true b (sym h)
 pub not_false : (b : Bool) → false ≡ not b → b ≡ true
 not_false b h = not-false b (sym h)
 
--- a comparison of two lists, one further on, and at the end
-module _ {A : Type 0} (E : A → A → Bool) (xs ys : List A) (i : ℕ) where
-  pub compared_more : (x y : A) (b : Bool) → slice_get xs i ≡ Some x → slice_get ys i ≡ Some y → E x y ≡ b → pointwise E (drop i xs) (drop i ys) ≡ pointwise E xs ys
-      → (b && pointwise E (drop (suc i) xs) (drop (suc i) ys)) ≡ pointwise E xs ys
-  compared_more x y b here there is so_far =
-      let first : pointwise E (drop i xs) (drop i ys) ≡ (E x y && pointwise E (drop (suc i) xs) (drop (suc i) ys)) = (λ j. pointwise E (drop_at xs i x here j) (drop_at ys i y there j)) in
-      ap (λ c. c && pointwise E (drop (suc i) xs) (drop (suc i) ys)) (sym is) ∙ sym first ∙ so_far
-
-  pub compared_all : length xs ≤ i → length ys ≤ i → pointwise E (drop i xs) (drop i ys) ≡ pointwise E xs ys → true ≡ pointwise E xs ys
-  compared_all le more so_far =
-      let left : pointwise E (drop i xs) (drop i ys) ≡ true = (λ j. pointwise E (drop_of_length-le xs le j) (drop_of_length-le ys more j)) in
-      sym left ∙ so_far
+-- a comparison of two lists, one further on
+pub compared_more : {A : Type 0} (E : A → A → Bool) (xs ys : List A) (i : ℕ) (x y : A) (b : Bool) → slice_get xs i ≡ Some x → slice_get ys i ≡ Some y → E x y ≡ b → pointwise E (drop i xs) (drop i ys) ≡ pointwise E xs ys
+    → (b && pointwise E (drop (suc i) xs) (drop (suc i) ys)) ≡ pointwise E xs ys
+compared_more E xs ys i x y b here there is so_far =
+    let first : pointwise E (drop i xs) (drop i ys) ≡ (E x y && pointwise E (drop (suc i) xs) (drop (suc i) ys)) = (λ j. pointwise E (drop_at xs i x here j) (drop_at ys i y there j)) in
+    ap (λ c. c && pointwise E (drop (suc i) xs) (drop (suc i) ys)) (sym is) ∙ sym first ∙ so_far

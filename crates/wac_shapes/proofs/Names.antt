@@ -1,5 +1,5 @@
 -- Names, and lists under names.
-use Rattle.std.proofs.Common.{ℕ, zero, suc, Bool, true, false, not, cond, get_or, nat_eq, ◌&&◌, ◌≡◌, ◌≢◌, ◌<◌, ◌+◌, refl, sym, ap, ◌∙◌, arith, List, [], ◌∷◌, ◌++◌, length, slice_get, take, take-suc, Option, Some, None}
+use Rattle.std.proofs.Common.{ℕ, zero, suc, Bool, true, false, not, cond, get_or, nat_eq, ◌&&◌, ◌≡◌, ◌≢◌, ◌<◌, ◌+◌, add-one, refl, sym, ap, ◌∙◌, arith, List, [], ◌∷◌, ◌++◌, length, slice_get, take, take-suc, Option, Some, None}
 use Rattle.std.proofs.lemmas.Bool.{both_ways, cond-true, cond-false, false_from_ne_true, not-false, not-true}
 use Rattle.std.proofs.lemmas.Map.Entries.{place_from_lookup}
 use Rattle.std.proofs.lemmas.Map.Made.{lookup_key_passes}
@@ -55,9 +55,9 @@ passes_over false x o h = (refl, h)
 
 module _ {V : Type 0} where
   -- what stands under a name is what a look-up finds
-  pub found-by_name : (es : List (Name × V)) (n : Name) → lookup (same_name n) es ≡ find_name es n
-  found-by_name [] n = refl
-  found-by_name (e ∷ es) n = ap (cond (same_name n e.0) (Some e.1)) (found-by_name es n)
+  pub found_by_name : (es : List (Name × V)) (n : Name) → lookup (same_name n) es ≡ find_name es n
+  found_by_name [] n = refl
+  found_by_name (e ∷ es) n = ap (cond (same_name n e.0) (Some e.1)) (found_by_name es n)
 
   -- a name that none has is not among those behind the first, nor is it the first
   pub none_behind : (e : Name × V) (es : List (Name × V)) (n : Name) → find_name (e ∷ es) n ≡ None → (same_name n e.0 ≡ false) × (find_name es n ≡ None)
@@ -102,7 +102,7 @@ module _ {V : Type 0} where
   -- where what is found under a name stands
   pub find_position : (es : List (Name × V)) (n : Name) (v : V) → find_name es n ≡ Some v → (j : ℕ) × (j < length es) × (slice_get es j ≡ Some (n, v))
   find_position es n v h =
-      let p = place_from_lookup (same_name n) es v (found-by_name es n ∙ h) in
+      let p = place_from_lookup (same_name n) es v (found_by_name es n ∙ h) in
       (p.0, slice_get_within es p.0 (p.1, v) p.2, p.2 ∙ ap (λ m. Some (m, v)) (sym (same_name-true n p.1 p.3)))
 
   -- where no name stands twice, a name is not among those before it
@@ -138,6 +138,9 @@ named_pairs-at {V} ps i b v h = slice_get-map (λ (e : Bor (List ℕ) × V). (e.
 
 pub take_at : {A : Type 0} (xs : List A) (i : ℕ) (x : A) → slice_get xs i ≡ Some x → take (suc i) xs ≡ take i xs ++ x ∷ []
 take_at xs i x h = take-suc xs i x (slice_get_within xs i x h) ∙ ap (λ y. take i xs ++ y ∷ []) (get_or_from_slice_get xs i x x h)
+
+pub taken : {A : Type 0} (xs : List A) (i : ℕ) (x : A) → slice_get xs i ≡ Some x → take i xs ++ x ∷ [] ≡ take (i + 1) xs
+taken xs i x h = sym (rw add-one (take_at xs i x h))
 
 -- the element that an index reads
 pub element_at : {A : Type 0} (xs : List A) (i : ℕ) (d : A) → i < length xs → slice_get xs i ≡ Some (get_or xs i d)

@@ -4,14 +4,14 @@ use Rattle.std.proofs.lemmas.Result.{on_ok_weaker}
 use Rattle.std.specs.Option.{option_map, option_copied_mut}
 use Rattle.wac_primitives.specs.Name.{Name, find_name}
 use Rattle.wac_shapes.specs.Named.{named_at}
-use Rattle.wac_shapes.proofs.Parts.{found_named}
+use Rattle.wac_shapes.proofs.Parts.{found_from}
 
 pub on_ok : {T E P Q : Type 0} (r : Result T E) → (P → Q) → OnOk r P → OnOk r Q
 on_ok r f h = on_ok_weaker r f h
 
 -- where a name is not found there is nothing under it
 pub nothing_under : {V : Type 0} (es : List (Name × V)) (j : ℕ) (n : Name) → named_at j n es ≡ None → find_name es n ≡ None
-nothing_under es j n h = found_named es j n ∙ ap (option_map (λ p. p.1)) h
+nothing_under es j n h = found_from es j n ∙ ap (option_map (λ p. p.1)) h
 
 pub now_is : {W : Type 0} (o : Option (MutBor W)) (x : MutBor W) (p : Option W) (w : W) → option_copied_mut o ≡ p → o ≡ Some x → p ≡ Some w → x.now ≡ w
 now_is o x p w value is at =

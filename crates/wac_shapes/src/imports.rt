@@ -127,6 +127,7 @@ impl<V> CoreImports<V> {
     }
 
     /// The law of all values under a module and a name: no name of a module stands twice.
+    #[tactic(auto, using(crate::proofs::Pairs::once_by_pairs))]
     pub fn law(&self)
         ensures { NoImportTwice self.now }
     {

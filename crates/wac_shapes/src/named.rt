@@ -249,6 +249,7 @@ impl Labels {
     }
 
     /// The law of all names in order: none stands twice.
+    #[tactic(auto, using(crate::proofs::AsGiven::labelled_names_of))]
     pub fn law(&self)
         ensures { NoNameTwice (labelled self.now) }
     {
@@ -523,6 +524,7 @@ impl<V> Named<V> {
     }
 
     /// The value under a name.
+    #[tactic(auto, using(crate::proofs::Parts::found_named))]
     pub fn get(&self, name: &str) -> Option<&V>
         ensures { option_copied result ≡ find_name self.now name.now }
     {
@@ -531,6 +533,7 @@ impl<V> Named<V> {
     }
 
     /// The position of a name, and the value under it.
+    #[tactic(auto, using(crate::proofs::Parts::named_in_both))]
     pub fn get_full(&self, name: &str) -> Option<(usize, &V)>
         ensures { option_map (λ p. (p.0, p.1.now)) result ≡ named_at 0 name.now self.now }
     {
@@ -584,6 +587,7 @@ impl<V> Named<V> {
 impl<V: Drop> Named<V> {
     /// Puts a value under a new name, behind the others. Answers `NameTwice` where the name is there, and `OutOfMemory` where
     /// memory ran out; then nothing has changed.
+    #[tactic(auto, using(crate::proofs::Parts::found_in_both))]
     pub fn insert(&mut self, alloc: Global, name: &str, value: V) -> Result<(), ShapeError>
         ensures inserted { OnOk result (self.new ≡ self.old ++ (name.now, value) ∷ []) }
         ensures refused { OnErr result (self.new ≡ self.old) }
@@ -629,6 +633,7 @@ impl<V: Copy> Named<V> {
     }
 
     /// The same, in memory of its own.
+    #[tactic(auto, using(crate::proofs::Names::taken))]
     pub fn copied(&self, alloc: Global) -> Result<Named<V>, AllocError>
         ensures { IfOk result (λ n. n ≡ self.now) }
     {

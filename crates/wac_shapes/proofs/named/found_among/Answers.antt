@@ -1,6 +1,5 @@
-use Rattle.std.proofs.Common.{◌∙◌, add-one, sym, ap, length, refl, true, false, Some, drop_of_length-le}
+use Rattle.std.proofs.Common.{◌∙◌, add-one, sym, ap, length, refl, true, false, Some}
 use Rattle.std.proofs.lemmas.Option.{slice_get_read}
-use Rattle.wac_shapes.specs.Named.{named_at}
 use Rattle.wac_shapes.proofs.Parts.{search_more}
 use Rattle.wac_shapes.proofs.named.found_among.Goals as goal
 
@@ -15,6 +14,3 @@ loop-i-preserved g c =
     let es = c.args.entries.now in
     let there = slice_get_read es (length es) c.loop-i.i c.index-entries-i.result refl c.loop-i-test.true c.index-entries-i.is ∙ ap Some (sym c.pair.ensures) in
     rw add-one (search_more es c.loop-i.i c.args.name.now c.pair.result.0.now c.pair.result.1.now false there (sym c.if-is_same.ensures) c.loop-i.invariant)
-
-pub returns : goal.returns
-returns g c = sym (ap (named_at c.loop-i.i c.args.name.now) (drop_of_length-le c.args.entries.now c.loop-i-test.false)) ∙ c.loop-i.invariant

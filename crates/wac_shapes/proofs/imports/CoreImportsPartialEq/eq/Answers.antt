@@ -1,11 +1,11 @@
 use Rattle.std.proofs.Common.{◌∙◌}
 use Rattle.std.specs.Cmp.Lexicographic.{pointwise}
 use Rattle.wac_shapes.specs.Imports.{same_import}
-use Rattle.wac_shapes.proofs.Pairs.{compared-by_pairs}
+use Rattle.wac_shapes.proofs.Pairs.{compared_by_pairs}
 use Rattle.wac_shapes.proofs.imports.CoreImportsPartialEq.eq.Goals as goal
 
 pub returns : goal.returns
 returns g c =
     (rw (c.as_slice.ensures.entries, c.as_slice-2.ensures.entries) at c.eq.ensures)
-    ∙ compared-by_pairs g.V.PartialEq.eq c.self.inside.entries.entries c.other.inside.entries.entries
+    ∙ compared_by_pairs g.V.PartialEq.eq c.self.inside.entries.entries c.other.inside.entries.entries
     ∙ (λ i. pointwise (same_import g.V.PartialEq.eq) (c.self.view_is i) (c.other.view_is i))

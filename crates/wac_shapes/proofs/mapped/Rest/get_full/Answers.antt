@@ -1,7 +1,7 @@
 use Rattle.std.proofs.Common.{◌∙◌, sym, ap}
 use Rattle.std.specs.Option.{option_map}
 use Rattle.wac_shapes.specs.Named.{named_at, by_bytes, mapped}
-use Rattle.wac_shapes.proofs.Keyed.{found-by_bytes, found_in_full}
+use Rattle.wac_shapes.proofs.Keyed.{found_by_bytes, found_in_full}
 use Rattle.wac_shapes.proofs.Names.{named_at-none}
 use Rattle.wac_shapes.proofs.mapped.Rest.get_full.Goals as goal
 
@@ -9,7 +9,7 @@ pub returns-in_err-index-clause-found : goal.returns-in_err-index-clause-found
 returns-in_err-index-clause-found g c =
     let es = c.deref-2.result.now.entries in
     ap (option_map (λ p. (p.0, p.1.now))) c.from_residual-in_err-index.ensures
-    ∙ sym (named_at-none (by_bytes es) 0 c.args.name.now (sym (found-by_bytes c.args.name.now es) ∙ sym c.in_err-index.ensures.value))
+    ∙ sym (named_at-none (by_bytes es) 0 c.args.name.now (sym (found_by_bytes c.args.name.now es) ∙ sym c.in_err-index.ensures.value))
     ∙ ap (λ m. named_at 0 c.args.name.now (by_bytes m.entries)) c.deref-2.ensures ∙ ap (named_at 0 c.args.name.now) (ap mapped c.in_ok-map.ensures.value ∙ c.self.view_is)
 
 pub returns-clause-found : goal.returns-clause-found

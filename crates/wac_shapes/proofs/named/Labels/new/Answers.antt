@@ -3,7 +3,7 @@ use Rattle.std.proofs.lemmas.Simd.{map-map}
 use Rattle.wac_primitives.specs.Name.{Name}
 use Rattle.wac_shapes.specs.Named.{NoNameTwice, names_of}
 use Rattle.wac_shapes.specs.declared.named.ShapeError.TheVariants.{NameTwice}
-use Rattle.wac_shapes.proofs.AsGiven.{given_more, given_all, given_twice}
+use Rattle.wac_shapes.proofs.AsGiven.{given_all, given_twice}
 use Rattle.wac_shapes.proofs.named.Labels.new.Goals as goal
 
 pub returns-in-Err-clause-name_twice : goal.returns-in-Err-clause-name_twice
@@ -11,9 +11,6 @@ returns-in-Err-clause-name_twice c e once =
     let fault : c.in-Err.fault ≡ NameTwice = cc e in
     let P : List (Name × Unit {0}) → Type 0 = λ es. NoNameTwice es in
     given_twice (λ n. (n.now, tt)) c.args.names.now c.loop-name.name-index _ _ c.loop-name-test.true c.loop-name.invariant (c.in-Err.ensures.name_twice.0 (ap Err fault)) (subst P (map-map _ _ c.args.names.now) once)
-
-pub loop-name-preserved : goal.loop-name-preserved
-loop-name-preserved c = given_more (λ n. (n.now, tt)) c.args.names.now c.loop-name.name-index _ _ _ c.loop-name-test.true c.loop-name.invariant c.in-Ok-insert.ensures.inserted
 
 pub returns-clause-built : goal.returns-clause-built
 returns-clause-built c = ap names_of (given_all _ c.args.names.now c.loop-name.name-index c.loop-name.labels c.loop-name-test.false c.loop-name.invariant) ∙ map-map _ _ c.args.names.now

@@ -1,5 +1,5 @@
-use Rattle.std.proofs.Common.{add-one, arith, true, false}
-use Rattle.wac_shapes.proofs.EqualLemmas.{not_true, not_false, compared_more, compared_all}
+use Rattle.std.proofs.Common.{add-one, true, false}
+use Rattle.wac_shapes.proofs.EqualLemmas.{not_true, not_false, compared_more}
 use Rattle.wac_shapes.proofs.named.NamedPartialEq.eq.Goals as goal
 
 pub returns-then-ne : goal.returns-then-ne
@@ -10,8 +10,3 @@ returns-then-ne g c =
 pub loop-i-preserved : goal.loop-i-preserved
 loop-i-preserved g c = rw add-one (compared_more _ c.args.self.now c.args.other.now c.loop-i.i (c.entry_at.result.0.now, c.entry_at.result.1.now) (c.entry_at-in-loop-i.result.0.now, c.entry_at-in-loop-i.result.1.now) true
     c.entry_at.ensures c.entry_at-in-loop-i.ensures (not_false _ c.if-ne.ensures) c.loop-i.invariant)
-
-pub returns : goal.returns
-returns g c =
-    compared_all _ c.args.self.now c.args.other.now c.loop-i.i (omega (arith, c.loop-i-test.false, c.len-i-end.ensures))
-    (omega (arith, c.loop-i-test.false, c.len-i-end.ensures, c.len.ensures, c.len-2.ensures, c.if-len.false)) c.loop-i.invariant
