@@ -38,7 +38,7 @@ module _ {K : Type 0} (find : List (K × CoreExtern) → K → Option CoreExtern
   core_offers : All IsOffered ys ↔ OffersUnder find no_item core_item core_item IsCoreSubtype xs ys
   core_offers = (
     λ h. ends find no_item core_item core_item IsCoreSubtype xs ys position (length ys) (omega arith) (λ j lt e at. some_under (find xs e.0) (core_item e.1) (subst IsOffered (get_or_from_slice_get ys j e e at) (All-get_or IsOffered ys j e lt h))),
-    λ o k d lt. let e = get_or ys k d in under_some (find xs e.0) e.1 (offered_at find no_item core_item core_item IsCoreSubtype xs ys once core_there o k e.0 e.1 (slice_get-get_or ys k d lt))
+    λ o k d lt. let e = get_or ys k d in under_some (find xs e.0) e.1 (offered_at find no_item core_item core_item IsCoreSubtype xs ys once core_there o k e.0 e.1 (slice_get-get_or ys k d lt)),
   )
 
 pub names_offered : (xs ys : List (Name × CoreExtern)) → NoNameTwice ys → All (λ e. IsSomeAnd (find_name xs e.0) (λ x. IsCoreSubtype (core_item x) (core_item e.1))) ys ↔ OffersCore xs ys

@@ -123,20 +123,14 @@ fn is_core_subtype(x: &CoreExtern, y: &CoreExtern) -> bool
 fn offers_core(xs: &Named<CoreExtern>, ys: &Named<CoreExtern>) -> bool
     ensures { IsTrue result ↔ All (λ e. IsSomeAnd (find_name xs.now e.0) (λ x. IsCoreSubtype (core_item x) (core_item e.1))) ys.now }
 {
-    ys.iter().all(|(name, y)| match xs.get(name) {
-        Some(x) => is_core_subtype(x, y),
-        None => false,
-    })
+    ys.iter().all(|(name, y)| xs.get(name).is_some_and(|x| is_core_subtype(x, y)))
 }
 
 // The same by module and name.
 fn offers_modules(xs: &CoreImports<CoreExtern>, ys: &CoreImports<CoreExtern>) -> bool
     ensures { IsTrue result ↔ All (λ e. IsSomeAnd (find_import xs.now e.0.0 e.0.1) (λ x. IsCoreSubtype (core_item x) (core_item e.1))) ys.now }
 {
-    ys.iter().all(|((source, name), y)| match xs.get(source, name) {
-        Some(x) => is_core_subtype(x, y),
-        None => false,
-    })
+    ys.iter().all(|((source, name), y)| xs.get(source, name).is_some_and(|x| is_core_subtype(x, y)))
 }
 
 /// Whether one type of a core module is a subtype of the other.
