@@ -13,7 +13,8 @@ use Rattle.wac_shapes.specs.declared.component.ValueType.TheVariants as val
 use Rattle.wac_shapes.specs.declared.component.«Type».TheVariants as ty
 use Rattle.wac_collection.specs.Collection.{Collection, size, IsWellFormed, defined_mentions, holds_value, holds_type, item_at}
 use Rattle.wac_primitives.specs.Tree.{TypeTree, absent, primitive, own, borrow}
-use Rattle.wac_collection.specs.Held.{defined_tree}
+use Rattle.wac_subtyping.specs.Subtype.{resource_names}
+use Rattle.wac_collection.specs.Held.{resolved, defined_tree}
 use Rattle.wac_collection.specs.Aliases.{aliased, target_of, value_resolved_in, value_resolved}
 use Rattle.wac_comparison.specs.Compare.{value_in, defined_in, definition_in}
 use Rattle.wac_comparison.specs.Questions.{Refutes}
@@ -71,6 +72,19 @@ named_inj tree same some None None e = refl
 named_inj tree same some None (Some n) e = absurd (some n (sym e))
 named_inj tree same some (Some m) None e = absurd (some m e)
 named_inj tree same some (Some m) (Some n) e = ap Some (same m n e)
+
+module _ (x y : Collection) (r s : ResourceId) where
+  pub owns_same : resource_names x (resolved x r) ≡ resource_names y (resolved y s) → value_in x (val.Own r) ≡ value_in y (val.Own s)
+  owns_same e = own_in x r ∙ ap (λ o. option_case o absent own) e ∙ sym (own_in y s)
+
+  pub owns_back : value_in x (val.Own r) ≡ value_in y (val.Own s) → resource_names x (resolved x r) ≡ resource_names y (resolved y s)
+  owns_back e = named_inj own (λ m n e. cc) (λ n e. cc) _ _ (sym (own_in x r) ∙ e ∙ own_in y s)
+
+  pub borrows_same : resource_names x (resolved x r) ≡ resource_names y (resolved y s) → value_in x (val.Borrow r) ≡ value_in y (val.Borrow s)
+  borrows_same e = borrow_in x r ∙ ap (λ o. option_case o absent borrow) e ∙ sym (borrow_in y s)
+
+  pub borrows_back : value_in x (val.Borrow r) ≡ value_in y (val.Borrow s) → resource_names x (resolved x r) ≡ resource_names y (resolved y s)
+  borrows_back e = named_inj borrow (λ m n e. cc) (λ n e. cc) _ _ (sym (borrow_in x r) ∙ e ∙ borrow_in y s)
 
 -- what sort of value type a tree is of
 abbrev shape : TypeTree Name → ℕ

@@ -1,53 +1,54 @@
 -- What is offered of core items, name by name.
-use Rattle.std.proofs.Common.{ℕ, Bool, true, false, IsTrue, List, ◌≡◌, ◌≢◌, ◌↔◌, ◌+◌, ◌<◌, ◌≤◌, length, refl, Option, Some, None, slice_get}
-use Rattle.std.proofs.lemmas.Bool.{iff_false}
-use Rattle.wac_primitives.specs.Name.{Name}
-use Rattle.wac_shapes.specs.Imports.{Pair, find_import}
+use Rattle.std.proofs.Common.{ℕ, All, IsSomeAnd, List, ◌≡◌, ◌≢◌, ◌↔◌, ◌<◌, length, get_or, sym, subst, arith, Option, Some, None, slice_get}
+use Rattle.std.proofs.lemmas.List.Elements.{All-get_or}
+use Rattle.std.proofs.lemmas.Option.{get_or_from_slice_get, slice_get-get_or}
+use Rattle.wac_primitives.specs.Name.{Name, find_name, option_case}
+use Rattle.wac_shapes.specs.Imports.{Pair, find_import, NoImportTwice}
+use Rattle.wac_shapes.specs.Named.{NoNameTwice}
 use Rattle.wac_primitives.specs.Core.{CoreItem, no_item}
 use Rattle.wac_shapes.specs.declared.core_types.CoreExtern.{CoreExtern}
 use Rattle.wac_shapes.specs.declared.core_types.CoreExtern.TheVariants as core
 use Rattle.wac_shapes.specs.declared.core_types.ModuleType.{ModuleType}
+use Rattle.wac_shapes.proofs.Names.{find_name-at, find_position}
+use Rattle.wac_shapes.proofs.Pairs.{import_at, import_position}
 use Rattle.wac_primitives.specs.Tree.{TypeTree, module_of}
 use Rattle.wac_collection.specs.Held.{core_item, module_tree}
 use Rattle.wac_subtyping.specs.Subtype.{Sub, IsCoreSubtype}
 use Rattle.wac_comparison.specs.Compare.{OffersCore, OffersModules}
-use Rattle.wac_comparison.proofs.Offers.{OffersUnder, OffersBelow, goes, ends, stops, lacks}
+use Rattle.wac_comparison.proofs.Offers.{OffersUnder, ends, offered_at}
 
 core_there : (e : CoreExtern) → core_item e ≢ no_item
 core_there (core.Func f) e = cc
 core_there _ e = cc
 
-not_true : {P : Type 0} → (P → ⊥) → (IsTrue false ↔ P)
-not_true n = (λ p. cc, λ s. absurd (n s))
+some_under : (o : Option CoreExtern) (t : CoreItem) → IsSomeAnd o (λ x. IsCoreSubtype (core_item x) t) → IsCoreSubtype (option_case o no_item core_item) t
+some_under None t h = absurd h
+some_under (Some x) t h = h
 
--- core items under keys: by name, or by module and name
-module _ {K : Type 0} (find : List (K × CoreExtern) → K → Option CoreExtern) where
-  abbrev pub CoreOffers : List (K × CoreExtern) → List (K × CoreExtern) → Type 0
-  CoreOffers = OffersUnder find no_item core_item core_item IsCoreSubtype
+under_some : (o : Option CoreExtern) (y : CoreExtern) → IsCoreSubtype (option_case o no_item core_item) (core_item y) → IsSomeAnd o (λ x. IsCoreSubtype (core_item x) (core_item y))
+under_some None y s = absurd (core_there y (sym s))
+under_some (Some x) y s = s
 
-  abbrev pub CoreOffersBelow : ℕ → List (K × CoreExtern) → List (K × CoreExtern) → Type 0
-  CoreOffersBelow = OffersBelow find no_item core_item core_item IsCoreSubtype
+-- core items under keys: all are offered where each entry is
+module _ {K : Type 0} (find : List (K × CoreExtern) → K → Option CoreExtern) (xs ys : List (K × CoreExtern)) (once : (j : ℕ) (k : K) (y : CoreExtern) → slice_get ys j ≡ Some (k, y) → find ys k ≡ Some y)
+    (position : (k : K) (y : CoreExtern) → find ys k ≡ Some y → (j : ℕ) × (j < length ys) × (slice_get ys j ≡ Some (k, y))) where
+  abbrev IsOffered : K × CoreExtern → Type 0
+  IsOffered e = IsSomeAnd (find xs e.0) (λ x. IsCoreSubtype (core_item x) (core_item e.1))
 
-  module _ (xs ys : List (K × CoreExtern)) where
-    pub core_goes : (i : ℕ) (k : K) (x y : CoreExtern) (r : Bool) → slice_get ys i ≡ Some (k, y) → find xs k ≡ Some x → (IsTrue r ↔ IsCoreSubtype (core_item x) (core_item y)) → r ≡ true → CoreOffersBelow i xs ys → CoreOffersBelow (i + 1) xs ys
-    core_goes i k x y r at found iff holds f = goes find no_item core_item core_item IsCoreSubtype xs ys i k x y at found f (iff.0 holds)
+  core_offers : All IsOffered ys ↔ OffersUnder find no_item core_item core_item IsCoreSubtype xs ys
+  core_offers = (
+    λ h. ends find no_item core_item core_item IsCoreSubtype xs ys position (length ys) (omega arith) (λ j lt e at. some_under (find xs e.0) (core_item e.1) (subst IsOffered (get_or_from_slice_get ys j e e at) (All-get_or IsOffered ys j e lt h))),
+    λ o k d lt. let e = get_or ys k d in under_some (find xs e.0) e.1 (offered_at find no_item core_item core_item IsCoreSubtype xs ys once core_there o k e.0 e.1 (slice_get-get_or ys k d lt)),
+  )
 
-    pub core_ends : ((k : K) (y : CoreExtern) → find ys k ≡ Some y → (j : ℕ) × (j < length ys) × (slice_get ys j ≡ Some (k, y))) → (i : ℕ) → length ys ≤ i → CoreOffersBelow i xs ys → (IsTrue true ↔ CoreOffers xs ys)
-    core_ends position i le f = (λ _. ends find no_item core_item core_item IsCoreSubtype xs ys position i le f, λ _. refl)
-
-    module _ (once : (j : ℕ) (k : K) (y : CoreExtern) → slice_get ys j ≡ Some (k, y) → find ys k ≡ Some y) where
-      pub core_stops : (i : ℕ) (k : K) (x y : CoreExtern) (r : Bool) → slice_get ys i ≡ Some (k, y) → find xs k ≡ Some x → (IsTrue r ↔ IsCoreSubtype (core_item x) (core_item y)) → r ≡ false → (IsTrue false ↔ CoreOffers xs ys)
-      core_stops i k x y r at found iff fails = not_true (stops find no_item core_item core_item IsCoreSubtype xs ys once core_there i k x y at found (iff_false iff fails))
-
-      pub core_lacks : (i : ℕ) (k : K) (y : CoreExtern) → slice_get ys i ≡ Some (k, y) → find xs k ≡ None → (IsTrue false ↔ CoreOffers xs ys)
-      core_lacks i k y at missing = not_true (lacks find no_item core_item core_item IsCoreSubtype xs ys once core_there (λ t s. s) i k y at missing)
+pub names_offered : (xs ys : List (Name × CoreExtern)) → NoNameTwice ys → All (λ e. IsSomeAnd (find_name xs e.0) (λ x. IsCoreSubtype (core_item x) (core_item e.1))) ys ↔ OffersCore xs ys
+names_offered xs ys once = core_offers find_name xs ys (λ j n y. find_name-at ys j n y once) (find_position ys)
 
 -- by module and name
-abbrev pub find_both : List (Pair × CoreExtern) → Pair → Option CoreExtern
-find_both es p = find_import es p.0 p.1
-
-pub for_each : (xs ys : List (Pair × CoreExtern)) (b : Bool) → (IsTrue b ↔ CoreOffers find_both xs ys) → (IsTrue b ↔ OffersModules xs ys)
-for_each xs ys b iff = (λ t m n. iff.0 t (m, n), λ o. iff.1 (λ p. o p.0 p.1))
+pub imports_offered : (xs ys : List (Pair × CoreExtern)) → NoImportTwice ys → All (λ e. IsSomeAnd (find_import xs e.0.0 e.0.1) (λ x. IsCoreSubtype (core_item x) (core_item e.1))) ys ↔ OffersModules xs ys
+imports_offered xs ys once =
+    let iff = core_offers (λ es p. find_import es p.0 p.1) xs ys (λ j p y. import_at ys j p y once) (import_position ys) in
+    (λ h m n. iff.0 h (m, n), λ o. iff.1 (λ p. o p.0 p.1))
 
 module _ {L : Type 0} where
   of_modules : (xi yi : Name → Name → CoreItem) (xe ye : Name → CoreItem) → Sub (let tree : TypeTree L = module_of xi xe in tree) (module_of yi ye)

@@ -45,6 +45,7 @@ impl<'a> Comparison<'a> {
     }
 
     // Asks whether one type is a subtype of another.
+    #[tactic(auto, using(crate::proofs::Asking::asks_put, crate::proofs::Joining::asks_plain, crate::proofs::Joining::asks_ends))]
     fn ask_type(self, asked: &mut Asked, a: Type, b: Type) -> Answer
         ensures asked { IfOk result (λ _. Asks self.entry.turned self.entry.first.now self.entry.second.now (a ∷ []) (b ∷ []) asked.old asked.new (Sub (type_tree self.entry.first.now a) (type_tree self.entry.second.now b))) }
         ensures no_mismatch { result ≢ Err TypeFault.Mismatch }
@@ -63,6 +64,7 @@ impl<'a> Comparison<'a> {
     }
 
     /// Asks whether one value type is another, which is a question of its own unless both are primitives.
+    #[tactic(auto, using(crate::proofs::Values::asks_values, crate::proofs::Values::asks_now, crate::proofs::Values::primitives_same, crate::proofs::Values::primitives_inj, crate::proofs::Equal::primitives_told))]
     pub(crate) fn ask_part(self, asked: &mut Asked, v: ValueType, w: ValueType) -> Answer
         ensures asked { IfOk result (λ _. Asks self.entry.turned self.entry.first.now self.entry.second.now (ty.Value v ∷ []) (ty.Value w ∷ []) asked.old asked.new (value_in self.entry.first.now v ≡ value_in self.entry.second.now w)) }
         ensures mismatch { result ≡ Err TypeFault.Mismatch → value_in self.entry.first.now v ≡ value_in self.entry.second.now w → ⊥ }
@@ -74,6 +76,7 @@ impl<'a> Comparison<'a> {
     }
 
     // Asks whether both are there and one is the other, or neither is there.
+    #[tactic(auto, using(crate::proofs::Values::asks_now))]
     fn ask_optional(self, asked: &mut Asked, v: Option<ValueType>, w: Option<ValueType>) -> Answer
         ensures asked { IfOk result (λ _. Asks self.entry.turned self.entry.first.now self.entry.second.now (value_types (and_maybe v [])) (value_types (and_maybe w [])) asked.old asked.new (optional_in self.entry.first.now v ≡ optional_in self.entry.second.now w)) }
         ensures mismatch { result ≡ Err TypeFault.Mismatch → Refutes self.entry.first.now self.entry.second.now (value_types (and_maybe v [])) (value_types (and_maybe w [])) (optional_in self.entry.first.now v ≡ optional_in self.entry.second.now w) }
@@ -86,6 +89,7 @@ impl<'a> Comparison<'a> {
     }
 
     // Asks whether the value types of one list are those of the other.
+    #[tactic(auto, using(crate::proofs::Agreeing::agree_none, crate::proofs::Agreeing::agree_maps))]
     fn ask_values(self, asked: &mut Asked, vs: &[ValueType], ws: &[ValueType]) -> Answer
         ensures asked { IfOk result (λ _. Asks self.entry.turned self.entry.first.now self.entry.second.now (value_types vs.now) (value_types ws.now) asked.old asked.new (map (value_in self.entry.first.now) vs.now ≡ map (value_in self.entry.second.now) ws.now)) }
         ensures mismatch { result ≡ Err TypeFault.Mismatch → map (value_in self.entry.first.now) vs.now ≡ map (value_in self.entry.second.now) ws.now → ⊥ }
@@ -100,6 +104,7 @@ impl<'a> Comparison<'a> {
     }
 
     // Asks whether the names of one list are those of the other, and the value types under them.
+    #[tactic(auto, using(crate::proofs::Agreeing::agree_none, crate::proofs::Agreeing::agree_maps))]
     fn ask_named(self, asked: &mut Asked, vs: &Named<ValueType>, ws: &Named<ValueType>) -> Answer
         ensures asked { IfOk result (λ _. Asks self.entry.turned self.entry.first.now self.entry.second.now (value_types (seconds vs.now)) (value_types (seconds ws.now)) asked.old asked.new (map (entry_in self.entry.first.now) vs.now ≡ map (entry_in self.entry.second.now) ws.now)) }
         ensures mismatch { result ≡ Err TypeFault.Mismatch → map (entry_in self.entry.first.now) vs.now ≡ map (entry_in self.entry.second.now) ws.now → ⊥ }
@@ -119,6 +124,7 @@ impl<'a> Comparison<'a> {
     }
 
     // Asks whether the cases of one variant are those of the other.
+    #[tactic(auto, using(crate::proofs::Agreeing::agree_none, crate::proofs::Agreeing::agree_maps))]
     fn ask_cases(
         self,
         asked: &mut Asked,
@@ -143,6 +149,7 @@ impl<'a> Comparison<'a> {
     }
 
     /// Asks whether one function type is the other.
+    #[tactic(auto, using(crate::proofs::Definitions::params_back))]
     pub fn ask_func(self, asked: &mut Asked, f: &FuncType, g: &FuncType) -> Result<(), TypeFault>
         ensures asked { IfOk result (λ _. Asks self.entry.turned self.entry.first.now self.entry.second.now (func_mentions f.now) (func_mentions g.now) asked.old asked.new (func_in self.entry.first.now f.now ≡ func_in self.entry.second.now g.now)) }
         ensures mismatch { result ≡ Err TypeFault.Mismatch → Refutes self.entry.first.now self.entry.second.now (func_mentions f.now) (func_mentions g.now) (func_in self.entry.first.now f.now ≡ func_in self.entry.second.now g.now) }
@@ -155,6 +162,7 @@ impl<'a> Comparison<'a> {
     }
 
     // Asks whether one function type is the other. Those of few parameters under short names are looked into at once.
+    #[tactic(auto, using(crate::proofs::Asking::asks_rested, crate::proofs::Typing::answer_funcs, crate::proofs::Typing::funcs_refuse))]
     fn ask_func_type(self, asked: &mut Asked, i: FuncTypeId, j: FuncTypeId) -> Answer
         ensures asked { IfOk result (λ _. Asks self.entry.turned self.entry.first.now self.entry.second.now (ty.Func i ∷ []) (ty.Func j ∷ []) asked.old asked.new (Sub (type_tree self.entry.first.now (ty.Func i)) (type_tree self.entry.second.now (ty.Func j)))) }
         ensures mismatch { result ≡ Err TypeFault.Mismatch → Sub (type_tree self.entry.first.now (ty.Func i)) (type_tree self.entry.second.now (ty.Func j)) → ⊥ }
@@ -244,6 +252,7 @@ impl<'a> Comparison<'a> {
     }
 
     /// Asks whether each item of the second list is offered by the first.
+    #[tactic(auto, using(crate::proofs::Subtyping::asks_no_offer, crate::proofs::Subtyping::asks_offer, crate::proofs::Subtyping::item_stops))]
     pub fn ask_items(
         self,
         asked: &mut Asked,
@@ -265,6 +274,7 @@ impl<'a> Comparison<'a> {
     }
 
     /// Asks what the answer for two value types rests on; neither is an alias.
+    #[tactic(auto, using(crate::proofs::Asking::rests_now, crate::proofs::Values::primitives_same, crate::proofs::Values::primitives_inj, crate::proofs::Equal::primitives_told, crate::proofs::Answering::owns_same, crate::proofs::Answering::owns_back, crate::proofs::Answering::borrows_same, crate::proofs::Answering::borrows_back, crate::proofs::Answering::definitions_rest, crate::proofs::Answering::other_value, crate::proofs::Answering::no_primitive, crate::proofs::Answering::no_own, crate::proofs::Answering::no_borrow, crate::proofs::Answering::no_defined))]
     pub fn answer_value(
         self,
         asked: &mut Asked,
@@ -293,6 +303,7 @@ impl<'a> Comparison<'a> {
 }
 
 // The type at the end of the aliases.
+#[tactic(auto, using(crate::proofs::Answering::value_end))]
 fn end(types: &Types, ty: Type) -> Type
     ensures { HasEnd types.now ty result }
 {

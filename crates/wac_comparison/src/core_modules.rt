@@ -1,5 +1,7 @@
 //! Subtyping between types of core modules.
-ghost use Rattle.std.specs.Prelude.{◌≡◌, ◌≤◌, ◌↔◌, IsTrue};
+ghost use Rattle.std.specs.Prelude.{◌≡◌, ◌≤◌, ◌↔◌, All, IsSomeAnd, IsTrue};
+ghost use Rattle.wac_primitives.specs.Name.{find_name};
+ghost use Rattle.wac_shapes.specs.Imports.{find_import};
 ghost use Rattle.wac_collection.specs.Held.{core_item};
 ghost use Rattle.wac_subtyping.specs.Subtype.{IsCoreSubtype, IsMaximumWithin};
 ghost use Rattle.wac_comparison.specs.Compare.{IsTableSubtype, IsMemorySubtype, OffersCore, OffersModules};
@@ -119,45 +121,23 @@ fn is_core_subtype(x: &CoreExtern, y: &CoreExtern) -> bool
 
 // Whether each core item of the second list is offered by the first.
 fn offers_core(xs: &Named<CoreExtern>, ys: &Named<CoreExtern>) -> bool
-    ensures { IsTrue result ↔ OffersCore xs.now ys.now }
+    ensures { IsTrue result ↔ All (λ e. IsSomeAnd (find_name xs.now e.0) (λ x. IsCoreSubtype (core_item x) (core_item e.1))) ys.now }
 {
-    ys.law();
-    for i in 0..ys.len() {
-        let (name, item) = ys.entry_at(i);
-        match xs.get(name) {
-            Some(x) => {
-                if !is_core_subtype(x, item) {
-                    return false;
-                }
-            }
-            None => return false,
-        }
-    }
-    true
+    ys.iter().all(|(name, y)| xs.get(name).is_some_and(|x| is_core_subtype(x, y)))
 }
 
 // The same by module and name.
 fn offers_modules(xs: &CoreImports<CoreExtern>, ys: &CoreImports<CoreExtern>) -> bool
-    ensures { IsTrue result ↔ OffersModules xs.now ys.now }
+    ensures { IsTrue result ↔ All (λ e. IsSomeAnd (find_import xs.now e.0.0 e.0.1) (λ x. IsCoreSubtype (core_item x) (core_item e.1))) ys.now }
 {
-    ys.law();
-    for i in 0..ys.len() {
-        let ((source, name), y) = ys.entry_at(i);
-        match xs.get(source, name) {
-            Some(x) => {
-                if !is_core_subtype(x, y) {
-                    return false;
-                }
-            }
-            None => return false,
-        }
-    }
-    true
+    ys.iter().all(|((source, name), y)| xs.get(source, name).is_some_and(|x| is_core_subtype(x, y)))
 }
 
 /// Whether one type of a core module is a subtype of the other.
 pub fn is_module_subtype(m: &ModuleType, n: &ModuleType) -> bool
     ensures { IsTrue result ↔ (OffersModules n.now.imports m.now.imports × OffersCore m.now.exports n.now.exports) }
 {
+    m.imports.law();
+    n.exports.law();
     offers_modules(&n.imports, &m.imports) && offers_core(&m.exports, &n.exports)
 }

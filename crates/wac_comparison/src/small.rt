@@ -18,6 +18,7 @@ const SHORT_NAME: usize = 32;
 
 impl<'a> Comparison<'a> {
     // Whether both are known at sight to be the same primitive.
+    #[tactic(auto, using(crate::proofs::Equal::primitives_told, crate::proofs::Values::primitives_same))]
     fn is_same_primitive(self, v: ValueType, w: ValueType) -> bool
         ensures { IsTrue result → value_in self.entry.first.now v ≡ value_in self.entry.second.now w }
     {
@@ -44,6 +45,7 @@ impl<'a> Comparison<'a> {
     }
 
     // Whether there are few fields under short names, which are known at sight to be the same.
+    #[tactic(auto, using(crate::proofs::Agreeing::maps_agree))]
     fn have_same_fields(self, vs: &Named<ValueType>, ws: &Named<ValueType>) -> bool
         ensures { IsTrue result → map (entry_in self.entry.first.now) vs.now ≡ map (entry_in self.entry.second.now) ws.now }
     {

@@ -1,15 +1,12 @@
-use Rattle.std.proofs.Common.{arith, map, ap, ◌≢◌}
+use Rattle.std.proofs.Common.{ap, ◌≢◌}
 use Rattle.wac_collection.specs.Collection.{value_types, case_values}
 use Rattle.wac_primitives.specs.Tree.{absent}
 use Rattle.wac_subtyping.specs.Subtype.{type_tree}
 use Rattle.wac_comparison.specs.Compare.{optional_in, case_in}
 use Rattle.wac_shapes.proofs.Names.{ne-true, ne-false}
 use Rattle.wac_comparison.proofs.Values.{asks_of}
-use Rattle.wac_comparison.proofs.Agreeing.{handed_on, agree_none, agree_more, agree_maps, under_name, case_among, differ_at}
+use Rattle.wac_comparison.proofs.Agreeing.{handed_on, agree_more, under_name, case_among, differ_at}
 use Rattle.wac_comparison.proofs.comparison.Comparison.ask_cases.Goals as goal
-
-pub loop-i-init : goal.loop-i-init
-loop-i-init c = agree_none (map (case_in c.args.self.first.now) c.args.cs.now) (map (case_in c.args.self.second.now) c.args.ds.now)
 
 pub returns-then-ne-clause-mismatch : goal.returns-then-ne-clause-mismatch
 returns-then-ne-clause-mismatch c = λ _. record {
@@ -33,6 +30,3 @@ loop-i-preserved c =
     agree_more (case_in c.args.self.first.now) (case_in c.args.self.second.now) c.loop-i.i c.args.cs.now c.args.ds.now _ _ v w c.loop-i.invariant
     (under_name c.entry_at.result.0.now c.entry_at-in-loop-i.result.0.now (optional_in c.args.self.first.now c.entry_at.result.1.now) (optional_in c.args.self.second.now c.entry_at-in-loop-i.result.1.now) (ne-false _ _ _ c.ne.ensures c.if-ne.false)
     (asks_of (value_types (case_values c.args.cs.now)) (value_types (case_values c.args.ds.now)) (λ P. case_among P c.args.cs.now c.loop-i.i _ _ v) (λ P. case_among P c.args.ds.now c.loop-i.i _ _ w) c.in_ok-ask_optional.ensures.asked))
-
-pub returns-clause-asked : goal.returns-clause-asked
-returns-clause-asked c = agree_maps (case_in c.args.self.first.now) (case_in c.args.self.second.now) c.loop-i.i c.args.cs.now c.args.ds.now (omega (arith, c.if-len.false, c.len.ensures, c.len-2.ensures)) (omega (arith, c.loop-i-test.false, c.len-i-end.ensures)) c.loop-i.invariant

@@ -1,14 +1,11 @@
-use Rattle.std.proofs.Common.{arith, map, ap, refl}
+use Rattle.std.proofs.Common.{ap, refl}
 use Rattle.wac_shapes.specs.declared.component.«Type».TheVariants as ty
 use Rattle.wac_collection.specs.Collection.{value_types, seconds}
 use Rattle.wac_comparison.specs.Compare.{value_in, entry_in}
 use Rattle.wac_shapes.proofs.Names.{ne-true, ne-false}
 use Rattle.wac_comparison.proofs.Values.{asks_of}
-use Rattle.wac_comparison.proofs.Agreeing.{handed_on, agree_none, agree_more, agree_maps, under_name, among, differ_at}
+use Rattle.wac_comparison.proofs.Agreeing.{handed_on, agree_more, under_name, among, differ_at}
 use Rattle.wac_comparison.proofs.comparison.Comparison.ask_named.Goals as goal
-
-pub loop-i-init : goal.loop-i-init
-loop-i-init c = agree_none (map (entry_in c.args.self.first.now) c.args.vs.now) (map (entry_in c.args.self.second.now) c.args.ws.now)
 
 pub returns-then-ne-clause-mismatch : goal.returns-then-ne-clause-mismatch
 returns-then-ne-clause-mismatch c = λ _. differ_at (entry_in c.args.self.first.now) (entry_in c.args.self.second.now) c.args.vs.now c.args.ws.now c.loop-i.i _ _ c.entry_at.ensures c.entry_at-in-loop-i.ensures
@@ -25,6 +22,3 @@ loop-i-preserved c =
     agree_more (entry_in c.args.self.first.now) (entry_in c.args.self.second.now) c.loop-i.i c.args.vs.now c.args.ws.now _ _ v w c.loop-i.invariant
     (under_name c.entry_at.result.0.now c.entry_at-in-loop-i.result.0.now (value_in c.args.self.first.now c.entry_at.result.1.now) (value_in c.args.self.second.now c.entry_at-in-loop-i.result.1.now) (ne-false _ _ _ c.ne.ensures c.if-ne.false)
     (asks_of (value_types (seconds c.args.vs.now)) (value_types (seconds c.args.ws.now)) (λ P. among P (λ es. value_types (seconds es)) (λ e. ty.Value e.1) (λ _ _. refl) c.args.vs.now c.loop-i.i _ v) (λ P. among P (λ es. value_types (seconds es)) (λ e. ty.Value e.1) (λ _ _. refl) c.args.ws.now c.loop-i.i _ w) c.in_ok-ask_value.ensures.asked))
-
-pub returns-clause-asked : goal.returns-clause-asked
-returns-clause-asked c = agree_maps (entry_in c.args.self.first.now) (entry_in c.args.self.second.now) c.loop-i.i c.args.vs.now c.args.ws.now (omega (arith, c.if-len.false, c.len.ensures, c.len-2.ensures)) (omega (arith, c.loop-i-test.false, c.len-i-end.ensures)) c.loop-i.invariant

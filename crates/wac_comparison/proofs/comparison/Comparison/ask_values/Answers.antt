@@ -1,14 +1,11 @@
-use Rattle.std.proofs.Common.{arith, map, refl}
+use Rattle.std.proofs.Common.{arith, refl}
 use Rattle.std.proofs.lemmas.Option.{slice_get-get_or}
 use Rattle.wac_shapes.specs.declared.component.«Type».TheVariants as ty
 use Rattle.wac_collection.specs.Collection.{value_types}
 use Rattle.wac_comparison.specs.Compare.{value_in}
 use Rattle.wac_comparison.proofs.Values.{asks_of}
-use Rattle.wac_comparison.proofs.Agreeing.{handed_on, agree_none, agree_more, agree_maps, among, differ_at}
+use Rattle.wac_comparison.proofs.Agreeing.{handed_on, agree_more, among, differ_at}
 use Rattle.wac_comparison.proofs.comparison.Comparison.ask_values.Goals as goal
-
-pub loop-i-init : goal.loop-i-init
-loop-i-init c = agree_none (map (value_in c.args.self.first.now) c.args.vs.now) (map (value_in c.args.self.second.now) c.args.ws.now)
 
 pub returns-in_err-ask_value-clause-mismatch : goal.returns-in_err-ask_value-clause-mismatch
 returns-in_err-ask_value-clause-mismatch c = λ is.
@@ -23,6 +20,3 @@ loop-i-preserved c =
     let v = slice_get-get_or c.args.vs.now c.loop-i.i _ c.loop-i-test.true in
     agree_more (value_in c.args.self.first.now) (value_in c.args.self.second.now) c.loop-i.i c.args.vs.now c.args.ws.now _ _ v w c.loop-i.invariant
     (asks_of (value_types c.args.vs.now) (value_types c.args.ws.now) (λ P. among P value_types (λ u. ty.Value u) (λ _ _. refl) c.args.vs.now c.loop-i.i _ v) (λ P. among P value_types (λ u. ty.Value u) (λ _ _. refl) c.args.ws.now c.loop-i.i _ w) c.in_ok-ask_value.ensures.asked)
-
-pub returns-clause-asked : goal.returns-clause-asked
-returns-clause-asked c = agree_maps (value_in c.args.self.first.now) (value_in c.args.self.second.now) c.loop-i.i c.args.vs.now c.args.ws.now c.if-vs-ws.false (omega (arith, c.loop-i-test.false)) c.loop-i.invariant

@@ -1,9 +1,9 @@
-use Rattle.std.proofs.Common.{arith, ◌≡◌, ◌∙◌, ap, sym, Some, below_more}
+use Rattle.std.proofs.Common.{◌≡◌, ◌∙◌, ap, sym, Some, below_more}
 use Rattle.wac_primitives.specs.Name.{Name}
 use Rattle.wac_primitives.specs.Tree.{TypeTree}
 use Rattle.wac_comparison.specs.Compare.{value_in, entry_in}
 use Rattle.wac_shapes.proofs.Names.{ne-false}
-use Rattle.wac_comparison.proofs.Agreeing.{get_map, maps_agree}
+use Rattle.wac_comparison.proofs.Agreeing.{get_map}
 use Rattle.wac_comparison.proofs.comparison.Comparison.have_same_fields.Goals as goal
 
 pub loop-i-preserved : goal.loop-i-preserved
@@ -14,6 +14,3 @@ loop-i-preserved c =
     let values = c.is_same_flat.ensures c.if-not-is_same_flat.false in
     let same : (let u : Name × TypeTree Name = (c.entry_at.result.0.now, value_in x c.entry_at.result.1.now) in u ≡ (c.entry_at-in-loop-i.result.0.now, value_in y c.entry_at-in-loop-i.result.1.now)) = λ i. (names i, values i) in
     below_more _ _ c.loop-i.invariant (get_map (entry_in x) c.args.vs.now c.loop-i.i _ c.entry_at.ensures ∙ ap Some same ∙ sym (get_map (entry_in y) c.args.ws.now c.loop-i.i _ c.entry_at-in-loop-i.ensures))
-
-pub returns : goal.returns
-returns c = λ _. maps_agree (entry_in c.args.self.first.now) (entry_in c.args.self.second.now) c.loop-i.i c.args.vs.now c.args.ws.now (omega (arith, c.if-len.false, c.len.ensures, c.len-2.ensures)) (omega (arith, c.loop-i-test.false, c.len-i-end.ensures)) c.loop-i.invariant
