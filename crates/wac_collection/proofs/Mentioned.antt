@@ -1,6 +1,7 @@
 -- What a list of mentions says of its parts.
-use Rattle.std.proofs.Common.{Bool, true, false, ◌&&◌, List, [], ◌∷◌, ◌≡◌, refl, ap, ◌∙◌, Option, Some, None}
+use Rattle.std.proofs.Common.{Bool, true, false, ◌&&◌, List, [], ◌∷◌, ◌++◌, ◌≡◌, refl, ap, ◌∙◌, Option, Some, None}
 use Rattle.std.specs.List.{list_all}
+use Rattle.std.proofs.lemmas.List.Folds.{list_all-append}
 use Rattle.wac_primitives.specs.Name.{Name}
 use Rattle.wac_shapes.specs.declared.component.UsedType.{UsedType}
 use Rattle.wac_shapes.specs.declared.component.ValueType.{ValueType}
@@ -8,8 +9,6 @@ use Rattle.wac_shapes.specs.declared.component.«Type».TheVariants as ty
 use Rattle.wac_shapes.specs.declared.component.ItemKind.{ItemKind}
 use Rattle.wac_shapes.specs.Kinds.{kind_type}
 use Rattle.wac_collection.specs.Collection.{Collection, holds_value, holds_type, holds_all, value_types, seconds, case_values, used_types, kind_types, and_maybe}
--- those of two lists
-pub use Rattle.std.proofs.lemmas.List.Folds.{list_all-append as all_append}
 
 and_true : (p q : Bool) → (p && q) ≡ ((p && true) && q)
 and_true true q = refl
@@ -19,6 +18,10 @@ and_true false q = refl
 pub maybe_first : (c : Collection) (v : Option ValueType) (vs : List ValueType) → holds_all c (value_types (and_maybe v vs)) ≡ (holds_all c (value_types (and_maybe v [])) && holds_all c (value_types vs))
 maybe_first c None vs = refl
 maybe_first c (Some v) vs = and_true (holds_value c v) (holds_all c (value_types vs))
+
+-- those of two lists
+pub all_append : {A : Type 0} (p : A → Bool) (xs ys : List A) → list_all p (xs ++ ys) ≡ (list_all p xs && list_all p ys)
+all_append p xs ys = list_all-append p xs ys
 
 -- all mentions of a list are held where those of each of its items are
 pub values_held : (c : Collection) (vs : List ValueType) → holds_all c (value_types vs) ≡ list_all (holds_value c) vs

@@ -12,7 +12,7 @@ use semver::Version;
 use std::alloc::AllocError;
 use std::marker::Model;
 use wac_keys::PackageKey;
-use wac_shapes::{Interface, InterfaceId, ItemKind, Named, Type, WorldId};
+use wac_shapes::{Interface, InterfaceId, Named, Type, WorldId};
 
 /// A package: a component's bytes under a name, with the world that they are said to be of.
 pub struct Package {
@@ -165,6 +165,7 @@ fn instance_of(types: &Types, world: WorldId) -> Result<Interface, AddTypeError>
 
 impl Types {
     /// Whether a package's world and the interface of its instances are held, and list the same exports in the same order.
+    #[tactic(auto, using(crate::proofs::Ids::same_entries))]
     pub fn holds_package(&self, package: &Package) -> bool
         ensures { IsTrue result ↔ HoldsPackage self.now «package».now }
     {
@@ -173,14 +174,6 @@ impl Types {
         if !self.contains(Type::World(world)) || !self.contains(Type::Interface(interface)) {
             return false;
         }
-        same_items(&self[interface].exports, &self[world].exports)
+        self[interface].exports == self[world].exports
     }
-}
-
-// Whether the same items are listed in the same order.
-#[tactic(auto, using(crate::proofs::Ids::same_entries))]
-fn same_items(a: &Named<ItemKind>, b: &Named<ItemKind>) -> bool
-    ensures { IsTrue result ↔ (a.now ≡ b.now) }
-{
-    a == b
 }

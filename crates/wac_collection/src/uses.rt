@@ -135,11 +135,8 @@ impl Types {
         if let Some(fault) = self.uses_fault(&interface.uses, &interface.exports) {
             return Some(fault);
         }
-        if self.named_right(&interface.uses, &interface.exports) {
-            None
-        } else {
-            Some(AddTypeError::ResourceMisnamed)
-        }
+        let named_right = self.named_right(&interface.uses, &interface.exports);
+        (!named_right).then_some(AddTypeError::ResourceMisnamed)
     }
 
     // The lowest error that stands against a world.
@@ -152,12 +149,8 @@ impl Types {
         if let Some(fault) = self.uses_fault(&world.uses, &world.imports) {
             return Some(fault);
         }
-        if self.named_right(&world.uses, &world.imports)
-            && self.named_right(&world.uses, &world.exports)
-        {
-            None
-        } else {
-            Some(AddTypeError::ResourceMisnamed)
-        }
+        let named_right = self.named_right(&world.uses, &world.imports)
+            && self.named_right(&world.uses, &world.exports);
+        (!named_right).then_some(AddTypeError::ResourceMisnamed)
     }
 }
