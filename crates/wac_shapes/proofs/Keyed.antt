@@ -54,10 +54,13 @@ module _ {A V : Type 0} where
       let n = string_bytes e.0 in
       (sym (found_by_name (by_bytes es) n) ∙ nothing_seen string_bytes (string_eq e.0) (same_name n) (λ k. same_name-bytes_eq n (string_bytes k)) es d.0, once_by_bytes es d.1)
 
+  -- an entry by the bytes of its name
+  pub at_by_bytes : (es : List (String A × V)) (j : ℕ) (k : String A) (v : V) → slice_get es j ≡ Some (k, v) → slice_get (by_bytes es) j ≡ Some (string_bytes k, v)
+  at_by_bytes es j k v at = slice_get-map (λ (e : String A × V). (string_bytes e.0, e.1)) es j ∙ ap (option_map (λ (e : String A × V). (string_bytes e.0, e.1))) at
+
   -- the position and value of a name, as a map finds them
   pub found_in_full : (es : List (String A × V)) (n : Name) (j : ℕ) (k : String A) (v : V) → IsDistinct string_eq (keys_of es) → slice_get es j ≡ Some (k, v)
       → lookup_key (λ s. bytes_eq n (string_bytes s)) es ≡ Some k → named_at 0 n (by_bytes es) ≡ Some (j, v)
   found_in_full es n j k v distinct at key =
       let name : n ≡ string_bytes k = same_name-true n (string_bytes k) (sym (same_name-bytes_eq n (string_bytes k)) ∙ key_passes (λ s. bytes_eq n (string_bytes s)) es k key) in
-      let seen_at : slice_get (by_bytes es) j ≡ Some (string_bytes k, v) = slice_get-map (λ (e : String A × V). (string_bytes e.0, e.1)) es j ∙ ap (option_map (λ (e : String A × V). (string_bytes e.0, e.1))) at in
-      ap (λ m. named_at 0 m (by_bytes es)) name ∙ named_at-at (by_bytes es) 0 j (string_bytes k) v (once_by_bytes es distinct) seen_at ∙ ap (λ i. Some (i, v)) (zero-add j)
+      ap (λ m. named_at 0 m (by_bytes es)) name ∙ named_at-at (by_bytes es) 0 j (string_bytes k) v (once_by_bytes es distinct) (at_by_bytes es j k v at) ∙ ap (λ i. Some (i, v)) (zero-add j)

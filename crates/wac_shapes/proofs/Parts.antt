@@ -1,10 +1,12 @@
 -- Values under names in two lists, of which the second goes behind the first.
-use Rattle.std.proofs.Common.{ℕ, suc, Bool, true, false, cond, ◌≡◌, ◌+◌, refl, sym, ap, ◌∙◌, subst, arith, List, [], ◌∷◌, ◌++◌, length, slice_get, drop, Option, Some, None}
+use Rattle.std.proofs.Common.{ℕ, suc, Bool, true, false, cond, ◌≡◌, ◌+◌, refl, sym, ap, ◌∙◌, subst, arith, List, [], ◌∷◌, ◌++◌, length, slice_get, drop, Option, Some, None, string_bytes}
+use Rattle.std.proofs.lemmas.List.{length-map}
+use Rattle.std.specs.declared.string.String.{String}
 use Rattle.std.specs.List.{AllZip}
 use Rattle.std.specs.Option.{option_map}
 use Rattle.std.specs.Str.{bytes_eq}
 use Rattle.wac_primitives.specs.Name.{Name, same_name, find_name, first_some}
-use Rattle.wac_shapes.specs.Named.{named_at, NoNameTwice}
+use Rattle.wac_shapes.specs.Named.{by_bytes, named_at, NoNameTwice}
 use Rattle.wac_shapes.proofs.Loops.{drop_at}
 use Rattle.wac_shapes.proofs.Names.{NoNameTwice-push, same_name-bytes_eq}
 
@@ -50,8 +52,10 @@ module _ {V : Type 0} where
       by true later = let index : i + k ≡ k + i = omega arith in ap (λ j. at j e.1) index
       by false later = let next : suc (i + k) ≡ suc i + k = omega arith in ap (λ j. named_at j n es) next ∙ later
 
-  pub named_in_both : (es rest : List (Name × V)) (n : Name) → named_at 0 n (es ++ rest) ≡ first_some (named_at 0 n es) (option_map (λ p. (length es + p.0, p.1)) (named_at 0 n rest))
-  named_in_both es rest n = sought es rest 0 n ∙ ap (first_some (named_at 0 n es)) (counted_on rest 0 (length es) n)
+  pub named_in_both : {A : Type 0} (es : List (String A × V)) (rest : List (Name × V)) (n : Name) → named_at 0 n (by_bytes es ++ rest) ≡ first_some (named_at 0 n (by_bytes es)) (option_map (λ p. (length es + p.0, p.1)) (named_at 0 n rest))
+  named_in_both es rest n =
+      sought (by_bytes es) rest 0 n ∙ ap (λ k. first_some (named_at 0 n (by_bytes es)) (named_at (0 + k) n rest)) (length-map es (λ e. (string_bytes e.0, e.1)))
+      ∙ ap (first_some (named_at 0 n (by_bytes es))) (counted_on rest 0 (length es) n)
 
   pub found_in_both : (es rest : List (Name × V)) (n : Name) → find_name (es ++ rest) n ≡ first_some (find_name es n) (find_name rest n)
   found_in_both [] rest n = refl

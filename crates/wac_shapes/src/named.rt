@@ -312,38 +312,6 @@ const FEW: usize = 32;
 /// How many do where it is known.
 const FEW_KNOWN: usize = 8;
 
-// A value, and the name that it stands under.
-#[derive(Drop)]
-struct Entry<V> {
-    name: String,
-    value: V,
-}
-
-impl<V> Model for Entry<V> {
-    ghost Value = { List ℕ × V };
-
-    ghost view = { λ e. (string_bytes e.name, e.value) };
-}
-
-impl<V: Clone> Clone for Entry<V> {
-    ghost is_clone = { λ a b. (b.0 ≡ a.0) × V.is_clone a.1 b.1 };
-
-    fn clone(&self) -> Result<Entry<V>, AllocError> {
-        let name = self.name.clone()?;
-        let value = self.value.clone()?;
-        Ok(Entry { name, value })
-    }
-}
-
-impl<V> Entry<V> {
-    // The name and the value.
-    fn pair(&self) -> (&str, &V)
-        ensures { (result.0.now, result.1.now) ≡ self.now }
-    {
-        (self.name.as_str(), &self.value)
-    }
-}
-
 // Whether two names are the same. Their lengths and their last bytes tell most names apart, and cost less than a comparison.
 fn is_same(a: &str, b: &str) -> bool
     ensures { result ≡ bytes_eq a.now b.now }
@@ -359,13 +327,13 @@ fn is_same(a: &str, b: &str) -> bool
 }
 
 // The position of a name in a list, and the value under it.
-fn found_among<'a, V>(entries: &'a [Entry<V>], name: &str) -> Option<(usize, &'a V)>
-    ensures { option_map (λ p. (p.0, p.1.now)) result ≡ named_at 0 name.now entries.now }
+fn found_among<'a, V>(entries: &'a [(String, V)], name: &str) -> Option<(usize, &'a V)>
+    ensures { option_map (λ p. (p.0, p.1.now)) result ≡ named_at 0 name.now (by_bytes entries.now) }
 {
     for i in 0..entries.len() {
-        let (key, value) = entries[i].pair();
-        if is_same(name, key) {
-            return Some((i, value));
+        let entry = &entries[i];
+        if is_same(name, entry.0.as_str()) {
+            return Some((i, &entry.1));
         }
     }
     None
@@ -374,7 +342,7 @@ fn found_among<'a, V>(entries: &'a [Entry<V>], name: &str) -> Option<(usize, &'a
 /// Values under names, in order. No name stands twice. It shows as a map.
 pub struct Named<V> {
     // The first ones, searched through.
-    few: Vec<Entry<V>>,
+    few: Vec<(String, V)>,
     // Those behind them, in a map.
     rest: Rest<V>,
 }
@@ -388,9 +356,9 @@ impl<V: Drop> Drop for Named<V> {
 impl<V> Model for Named<V> {
     ghost Value = { List (List ℕ × V) };
 
-    ghost view = { λ n. n.few.items ++ n.rest };
+    ghost view = { λ n. by_bytes n.few.items ++ n.rest };
 
-    ghost invariant = { λ n. NoNameTwice (n.few.items ++ n.rest) };
+    ghost invariant = { λ n. NoNameTwice (by_bytes n.few.items ++ n.rest) };
 }
 
 /// The clone has the same names in the same order, and under them clones of the values. Answers `AllocError` where memory ran out.
@@ -436,14 +404,14 @@ impl<V: fmt::Debug> fmt::Debug for Named<V> {
 /// Values under names that are still to come, in order.
 #[derive(Drop)]
 pub struct Entries<'a, V> {
-    few: slice::Iter<'a, Entry<V>>,
+    few: slice::Iter<'a, (String, V)>,
     rest: map::Iter<'a, String, V>,
 }
 
 impl<'a, V> Model for Entries<'a, V> {
     ghost Value = { List (Name × V) };
 
-    ghost view = { λ e. iter_rest e.few ++ by_bytes e.rest };
+    ghost view = { λ e. by_bytes (iter_rest e.few) ++ by_bytes e.rest };
 }
 
 impl<'a, V> Iterator for Entries<'a, V> {
@@ -455,7 +423,7 @@ impl<'a, V> Iterator for Entries<'a, V> {
 
     fn next(&mut self) -> Option<(&'a str, &'a V)> {
         match self.few.next() {
-            Some(entry) => Some((entry.name.as_str(), &entry.value)),
+            Some(entry) => Some((entry.0.as_str(), &entry.1)),
             None => {
                 let (name, value) = self.rest.next()?;
                 Some((name.as_str(), value))
@@ -568,7 +536,8 @@ impl<V> Named<V> {
         ensures { slice_get self.now index ≡ Some (result.0.now, result.1.now) }
     {
         if index < self.few.len() {
-            self.few[index].pair()
+            let entry = &self.few[index];
+            (entry.0.as_str(), &entry.1)
         } else {
             self.rest.entry_at(index - self.few.len())
         }
@@ -600,7 +569,7 @@ impl<V: Drop> Named<V> {
             return Err(ShapeError::OutOfMemory);
         };
         if self.rest.is_unmapped() && self.few.len() < FEW {
-            if let Err(_) = self.few.push(Entry { name, value }) {
+            if let Err(_) = self.few.push((name, value)) {
                 return Err(ShapeError::OutOfMemory);
             }
             return Ok(());
