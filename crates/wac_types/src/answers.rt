@@ -10,6 +10,7 @@ use wac_collection::{Type, World};
 use wac_comparison::{Asked, Comparison, TypeFault, is_module_subtype};
 
 /// Asks what the answer to a question rests on.
+#[tactic(auto, using(wac_comparison::proofs::Asking::rests_now, wac_comparison::proofs::Values::values_are, wac_comparison::proofs::Typing::resources_are, wac_comparison::proofs::Typing::interfaces_are, wac_comparison::proofs::Typing::worlds_are, wac_comparison::proofs::Typing::modules_are, wac_comparison::proofs::Typing::answer_funcs, wac_comparison::proofs::Typing::answer_interfaces, wac_comparison::proofs::Typing::answer_worlds, wac_comparison::proofs::Typing::funcs_refuse, wac_comparison::proofs::Typing::other_sort, wac_comparison::proofs::Typing::no_resource, wac_comparison::proofs::Typing::no_func, wac_comparison::proofs::Typing::no_value, wac_comparison::proofs::Typing::no_interface, wac_comparison::proofs::Typing::no_world, wac_comparison::proofs::Typing::no_module))]
 pub(crate) fn answer(
     comparison: Comparison<'_>,
     asked: &mut Asked,
@@ -47,6 +48,7 @@ pub(crate) fn answer(
 }
 
 // Asks whether one world is a subtype of the other.
+#[tactic(auto, using(wac_comparison::proofs::Subtyping::of_components))]
 fn ask_worlds(
     comparison: Comparison<'_>,
     asked: &mut Asked,

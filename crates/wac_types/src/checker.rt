@@ -23,6 +23,7 @@ impl SubtypeChecker {
     /// Whether an item of one collection is a subtype of an item of another; each is to be held. Answers `Mismatch` where it isn't,
     /// and `OutOfMemory` where memory ran out before that was known. Each pair of types is compared once; only small ones are
     /// compared wherever they are mentioned.
+    #[tactic(auto, using(wac_comparison::proofs::Comparing::compares_first))]
     pub fn is_subtype(
         &self,
         a: ItemKind,

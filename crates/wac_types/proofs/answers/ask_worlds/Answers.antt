@@ -11,6 +11,3 @@ pub returns-clause-asked : goal.returns-clause-asked
 returns-clause-asked c =
     let imports = rw (c.turned-turned.ensures.turned, c.turned-turned.ensures.first, c.turned-turned.ensures.second) at c.in_ok-ask_items.ensures.asked in
     IfOk-weaker c.ask_items-2.result _ _ (λ _ s. asks_worlds c.args.w.now c.args.v.now (asks_turned c.args.comparison.turned c.args.comparison.first.now c.args.comparison.second.now _ _ _ _ imports) s) c.ask_items-2.ensures.asked
-
-pub returns-clause-mismatch : goal.returns-clause-mismatch
-returns-clause-mismatch c = λ is h. c.ask_items-2.ensures.mismatch is (of_components _ _ _ _ h).1

@@ -1,10 +1,7 @@
 use Rattle.std.proofs.Common.{arith, length, ap, ◌∙◌, sym, ◌<◌, slice_get}
 use Rattle.std.proofs.lemmas.Option.{slice_get-get_or}
-use Rattle.wac_comparison.proofs.Comparing.{compares_first, compares_next, compares_last}
+use Rattle.wac_comparison.proofs.Comparing.{compares_next, compares_last}
 use Rattle.wac_types.proofs.checker.SubtypeChecker.is_subtype.Goals as goal
-
-pub loop-next-init : goal.loop-next-init
-loop-next-init c = compares_first c.args.at.now c.args.bt.now c.args.a c.args.b _ _ c.new-asked.ensures.questions c.new-asked.ensures.classes c.requires.first c.requires.second c.in_ok-ask_kinds.ensures.asked
 
 pub loop-next-preserved : goal.loop-next-preserved
 loop-next-preserved c =
