@@ -1,5 +1,5 @@
--- Tests of all in a list, as far as a loop has come.
-use Rattle.std.proofs.Common.{ℕ, zero, suc, Bool, true, false, ◌&&◌, ◌<◌, ◌≤◌, ◌∙◌, sym, arith, length, slice_get, get_or, drop, drop-cons, drop_of_length-le, take, List, [], ◌∷◌, ◌++◌, ◌≡◌, refl, ap, Some}
+-- Lists and entries at a position, as far as a loop has come.
+use Rattle.std.proofs.Common.{ℕ, zero, suc, ◌<◌, ◌∙◌, arith, length, slice_get, get_or, drop, drop-cons, take, List, [], ◌∷◌, ◌++◌, ◌≡◌, refl, ap, Some}
 use Rattle.std.proofs.lemmas.List.{same_lists as lists_same}
 use Rattle.std.proofs.lemmas.Option.{get_or_from_slice_get, slice_get-get_or, slice_get_within}
 use Rattle.std.specs.Option.{option_map}
@@ -10,20 +10,7 @@ use Rattle.wac_shapes.proofs.Names.{take_at}
 pub drop_at : {A : Type 0} (xs : List A) (i : ℕ) (x : A) → slice_get xs i ≡ Some x → drop i xs ≡ x ∷ drop (suc i) xs
 drop_at xs i x h = drop-cons xs i x (slice_get_within xs i x h) ∙ ap (λ y. y ∷ drop (suc i) xs) (get_or_from_slice_get xs i x x h)
 
-pub drop_index : {A : Type 0} (xs : List A) (i : ℕ) (d : A) → i < length xs → drop i xs ≡ get_or xs i d ∷ drop (suc i) xs
-drop_index xs i d lt = drop-cons xs i d lt
-
--- an entry, by its value, and by its name and value
-pub record EntryOf {V : Type 0} (es : List (Name × V)) (i : ℕ) (v : V) : Type 0 where
-  pub entry : Name × V
-  pub left : drop i es ≡ entry ∷ drop (suc i) es
-  pub is : entry.1 ≡ v
-
-pub entry_of : {V : Type 0} (es : List (Name × V)) (i : ℕ) (v : V) → option_map (λ e. e.1) (slice_get es i) ≡ Some v → EntryOf es i v
-entry_of [] i v h = cc
-entry_of (e ∷ es) zero v h = let same : e.1 ≡ v = cc in record { entry = e; left = refl; is = same }
-entry_of (e ∷ es) (suc i) v h = let r = entry_of es i v h in record { entry = r.entry; left = r.left; is = r.is }
-
+-- an entry, by its name and value
 pub entry_at : {V : Type 0} (es : List (Name × V)) (i : ℕ) (n : Name) (v : V) → option_map (λ e. e.0) (slice_get es i) ≡ Some n → option_map (λ e. e.1) (slice_get es i) ≡ Some v → slice_get es i ≡ Some (n, v)
 entry_at [] i n v a b = cc
 entry_at (e ∷ es) zero n v a b = let x : e.0 ≡ n = cc in let y : e.1 ≡ v = cc in rw (x, y) refl
@@ -32,16 +19,6 @@ entry_at (e ∷ es) (suc i) n v a b = entry_at es i n v a b
 pub take_more : {V : Type 0} (es : List (Name × V)) (i : ℕ) (n : Name) (v : V) → option_map (λ e. e.0) (slice_get es i) ≡ Some n → option_map (λ e. e.1) (slice_get es i) ≡ Some v
     → take (suc i) es ≡ take i es ++ (n, v) ∷ []
 take_more es i n v a b = take_at es i (n, v) (entry_at es i n v a b)
-
--- a test of all: of the first, and of the rest
-pub stops : {A : Type 0} (test : List A → Bool) (all left rest : List A) (x : A) (b : Bool) → test left ≡ test all → left ≡ x ∷ rest → test (x ∷ rest) ≡ (b && test rest) → b ≡ false → false ≡ test all
-stops test all left rest x b same cut first fails = sym (sym same ∙ ap test cut ∙ first ∙ ap (λ p. p && test rest) fails)
-
-pub goes : {A : Type 0} (test : List A → Bool) (all left rest : List A) (x : A) (b : Bool) → test left ≡ test all → left ≡ x ∷ rest → test (x ∷ rest) ≡ (b && test rest) → b ≡ true → test rest ≡ test all
-goes test all left rest x b same cut first holds = sym (ap (λ p. p && test rest) holds) ∙ sym first ∙ sym (ap test cut) ∙ same
-
-pub ends : {A : Type 0} (test : List A → Bool) (all : List A) (i : ℕ) → length all ≤ i → test (drop i all) ≡ test all → test [] ≡ test all
-ends test all i le same = sym (ap test (drop_of_length-le all le)) ∙ same
 
 -- lists of one length with the same at each position
 pub same_lists : {A : Type 0} (xs ys : List A) → length xs ≡ length ys → ((k : ℕ) → k < length xs → slice_get xs k ≡ slice_get ys k) → xs ≡ ys

@@ -5,15 +5,14 @@ use Rattle.wac_primitives.specs.Tree.{Side, imported, exported, Place, Leaf, nam
 use Rattle.wac_shapes.specs.declared.component.ResourceId.{ResourceId}
 use Rattle.wac_shapes.specs.declared.component.UsedType.{UsedType}
 use Rattle.wac_shapes.specs.declared.component.Interface.{Interface}
-use Rattle.wac_shapes.specs.declared.component.World.{World}
 use Rattle.wac_shapes.specs.declared.component.«Type».TheVariants as ty
 use Rattle.wac_shapes.specs.declared.component.ItemKind.{ItemKind}
 use Rattle.wac_shapes.specs.declared.component.ItemKind.TheVariants as kind
 use Rattle.wac_shapes.specs.Kinds.{kind_type}
 use Rattle.wac_collection.specs.declared.collection.Held.{Held}
-use Rattle.wac_collection.specs.Collection.{Collection, size, used_types, kind_types, IsWellFormed, IsBefore, AreBefore, AddedBefore, IsKeptBy, item_of, with_resource, with_func, with_defined, with_interface, with_world, with_module}
+use Rattle.wac_collection.specs.Collection.{Collection, size, used_types, kind_types, IsWellFormed, IsBefore, AreBefore, AddedBefore, IsKeptBy, item_of}
 use Rattle.wac_collection.specs.Held.{Names, source_of, resolved}
-use Rattle.wac_collection.specs.Bound.{Bindings, by_place, held_tree, lists_own, own_name, is_alias, bound_by, bound_in_order, first_bound, lists_type, binds_here, is_here}
+use Rattle.wac_collection.specs.Bound.{by_place, held_tree, lists_own, own_name, is_alias, bound_by, bound_in_order, first_bound, lists_type, binds_here, is_here}
 use Rattle.wac_collection.proofs.Growth.{type_within, type_before, keeps_resource, keeps_func, keeps_defined, keeps_interface, keeps_world, keeps_module}
 use Rattle.wac_collection.proofs.Steady.{all_right, resource_same}
 use Rattle.wac_subtyping.specs.Subtype.{by_name, resource_names, held_name, type_tree}

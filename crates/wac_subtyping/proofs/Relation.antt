@@ -1,6 +1,5 @@
 -- Subtyping is reflexive and transitive.
 use Rattle.std.proofs.Common.{ℕ, ◌≡◌, ◌≢◌, refl, sym, ◌∙◌, subst, Option, Some, None, arith}
-use Rattle.wac_primitives.specs.Name.{Name}
 use Rattle.wac_primitives.specs.Core.{CoreItem, no_item, core_function, core_table, core_memory, core_global, core_tag}
 use Rattle.wac_primitives.specs.Tree.{TypeTree, absent, instance, component, module_of, type_equal, instance_item, component_item, module_item}
 use Rattle.wac_subtyping.specs.Subtype.{Sub, IsPlain, IsCoreSubtype, IsMaximumWithin}

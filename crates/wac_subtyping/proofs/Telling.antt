@@ -1,5 +1,5 @@
 -- Tests that tell apart what things stand for.
-use Rattle.std.proofs.Common.{Global, ℕ, ◌≡◌, Bool, true, false, ◌&&◌, nat_eq, List, [], ◌∷◌, map, refl}
+use Rattle.std.proofs.Common.{Global, ℕ, ◌≡◌, Bool, true, ◌&&◌, nat_eq, List, [], ◌∷◌, map, refl}
 use Rattle.std.proofs.lemmas.Bool.{and_parts}
 use Rattle.std.specs.Borrow.{Bor}
 use Rattle.std.specs.Cmp.Derive.{both_true}

@@ -37,16 +37,6 @@ pub before_rank : (c : Collection) (n : ℕ) (t : AnyType) → IsBefore c n t �
 before_rank c n (ty.Value (val.Primitive p)) h = omega arith
 before_rank c n _ h = added_rank n _ h
 
-rank_added : {A : Type 0} (xs : List (Held A)) (i : ℕ) → nat_lt i (length xs) ≡ true → AddedBefore (rank_of_held (slice_get xs i)) (slice_get xs i)
-rank_added [] i h = absurd (grind arith)
-rank_added (x ∷ xs) zero h = omega arith
-rank_added (x ∷ xs) (suc i) h = rank_added xs i (grind arith)
-
--- what is held was added before as many items as its rank says
-pub held_at_rank : (c : Collection) (t : AnyType) → holds_type c t ≡ true → IsBefore c (type_rank c t) t
-held_at_rank c (ty.Value (val.Primitive p)) h = tt
-held_at_rank c _ h = rank_added _ _ h
-
 module _ {L : Type 0} where
   module _ (t u : ValueType → TypeTree L) where
     values_same : (vs : List ValueType) → AllByRecursion (λ v. t v ≡ u v) vs → map t vs ≡ map u vs
