@@ -1,10 +1,10 @@
 -- Questions that settle a statement, from those that settle its parts.
-use Rattle.std.proofs.Common.{cond, ℕ, Bool, true, false, List, [], ◌∷◌, ◌++◌, ◌≡◌, ◌<◌, ◌≤◌, refl, ap, sym, ◌∙◌, subst, arith, append_assoc, ◌⊎◌, inl, inr}
+use Rattle.std.proofs.Common.{cond, ℕ, Bool, true, false, not, List, [], ◌∷◌, ◌++◌, ◌≡◌, ◌<◌, ◌≤◌, refl, ap, sym, ◌∙◌, subst, arith, append_assoc, ◌⊎◌, inl, inr}
 use Rattle.std.proofs.lemmas.List.{append-nil}
-use Rattle.std.proofs.lemmas.List.Elements.{All-contains, All-from_recursion}
+use Rattle.std.proofs.lemmas.List.Elements.{All-contains, All-from_recursion, Contains-append_left, Contains-push}
 use Rattle.std.specs.List.{AllByRecursion, Contains, list_any}
 use Rattle.indexmap.specs.IndexSet.{insert_key}
-use Rattle.indexmap.proofs.CallerLemmas.{Contains-insert_key}
+use Rattle.indexmap.proofs.CallerLemmas.{Contains-list_any}
 use Rattle.wac_comparison.specs.declared.questions.Question.{Question}
 use Rattle.wac_comparison.specs.declared.questions.Asked.{Asked}
 use Rattle.wac_shapes.specs.declared.component.«Type».{«Type» as AnyType}
@@ -13,9 +13,9 @@ use Rattle.wac_primitives.specs.Tree.{TypeTree}
 use Rattle.wac_collection.specs.Collection.{Collection}
 use Rattle.wac_subtyping.specs.Subtype.{Sub, type_tree}
 use Rattle.wac_comparison.specs.Weights.{type_weight}
-use Rattle.wac_comparison.specs.Questions.{in_order, first_of_pair, second_of_pair, IsAskable, IsAskableQuestion, IsYes, IsYesBelow, AreBelow, Puts}
+use Rattle.wac_comparison.specs.Questions.{in_order, first_of_pair, second_of_pair, IsAskable, IsAskableQuestion, IsYes, IsYesBelow, AreBelow}
 use Rattle.wac_comparison.specs.Classes.{AreLinked, AreSame}
-use Rattle.wac_comparison.specs.Settling.{Settles, Asks, RestsOn}
+use Rattle.wac_comparison.specs.Settling.{Settles, Asks, RestsOn, Puts}
 use Rattle.wac_collection.proofs.Steady.{all_left}
 use Rattle.wac_collection.proofs.Growth.{map_all}
 use Rattle.wac_subtyping.proofs.Unfolding.{all_both}
@@ -41,11 +41,11 @@ linked_more p qs added es h i u l at = let k = h i u l at in (k.0, k.1, same_mor
 
 module _ (p : Collection × Collection) (n : ℕ) where
   pub settles_now : {E : Type 0} (s : Asked) → E → Settles p n s s E
-  settles_now s e = record { added = []; grown = sym (append-nil s.questions.keys); asked = tt; joined = λ j. j; complete = λ _. tt; sound = λ _ _. e }
+  settles_now s e = record { added = []; grown = sym (append-nil s.questions.items); asked = tt; joined = λ j. j; complete = λ _. tt; sound = λ _ _. e }
 
   pub settles_then : {E F : Type 0} (o m k : Asked) → Settles p n o m E → Settles p n m k F → Settles p n o k (E × F)
   settles_then o m k s t =
-      let grown : k.questions.keys ≡ o.questions.keys ++ (s.added ++ t.added) = t.grown ∙ ap (λ x. x ++ t.added) s.grown ∙ append_assoc o.questions.keys s.added t.added in
+      let grown : k.questions.items ≡ o.questions.items ++ (s.added ++ t.added) = t.grown ∙ ap (λ x. x ++ t.added) s.grown ∙ append_assoc o.questions.items s.added t.added in
       let P : List Question → Type 0 = AllByRecursion (IsYesBelow p n) in
       record {
         added = s.added ++ t.added;
@@ -53,24 +53,24 @@ module _ (p : Collection × Collection) (n : ℕ) where
         asked = all_both (IsAskableQuestion p) s.added t.added s.asked t.asked;
         joined = λ j. t.joined (s.joined j);
         complete = λ e. all_both (IsYes p) s.added t.added (s.complete e.0) (t.complete e.1);
-        sound = λ j h. (s.sound j (all_left (IsYesBelow p n) m.questions.keys t.added (subst P t.grown h)), t.sound (s.joined j) h);
+        sound = λ j h. (s.sound j (all_left (IsYesBelow p n) m.questions.items t.added (subst P t.grown h)), t.sound (s.joined j) h);
       }
 
   pub settles_iff : {E F : Type 0} (o k : Asked) → (E → F) → (F → E) → Settles p n o k E → Settles p n o k F
   settles_iff o k f g s = record { added = s.added; grown = s.grown; asked = s.asked; joined = s.joined; complete = λ e. s.complete (g e); sound = λ j h. f (s.sound j h) }
 
-  pub settles_put : (o k : Asked) (q : Question) → Puts o.questions.keys k.questions.keys q → k.classes ≡ o.classes → IsAskableQuestion p q → (type_weight (first_of_pair q.turned p) q.first < n) ⊎ (type_weight (second_of_pair q.turned p) q.second < n)
+  pub settles_put : (o k : Asked) (q : Question) → Puts o k q → IsAskableQuestion p q → (type_weight (first_of_pair q.turned p) q.first < n) ⊎ (type_weight (second_of_pair q.turned p) q.second < n)
       → Settles p n o k (IsYes p q)
-  settles_put o k q s same held below = record {
+  settles_put o k q s held below = record {
     added = s.added;
     grown = s.grown;
     asked = all_only (IsAskableQuestion p) q s.added s.only held;
     joined = λ j.
         let P : List Question → Type 0 = λ x. AreLinked p x k.classes.links.entries in
-        let Q : _ → Type 0 = λ x. AreLinked p (o.questions.keys ++ s.added) x.links.entries in
-        subst P (sym s.grown) (subst Q (sym same) (linked_more p o.questions.keys s.added o.classes.links.entries j));
+        let Q : _ → Type 0 = λ x. AreLinked p (o.questions.items ++ s.added) x.links.entries in
+        (subst P (sym s.grown) (subst Q (sym s.classes) (linked_more p o.questions.items s.added o.classes.links.entries j.0)), s.asked j.1);
     complete = λ y. all_only (IsYes p) q s.added s.only y;
-    sound = λ _ h. all_at (IsYesBelow p n) k.questions.keys q h s.there below;
+    sound = λ j h. all_at (IsYesBelow p n) k.questions.items q h (s.there j.1) below;
   }
 
 -- a question in the order of the comparison
@@ -78,10 +78,10 @@ abbrev pub ordered : Bool → AnyType → AnyType → Question
 ordered t a b = record { turned = t; first = a; second = b }
 
 -- a question that was put settles what it asks
-pub asks_put : (t : Bool) (x y : Collection) (a b : AnyType) (o k : Asked) → Puts o.questions.keys k.questions.keys (ordered t a b) → k.classes ≡ o.classes
+pub asks_put : (t : Bool) (x y : Collection) (a b : AnyType) (o k : Asked) → Puts o k (ordered t a b)
     → (n : ℕ) → IsAskable x a → IsAskable y b → (type_weight x a < n) ⊎ (type_weight y b < n) → Settles (in_order t x y) n o k (Sub (type_tree x a) (type_tree y b))
-asks_put false x y a b o k s same n ha hb below = settles_put (x, y) n o k _ s same (ha, hb) below
-asks_put true x y a b o k s same n ha hb below = settles_put (y, x) n o k _ s same (ha, hb) below
+asks_put false x y a b o k s n ha hb below = settles_put (x, y) n o k _ s (ha, hb) below
+asks_put true x y a b o k s n ha hb below = settles_put (y, x) n o k _ s (ha, hb) below
 
 module _ (t : Bool) (x y : Collection) (a b : AnyType) where
   pub rests_now : {E : Type 0} (o : Asked) → E → RestsOn t x y a b o o E
@@ -112,10 +112,49 @@ asks_rested t x y a b o k s = record { settles = λ n ha hb below. s.settles n (
     by n (inl h) = let lt = h.0 in inl (omega (arith, lt))
     by n (inr h) = let lt = h.0 in inr (omega (arith, lt))
 
--- a key that was inserted was put
-pub puts_inserted : (eq : Question → Question → Bool) → ((a b : Question) → eq a b ≡ true → a ≡ b) → (o k : List Question) (q : Question) → k ≡ insert_key eq o q → Puts o k q
-puts_inserted eq same o k q e = let P : List Question → Type 0 = λ x. Puts o x q in subst P (sym e) (by (list_any (eq q) o) refl)
-  where
-    by : (b : Bool) → list_any (eq q) o ≡ b → Puts o (insert_key eq o q) q
-    by true h = record { added = []; grown = ap (λ b. cond b o (o ++ q ∷ [])) h ∙ sym (append-nil o); only = tt; there = Contains-insert_key eq same o q }
-    by false h = record { added = q ∷ []; grown = ap (λ b. cond b o (o ++ q ∷ [])) h; only = (refl, tt); there = Contains-insert_key eq same o q }
+-- what was asked is asked where more is
+pub asked_more : (qs added others : List Question) → AllByRecursion (Contains qs) others → AllByRecursion (Contains (qs ++ added)) others
+asked_more qs added others h = map_all (Contains qs) (Contains (qs ++ added)) (λ r c. Contains-append_left qs added r c) others h
+
+not_false : (b : Bool) → not b ≡ false → b ≡ true
+not_false true h = refl
+not_false false h = cc
+
+not_true : (b : Bool) → not b ≡ true → b ≡ false
+not_true true h = cc
+not_true false h = refl
+
+-- a question that was noted before, and so was asked, and one that was added
+module _ (eq : Question → Question → Bool) (tells : (a b : Question) → eq a b ≡ true → a ≡ b) (o k : Asked) (q : Question) (noted : k.others.keys ≡ insert_key eq o.others.keys q) (classes : k.classes ≡ o.classes) where
+  abbrev found : Bool
+  found = list_any (eq q) o.others.keys
+
+  pub puts_none : not found ≡ false → k.questions ≡ o.questions → Puts o k q
+  puts_none old same =
+      let there : found ≡ true = not_false found old in
+      let items : k.questions.items ≡ o.questions.items = ap (λ x. x.items) same in
+      let others : k.others.keys ≡ o.others.keys = noted ∙ ap (λ b. cond b o.others.keys (o.others.keys ++ q ∷ [])) there in
+      record {
+        added = [];
+        grown = items ∙ sym (append-nil o.questions.items);
+        only = tt;
+        classes = classes;
+        asked = λ h. rw (items, others) h;
+        there = λ h. let c = all_at (Contains o.questions.items) o.others.keys q h (Contains-list_any eq tells o.others.keys q there) in rw items c;
+      }
+
+  pub puts_one : not found ≡ true → k.questions.items ≡ o.questions.items ++ q ∷ [] → Puts o k q
+  puts_one new grown =
+      let C : List Question → Type 0 = λ x. Contains x q in
+      let P : List Question → Type 0 = λ x. AllByRecursion (Contains x) o.others.keys in
+      let Q : List Question → Type 0 = AllByRecursion (Contains k.questions.items) in
+      let there : Contains k.questions.items q = subst C (sym grown) (Contains-push o.questions.items q) in
+      let others : k.others.keys ≡ o.others.keys ++ q ∷ [] = noted ∙ ap (λ b. cond b o.others.keys (o.others.keys ++ q ∷ [])) (not_true found new) in
+      record {
+        added = q ∷ [];
+        grown = grown;
+        only = (refl, tt);
+        classes = classes;
+        asked = λ h. subst Q (sym others) (all_both (Contains k.questions.items) o.others.keys (q ∷ []) (subst P (sym grown) (asked_more o.questions.items (q ∷ []) o.others.keys h)) (there, tt));
+        there = λ _. there;
+      }

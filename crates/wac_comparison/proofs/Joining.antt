@@ -1,10 +1,11 @@
 -- Types that are joined are the same, where the answers to the questions are yes.
 use Rattle.std.proofs.Common.{ℕ, zero, suc, Bool, true, false, List, [], ◌∷◌, ◌++◌, ◌≡◌, ◌<◌, ◌⊎◌, inl, inr, length, refl, ap, sym, ◌∙◌, subst, option_map, Option, Some, None, arith, slice_get}
 use Rattle.std.proofs.lemmas.List.{append-nil, length-map, map-append}
+use Rattle.std.proofs.lemmas.List.Elements.{Contains-push}
 use Rattle.std.proofs.lemmas.Map.Made.{lookup_key_passes}
 use Rattle.std.proofs.lemmas.Option.{same_Some}
 use Rattle.std.specs.Map.{lookup_key}
-use Rattle.std.specs.List.{Contains}
+use Rattle.std.specs.List.{AllByRecursion, Contains}
 use Rattle.indexmap.specs.IndexMap.{set_value_at}
 use Rattle.wac_primitives.specs.Name.{Name}
 use Rattle.wac_shapes.specs.declared.component.«Type».{«Type» as AnyType}
@@ -18,10 +19,10 @@ use Rattle.wac_collection.proofs.Growth.{get_grown, get_where, get_new}
 use Rattle.wac_primitives.specs.Tree.{TypeTree}
 use Rattle.wac_subtyping.specs.Subtype.{Sub, IsPlain, type_tree}
 use Rattle.wac_comparison.specs.Weights.{weight, type_weight}
-use Rattle.wac_comparison.specs.Questions.{in_order, first_of_pair, second_of_pair, IsPlainType, IsAskable, IsAskableQuestion, IsYes, IsYesBelow, AreHeld, AreBelow, Puts}
+use Rattle.wac_comparison.specs.Questions.{in_order, first_of_pair, second_of_pair, IsPlainType, IsAskable, IsAskableQuestion, IsYes, IsYesBelow, AreHeld, AreBelow}
 use Rattle.wac_comparison.specs.Classes.{nodes, AreSame, AreLinked, LeadsTo, HasLink, AddsNode, PutsBelow, Joins}
 use Rattle.wac_comparison.specs.Settling.{Settles, Asks, HasEnd, first_node, second_node, PutsPlain}
-use Rattle.wac_comparison.proofs.Asking.{all_at, all_only, swapped, ordered, linked_more, settles_iff}
+use Rattle.wac_comparison.proofs.Asking.{all_at, all_only, asked_more, swapped, ordered, linked_more, settles_iff}
 use Rattle.wac_subtyping.proofs.Relation.{plain_sub, plain_same}
 use Rattle.wac_comparison.proofs.Values.{value_plain, sub_to}
 use Rattle.wac_comparison.proofs.Agreeing.{get_map}
@@ -64,32 +65,39 @@ yes_same p qs q ha hb there n h below =
     plain_sub _ _ (plain_tree (first_of_pair q.turned p) q.first ha) (all_at (IsYesBelow p n) qs q h there (rw (plain_weight (first_of_pair q.turned p) q.first ha, plain_weight (second_of_pair q.turned p) q.second hb) below))
 
 -- a question that follows from what was asked before
-pub plain_follows : (o k : Asked) (q : Question) → k.questions ≡ o.questions → Joins o.classes.links.entries k.classes.links.entries (first_node q) (second_node q) false → PutsPlain o k q
-plain_follows o k q same j =
+pub plain_follows : (o k : Asked) (q : Question) → k.questions ≡ o.questions → k.others ≡ o.others → Joins o.classes.links.entries k.classes.links.entries (first_node q) (second_node q) false → PutsPlain o k q
+plain_follows o k q same others j =
     record {
       added = [];
-      grown = ap (λ x. x.keys) same ∙ sym (append-nil o.questions.keys);
+      grown = ap (λ x. x.items) same ∙ sym (append-nil o.questions.items);
       only = tt;
       joined = λ p ha hb l.
-          let Q : _ → Type 0 = λ x. AreLinked p x.keys k.classes.links.entries in
-          subst Q (sym same) (j.kept p o.questions.keys l (λ e. absurd (cc e)));
+          let Q : _ → Type 0 = λ x. AreLinked p x.items k.classes.links.entries in
+          (subst Q (sym same) (j.kept p o.questions.items l.0 (λ e. absurd (cc e))), rw (same, others) l.1);
       same = λ p ha hb l.
-          let Q : _ → Type 0 = λ x. AreSame p x.keys (first_node q) (second_node q) in
-          subst Q (sym same) (j.found p o.questions.keys l refl);
+          let Q : _ → Type 0 = λ x. AreSame p x.items (first_node q) (second_node q) in
+          subst Q (sym same) (j.found p o.questions.items l.0 refl);
     }
 
 -- a question that was put
-pub plain_put : (o k m : Asked) (q : Question) → Joins o.classes.links.entries m.classes.links.entries (first_node q) (second_node q) true → k.classes ≡ m.classes → Puts o.questions.keys k.questions.keys q → PutsPlain o k q
-plain_put o k m q j same s = record {
-  added = s.added;
-  grown = s.grown;
-  only = s.only;
+pub plain_put : (o k m : Asked) (q : Question) → Joins o.classes.links.entries m.classes.links.entries (first_node q) (second_node q) true → k.classes ≡ m.classes → k.others ≡ o.others → k.questions.items ≡ o.questions.items ++ q ∷ [] → PutsPlain o k q
+plain_put o k m q j same others grown = record {
+  added = q ∷ [];
+  grown = grown;
+  only = (refl, tt);
   joined = λ p ha hb l.
       let P : List Question → Type 0 = λ x. AreLinked p x o.classes.links.entries in
-      let Q : _ → Type 0 = λ x. AreLinked p k.questions.keys x.links.entries in
-      subst Q (sym same) (j.kept p k.questions.keys (subst P (sym s.grown) (linked_more p o.questions.keys s.added o.classes.links.entries l)) (λ _. yes_same p k.questions.keys q ha hb s.there));
-  same = λ p ha hb l. yes_same p k.questions.keys q ha hb s.there;
+      let Q : _ → Type 0 = λ x. AreLinked p k.questions.items x.links.entries in
+      let R : List Question → Type 0 = λ x. AllByRecursion (Contains x) o.others.keys in
+      let S : _ → Type 0 = λ x. AllByRecursion (Contains k.questions.items) x.keys in (
+        subst Q (sym same) (j.kept p k.questions.items (subst P (sym grown) (linked_more p o.questions.items (q ∷ []) o.classes.links.entries l.0)) (λ _. yes_same p k.questions.items q ha hb there)),
+        subst S (sym others) (subst R (sym grown) (asked_more o.questions.items (q ∷ []) o.others.keys l.1)),
+      );
+  same = λ p ha hb l. yes_same p k.questions.items q ha hb there;
 }
+  where
+    there : Contains k.questions.items q
+    there = let C : List Question → Type 0 = λ x. Contains x q in subst C (sym grown) (Contains-push o.questions.items q)
 
 -- and what it settles
 settles_plain : (p : Collection × Collection) (n : ℕ) (o k : Asked) (q : Question) → IsPlainType q.first → IsPlainType q.second → PutsPlain o k q → IsAskableQuestion p q

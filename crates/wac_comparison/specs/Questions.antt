@@ -1,6 +1,6 @@
 -- The questions of a comparison: pairs of types of which the first is to be a subtype of the second.
-use Rattle.std.specs.Prelude.{ℕ, ◌<◌, ◌≡◌, ◌≢◌, Bool, true, false, not, None, List, ◌++◌, ◌⊎◌}
-use Rattle.std.specs.List.{AllByRecursion, Contains}
+use Rattle.std.specs.Prelude.{ℕ, ◌<◌, ◌≡◌, ◌≢◌, Bool, true, false, not, None, List, ◌⊎◌}
+use Rattle.std.specs.List.{AllByRecursion}
 use Rattle.wac_comparison.specs.declared.questions.Question.{Question}
 use Rattle.wac_shapes.specs.declared.component.«Type».{«Type» as AnyType}
 use Rattle.wac_shapes.specs.declared.component.«Type».TheVariants as ty
@@ -66,10 +66,3 @@ AreThere c ts = AllByRecursion (λ t. type_tree c t ≢ absent) ts
 -- E, which speaks of these types, does not hold
 pub record Refutes (x y : Collection) (xs ys : List AnyType) (E : Type 0) : Type 0 where
   pub refutes : AreThere x xs → AreThere y ys → E → ⊥
-
--- the questions after one was put
-pub record Puts (old new : List Question) (q : Question) : Type 0 where
-  pub added : List Question
-  pub grown : new ≡ old ++ added
-  pub only : AllByRecursion (λ r. r ≡ q) added
-  pub there : Contains new q

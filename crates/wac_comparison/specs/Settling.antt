@@ -1,6 +1,6 @@
 -- What was asked settles statements: they hold only where the answers to the new questions are yes, and do where all are.
 use Rattle.std.specs.Prelude.{ℕ, ◌≤◌, ◌≡◌, Bool, true, not, List, ◌++◌, ◌⊎◌}
-use Rattle.std.specs.List.{AllByRecursion}
+use Rattle.std.specs.List.{AllByRecursion, Contains}
 use Rattle.wac_comparison.specs.declared.questions.Question.{Question}
 use Rattle.wac_comparison.specs.declared.questions.Asked.{Asked}
 use Rattle.wac_comparison.specs.declared.classes.Node.{Node}
@@ -11,18 +11,22 @@ use Rattle.wac_comparison.specs.Weights.{type_weight}
 use Rattle.wac_comparison.specs.Questions.{in_order, IsEnd, IsYes, IsYesBelow, IsPlainType, IsAskableQuestion, AreHeld, AreBelow}
 use Rattle.wac_comparison.specs.Classes.{AreLinked, AreSame}
 
--- the types that are joined are the same, where the answers are yes
+-- the others were asked
+abbrev pub AreAsked : Asked → Type 0
+AreAsked s = AllByRecursion (Contains s.questions.items) s.others.keys
+
+-- the types that are joined are the same, where the answers are yes, and the others were asked
 abbrev pub AreJoined : Collection × Collection → Asked → Type 0
-AreJoined p s = AreLinked p s.questions.keys s.classes.links.entries
+AreJoined p s = AreLinked p s.questions.items s.classes.links.entries × AreAsked s
 
 -- The questions after some were added that settle E: E holds only where these are answered yes, and does where all are that have a type lighter than n.
 pub record Settles (p : Collection × Collection) (n : ℕ) (old new : Asked) (E : Type 0) : Type 0 where
   pub added : List Question
-  pub grown : new.questions.keys ≡ old.questions.keys ++ added
+  pub grown : new.questions.items ≡ old.questions.items ++ added
   pub asked : AllByRecursion (IsAskableQuestion p) added
   pub joined : AreJoined p old → AreJoined p new
   pub complete : E → AllByRecursion (IsYes p) added
-  pub sound : AreJoined p old → AllByRecursion (IsYesBelow p n) new.questions.keys → E
+  pub sound : AreJoined p old → AllByRecursion (IsYesBelow p n) new.questions.items → E
 
 -- the questions after some were added that settle E, which speaks of these types of the one collection and of the other
 pub record Asks (turned : Bool) (x y : Collection) (xs ys : List AnyType) (old new : Asked) (E : Type 0) : Type 0 where
@@ -46,10 +50,19 @@ first_node q = record { turned = q.turned; ty = q.first }
 abbrev pub second_node : Question → Node
 second_node q = record { turned = not q.turned; ty = q.second }
 
+-- what was asked after a question was put that does not ask whether types are the same
+pub record Puts (old new : Asked) (q : Question) : Type 0 where
+  pub added : List Question
+  pub grown : new.questions.items ≡ old.questions.items ++ added
+  pub only : AllByRecursion (λ r. r ≡ q) added
+  pub classes : new.classes ≡ old.classes
+  pub asked : AreAsked old → AreAsked new
+  pub there : AreAsked old → Contains new.questions.items q
+
 -- What was asked after a question whether types are the same was put: it was added, or the answer follows from what was asked.
 pub record PutsPlain (old new : Asked) (q : Question) : Type 0 where
   pub added : List Question
-  pub grown : new.questions.keys ≡ old.questions.keys ++ added
+  pub grown : new.questions.items ≡ old.questions.items ++ added
   pub only : AllByRecursion (λ r. r ≡ q) added
   pub joined : (p : Collection × Collection) → IsPlainType q.first → IsPlainType q.second → AreJoined p old → AreJoined p new
-  pub same : (p : Collection × Collection) → IsPlainType q.first → IsPlainType q.second → AreJoined p old → AreSame p new.questions.keys (first_node q) (second_node q)
+  pub same : (p : Collection × Collection) → IsPlainType q.first → IsPlainType q.second → AreJoined p old → AreSame p new.questions.items (first_node q) (second_node q)

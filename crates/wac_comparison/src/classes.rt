@@ -5,7 +5,9 @@ ghost use Rattle.wac_comparison.specs.Classes.{AddsNode, HasLink, LeadsTo, PutsB
 
 use indexmap::IndexMap;
 use std::alloc::{AllocError, Global};
+use std::hash::BuildHasherDefault;
 use wac_collection::Type;
+use wac_reach::TypeHasher;
 
 /// A type of one of two collections.
 #[derive(Clone, Copy, PartialEq, Eq, Hash)]
@@ -29,7 +31,7 @@ pub struct Link {
 #[derive(Drop)]
 pub struct Classes {
     /// What is known of each node.
-    pub links: IndexMap<Node, Link>,
+    pub links: IndexMap<Node, Link, BuildHasherDefault<TypeHasher>>,
 }
 
 impl Classes {
@@ -38,7 +40,7 @@ impl Classes {
         ensures { result.links.entries ≡ [] }
     {
         Classes {
-            links: IndexMap::new(alloc),
+            links: IndexMap::with_hasher(alloc, BuildHasherDefault::new()),
         }
     }
 

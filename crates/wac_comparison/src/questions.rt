@@ -1,7 +1,6 @@
 //! The questions of a comparison.
-ghost use Rattle.std.specs.Prelude.{◌≡◌, ◌≢◌, [], Err, OnOk};
-ghost use Rattle.wac_comparison.specs.Questions.{Puts};
-ghost use Rattle.wac_comparison.specs.Settling.{PutsPlain};
+ghost use Rattle.std.specs.Prelude.{◌≡◌, ◌≢◌, [], ◌∷◌, ◌++◌, Err, OnOk};
+ghost use Rattle.wac_comparison.specs.Settling.{Puts, PutsPlain};
 
 use crate::classes::{Classes, Node};
 use crate::fault::TypeFault;
@@ -23,8 +22,10 @@ pub struct Question {
 /// The questions that were asked, and which types are the same where their answers are yes.
 #[derive(Drop)]
 pub struct Asked {
-    /// The questions, each once, in the order in which they were first asked.
-    pub questions: IndexSet<Question>,
+    /// The questions, in the order in which they were asked.
+    pub questions: Vec<Question>,
+    /// Those of them that do not ask whether two types are the same.
+    pub others: IndexSet<Question>,
     /// Which types are the same.
     pub classes: Classes,
 }
@@ -32,23 +33,38 @@ pub struct Asked {
 impl Asked {
     /// Nothing was asked.
     pub fn new(alloc: Global) -> Asked
-        ensures questions { result.questions.keys ≡ [] }
+        ensures questions { result.questions.items ≡ [] }
+        ensures others { result.others.keys ≡ [] }
         ensures classes { result.classes.links.entries ≡ [] }
     {
         Asked {
-            questions: IndexSet::new(alloc),
+            questions: Vec::new(alloc),
+            others: IndexSet::new(alloc),
             classes: Classes::new(alloc),
+        }
+    }
+
+    // Adds a question.
+    fn push(&mut self, question: Question) -> Result<(), TypeFault>
+        ensures pushed { OnOk result (self.new.questions.items ≡ self.old.questions.items ++ question ∷ []) }
+        ensures others { self.new.others ≡ self.old.others }
+        ensures classes { self.new.classes ≡ self.old.classes }
+        ensures no_mismatch { result ≢ Err TypeFault.Mismatch }
+    {
+        match self.questions.push(question) {
+            Ok(()) => Ok(()),
+            Err(_) => Err(TypeFault::OutOfMemory),
         }
     }
 
     /// Adds a question, unless it was asked before.
     pub(crate) fn put(&mut self, question: Question) -> Result<(), TypeFault>
-        ensures put { OnOk result (Puts self.old.questions.keys self.new.questions.keys question) }
-        ensures classes { self.new.classes ≡ self.old.classes }
+        ensures put { OnOk result (Puts self.old self.new question) }
         ensures no_mismatch { result ≢ Err TypeFault.Mismatch }
     {
-        match self.questions.insert(question) {
-            Ok(_) => Ok(()),
+        match self.others.insert(question) {
+            Ok(true) => self.push(question),
+            Ok(false) => Ok(()),
             Err(_) => Err(TypeFault::OutOfMemory),
         }
     }
@@ -67,7 +83,7 @@ impl Asked {
             ty: question.second,
         };
         match self.classes.join(first, second) {
-            Ok(true) => self.put(question),
+            Ok(true) => self.push(question),
             Ok(false) => Ok(()),
             Err(_) => Err(TypeFault::OutOfMemory),
         }

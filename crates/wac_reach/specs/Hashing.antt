@@ -1,11 +1,11 @@
 -- What a hasher of types computes. No clause that a caller sees cites it.
 use Rattle.std.specs.Prelude.{ℕ, ◌*◌, ◌%◌, ◌^◌, List, length, fold, nat_eq, if◌then◌else◌, bit_xor}
-use Rattle.std.specs.Int.{w64, from_le_bytes, rotate_left}
+use Rattle.std.specs.Int.{w64, from_le_bytes, rotate_left, rotate_right}
 use Rattle.wac_reach.specs.declared.hasher.TypeHasher.{TypeHasher}
 
 -- the state after a number
 abbrev pub step : TypeHasher → ℕ → TypeHasher
-step h n = record { 0 = (bit_xor (rotate_left w64 h.0 5) n * 0x9e37_79b9_7f4a_7c15) % 2 ^ 64 }
+step h n = record { 0 = (bit_xor (rotate_left w64 h.0 32) (rotate_right w64 n 2) * 0x9e37_79b9_7f4a_7c15) % 2 ^ 64 }
 
 -- the state after these bytes: eight are one number, and of others each is one
 abbrev pub fed : TypeHasher → List ℕ → TypeHasher

@@ -8,7 +8,8 @@ use wac_collection::Type;
 
 const MULTIPLIER: u64 = 0x9e37_79b9_7f4a_7c15;
 
-/// A hasher of few small numbers, which are not chosen to collide: sorts, and positions in a collection.
+/// A hasher of few small numbers, which are not chosen to collide: sorts, and positions in a collection. Where the last numbers differ
+/// in their last two bits alone, the hashes differ in their first two alone, so that neighbours come to stand beside each other.
 #[derive(Clone, Copy, Default)]
 pub struct TypeHasher(u64);
 
@@ -17,7 +18,7 @@ impl TypeHasher {
     fn put(&mut self, number: u64)
         ensures { self.new ≡ step self.old number }
     {
-        self.0 = (self.0.rotate_left(5) ^ number).wrapping_mul(MULTIPLIER);
+        self.0 = (self.0.rotate_left(32) ^ number.rotate_right(2)).wrapping_mul(MULTIPLIER);
     }
 }
 
@@ -41,6 +42,11 @@ impl Hasher for TypeHasher {
         for byte in bytes {
             self.put(u64::from(*byte));
         }
+    }
+
+    #[inline(always)]
+    fn write_u8(&mut self, i: u8) {
+        self.put(u64::from(i));
     }
 
     #[inline(always)]

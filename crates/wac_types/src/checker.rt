@@ -47,7 +47,7 @@ impl SubtypeChecker {
         comparison.ask_kinds(&mut asked, a, b)?;
         let mut next = 0;
         while next < asked.questions.len() {
-            let question = asked.questions.as_slice()[next];
+            let question = asked.questions[next];
             answer_question(comparison, &mut asked, question)?;
             next += 1;
         }
