@@ -4,7 +4,8 @@
 //! workload at some counts and prints its times and by which power of the count they grow, of graphs both alone and (but for
 //! `wide`) in equal memory; without one it does a little of
 //! each and prints no time. With the word of graphs, a count and a step (`prepared`, `made`, `turned`, `encoded`) it takes one graph
-//! up to that step, for what counts from outside (`tools/growth`). Another word ends it with status 2.
+//! up to that step, and with `comparing`, what is compared, a count and a step (`added`, `compared`) two items, for what counts from
+//! outside (`tools/growth`). Another word ends it with status 2.
 #![tactic(auto)]
 
 mod graph;

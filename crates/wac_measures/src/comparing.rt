@@ -30,8 +30,8 @@ const SORTS: &[(&str, Sort)] = &[
     ("sharing", Sort::Sharing),
 ];
 
-/// At which counts it is measured: the last is eight times the first.
-const COUNTS: &[u64] = &[12_500, 25_000, 50_000, 100_000];
+/// At which counts it is measured, few and many: the last is eight times the first.
+const COUNTS: &[&[u64]] = &[&[240, 480, 960, 1_920], &[12_500, 25_000, 50_000, 100_000]];
 
 /// A few of each, and what is printed before and behind whether the first is a subtype of the second.
 pub const SHOWN: &[(&str, Sort, u64, &str)] = &[
@@ -219,11 +219,11 @@ fn measured_both(
     Ok((added, compared))
 }
 
-/// Adds and compares items at the counts, and prints how the times grow.
-fn measure_sort(rt: &HostRuntime, what: &str, sort: Sort) -> Result<()> {
+/// Adds and compares items at these counts, and prints how the times grow.
+fn measure_sort(rt: &HostRuntime, what: &str, sort: Sort, counts: &[u64]) -> Result<()> {
     let mut first = None;
     let mut last = (Duration::ZERO, Duration::ZERO);
-    for count in COUNTS {
+    for count in counts {
         last = measured_both(rt, what, sort, *count)?;
         first = first.or(Some(last));
     }
@@ -236,7 +236,36 @@ fn measure_sort(rt: &HostRuntime, what: &str, sort: Sort) -> Result<()> {
 /// Adds and compares each, and prints how the times grow.
 pub fn measure(rt: &HostRuntime) -> Result<()> {
     for (what, sort) in SORTS {
-        measure_sort(rt, what, *sort)?;
+        for counts in COUNTS {
+            measure_sort(rt, what, *sort, counts)?;
+        }
     }
     Ok(())
+}
+
+/// The sort that a word names.
+fn of_word(word: &str) -> Option<Sort> {
+    let (_, sort) = SORTS.iter().find(|(what, _)| *what == word)?;
+    Some(*sort)
+}
+
+/// Whether items that were added are compared too, by the word of a step.
+fn is_compared(step: &str) -> Option<bool> {
+    match step {
+        "added" => Some(false),
+        "compared" => Some(true),
+        _ => None,
+    }
+}
+
+/// Takes two items of so many parts up to a step. Answers whether there is such a sort and such a step.
+pub fn take_to(alloc: Global, sort: &str, count: u64, step: &str) -> Result<bool> {
+    let (Some(sort), Some(compared)) = (of_word(sort), is_compared(step)) else {
+        return Ok(false);
+    };
+    let items = sort.prepare(alloc, count)?;
+    if compared {
+        let _is_subtype = sort.round(alloc, &items)?;
+    }
+    Ok(true)
 }

@@ -76,8 +76,16 @@ fn take_to<G: Graph>(rt: &HostRuntime, word: &str, count: &str, step: &str) -> R
     Ok(true)
 }
 
-/// Does what the words ask for: a little of each where there are none; a workload is measured, or one graph is taken up to a step.
-/// Answers whether they ask for anything.
+/// Takes two items of so many parts, which are compared, up to a step. Answers whether there are such items.
+fn compare_to(rt: &HostRuntime, sort: &str, count: &str, step: &str) -> Result<bool> {
+    match count.parse::<u64>() {
+        Ok(count) => comparing::take_to(rt.alloc(), sort, count, step),
+        Err(_) => Ok(false),
+    }
+}
+
+/// Does what the words ask for: a little of each where there are none; a workload is measured, or one graph, or two items that are
+/// compared, are taken up to a step. Answers whether they ask for anything.
 pub fn run<G: Graph>(rt: &HostRuntime, words: &[String]) -> Result<bool> {
     match words {
         [] => {
@@ -86,6 +94,9 @@ pub fn run<G: Graph>(rt: &HostRuntime, words: &[String]) -> Result<bool> {
         }
         [word] => measure::<G>(rt, word.as_str()),
         [word, count, step] => { take_to::<G>(rt, word.as_str(), count.as_str(), step.as_str()) }
+        [word, sort, count, step] if word.as_str() == "comparing" => {
+            compare_to(rt, sort.as_str(), count.as_str(), step.as_str())
+        }
         _ => Ok(false),
     }
 }
