@@ -372,13 +372,6 @@ impl Types {
         self.resources.get(id.0)
     }
 
-    /// The definition under an id; none where the id isn't held.
-    pub fn find_defined(&self, id: DefinedTypeId) -> Option<&DefinedType>
-        ensures { option_copied result ≡ item_at self.now.defined id.0 }
-    {
-        self.defined.get(id.0)
-    }
-
     pub(crate) fn find_interface(&self, id: InterfaceId) -> Option<&Interface>
         ensures { option_copied result ≡ item_at self.now.interfaces id.0 }
     {

@@ -1,5 +1,5 @@
 -- Lists that agree so far, and what is asked of their parts.
-use Rattle.std.proofs.Common.{ℕ, zero, suc, Bool, List, [], ◌∷◌, map, ◌≡◌, ◌+◌, ◌<◌, ◌≤◌, length, ap, sym, ◌∙◌, subst, Option, Some, None, arith, slice_get, option_map, below_more, Result, Ok, Err}
+use Rattle.std.proofs.Common.{ℕ, zero, suc, Bool, true, List, [], ◌∷◌, map, ◌≡◌, ◌+◌, ◌<◌, ◌≤◌, length, refl, ap, sym, ◌∙◌, subst, Option, Some, None, arith, slice_get, option_map, below_more, Result, Ok, Err}
 use Rattle.std.proofs.lemmas.List.{length-map}
 use Rattle.std.proofs.lemmas.Option.{same_Some, slice_get-map}
 use Rattle.std.specs.Result.{IsErrAnd}
@@ -7,9 +7,11 @@ use Rattle.std.specs.List.{AllByRecursion}
 use Rattle.wac_primitives.specs.Name.{Name}
 use Rattle.wac_shapes.specs.declared.component.ValueType.{ValueType}
 use Rattle.wac_shapes.specs.declared.component.«Type».{«Type» as AnyType}
+use Rattle.wac_shapes.specs.declared.component.«Type».TheVariants as ty
 use Rattle.wac_shapes.proofs.Loops.{same_lists}
-use Rattle.wac_collection.specs.Collection.{Collection, and_maybe, case_values, value_types}
+use Rattle.wac_collection.specs.Collection.{Collection, and_maybe, seconds, case_values, value_types, holds_value, holds_type}
 use Rattle.wac_comparison.specs.declared.questions.Asked.{Asked}
+use Rattle.wac_comparison.specs.Questions.{AreHeld}
 use Rattle.wac_comparison.specs.Settling.{Asks}
 use Rattle.wac_comparison.proofs.Values.{asks_now, asks_iff, asks_then}
 
@@ -48,6 +50,16 @@ module _ (P : AnyType → Type 0) where
   case_among [] i n v e h = cc
   case_among (w ∷ es) zero n v e h = let Q : Name × Option ValueType → Type 0 = λ u. AllByRecursion P (value_types (and_maybe u.1 [])) in subst Q (same_Some w (n, v) e) (maybe_first w.1 (case_values es) h)
   case_among (w ∷ es) (suc i) n v e h = case_among es i n v e (maybe_rest w.1 (case_values es) h)
+
+-- each value type of a list, and each field, is held where all are
+pub value_held : (c : Collection) (vs : List ValueType) (i : ℕ) (v : ValueType) → slice_get vs i ≡ Some v → AreHeld c (value_types vs) → holds_value c v ≡ true
+value_held c vs i v at h = (among (λ t. holds_type c t ≡ true) value_types (λ u. ty.Value u) (λ _ _. refl) vs i v at h).0
+
+pub field_held : (c : Collection) (es : List (Name × ValueType)) (i : ℕ) (n : Name) (v : ValueType) → slice_get es i ≡ Some (n, v) → AreHeld c (value_types (seconds es)) → holds_value c v ≡ true
+field_held c es i n v at h = (among (λ t. holds_type c t ≡ true) (λ xs. value_types (seconds xs)) (λ e. ty.Value e.1) (λ _ _. refl) es i (n, v) at h).0
+
+pub case_held : (c : Collection) (es : List (Name × Option ValueType)) (i : ℕ) (n : Name) (v : Option ValueType) → slice_get es i ≡ Some (n, v) → AreHeld c (value_types (case_values es)) → AreHeld c (value_types (and_maybe v []))
+case_held c es i n v at h = case_among (λ t. holds_type c t ≡ true) es i n v at h
 
 module _ {t : Bool} {x y : Collection} {ps qs : List AnyType} where
   pub agree_none : {A : Type 0} (xs ys : List A) {o : Asked} → Asks t x y ps qs o o (AgreeBelow 0 xs ys)

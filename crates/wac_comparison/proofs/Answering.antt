@@ -16,15 +16,14 @@ use Rattle.wac_primitives.specs.Tree.{TypeTree, absent, primitive, own, borrow}
 use Rattle.wac_subtyping.specs.Subtype.{resource_names}
 use Rattle.wac_collection.specs.Held.{resolved, defined_tree}
 use Rattle.wac_collection.specs.Aliases.{aliased, target_of, value_resolved_in, value_resolved}
-use Rattle.wac_comparison.specs.Compare.{value_in, defined_in, definition_in}
-use Rattle.wac_comparison.specs.Questions.{Refutes}
+use Rattle.wac_comparison.specs.Compare.{value_in, defined_in}
 use Rattle.wac_comparison.specs.Weights.{weight}
 use Rattle.wac_subtyping.proofs.Trees.{aliases_agree}
 use Rattle.wac_comparison.specs.Settling.{Asks, HasEnd, RestsOn}
-use Rattle.wac_comparison.proofs.Opens.{Opens, opens_defined, primitive_in}
-use Rattle.wac_comparison.proofs.Lighter.{Lowers, lowers_defined, own_in, borrow_in}
+use Rattle.wac_comparison.proofs.Opens.{opens_defined, primitive_in}
+use Rattle.wac_comparison.proofs.Lighter.{lowers_defined, own_in, borrow_in}
 use Rattle.wac_comparison.proofs.Asking.{rests_on}
-use Rattle.wac_comparison.proofs.Sorts.{are_there, name_of_resource}
+use Rattle.wac_comparison.proofs.Sorts.{name_of_resource}
 
 -- the end of a chain of aliases has the same tree
 end_is : (c : Collection) → IsWellFormed c → (k : ℕ) (v : ValueType) → value_in c v ≡ value_in c (value_resolved_in k c v)
@@ -36,35 +35,21 @@ end_is c wf (suc k) v = by (λ u. end_is c wf k u) (target_of c v) refl
     by rest (Some u) e = (aliases_agree c wf v u e).0 ∙ rest u
 
 -- the end of the aliases of a type
-pub value_end : (c : Collection) → IsWellFormed c → (v a : ValueType) → a ≡ value_resolved c v → target_of c a ≡ None → holds_value c a ≡ holds_value c v → HasEnd c (ty.Value v) (ty.Value a)
-value_end c wf v a e none held =
+pub value_end : (c : Collection) → IsWellFormed c → (v a : ValueType) → a ≡ value_resolved c v → target_of c a ≡ None → holds_value c a ≡ holds_value c v → holds_value c v ≡ true → HasEnd c (ty.Value v) (ty.Value a)
+value_end c wf v a e none held h =
     let same = end_is c wf (size c) v ∙ sym (ap (value_in c) e) in
-    record { end = none; held = λ h. held ∙ h; is = λ h. same; weight = λ h. ap weight same }
+    record { end = none; held = held ∙ h; is = same; weight = ap weight same }
 
-definition_opens : (c : Collection) → IsWellFormed c → (v : ValueType) (d : DefinedType) → Some d ≡ definition_in c v → Opens c (ty.Value v) (defined_mentions d) (defined_in c d)
-definition_opens c wf (val.Defined i) d e = opens_defined c wf i d (sym e)
-definition_opens c wf _ d e = cc
-
-definition_lowers : (c : Collection) → IsWellFormed c → (v : ValueType) (d : DefinedType) → Some d ≡ definition_in c v → aliased d ≡ None → Lowers c (ty.Value v) (defined_mentions d) (defined_in c d)
-definition_lowers c wf (val.Defined i) d e n = lowers_defined c wf i d (sym e) n
-definition_lowers c wf _ d e n = cc e
-
--- a value type of which the definition is held has the tree of the definition
-pub definition_is : (c : Collection) → IsWellFormed c → (v : ValueType) (d : DefinedType) → Some d ≡ definition_in c v → value_in c v ≡ defined_in c d
-definition_is c wf v d e = (definition_opens c wf v d e).is
-
-module _ (x y : Collection) (wx : IsWellFormed x) (wy : IsWellFormed y) (v w : ValueType) (D E : DefinedType) (p : Some D ≡ definition_in x v) (q : Some E ≡ definition_in y w) where
-  pub definitions_rest : (t : Bool) (o k : Asked) → aliased D ≡ None → aliased E ≡ None → Asks t x y (defined_mentions D) (defined_mentions E) o k (defined_in x D ≡ defined_in y E) → RestsOn t x y (ty.Value v) (ty.Value w) o k (value_in x v ≡ value_in y w)
+module _ (x y : Collection) (wx : IsWellFormed x) (wy : IsWellFormed y) (i j : DefinedTypeId) (D E : DefinedType) (p : item_at x.defined i.0 ≡ Some D) (q : item_at y.defined j.0 ≡ Some E) where
+  pub definitions_rest : (t : Bool) (o k : Asked) → aliased D ≡ None → aliased E ≡ None → Asks t x y (defined_mentions D) (defined_mentions E) o k (defined_in x D ≡ defined_in y E)
+      → RestsOn t x y (ty.Value (val.Defined i)) (ty.Value (val.Defined j)) o k (value_in x (val.Defined i) ≡ value_in y (val.Defined j))
   definitions_rest t o k m n asks =
-      let la = definition_lowers x wx v D p m in
-      let lb = definition_lowers y wy w E q n in
+      let la = lowers_defined x wx i D p m in
+      let lb = lowers_defined y wy j E q n in
       rests_on t x y _ _ _ _ _ _ o k la lb (λ h. la.is ∙ h ∙ sym lb.is) (λ h. sym la.is ∙ h ∙ lb.is) asks
 
-  pub definitions_differ : Refutes x y (defined_mentions D) (defined_mentions E) (defined_in x D ≡ defined_in y E) → value_in x v ≡ value_in y w → ⊥
-  definitions_differ n h =
-      let oa = definition_opens x wx v D p in
-      let ob = definition_opens y wy w E q in
-      n.refutes (are_there x wx oa.before (defined_mentions D) oa.held) (are_there y wy ob.before (defined_mentions E) ob.held) (sym oa.is ∙ h ∙ ob.is)
+  pub definitions_differ : (defined_in x D ≡ defined_in y E → ⊥) → value_in x (val.Defined i) ≡ value_in y (val.Defined j) → ⊥
+  definitions_differ n h = n (sym (opens_defined x wx i D p).is ∙ h ∙ (opens_defined y wy j E q).is)
 
 -- what goes by names goes by the same, or by none
 pub named_inj : (tree : Name → TypeTree Name) → ((m n : Name) → tree m ≡ tree n → m ≡ n) → ((n : Name) → tree n ≡ absent → ⊥) → (o p : Option Name) → option_case o absent tree ≡ option_case p absent tree → o ≡ p

@@ -94,7 +94,7 @@ module _ (t : Bool) (x y : Collection) (a b : AnyType) where
 pub rests_on : {E F : Type 0} (t : Bool) (x y : Collection) (a b : AnyType) (ps qs : List AnyType) (u v : TypeTree Name) (o k : Asked) → Lowers x a ps u → Lowers y b qs v
     → (E → F) → (F → E) → Asks t x y ps qs o k E → RestsOn t x y a b o k F
 rests_on t x y a b ps qs u v o k la lb f g asks = record {
-  settles = λ n below. settles_iff _ _ o k f g (asks.settles n la.held lb.held (by n below));
+  settles = λ n below. settles_iff _ _ o k f g (asks.settles n (by n below));
 }
   where
     below : (c : Collection) (a : AnyType) (ps : List AnyType) (n : ℕ) → AreBelow c (type_weight c a) ps → type_weight c a ≤ n → AreBelow c n ps
@@ -106,7 +106,7 @@ rests_on t x y a b ps qs u v o k la lb f g asks = record {
 
 -- a question whether types are so is settled by what its answer rests on
 pub asks_rested : {E : Type 0} (t : Bool) (x y : Collection) (a b : AnyType) (o k : Asked) → RestsOn t x y a b o k E → Asks t x y (a ∷ []) (b ∷ []) o k E
-asks_rested t x y a b o k s = record { settles = λ n ha hb below. s.settles n (by n below) }
+asks_rested t x y a b o k s = record { settles = λ n below. s.settles n (by n below) }
   where
     by : (n : ℕ) → AreBelow x n (a ∷ []) ⊎ AreBelow y n (b ∷ []) → (type_weight x a ≤ n) ⊎ (type_weight y b ≤ n)
     by n (inl h) = let lt = h.0 in inl (omega (arith, lt))

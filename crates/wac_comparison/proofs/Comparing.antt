@@ -7,7 +7,7 @@ use Rattle.std.specs.List.{AllByRecursion, Contains}
 use Rattle.wac_comparison.specs.declared.questions.Question.{Question}
 use Rattle.wac_comparison.specs.declared.questions.Asked.{Asked}
 use Rattle.wac_shapes.specs.declared.component.ItemKind.{ItemKind}
-use Rattle.wac_collection.specs.Collection.{Collection, holds_type}
+use Rattle.wac_collection.specs.Collection.{Collection}
 use Rattle.wac_shapes.specs.Kinds.{kind_type}
 use Rattle.wac_shapes.proofs.Loops.{drop_at}
 use Rattle.wac_subtyping.specs.Subtype.{Sub, IsSubtype, kind_tree}
@@ -46,12 +46,12 @@ all_every p (q ∷ qs) h = ((h (suc (first_weight p q))).0 (inl (omega arith)), 
 none_joined : (p : Collection × Collection) (qs : List Question) → AreLinked p qs []
 none_joined p qs i u l e = cc
 
-pub compares_first : (c d : Collection) (a b : ItemKind) (o asked : Asked) → o.questions.items ≡ [] → o.others.keys ≡ [] → o.classes.links.entries ≡ [] → holds_type c (kind_type a) ≡ true → holds_type d (kind_type b) ≡ true
+pub compares_first : (c d : Collection) (a b : ItemKind) (o asked : Asked) → o.questions.items ≡ [] → o.others.keys ≡ [] → o.classes.links.entries ≡ []
     → Asks false c d (kind_type a ∷ []) (kind_type b ∷ []) o asked (Sub (kind_tree c a) (kind_tree d b)) → Compares c d a b asked 0
-compares_first c d a b o asked none no_others apart ha hb asks =
+compares_first c d a b o asked none no_others apart asks =
     let p : Collection × Collection = (c, d) in
     let m = type_weight c (kind_type a) in
-    let s = asks.settles (suc m) (ha, tt) (hb, tt) (inl (omega arith, tt)) in
+    let s = asks.settles (suc m) (inl (omega arith, tt)) in
     let is : asked.questions.items ≡ s.added = s.grown ∙ ap (λ x. x ++ s.added) none in
     let J : _ → Type 0 = λ es. AreLinked p o.questions.items es in
     let K : _ → Type 0 = AllByRecursion (Contains o.questions.items) in

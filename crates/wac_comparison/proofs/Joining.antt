@@ -19,7 +19,7 @@ use Rattle.wac_collection.proofs.Growth.{get_grown, get_where, get_new}
 use Rattle.wac_primitives.specs.Tree.{TypeTree}
 use Rattle.wac_subtyping.specs.Subtype.{Sub, IsPlain, type_tree}
 use Rattle.wac_comparison.specs.Weights.{weight, type_weight}
-use Rattle.wac_comparison.specs.Questions.{in_order, first_of_pair, second_of_pair, IsPlainType, IsAskable, IsAskableQuestion, IsYes, IsYesBelow, AreHeld, AreBelow}
+use Rattle.wac_comparison.specs.Questions.{in_order, first_of_pair, second_of_pair, IsPlainType, IsAskable, IsAskableQuestion, IsYes, IsYesBelow, AreBelow}
 use Rattle.wac_comparison.specs.Classes.{nodes, AreSame, AreLinked, LeadsTo, HasLink, AddsNode, PutsBelow, Joins}
 use Rattle.wac_comparison.specs.Settling.{Settles, Asks, HasEnd, first_node, second_node, PutsPlain}
 use Rattle.wac_comparison.proofs.Asking.{all_at, all_only, asked_more, swapped, ordered, linked_more, settles_iff}
@@ -119,16 +119,14 @@ asks_plain true x y a b o k pa pb s n ha hb below = settles_plain (y, x) n o k _
 
 -- what is asked of the ends of aliases is asked of them
 module _ (x y : Collection) (a b e f : AnyType) (oe : HasEnd x a e) (of : HasEnd y b f) where
-  lighter : (n : ℕ) → AreHeld x (a ∷ []) → AreHeld y (b ∷ []) → AreBelow x n (a ∷ []) ⊎ AreBelow y n (b ∷ []) → (type_weight x e < n) ⊎ (type_weight y f < n)
-  lighter n ha hb (inl h) = let s = oe.weight ha.0 in let l = h.0 in inl (omega (arith, s, l))
-  lighter n ha hb (inr h) = let s = of.weight hb.0 in let l = h.0 in inr (omega (arith, s, l))
+  lighter : (n : ℕ) → AreBelow x n (a ∷ []) ⊎ AreBelow y n (b ∷ []) → (type_weight x e < n) ⊎ (type_weight y f < n)
+  lighter n (inl h) = let s = oe.weight in let l = h.0 in inl (omega (arith, s, l))
+  lighter n (inr h) = let s = of.weight in let l = h.0 in inr (omega (arith, s, l))
 
   pub asks_ends : (t : Bool) (o k : Asked) → ((n : ℕ) → IsAskable x e → IsAskable y f → (type_weight x e < n) ⊎ (type_weight y f < n) → Settles (in_order t x y) n o k (Sub (type_tree x e) (type_tree y f)))
       → Asks t x y (a ∷ []) (b ∷ []) o k (Sub (type_tree x a) (type_tree y b))
   asks_ends t o k settled = record {
-    settles = λ n ha hb below.
-        settles_iff _ n o k (sub_to _ _ _ _ (oe.is ha.0) (of.is hb.0)) (sub_to _ _ _ _ (sym (oe.is ha.0)) (sym (of.is hb.0)))
-        (settled n (oe.held ha.0, oe.end) (of.held hb.0, of.end) (lighter n ha hb below));
+    settles = λ n below. settles_iff _ n o k (sub_to _ _ _ _ oe.is of.is) (sub_to _ _ _ _ (sym oe.is) (sym of.is)) (settled n (oe.held, oe.end) (of.held, of.end) (lighter n below));
   }
 
 -- positions in lists of nodes

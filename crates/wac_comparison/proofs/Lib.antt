@@ -6,6 +6,7 @@ pub mod Sorts
 pub mod Values
 pub mod Agreeing
 pub mod Definitions
+pub mod Opened
 pub mod Answering
 pub mod Typing
 pub mod Joining

@@ -13,14 +13,14 @@ use Rattle.wac_shapes.specs.declared.component.ValueType.TheVariants as val
 use Rattle.wac_shapes.specs.declared.component.«Type».{«Type» as AnyType}
 use Rattle.wac_shapes.specs.declared.component.«Type».TheVariants as ty
 use Rattle.wac_collection.specs.Aliases.{aliased}
-use Rattle.wac_collection.specs.Collection.{Collection, seconds, and_maybe, case_values, defined_values, func_values, value_types, func_mentions, defined_mentions, IsWellFormed, IsBefore, AreBefore, holds_type, item_at}
+use Rattle.wac_collection.specs.Collection.{Collection, seconds, and_maybe, case_values, defined_values, func_values, value_types, func_mentions, defined_mentions, IsWellFormed, IsBefore, item_at}
 use Rattle.wac_primitives.specs.Tree.{TypeTree, absent, own, borrow, resource}
 use Rattle.wac_collection.specs.Held.{part_at, option_tree, func_tree, defined_tree, resolved}
 use Rattle.wac_subtyping.specs.Subtype.{resource_names, type_tree}
 use Rattle.wac_comparison.specs.Compare.{value_in, func_in, defined_in}
 use Rattle.wac_subtyping.specs.Ranks.{type_rank}
 use Rattle.wac_comparison.specs.Weights.{total, weight, heaviest, type_weight}
-use Rattle.wac_comparison.specs.Questions.{AreHeld, AreBelow}
+use Rattle.wac_comparison.specs.Questions.{AreBelow}
 use Rattle.wac_collection.proofs.Growth.{map_all, type_within}
 use Rattle.wac_subtyping.proofs.Unfolding.{before_rank}
 use Rattle.wac_comparison.proofs.Opens.{Opens, in_case, opens_func, opens_defined, primitive_in}
@@ -95,33 +95,28 @@ bounded c m (ty.Interface i) h = let r = before_rank c m (ty.Interface i) h in o
 bounded c m (ty.World i) h = let r = before_rank c m (ty.World i) h in omega (arith, r)
 bounded c m (ty.Module i) h = let r = before_rank c m (ty.Module i) h in omega (arith, r)
 
--- a type, and what it mentions: held, and lighter
+-- a type, and what it mentions, which is lighter
 pub record Lowers (c : Collection) (a : AnyType) (parts : List AnyType) (tree : TypeTree Name) : Type 0 where
-  pub held : AreHeld c parts
   pub lower : AreBelow c (type_weight c a) parts
   pub is : type_tree c a ≡ tree
-
-held_of : (c : Collection) (n : ℕ) (ts : List AnyType) → AreBefore c n ts → AreHeld c ts
-held_of c n ts h = map_all (IsBefore c n) (λ t. holds_type c t ≡ true) (type_within c n) ts h
 
 pub lowers_func : (c : Collection) → IsWellFormed c → (f : FuncTypeId) (x : FuncType) → item_at c.funcs f.0 ≡ Some x → Lowers c (ty.Func f) (func_mentions x) (func_in c x)
 lowers_func c wf f x at =
     let o = opens_func c wf f x at in
     let w : weight (func_in c x) ≤ weight (type_tree c (ty.Func f)) = let e = ap weight o.is in omega (arith, e) in
-    record { held = held_of c _ (func_mentions x) o.held; lower = light_types c _ (func_values x) (light_func (value_in c) _ x w); is = o.is }
+    record { lower = light_types c _ (func_values x) (light_func (value_in c) _ x w); is = o.is }
 
 pub lowers_defined : (c : Collection) → IsWellFormed c → (d : DefinedTypeId) (x : DefinedType) → item_at c.defined d.0 ≡ Some x → aliased x ≡ None → Lowers c (ty.Value (val.Defined d)) (defined_mentions x) (defined_in c x)
 lowers_defined c wf d x at plain =
     let o = opens_defined c wf d x at in
     let w : weight (defined_in c x) ≤ weight (value_in c (val.Defined d)) = let e = ap weight o.is in omega (arith, e) in
-    record { held = held_of c _ (defined_mentions x) o.held; lower = light_types c _ (defined_values x) (light_defined (value_in c) _ x plain w); is = o.is }
+    record { lower = light_types c _ (defined_values x) (light_defined (value_in c) _ x plain w); is = o.is }
 
 -- what is no value type and no function is heavier than all that are
 pub lowers : (c : Collection) (a : AnyType) (parts : List AnyType) (tree : TypeTree Name) → type_weight c a ≡ suc (heaviest c + type_rank c a) → Opens c a parts tree → Lowers c a parts tree
 lowers c a parts tree w o =
     let r = o.rank in
     record {
-      held = held_of c _ parts o.held;
       lower = map_all (IsBefore c o.before) (λ t. type_weight c t < type_weight c a) (λ t h. let b = bounded c o.before t h in omega (arith, b, w, r)) parts o.held;
       is = o.is;
     }

@@ -16,12 +16,14 @@ use Rattle.wac_shapes.specs.declared.core_types.ModuleType.{ModuleType}
 use Rattle.wac_shapes.specs.declared.component.ValueType.TheVariants as val
 use Rattle.wac_shapes.specs.declared.component.«Type».{«Type» as AnyType}
 use Rattle.wac_shapes.specs.declared.component.«Type».TheVariants as ty
-use Rattle.wac_collection.specs.Collection.{Collection, func_mentions, defined_mentions, world_mentions, used_types, kind_types, IsWellFormed, IsBefore, AreBefore, item_at}
+use Rattle.wac_collection.specs.Collection.{Collection, func_mentions, defined_mentions, world_mentions, used_types, kind_types, IsWellFormed, IsBefore, AreBefore, holds_type, item_at}
 use Rattle.wac_primitives.specs.Tree.{TypeTree, primitive, instance}
 use Rattle.wac_collection.specs.Held.{module_tree, of_held}
 use Rattle.wac_subtyping.specs.Subtype.{type_tree, listed_in}
 use Rattle.wac_comparison.specs.Compare.{value_in, func_in, defined_in, world_in}
 use Rattle.wac_subtyping.specs.Ranks.{rank_of_held, type_rank}
+use Rattle.wac_comparison.specs.Questions.{AreHeld}
+use Rattle.wac_collection.proofs.Growth.{map_all, type_within}
 use Rattle.wac_collection.proofs.Steady.{all_right}
 use Rattle.wac_subtyping.proofs.Unfolding.{held_item, within, type_step}
 
@@ -74,3 +76,20 @@ opens_world c wf i = opens c (ty.World i) world_mentions (world_in c) c.worlds i
 pub opens_module : (c : Collection) → IsWellFormed c → (i : ModuleTypeId) (x : ModuleType) → item_at c.modules i.0 ≡ Some x → Opens c (ty.Module i) [] (module_tree x)
 unfolding type_tree
 opens_module c wf i = opens c (ty.Module i) (λ x. []) module_tree c.modules i.0 (λ h e. tt) refl (type_step c wf (ty.Module i))
+
+-- what held types mention is held
+module _ (c : Collection) (wf : IsWellFormed c) where
+  held_of : (n : ℕ) (ts : List AnyType) → AreBefore c n ts → AreHeld c ts
+  held_of n ts h = map_all (IsBefore c n) (λ t. holds_type c t ≡ true) (type_within c n) ts h
+
+  pub func_held : (f : FuncTypeId) (x : FuncType) → item_at c.funcs f.0 ≡ Some x → AreHeld c (func_mentions x)
+  func_held f x at = held_of _ (func_mentions x) (opens_func c wf f x at).held
+
+  pub defined_held : (f : DefinedTypeId) (x : DefinedType) → item_at c.defined f.0 ≡ Some x → AreHeld c (defined_mentions x)
+  defined_held f x at = held_of _ (defined_mentions x) (opens_defined c wf f x at).held
+
+  pub interface_held : (i : InterfaceId) (x : Interface) → item_at c.interfaces i.0 ≡ Some x → AreHeld c (kind_types x.exports)
+  interface_held i x at = held_of _ (kind_types x.exports) (opens_interface c wf i x at).held
+
+  pub world_held : (i : WorldId) (x : World) → item_at c.worlds i.0 ≡ Some x → AreHeld c (world_mentions x)
+  world_held i x at = held_of _ (world_mentions x) (opens_world c wf i x at).held

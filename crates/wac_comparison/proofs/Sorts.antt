@@ -14,8 +14,7 @@ use Rattle.wac_collection.specs.Collection.{Collection, size, defined_mentions, 
 use Rattle.wac_primitives.specs.Tree.{TypeTree, absent, own, borrow, resource, function, instance, component, module_of}
 use Rattle.wac_collection.specs.Held.{of_held, defined_tree, resolved, unfolded_to}
 use Rattle.wac_subtyping.specs.Subtype.{Sub, by_name, held_name, resource_names, type_tree}
-use Rattle.wac_comparison.specs.Questions.{AreThere}
-use Rattle.wac_collection.proofs.Growth.{map_all, before_more, type_within, type_before}
+use Rattle.wac_collection.proofs.Growth.{before_more, type_within, type_before}
 use Rattle.wac_subtyping.proofs.Trees.{resolved_held}
 
 -- what sort of thing a tree is of
@@ -87,9 +86,6 @@ some_sort _ e = cc
 
 pub type_there : (c : Collection) → IsWellFormed c → (a : AnyType) → holds_type c a ≡ true → type_tree c a ≢ absent
 type_there c wf a h e = some_sort a (sym (ap tree_sort e) ∙ type_tree_sort c wf a h)
-
-pub are_there : (c : Collection) → IsWellFormed c → (n : ℕ) (ts : List AnyType) → AreBefore c n ts → AreThere c ts
-are_there c wf n ts = map_all (IsBefore c n) (λ t. type_tree c t ≢ absent) (λ t b. type_there c wf t (type_within c n t b)) ts
 
 -- types of different sorts are no subtypes
 pub sorts_differ : (c d : Collection) → IsWellFormed c → IsWellFormed d → (a b : AnyType) → holds_type c a ≡ true → holds_type d b ≡ true → (type_sort a ≡ type_sort b → ⊥) → Sub (type_tree c a) (type_tree d b) → ⊥

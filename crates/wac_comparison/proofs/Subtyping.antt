@@ -10,12 +10,13 @@ use Rattle.wac_shapes.specs.declared.component.«Type».{«Type» as AnyType}
 use Rattle.wac_shapes.specs.declared.component.«Type».TheVariants as ty
 use Rattle.wac_shapes.specs.declared.component.ItemKind.{ItemKind}
 use Rattle.wac_shapes.specs.declared.component.ItemKind.TheVariants as kind
-use Rattle.wac_collection.specs.Collection.{Collection, size, kind_types, used_types, world_mentions}
+use Rattle.wac_collection.specs.Collection.{Collection, size, kind_types, used_types, world_mentions, holds_type}
 use Rattle.wac_shapes.specs.Kinds.{kind_type}
 use Rattle.wac_primitives.specs.Tree.{TypeTree, absent, instance, component, type_equal, instance_item, component_item, module_item}
 use Rattle.wac_collection.specs.Held.{func_tree, unfolded_to}
 use Rattle.wac_subtyping.specs.Subtype.{Sub, IsPlain, by_name, resource_names, type_tree, kind_tree, listed_in}
 use Rattle.wac_comparison.specs.Compare.{world_in, Offers}
+use Rattle.wac_comparison.specs.Questions.{AreHeld}
 use Rattle.wac_comparison.specs.Settling.{Asks}
 use Rattle.wac_shapes.proofs.Names.{find_name-at, find_position}
 use Rattle.wac_collection.proofs.Steady.{all_left, all_right}
@@ -60,8 +61,8 @@ func_plain c f = plain_held (func_tree (λ v. unfolded_to by_name c (size c) (re
 
 -- the other way round
 pub asks_turned : {E : Type 0} (t : Bool) (x y : Collection) (ps qs : List AnyType) (o k : Asked) → Asks (not t) y x qs ps o k E → Asks t x y ps qs o k E
-asks_turned false x y ps qs o k w = record { settles = λ n hp hq b. w.settles n hq hp (swapped b) }
-asks_turned true x y ps qs o k w = record { settles = λ n hp hq b. w.settles n hq hp (swapped b) }
+asks_turned false x y ps qs o k w = record { settles = λ n b. w.settles n (swapped b) }
+asks_turned true x y ps qs o k w = record { settles = λ n b. w.settles n (swapped b) }
 
 -- an item stands for something
 pub kind_there : (c : Collection) (k : ItemKind) → kind_tree c k ≢ absent
@@ -106,6 +107,13 @@ module _ (c d : Collection) (xs ys : List (Name × ItemKind)) where
 pub found_among : (P : AnyType → Type 0) (es : List (Name × ItemKind)) (n : Name) (v : ItemKind) → find_name es n ≡ Some v → AllByRecursion P (kind_types es) → AllByRecursion P (kind_type v ∷ [])
 found_among P es n v f h = let p = find_position es n v f in among P kind_types (λ e. kind_type e.1) (λ _ _. refl) es p.0 (n, v) p.2 h
 
+-- each item is held where all are
+pub found_held : (c : Collection) (es : List (Name × ItemKind)) (n : Name) (k : ItemKind) → find_name es n ≡ Some k → AreHeld c (kind_types es) → holds_type c (kind_type k) ≡ true
+found_held c es n k at h = (found_among (λ t. holds_type c t ≡ true) es n k at h).0
+
+pub item_held : (c : Collection) (es : List (Name × ItemKind)) (i : ℕ) (n : Name) (k : ItemKind) → slice_get es i ≡ Some (n, k) → AreHeld c (kind_types es) → holds_type c (kind_type k) ≡ true
+item_held c es i n k at h = (among (λ t. holds_type c t ≡ true) kind_types (λ e. kind_type e.1) (λ _ _. refl) es i (n, k) at h).0
+
 module _ {t : Bool} {x y : Collection} (xs ys : List (Name × ItemKind)) where
   pub asks_no_offer : {o : Asked} → Asks t x y (kind_types xs) (kind_types ys) o o (ItemsBelow x y xs ys 0)
   asks_no_offer = asks_now (λ j lt. absurd (omega (arith, lt)))
@@ -125,6 +133,12 @@ world_parts : (P : AnyType → Type 0) (w : World) → AllByRecursion P (world_m
 world_parts P w h =
     let r = all_right P (used_types w.uses) _ h in
     (all_left P (kind_types w.imports) (kind_types w.exports) r, all_right P (kind_types w.imports) (kind_types w.exports) r)
+
+pub imports_held : (c : Collection) (w : World) → AreHeld c (world_mentions w) → AreHeld c (kind_types w.imports)
+imports_held c w h = (world_parts (λ t. holds_type c t ≡ true) w h).0
+
+pub exports_held : (c : Collection) (w : World) → AreHeld c (world_mentions w) → AreHeld c (kind_types w.exports)
+exports_held c w h = (world_parts (λ t. holds_type c t ≡ true) w h).1
 
 pub asks_worlds : {t : Bool} {x y : Collection} {o l k : Asked} (w v : World) → Asks t x y (kind_types w.imports) (kind_types v.imports) o l (Offers y v.imports x w.imports)
     → Asks t x y (kind_types w.exports) (kind_types v.exports) l k (Offers x w.exports y v.exports) → Asks t x y (world_mentions w) (world_mentions v) o k (Sub (world_in x w) (world_in y v))

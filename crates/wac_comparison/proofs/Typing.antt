@@ -19,14 +19,13 @@ use Rattle.wac_primitives.specs.Tree.{TypeTree, absent, resource}
 use Rattle.wac_collection.specs.Held.{resolved}
 use Rattle.wac_subtyping.specs.Subtype.{Sub, IsPlain, resource_names, type_tree, listed_in}
 use Rattle.wac_comparison.specs.Compare.{func_in, world_in, Offers, OffersCore, OffersModules}
-use Rattle.wac_comparison.specs.Questions.{Refutes}
 use Rattle.wac_comparison.specs.Settling.{Asks, RestsOn}
 use Rattle.wac_comparison.proofs.Opens.{Opens, in_case, opens_func, opens_interface, opens_world, opens_module}
 use Rattle.wac_comparison.proofs.Lighter.{lowers, lowers_func, resource_in}
 use Rattle.wac_comparison.proofs.Asking.{rests_on}
 use Rattle.wac_subtyping.proofs.Relation.{plain_sub, plain_same}
 use Rattle.wac_comparison.proofs.Values.{sub_to}
-use Rattle.wac_comparison.proofs.Sorts.{type_sort, sorts_differ, are_there}
+use Rattle.wac_comparison.proofs.Sorts.{type_sort, sorts_differ}
 use Rattle.wac_comparison.proofs.Subtyping.{of_instances}
 use Rattle.wac_comparison.proofs.CoreItems.{modules_from, modules_back}
 use Rattle.wac_comparison.proofs.Answering.{named_inj}
@@ -77,12 +76,8 @@ module _ (x y : Collection) where
           let iff = worlds_are f g F G i j in
           rests_on t x y _ _ _ _ _ _ o k (lowers x (ty.World f) _ _ refl (opens_world x wx f F i)) (lowers y (ty.World g) _ _ refl (opens_world y wy g G j)) iff.0 iff.1
 
-    pub funcs_refuse : (f g : FuncTypeId) (F G : FuncType) → item_at x.funcs f.0 ≡ Some F → item_at y.funcs g.0 ≡ Some G → Refutes x y (func_mentions F) (func_mentions G) (func_in x F ≡ func_in y G)
-        → Sub (type_tree x (ty.Func f)) (type_tree y (ty.Func g)) → ⊥
-    funcs_refuse f g F G i j n h =
-        let oa = opens_func x wx f F i in
-        let ob = opens_func y wy g G j in
-        n.refutes (are_there x wx oa.before _ oa.held) (are_there y wy ob.before _ ob.held) ((funcs_are f g F G i j).1 h)
+    pub funcs_refuse : (f g : FuncTypeId) (F G : FuncType) → item_at x.funcs f.0 ≡ Some F → item_at y.funcs g.0 ≡ Some G → (func_in x F ≡ func_in y G → ⊥) → Sub (type_tree x (ty.Func f)) (type_tree y (ty.Func g)) → ⊥
+    funcs_refuse f g F G i j n h = n ((funcs_are f g F G i j).1 h)
 
     -- of two types of which only the first is of a sort, it is no subtype
     pub other_sort : (a b A : AnyType) → holds_type x a ≡ true → holds_type y b ≡ true → a ≡ A → (type_sort A ≡ type_sort b → ⊥) → Sub (type_tree x a) (type_tree y b) → ⊥

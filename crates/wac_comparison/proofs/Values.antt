@@ -1,5 +1,5 @@
 -- Trees of value types, and what is asked of them.
-use Rattle.std.proofs.Common.{ℕ, zero, suc, Bool, true, ◌<◌, ◌⊎◌, inl, inr, List, [], ◌∷◌, ◌≡◌, ◌↔◌, ap, sym, ◌∙◌, Option, Some, None, slice_get}
+use Rattle.std.proofs.Common.{ℕ, zero, suc, Bool, ◌<◌, ◌⊎◌, inl, inr, List, [], ◌∷◌, ◌≡◌, ◌↔◌, ap, sym, ◌∙◌, Option, Some, None, slice_get}
 use Rattle.std.specs.List.{AllByRecursion}
 use Rattle.wac_primitives.specs.Name.{Name}
 use Rattle.wac_comparison.specs.declared.questions.Asked.{Asked}
@@ -11,7 +11,7 @@ use Rattle.wac_shapes.specs.declared.component.DefinedType.{DefinedType}
 use Rattle.wac_shapes.specs.declared.component.DefinedType.TheVariants as def
 use Rattle.wac_shapes.specs.declared.component.«Type».{«Type» as AnyType}
 use Rattle.wac_shapes.specs.declared.component.«Type».TheVariants as ty
-use Rattle.wac_collection.specs.Collection.{Collection, size, holds_type}
+use Rattle.wac_collection.specs.Collection.{Collection, size}
 use Rattle.wac_primitives.specs.Tree.{TypeTree, absent, primitive, own, borrow, list_of, fixed_list_of, option_of, result_of, stream_of, future_of, function_item, value_item}
 use Rattle.wac_collection.specs.Held.{defined_tree, of_held, resolved, unfolded_to}
 use Rattle.wac_subtyping.specs.Subtype.{Sub, IsPlain, by_name, resource_names, type_tree}
@@ -75,15 +75,15 @@ sub_to a b u v e f s = rw (e, f) s
 
 module _ {t : Bool} {x y : Collection} where
   pub asks_now : {E : Type 0} {ps qs : List AnyType} {o : Asked} → E → Asks t x y ps qs o o E
-  asks_now e = record { settles = λ n hp hq b. settles_now _ _ _ e }
+  asks_now e = record { settles = λ n b. settles_now _ _ _ e }
 
   pub asks_iff : {E F : Type 0} {ps qs : List AnyType} {o k : Asked} → (E → F) → (F → E) → Asks t x y ps qs o k E → Asks t x y ps qs o k F
-  asks_iff f g s = record { settles = λ n hp hq b. settles_iff _ _ _ _ f g (s.settles n hp hq b) }
+  asks_iff f g s = record { settles = λ n b. settles_iff _ _ _ _ f g (s.settles n b) }
 
   -- of parts of what is mentioned
   pub asks_of : {E : Type 0} {ps0 qs0 : List AnyType} (ps qs : List AnyType) {o k : Asked} → ((P : AnyType → Type 0) → AllByRecursion P ps → AllByRecursion P ps0) → ((P : AnyType → Type 0) → AllByRecursion P qs → AllByRecursion P qs0)
       → Asks t x y ps0 qs0 o k E → Asks t x y ps qs o k E
-  asks_of {ps0 = ps0} {qs0 = qs0} ps qs f g s = record { settles = λ n hp hq b. s.settles n (f (λ a. holds_type x a ≡ true) hp) (g (λ a. holds_type y a ≡ true) hq) (by n b) }
+  asks_of {ps0 = ps0} {qs0 = qs0} ps qs f g s = record { settles = λ n b. s.settles n (by n b) }
     where
       by : (n : ℕ) → AreBelow x n ps ⊎ AreBelow y n qs → AreBelow x n ps0 ⊎ AreBelow y n qs0
       by n (inl h) = inl (f (λ a. type_weight x a < n) h)
@@ -91,7 +91,7 @@ module _ {t : Bool} {x y : Collection} where
 
   -- two in turn
   pub asks_then : {E F : Type 0} {ps qs : List AnyType} {o l k : Asked} → Asks t x y ps qs o l E → Asks t x y ps qs l k F → Asks t x y ps qs o k (E × F)
-  asks_then s r = record { settles = λ n hp hq b. settles_then _ _ _ _ _ (s.settles n hp hq b) (r.settles n hp hq b) }
+  asks_then s r = record { settles = λ n b. settles_then _ _ _ _ _ (s.settles n b) (r.settles n b) }
 
   pub asks_values : (v w : ValueType) {o k : Asked} → Asks t x y (ty.Value v ∷ []) (ty.Value w ∷ []) o k (Sub (value_in x v) (value_in y w)) → Asks t x y (ty.Value v ∷ []) (ty.Value w ∷ []) o k (value_in x v ≡ value_in y w)
   asks_values v w s = let iff = values_are x y v w in asks_iff iff.1 iff.0 s

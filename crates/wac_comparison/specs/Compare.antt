@@ -1,10 +1,10 @@
 -- What the steps of a comparison answer: types part by part, listed items name by name.
-use Rattle.std.specs.Prelude.{◌≢◌, List, Option, None}
+use Rattle.std.specs.Prelude.{◌≢◌, List, Option}
 use Rattle.wac_primitives.specs.Name.{Name}
 use Rattle.wac_shapes.specs.Imports.{Pair}
 use Rattle.wac_primitives.specs.Core.{CoreItem, no_item, core_table, core_memory}
 use Rattle.wac_primitives.specs.Tree.{TypeTree, absent, component}
-use Rattle.wac_collection.specs.Collection.{Collection, item_at}
+use Rattle.wac_collection.specs.Collection.{Collection}
 use Rattle.wac_collection.specs.Held.{option_tree, func_tree, defined_tree, core_under, core_imports}
 use Rattle.wac_subtyping.specs.Subtype.{Sub, IsCoreSubtype, type_tree, listed_in}
 use Rattle.wac_shapes.specs.declared.core_types.CoreExtern.{CoreExtern}
@@ -12,7 +12,6 @@ use Rattle.wac_shapes.specs.declared.component.FuncType.{FuncType}
 use Rattle.wac_shapes.specs.declared.component.DefinedType.{DefinedType}
 use Rattle.wac_shapes.specs.declared.component.World.{World}
 use Rattle.wac_shapes.specs.declared.component.ValueType.{ValueType}
-use Rattle.wac_shapes.specs.declared.component.ValueType.TheVariants as val
 use Rattle.wac_shapes.specs.declared.component.«Type».TheVariants as ty
 use Rattle.wac_shapes.specs.declared.component.ItemKind.{ItemKind}
 
@@ -35,11 +34,6 @@ entry_in c e = (e.0, value_in c e.1)
 
 abbrev pub case_in : Collection → Name × Option ValueType → Name × TypeTree Name
 case_in c e = (e.0, optional_in c e.1)
-
--- the definition of a value type
-abbrev pub definition_in : Collection → ValueType → Option DefinedType
-definition_in c (val.Defined d) = item_at c.defined d.0
-definition_in c v = None
 
 abbrev pub world_in : Collection → World → TypeTree Name
 world_in c w = component (listed_in c w.imports) (listed_in c w.exports)

@@ -1,11 +1,10 @@
 -- The questions of a comparison: pairs of types of which the first is to be a subtype of the second.
-use Rattle.std.specs.Prelude.{ℕ, ◌<◌, ◌≡◌, ◌≢◌, Bool, true, false, not, None, List, ◌⊎◌}
+use Rattle.std.specs.Prelude.{ℕ, ◌<◌, ◌≡◌, Bool, true, false, not, None, List, ◌⊎◌}
 use Rattle.std.specs.List.{AllByRecursion}
 use Rattle.wac_comparison.specs.declared.questions.Question.{Question}
 use Rattle.wac_shapes.specs.declared.component.«Type».{«Type» as AnyType}
 use Rattle.wac_shapes.specs.declared.component.«Type».TheVariants as ty
 use Rattle.wac_collection.specs.Collection.{Collection, holds_type}
-use Rattle.wac_primitives.specs.Tree.{absent}
 use Rattle.wac_collection.specs.Aliases.{target_of}
 use Rattle.wac_subtyping.specs.Subtype.{Sub, type_tree}
 use Rattle.wac_comparison.specs.Weights.{type_weight}
@@ -58,11 +57,3 @@ AreHeld c ts = AllByRecursion (λ t. holds_type c t ≡ true) ts
 -- the types are lighter than this
 abbrev pub AreBelow : Collection → ℕ → List AnyType → Type 0
 AreBelow c n ts = AllByRecursion (λ t. type_weight c t < n) ts
-
--- the types have trees
-abbrev pub AreThere : Collection → List AnyType → Type 0
-AreThere c ts = AllByRecursion (λ t. type_tree c t ≢ absent) ts
-
--- E, which speaks of these types, does not hold
-pub record Refutes (x y : Collection) (xs ys : List AnyType) (E : Type 0) : Type 0 where
-  pub refutes : AreThere x xs → AreThere y ys → E → ⊥

@@ -1,14 +1,17 @@
 -- What was asked settles statements: they hold only where the answers to the new questions are yes, and do where all are.
-use Rattle.std.specs.Prelude.{ℕ, ◌≤◌, ◌≡◌, Bool, true, not, List, ◌++◌, ◌⊎◌}
+use Rattle.std.specs.Prelude.{ℕ, ◌≤◌, ◌≡◌, ◌↔◌, Bool, true, not, List, ◌++◌, ◌⊎◌}
 use Rattle.std.specs.List.{AllByRecursion, Contains}
 use Rattle.wac_comparison.specs.declared.questions.Question.{Question}
 use Rattle.wac_comparison.specs.declared.questions.Asked.{Asked}
 use Rattle.wac_comparison.specs.declared.classes.Node.{Node}
+use Rattle.wac_shapes.specs.declared.component.ValueType.{ValueType}
 use Rattle.wac_shapes.specs.declared.component.«Type».{«Type» as AnyType}
+use Rattle.wac_shapes.specs.declared.component.«Type».TheVariants as ty
 use Rattle.wac_collection.specs.Collection.{Collection, holds_type}
 use Rattle.wac_subtyping.specs.Subtype.{type_tree}
+use Rattle.wac_comparison.specs.Compare.{value_in}
 use Rattle.wac_comparison.specs.Weights.{type_weight}
-use Rattle.wac_comparison.specs.Questions.{in_order, IsEnd, IsYes, IsYesBelow, IsPlainType, IsAskableQuestion, AreHeld, AreBelow}
+use Rattle.wac_comparison.specs.Questions.{in_order, IsEnd, IsYes, IsYesBelow, IsPlainType, IsAskableQuestion, AreBelow}
 use Rattle.wac_comparison.specs.Classes.{AreLinked, AreSame}
 
 -- the others were asked
@@ -30,18 +33,26 @@ pub record Settles (p : Collection × Collection) (n : ℕ) (old new : Asked) (E
 
 -- the questions after some were added that settle E, which speaks of these types of the one collection and of the other
 pub record Asks (turned : Bool) (x y : Collection) (xs ys : List AnyType) (old new : Asked) (E : Type 0) : Type 0 where
-  pub settles : (n : ℕ) → AreHeld x xs → AreHeld y ys → AreBelow x n xs ⊎ AreBelow y n ys → Settles (in_order turned x y) n old new E
+  pub settles : (n : ℕ) → AreBelow x n xs ⊎ AreBelow y n ys → Settles (in_order turned x y) n old new E
 
 -- the same, where E is the answer for these two types and speaks of what they mention
 pub record RestsOn (turned : Bool) (x y : Collection) (a b : AnyType) (old new : Asked) (E : Type 0) : Type 0 where
   pub settles : (n : ℕ) → (type_weight x a ≤ n) ⊎ (type_weight y b ≤ n) → Settles (in_order turned x y) n old new E
 
--- the type at the end of the aliases of a type
+-- the type at the end of the aliases of a held type
 pub record HasEnd (c : Collection) (t e : AnyType) : Type 0 where
   pub end : IsEnd c e
-  pub held : holds_type c t ≡ true → holds_type c e ≡ true
-  pub is : holds_type c t ≡ true → type_tree c t ≡ type_tree c e
-  pub weight : holds_type c t ≡ true → type_weight c t ≡ type_weight c e
+  pub held : holds_type c e ≡ true
+  pub is : type_tree c t ≡ type_tree c e
+  pub weight : type_weight c t ≡ type_weight c e
+
+-- two value types are the same just where a and b are, which are held and not heavier
+pub record Tells (x y : Collection) (v w a b : ValueType) : Type 0 where
+  pub first : holds_type x (ty.Value a) ≡ true
+  pub second : holds_type y (ty.Value b) ≡ true
+  pub same : (value_in x v ≡ value_in y w) ↔ (value_in x a ≡ value_in y b)
+  pub lighter_first : type_weight x (ty.Value a) ≤ type_weight x (ty.Value v)
+  pub lighter_second : type_weight y (ty.Value b) ≤ type_weight y (ty.Value w)
 
 -- the types of a question as nodes
 abbrev pub first_node : Question → Node

@@ -8,7 +8,7 @@ ghost use Rattle.wac_collection.specs.Held.{resolved};
 ghost use Rattle.wac_subtyping.specs.Subtype.{Sub, type_tree, kind_tree, resource_names};
 ghost use Rattle.wac_collection.specs.Aliases.{aliased};
 ghost use Rattle.wac_comparison.specs.Compare.{value_in, optional_in, func_in, defined_in, entry_in, case_in, Offers};
-ghost use Rattle.wac_comparison.specs.Questions.{IsEnd, IsPlainType, Refutes};
+ghost use Rattle.wac_comparison.specs.Questions.{IsEnd, IsPlainType, AreHeld};
 ghost use Rattle.wac_comparison.specs.Settling.{Asks, RestsOn, HasEnd};
 ghost use Rattle.wac_shapes.specs.declared.component.«Type».TheVariants as ty;
 
@@ -44,9 +44,11 @@ impl<'a> Comparison<'a> {
         }
     }
 
-    // Asks whether one type is a subtype of another.
+    /// Asks whether one type is a subtype of another.
     #[tactic(auto, using(crate::proofs::Asking::asks_put, crate::proofs::Joining::asks_plain, crate::proofs::Joining::asks_ends))]
-    fn ask_type(self, asked: &mut Asked, a: Type, b: Type) -> Answer
+    pub(crate) fn ask_type(self, asked: &mut Asked, a: Type, b: Type) -> Answer
+        requires first { holds_type self.first.now a ≡ true }
+        requires second { holds_type self.second.now b ≡ true }
         ensures asked { IfOk result (λ _. Asks self.entry.turned self.entry.first.now self.entry.second.now (a ∷ []) (b ∷ []) asked.old asked.new (Sub (type_tree self.entry.first.now a) (type_tree self.entry.second.now b))) }
         ensures no_mismatch { result ≢ Err TypeFault.Mismatch }
     {
@@ -63,24 +65,16 @@ impl<'a> Comparison<'a> {
         asked.put(question)
     }
 
-    /// Asks whether one value type is another, which is a question of its own unless both are primitives.
-    #[tactic(auto, using(crate::proofs::Values::asks_values, crate::proofs::Values::asks_now, crate::proofs::Values::primitives_same, crate::proofs::Values::primitives_inj, crate::proofs::Equal::primitives_told))]
-    pub(crate) fn ask_part(self, asked: &mut Asked, v: ValueType, w: ValueType) -> Answer
-        ensures asked { IfOk result (λ _. Asks self.entry.turned self.entry.first.now self.entry.second.now (ty.Value v ∷ []) (ty.Value w ∷ []) asked.old asked.new (value_in self.entry.first.now v ≡ value_in self.entry.second.now w)) }
-        ensures mismatch { result ≡ Err TypeFault.Mismatch → value_in self.entry.first.now v ≡ value_in self.entry.second.now w → ⊥ }
-    {
-        match (v, w) {
-            (ValueType::Primitive(p), ValueType::Primitive(q)) => told(p == q),
-            _ => self.ask_type(asked, Type::Value(v), Type::Value(w)),
-        }
-    }
-
     // Asks whether both are there and one is the other, or neither is there.
-    #[tactic(auto, using(crate::proofs::Values::asks_now))]
+    #[tactic(auto, using(crate::proofs::Values::asks_now, crate::proofs::Opened::some_none, crate::proofs::Opened::none_some))]
     fn ask_optional(self, asked: &mut Asked, v: Option<ValueType>, w: Option<ValueType>) -> Answer
+        requires first { AreHeld self.first.now (value_types (and_maybe v [])) }
+        requires second { AreHeld self.second.now (value_types (and_maybe w [])) }
         ensures asked { IfOk result (λ _. Asks self.entry.turned self.entry.first.now self.entry.second.now (value_types (and_maybe v [])) (value_types (and_maybe w [])) asked.old asked.new (optional_in self.entry.first.now v ≡ optional_in self.entry.second.now w)) }
-        ensures mismatch { result ≡ Err TypeFault.Mismatch → Refutes self.entry.first.now self.entry.second.now (value_types (and_maybe v [])) (value_types (and_maybe w [])) (optional_in self.entry.first.now v ≡ optional_in self.entry.second.now w) }
+        ensures mismatch { result ≡ Err TypeFault.Mismatch → optional_in self.entry.first.now v ≡ optional_in self.entry.second.now w → ⊥ }
     {
+        self.first.law();
+        self.second.law();
         match (v, w) {
             (None, None) => Ok(()),
             (Some(v), Some(w)) => self.ask_value(asked, v, w),
@@ -91,6 +85,8 @@ impl<'a> Comparison<'a> {
     // Asks whether the value types of one list are those of the other.
     #[tactic(auto, using(crate::proofs::Agreeing::agree_none, crate::proofs::Agreeing::agree_maps))]
     fn ask_values(self, asked: &mut Asked, vs: &[ValueType], ws: &[ValueType]) -> Answer
+        requires first { AreHeld self.first.now (value_types vs.now) }
+        requires second { AreHeld self.second.now (value_types ws.now) }
         ensures asked { IfOk result (λ _. Asks self.entry.turned self.entry.first.now self.entry.second.now (value_types vs.now) (value_types ws.now) asked.old asked.new (map (value_in self.entry.first.now) vs.now ≡ map (value_in self.entry.second.now) ws.now)) }
         ensures mismatch { result ≡ Err TypeFault.Mismatch → map (value_in self.entry.first.now) vs.now ≡ map (value_in self.entry.second.now) ws.now → ⊥ }
     {
@@ -106,6 +102,8 @@ impl<'a> Comparison<'a> {
     // Asks whether the names of one list are those of the other, and the value types under them.
     #[tactic(auto, using(crate::proofs::Agreeing::agree_none, crate::proofs::Agreeing::agree_maps))]
     fn ask_named(self, asked: &mut Asked, vs: &Named<ValueType>, ws: &Named<ValueType>) -> Answer
+        requires first { AreHeld self.first.now (value_types (seconds vs.now)) }
+        requires second { AreHeld self.second.now (value_types (seconds ws.now)) }
         ensures asked { IfOk result (λ _. Asks self.entry.turned self.entry.first.now self.entry.second.now (value_types (seconds vs.now)) (value_types (seconds ws.now)) asked.old asked.new (map (entry_in self.entry.first.now) vs.now ≡ map (entry_in self.entry.second.now) ws.now)) }
         ensures mismatch { result ≡ Err TypeFault.Mismatch → map (entry_in self.entry.first.now) vs.now ≡ map (entry_in self.entry.second.now) ws.now → ⊥ }
     {
@@ -131,8 +129,10 @@ impl<'a> Comparison<'a> {
         cs: &Named<Option<ValueType>>,
         ds: &Named<Option<ValueType>>,
     ) -> Answer
+        requires first { AreHeld self.first.now (value_types (case_values cs.now)) }
+        requires second { AreHeld self.second.now (value_types (case_values ds.now)) }
         ensures asked { IfOk result (λ _. Asks self.entry.turned self.entry.first.now self.entry.second.now (value_types (case_values cs.now)) (value_types (case_values ds.now)) asked.old asked.new (map (case_in self.entry.first.now) cs.now ≡ map (case_in self.entry.second.now) ds.now)) }
-        ensures mismatch { result ≡ Err TypeFault.Mismatch → Refutes self.entry.first.now self.entry.second.now (value_types (case_values cs.now)) (value_types (case_values ds.now)) (map (case_in self.entry.first.now) cs.now ≡ map (case_in self.entry.second.now) ds.now) }
+        ensures mismatch { result ≡ Err TypeFault.Mismatch → map (case_in self.entry.first.now) cs.now ≡ map (case_in self.entry.second.now) ds.now → ⊥ }
     {
         if cs.len() != ds.len() {
             return Err(TypeFault::Mismatch);
@@ -149,10 +149,12 @@ impl<'a> Comparison<'a> {
     }
 
     /// Asks whether one function type is the other.
-    #[tactic(auto, using(crate::proofs::Definitions::params_back))]
+    #[tactic(auto, using(crate::proofs::Definitions::params_back, crate::proofs::Agreeing::maybe_first, crate::proofs::Agreeing::maybe_rest))]
     pub fn ask_func(self, asked: &mut Asked, f: &FuncType, g: &FuncType) -> Result<(), TypeFault>
+        requires first { AreHeld self.first.now (func_mentions f.now) }
+        requires second { AreHeld self.second.now (func_mentions g.now) }
         ensures asked { IfOk result (λ _. Asks self.entry.turned self.entry.first.now self.entry.second.now (func_mentions f.now) (func_mentions g.now) asked.old asked.new (func_in self.entry.first.now f.now ≡ func_in self.entry.second.now g.now)) }
-        ensures mismatch { result ≡ Err TypeFault.Mismatch → Refutes self.entry.first.now self.entry.second.now (func_mentions f.now) (func_mentions g.now) (func_in self.entry.first.now f.now ≡ func_in self.entry.second.now g.now) }
+        ensures mismatch { result ≡ Err TypeFault.Mismatch → func_in self.entry.first.now f.now ≡ func_in self.entry.second.now g.now → ⊥ }
     {
         if f.is_async != g.is_async {
             return Err(TypeFault::Mismatch);
@@ -162,28 +164,30 @@ impl<'a> Comparison<'a> {
     }
 
     // Asks whether one function type is the other. Those of few parameters under short names are looked into at once.
-    #[tactic(auto, using(crate::proofs::Asking::asks_rested, crate::proofs::Typing::answer_funcs, crate::proofs::Typing::funcs_refuse))]
+    #[tactic(auto, using(crate::proofs::Asking::asks_rested, crate::proofs::Opens::func_held, crate::proofs::Typing::answer_funcs, crate::proofs::Typing::funcs_refuse))]
     fn ask_func_type(self, asked: &mut Asked, i: FuncTypeId, j: FuncTypeId) -> Answer
+        requires first { holds_type self.first.now (ty.Func i) ≡ true }
+        requires second { holds_type self.second.now (ty.Func j) ≡ true }
         ensures asked { IfOk result (λ _. Asks self.entry.turned self.entry.first.now self.entry.second.now (ty.Func i ∷ []) (ty.Func j ∷ []) asked.old asked.new (Sub (type_tree self.entry.first.now (ty.Func i)) (type_tree self.entry.second.now (ty.Func j)))) }
         ensures mismatch { result ≡ Err TypeFault.Mismatch → Sub (type_tree self.entry.first.now (ty.Func i)) (type_tree self.entry.second.now (ty.Func j)) → ⊥ }
     {
         self.first.law();
         self.second.law();
-        if self.first.contains(Type::Func(i)) && self.second.contains(Type::Func(j)) {
-            let f = &self.first[i];
-            if has_small_parts(&f.params) {
-                return self.ask_func(asked, f, &self.second[j]);
-            }
+        let f = &self.first[i];
+        if has_small_parts(&f.params) {
+            return self.ask_func(asked, f, &self.second[j]);
         }
         self.ask_type(asked, Type::Func(i), Type::Func(j))
     }
 
     // Asks whether one definition is the other; neither is an alias.
     fn ask_defined(self, asked: &mut Asked, d: &DefinedType, e: &DefinedType) -> Answer
-        requires first { aliased d.now ≡ None }
-        requires second { aliased e.now ≡ None }
+        requires first { AreHeld self.first.now (defined_mentions d.now) }
+        requires second { AreHeld self.second.now (defined_mentions e.now) }
+        requires first_end { aliased d.now ≡ None }
+        requires second_end { aliased e.now ≡ None }
         ensures asked { IfOk result (λ _. Asks self.entry.turned self.entry.first.now self.entry.second.now (defined_mentions d.now) (defined_mentions e.now) asked.old asked.new (defined_in self.entry.first.now d.now ≡ defined_in self.entry.second.now e.now)) }
-        ensures mismatch { result ≡ Err TypeFault.Mismatch → Refutes self.entry.first.now self.entry.second.now (defined_mentions d.now) (defined_mentions e.now) (defined_in self.entry.first.now d.now ≡ defined_in self.entry.second.now e.now) }
+        ensures mismatch { result ≡ Err TypeFault.Mismatch → defined_in self.entry.first.now d.now ≡ defined_in self.entry.second.now e.now → ⊥ }
     {
         match (d, e) {
             (DefinedType::Tuple(vs), DefinedType::Tuple(ws)) => {
@@ -228,6 +232,8 @@ impl<'a> Comparison<'a> {
 
     /// Asks whether one item is a subtype of the other.
     pub fn ask_kinds(self, asked: &mut Asked, x: ItemKind, y: ItemKind) -> Result<(), TypeFault>
+        requires first { holds_type self.first.now (kind_type x) ≡ true }
+        requires second { holds_type self.second.now (kind_type y) ≡ true }
         ensures asked { IfOk result (λ _. Asks self.entry.turned self.entry.first.now self.entry.second.now (kind_type x ∷ []) (kind_type y ∷ []) asked.old asked.new (Sub (kind_tree self.entry.first.now x) (kind_tree self.entry.second.now y))) }
         ensures mismatch { result ≡ Err TypeFault.Mismatch → Sub (kind_tree self.entry.first.now x) (kind_tree self.entry.second.now y) → ⊥ }
     {
@@ -252,13 +258,15 @@ impl<'a> Comparison<'a> {
     }
 
     /// Asks whether each item of the second list is offered by the first.
-    #[tactic(auto, using(crate::proofs::Subtyping::asks_no_offer, crate::proofs::Subtyping::asks_offer, crate::proofs::Subtyping::item_stops))]
+    #[tactic(auto, using(crate::proofs::Subtyping::asks_no_offer, crate::proofs::Subtyping::asks_offer, crate::proofs::Subtyping::item_stops, crate::proofs::Subtyping::item_held, crate::proofs::Subtyping::found_held))]
     pub fn ask_items(
         self,
         asked: &mut Asked,
         xs: &Named<ItemKind>,
         ys: &Named<ItemKind>,
     ) -> Result<(), TypeFault>
+        requires first { AreHeld self.first.now (kind_types xs.now) }
+        requires second { AreHeld self.second.now (kind_types ys.now) }
         ensures asked { IfOk result (λ _. Asks self.entry.turned self.entry.first.now self.entry.second.now (kind_types xs.now) (kind_types ys.now) asked.old asked.new (Offers self.entry.first.now xs.now self.entry.second.now ys.now)) }
         ensures mismatch { result ≡ Err TypeFault.Mismatch → Offers self.entry.first.now xs.now self.entry.second.now ys.now → ⊥ }
     {
@@ -274,7 +282,7 @@ impl<'a> Comparison<'a> {
     }
 
     /// Asks what the answer for two value types rests on; neither is an alias.
-    #[tactic(auto, using(crate::proofs::Asking::rests_now, crate::proofs::Values::primitives_same, crate::proofs::Values::primitives_inj, crate::proofs::Equal::primitives_told, crate::proofs::Answering::owns_same, crate::proofs::Answering::owns_back, crate::proofs::Answering::borrows_same, crate::proofs::Answering::borrows_back, crate::proofs::Answering::definitions_rest, crate::proofs::Answering::other_value, crate::proofs::Answering::no_primitive, crate::proofs::Answering::no_own, crate::proofs::Answering::no_borrow, crate::proofs::Answering::no_defined))]
+    #[tactic(auto, using(crate::proofs::Asking::rests_now, crate::proofs::Values::primitives_same, crate::proofs::Values::primitives_inj, crate::proofs::Equal::primitives_told, crate::proofs::Answering::owns_same, crate::proofs::Answering::owns_back, crate::proofs::Answering::borrows_same, crate::proofs::Answering::borrows_back, crate::proofs::Opens::defined_held, crate::proofs::Answering::definitions_rest, crate::proofs::Answering::other_value, crate::proofs::Answering::no_primitive, crate::proofs::Answering::no_own, crate::proofs::Answering::no_borrow, crate::proofs::Answering::no_defined))]
     pub fn answer_value(
         self,
         asked: &mut Asked,
@@ -305,6 +313,7 @@ impl<'a> Comparison<'a> {
 // The type at the end of the aliases.
 #[tactic(auto, using(crate::proofs::Answering::value_end))]
 fn end(types: &Types, ty: Type) -> Type
+    requires { holds_type types.now ty ≡ true }
     ensures { HasEnd types.now ty result }
 {
     types.law();

@@ -1,14 +1,15 @@
 //! Small types, which are looked into wherever they are mentioned.
-ghost use Rattle.std.specs.Prelude.{◌≡◌, ◌≤◌, [], ◌∷◌, length, map, All, Err, IfOk, IsTrue};
-ghost use Rattle.std.specs.Option.{option_copied};
-ghost use Rattle.wac_comparison.specs.Compare.{definition_in, value_in, entry_in};
-ghost use Rattle.wac_comparison.specs.Settling.{Asks};
+ghost use Rattle.std.specs.Prelude.{◌≡◌, ◌≤◌, [], ◌∷◌, length, map, true, All, Err, IfOk, IsTrue};
+ghost use Rattle.wac_collection.specs.Collection.{holds_type, value_types, seconds};
+ghost use Rattle.wac_comparison.specs.Compare.{value_in, entry_in};
+ghost use Rattle.wac_comparison.specs.Questions.{AreHeld};
+ghost use Rattle.wac_comparison.specs.Settling.{Asks, Tells};
 ghost use Rattle.wac_shapes.specs.declared.component.«Type».TheVariants as ty;
 
 use crate::comparison::Comparison;
-use crate::fault::{Answer, TypeFault};
+use crate::fault::{Answer, TypeFault, told};
 use crate::questions::Asked;
-use wac_collection::{DefinedType, Named, Types, ValueType};
+use wac_collection::{DefinedType, Named, Type, ValueType};
 
 /// How many parameters or fields a type may have that is looked into wherever it is mentioned.
 const FEW_PARTS: usize = 8;
@@ -17,36 +18,43 @@ const FEW_PARTS: usize = 8;
 const SHORT_NAME: usize = 32;
 
 impl<'a> Comparison<'a> {
-    // Whether both are known at sight to be the same primitive.
-    #[tactic(auto, using(crate::proofs::Equal::primitives_told, crate::proofs::Values::primitives_same))]
-    fn is_same_primitive(self, v: ValueType, w: ValueType) -> bool
+    // What tells whether two value types are the same: the elements of two lists or of two options, and else they themselves.
+    #[tactic(auto, using(crate::proofs::Opened::opened_itself))]
+    fn opened(self, v: ValueType, w: ValueType) -> (ValueType, ValueType)
+        requires first { holds_type self.first.now (ty.Value v) ≡ true }
+        requires second { holds_type self.second.now (ty.Value w) ≡ true }
+        ensures { Tells self.entry.first.now self.entry.second.now v w result.0 result.1 }
+    {
+        self.first.law();
+        self.second.law();
+        let (ValueType::Defined(i), ValueType::Defined(j)) = (v, w) else {
+            return (v, w);
+        };
+        match (&self.first[i], &self.second[j]) {
+            (DefinedType::List(a), DefinedType::List(b)) => (*a, *b),
+            (DefinedType::Option(a), DefinedType::Option(b)) => (*a, *b),
+            _ => (v, w),
+        }
+    }
+
+    // Whether both are known at sight to be the same: a primitive, or a list or an option of one.
+    #[tactic(auto, using(crate::proofs::Opened::told_primitives, crate::proofs::Equal::primitives_told))]
+    fn is_same_flat(self, v: ValueType, w: ValueType) -> bool
+        requires first { holds_type self.first.now (ty.Value v) ≡ true }
+        requires second { holds_type self.second.now (ty.Value w) ≡ true }
         ensures { IsTrue result → value_in self.entry.first.now v ≡ value_in self.entry.second.now w }
     {
-        match (v, w) {
+        match self.opened(v, w) {
             (ValueType::Primitive(p), ValueType::Primitive(q)) => p == q,
             _ => false,
         }
     }
 
-    // Whether both are known at sight to be the same: a primitive, or a list or an option of one.
-    fn is_same_flat(self, v: ValueType, w: ValueType) -> bool
-        ensures { IsTrue result → value_in self.entry.first.now v ≡ value_in self.entry.second.now w }
-    {
-        self.first.law();
-        self.second.law();
-        let (Some(d), Some(e)) = (definition(self.first, v), definition(self.second, w)) else {
-            return self.is_same_primitive(v, w);
-        };
-        match (d, e) {
-            (DefinedType::List(a), DefinedType::List(b)) => self.is_same_primitive(*a, *b),
-            (DefinedType::Option(a), DefinedType::Option(b)) => self.is_same_primitive(*a, *b),
-            _ => false,
-        }
-    }
-
     // Whether there are few fields under short names, which are known at sight to be the same.
-    #[tactic(auto, using(crate::proofs::Agreeing::maps_agree))]
+    #[tactic(auto, using(crate::proofs::Agreeing::maps_agree, crate::proofs::Agreeing::field_held))]
     fn have_same_fields(self, vs: &Named<ValueType>, ws: &Named<ValueType>) -> bool
+        requires first { AreHeld self.first.now (value_types (seconds vs.now)) }
+        requires second { AreHeld self.second.now (value_types (seconds ws.now)) }
         ensures { IsTrue result → map (entry_in self.entry.first.now) vs.now ≡ map (entry_in self.entry.second.now) ws.now }
     {
         if vs.len() != ws.len() || !has_small_parts(vs) {
@@ -65,33 +73,40 @@ impl<'a> Comparison<'a> {
         true
     }
 
-    /// Asks whether one value type is another. Lists, options and small records are looked into at once, which takes no longer than a question does.
-    pub(crate) fn ask_value(self, asked: &mut Asked, v: ValueType, w: ValueType) -> Answer
-        ensures asked { IfOk result (λ _. Asks self.entry.turned self.entry.first.now self.entry.second.now (ty.Value v ∷ []) (ty.Value w ∷ []) asked.old asked.new (value_in self.entry.first.now v ≡ value_in self.entry.second.now w)) }
-        ensures mismatch { result ≡ Err TypeFault.Mismatch → value_in self.entry.first.now v ≡ value_in self.entry.second.now w → ⊥ }
+    // Whether both are small records, which are known at sight to be the same.
+    #[tactic(auto, using(crate::proofs::Opened::same_records, crate::proofs::Opens::defined_held))]
+    fn is_same_record(self, v: ValueType, w: ValueType) -> bool
+        requires first { holds_type self.first.now (ty.Value v) ≡ true }
+        requires second { holds_type self.second.now (ty.Value w) ≡ true }
+        ensures { IsTrue result → value_in self.entry.first.now v ≡ value_in self.entry.second.now w }
     {
         self.first.law();
         self.second.law();
-        let (Some(d), Some(e)) = (definition(self.first, v), definition(self.second, w)) else {
-            return self.ask_part(asked, v, w);
+        let (ValueType::Defined(i), ValueType::Defined(j)) = (v, w) else {
+            return false;
         };
-        match (d, e) {
-            (DefinedType::List(a), DefinedType::List(b)) => self.ask_part(asked, *a, *b),
-            (DefinedType::Option(a), DefinedType::Option(b)) => self.ask_part(asked, *a, *b),
-            (DefinedType::Record(r), DefinedType::Record(s))
-                if self.have_same_fields(&r.fields, &s.fields) => Ok(()),
-            _ => self.ask_part(asked, v, w),
+        match (&self.first[i], &self.second[j]) {
+            (DefinedType::Record(r), DefinedType::Record(s)) => {
+                self.have_same_fields(&r.fields, &s.fields)
+            }
+            _ => false,
         }
     }
-}
 
-// The definition of a value type, where one is held.
-fn definition(types: &Types, v: ValueType) -> Option<&DefinedType>
-    ensures { option_copied result ≡ definition_in types.now v }
-{
-    match v {
-        ValueType::Defined(id) => types.find_defined(id),
-        _ => None,
+    /// Asks whether one value type is another. Lists, options and small records are looked into at once, which takes no longer than a question does.
+    pub(crate) fn ask_value(self, asked: &mut Asked, v: ValueType, w: ValueType) -> Answer
+        requires first { holds_type self.first.now (ty.Value v) ≡ true }
+        requires second { holds_type self.second.now (ty.Value w) ≡ true }
+        ensures asked { IfOk result (λ _. Asks self.entry.turned self.entry.first.now self.entry.second.now (ty.Value v ∷ []) (ty.Value w ∷ []) asked.old asked.new (value_in self.entry.first.now v ≡ value_in self.entry.second.now w)) }
+        ensures mismatch { result ≡ Err TypeFault.Mismatch → value_in self.entry.first.now v ≡ value_in self.entry.second.now w → ⊥ }
+    {
+        if self.is_same_record(v, w) {
+            return Ok(());
+        }
+        match self.opened(v, w) {
+            (ValueType::Primitive(p), ValueType::Primitive(q)) => told(p == q),
+            (a, b) => self.ask_type(asked, Type::Value(a), Type::Value(b)),
+        }
     }
 }
 

@@ -2,7 +2,7 @@
 ghost use Rattle.std.specs.Prelude.{◌≡◌, true, Err, IfOk};
 ghost use Rattle.wac_collection.specs.Collection.{holds_type, world_mentions};
 ghost use Rattle.wac_comparison.specs.Compare.{world_in};
-ghost use Rattle.wac_comparison.specs.Questions.{IsEnd};
+ghost use Rattle.wac_comparison.specs.Questions.{IsEnd, AreHeld};
 ghost use Rattle.wac_comparison.specs.Settling.{Asks, RestsOn};
 ghost use Rattle.wac_subtyping.specs.Subtype.{Sub, type_tree};
 
@@ -10,7 +10,7 @@ use wac_collection::{Type, World};
 use wac_comparison::{Asked, Comparison, TypeFault, is_module_subtype};
 
 /// Asks what the answer to a question rests on.
-#[tactic(auto, using(wac_comparison::proofs::Asking::rests_now, wac_comparison::proofs::Values::values_are, wac_comparison::proofs::Typing::resources_are, wac_comparison::proofs::Typing::interfaces_are, wac_comparison::proofs::Typing::worlds_are, wac_comparison::proofs::Typing::modules_are, wac_comparison::proofs::Typing::answer_funcs, wac_comparison::proofs::Typing::answer_interfaces, wac_comparison::proofs::Typing::answer_worlds, wac_comparison::proofs::Typing::funcs_refuse, wac_comparison::proofs::Typing::other_sort, wac_comparison::proofs::Typing::no_resource, wac_comparison::proofs::Typing::no_func, wac_comparison::proofs::Typing::no_value, wac_comparison::proofs::Typing::no_interface, wac_comparison::proofs::Typing::no_world, wac_comparison::proofs::Typing::no_module))]
+#[tactic(auto, using(wac_comparison::proofs::Opens::func_held, wac_comparison::proofs::Opens::interface_held, wac_comparison::proofs::Opens::world_held, wac_comparison::proofs::Asking::rests_now, wac_comparison::proofs::Values::values_are, wac_comparison::proofs::Typing::resources_are, wac_comparison::proofs::Typing::interfaces_are, wac_comparison::proofs::Typing::worlds_are, wac_comparison::proofs::Typing::modules_are, wac_comparison::proofs::Typing::answer_funcs, wac_comparison::proofs::Typing::answer_interfaces, wac_comparison::proofs::Typing::answer_worlds, wac_comparison::proofs::Typing::funcs_refuse, wac_comparison::proofs::Typing::other_sort, wac_comparison::proofs::Typing::no_resource, wac_comparison::proofs::Typing::no_func, wac_comparison::proofs::Typing::no_value, wac_comparison::proofs::Typing::no_interface, wac_comparison::proofs::Typing::no_world, wac_comparison::proofs::Typing::no_module))]
 pub(crate) fn answer(
     comparison: Comparison<'_>,
     asked: &mut Asked,
@@ -48,13 +48,15 @@ pub(crate) fn answer(
 }
 
 // Asks whether one world is a subtype of the other.
-#[tactic(auto, using(wac_comparison::proofs::Subtyping::of_components))]
+#[tactic(auto, using(wac_comparison::proofs::Subtyping::of_components, wac_comparison::proofs::Subtyping::imports_held, wac_comparison::proofs::Subtyping::exports_held))]
 fn ask_worlds(
     comparison: Comparison<'_>,
     asked: &mut Asked,
     w: &World,
     v: &World,
 ) -> Result<(), TypeFault>
+    requires first { AreHeld comparison.first.now (world_mentions w.now) }
+    requires second { AreHeld comparison.second.now (world_mentions v.now) }
     ensures asked { IfOk result (λ _. Asks comparison.entry.turned comparison.entry.first.now comparison.entry.second.now (world_mentions w.now) (world_mentions v.now) asked.old asked.new (Sub (world_in comparison.entry.first.now w.now) (world_in comparison.entry.second.now v.now))) }
     ensures mismatch { result ≡ Err TypeFault.Mismatch → Sub (world_in comparison.entry.first.now w.now) (world_in comparison.entry.second.now v.now) → ⊥ }
 {

@@ -1,27 +1,24 @@
-use Rattle.std.proofs.Common.{ap, ◌≢◌}
+use Rattle.std.proofs.Common.{ap}
 use Rattle.wac_collection.specs.Collection.{value_types, case_values}
-use Rattle.wac_primitives.specs.Tree.{absent}
-use Rattle.wac_subtyping.specs.Subtype.{type_tree}
 use Rattle.wac_comparison.specs.Compare.{optional_in, case_in}
 use Rattle.wac_shapes.proofs.Names.{ne-true, ne-false}
 use Rattle.wac_comparison.proofs.Values.{asks_of}
-use Rattle.wac_comparison.proofs.Agreeing.{handed_on, agree_more, under_name, case_among, differ_at}
+use Rattle.wac_comparison.proofs.Agreeing.{handed_on, agree_more, under_name, case_among, differ_at, case_held}
 use Rattle.wac_comparison.proofs.comparison.Comparison.ask_cases.Goals as goal
 
+pub ask_optional-requires-clause-first : goal.ask_optional-requires-clause-first
+ask_optional-requires-clause-first c = case_held c.args.self.first.now c.args.cs.now c.loop-i.i _ _ c.entry_at.ensures c.requires.first
+
+pub ask_optional-requires-clause-second : goal.ask_optional-requires-clause-second
+ask_optional-requires-clause-second c = case_held c.args.self.second.now c.args.ds.now c.loop-i.i _ _ c.entry_at-in-loop-i.ensures c.requires.second
+
 pub returns-then-ne-clause-mismatch : goal.returns-then-ne-clause-mismatch
-returns-then-ne-clause-mismatch c = λ _. record {
-  refutes = λ hx hy. differ_at (case_in c.args.self.first.now) (case_in c.args.self.second.now) c.args.cs.now c.args.ds.now c.loop-i.i _ _ c.entry_at.ensures c.entry_at-in-loop-i.ensures (λ e. ne-true _ _ _ c.ne.ensures c.if-ne.true (ap (λ u. u.0) e));
-}
+returns-then-ne-clause-mismatch c = λ _. differ_at (case_in c.args.self.first.now) (case_in c.args.self.second.now) c.args.cs.now c.args.ds.now c.loop-i.i _ _ c.entry_at.ensures c.entry_at-in-loop-i.ensures
+    (λ e. ne-true _ _ _ c.ne.ensures c.if-ne.true (ap (λ u. u.0) e))
 
 pub returns-in_err-ask_optional-clause-mismatch : goal.returns-in_err-ask_optional-clause-mismatch
-returns-in_err-ask_optional-clause-mismatch c = λ is. record {
-  refutes = λ hx hy.
-      let v = c.entry_at.ensures in
-      let w = c.entry_at-in-loop-i.ensures in
-      let m = c.in_err-ask_optional.ensures.mismatch (handed_on c.from_residual.result _ _ c.from_residual.ensures.1 is) in
-      let there = m.refutes (case_among (λ t. type_tree c.args.self.first.now t ≢ absent) c.args.cs.now c.loop-i.i _ _ v hx) (case_among (λ t. type_tree c.args.self.second.now t ≢ absent) c.args.ds.now c.loop-i.i _ _ w hy) in
-      differ_at (case_in c.args.self.first.now) (case_in c.args.self.second.now) c.args.cs.now c.args.ds.now c.loop-i.i _ _ v w (λ e. there (ap (λ u. u.1) e));
-}
+returns-in_err-ask_optional-clause-mismatch c = λ is. differ_at (case_in c.args.self.first.now) (case_in c.args.self.second.now) c.args.cs.now c.args.ds.now c.loop-i.i _ _ c.entry_at.ensures c.entry_at-in-loop-i.ensures
+    (λ e. c.in_err-ask_optional.ensures.mismatch (handed_on c.from_residual.result _ _ c.from_residual.ensures.1 is) (ap (λ u. u.1) e))
 
 pub loop-i-preserved : goal.loop-i-preserved
 loop-i-preserved c =

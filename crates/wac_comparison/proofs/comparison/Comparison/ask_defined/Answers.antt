@@ -17,9 +17,8 @@ returns-in-Tuple-Tuple-clause-asked c =
     (rw (c.as_slice.ensures, c.as_slice-in-Tuple-Tuple.ensures) at c.ask_values.ensures.asked))
 
 pub returns-in-Tuple-Tuple-clause-mismatch : goal.returns-in-Tuple-Tuple-clause-mismatch
-returns-in-Tuple-Tuple-clause-mismatch c = λ is. rw (c.in-Tuple-Tuple.is-0, c.in-Tuple-Tuple.is-1) (record {
-  refutes = λ hx hy h. (rw (c.as_slice.ensures, c.as_slice-in-Tuple-Tuple.ensures) at c.ask_values.ensures.mismatch) is (tuples_back (value_in c.args.self.first.now) (value_in c.args.self.second.now) _ _ h);
-})
+returns-in-Tuple-Tuple-clause-mismatch c = λ is. rw (c.in-Tuple-Tuple.is-0, c.in-Tuple-Tuple.is-1) (λ h.
+    (rw (c.as_slice.ensures, c.as_slice-in-Tuple-Tuple.ensures) at c.ask_values.ensures.mismatch) is (tuples_back (value_in c.args.self.first.now) (value_in c.args.self.second.now) _ _ h))
 
 pub returns-in-List-List-clause-asked : goal.returns-in-List-List-clause-asked
 returns-in-List-List-clause-asked c = rw (c.in-List-List.is-0, c.in-List-List.is-1) (IfOk-weaker c.ask_value.result _ _ (λ _ s. asks_iff (ap list_of) (ap inner) s) c.ask_value.ensures.asked)
@@ -44,9 +43,8 @@ returns-in-Variant-Variant-clause-asked c =
     (IfOk-weaker c.ask_cases.result _ _ (λ _ s. asks_iff (entries_from x y variant_of _ _) (λ h. entries_back x y _ _ (ap names_in h) (ap parts_in h)) s) c.ask_cases.ensures.asked)
 
 pub returns-in-Variant-Variant-clause-mismatch : goal.returns-in-Variant-Variant-clause-mismatch
-returns-in-Variant-Variant-clause-mismatch c = λ is. rw (c.in-Variant-Variant.is-0, c.in-Variant-Variant.is-1) (record {
-  refutes = λ hx hy h. (c.ask_cases.ensures.mismatch is).refutes hx hy (entries_back (optional_in c.args.self.first.now) (optional_in c.args.self.second.now) _ _ (ap names_in h) (ap parts_in h));
-})
+returns-in-Variant-Variant-clause-mismatch c = λ is. rw (c.in-Variant-Variant.is-0, c.in-Variant-Variant.is-1) (λ h.
+    c.ask_cases.ensures.mismatch is (entries_back (optional_in c.args.self.first.now) (optional_in c.args.self.second.now) _ _ (ap names_in h) (ap parts_in h)))
 
 pub returns-in-Record-Record-clause-asked : goal.returns-in-Record-Record-clause-asked
 returns-in-Record-Record-clause-asked c =
@@ -55,21 +53,19 @@ returns-in-Record-Record-clause-asked c =
     rw (c.in-Record-Record.is-0, c.in-Record-Record.is-1) (IfOk-weaker c.ask_named.result _ _ (λ _ s. asks_iff (entries_from (value_in x) (value_in y) record_of _ _) (records_back x y _ _) s) c.ask_named.ensures.asked)
 
 pub returns-in-Record-Record-clause-mismatch : goal.returns-in-Record-Record-clause-mismatch
-returns-in-Record-Record-clause-mismatch c = λ is. rw (c.in-Record-Record.is-0, c.in-Record-Record.is-1) (record {
-  refutes = λ hx hy h. c.ask_named.ensures.mismatch is (records_back c.args.self.first.now c.args.self.second.now _ _ h);
-})
+returns-in-Record-Record-clause-mismatch c = λ is. rw (c.in-Record-Record.is-0, c.in-Record-Record.is-1) (λ h. c.ask_named.ensures.mismatch is (records_back c.args.self.first.now c.args.self.second.now _ _ h))
 
 pub returns-in-Flags-Flags-clause-asked : goal.returns-in-Flags-Flags-clause-asked
 returns-in-Flags-Flags-clause-asked c = rw (c.in-Flags-Flags.is-0, c.in-Flags-Flags.is-1) (IfOk-weaker c.told.result _ _ (λ _ e. asks_now (ap flags_of ((labels_told _ _ _ c.eq.ensures).0 e))) c.told.ensures.yes)
 
 pub returns-in-Flags-Flags-clause-mismatch : goal.returns-in-Flags-Flags-clause-mismatch
-returns-in-Flags-Flags-clause-mismatch c = λ is. rw (c.in-Flags-Flags.is-0, c.in-Flags-Flags.is-1) (record { refutes = λ hx hy h. iff_false (labels_told _ _ _ c.eq.ensures) (c.told.ensures.no is) (ap names_in h) })
+returns-in-Flags-Flags-clause-mismatch c = λ is. rw (c.in-Flags-Flags.is-0, c.in-Flags-Flags.is-1) (λ h. iff_false (labels_told _ _ _ c.eq.ensures) (c.told.ensures.no is) (ap names_in h))
 
 pub returns-in-Enum-Enum-clause-asked : goal.returns-in-Enum-Enum-clause-asked
 returns-in-Enum-Enum-clause-asked c = rw (c.in-Enum-Enum.is-0, c.in-Enum-Enum.is-1) (IfOk-weaker c.told-in-Enum-Enum.result _ _ (λ _ e. asks_now (ap enum_of ((labels_told _ _ _ c.eq-in-Enum-Enum.ensures).0 e))) c.told-in-Enum-Enum.ensures.yes)
 
 pub returns-in-Enum-Enum-clause-mismatch : goal.returns-in-Enum-Enum-clause-mismatch
-returns-in-Enum-Enum-clause-mismatch c = λ is. rw (c.in-Enum-Enum.is-0, c.in-Enum-Enum.is-1) (record { refutes = λ hx hy h. iff_false (labels_told _ _ _ c.eq-in-Enum-Enum.ensures) (c.told-in-Enum-Enum.ensures.no is) (ap names_in h) })
+returns-in-Enum-Enum-clause-mismatch c = λ is. rw (c.in-Enum-Enum.is-0, c.in-Enum-Enum.is-1) (λ h. iff_false (labels_told _ _ _ c.eq-in-Enum-Enum.ensures) (c.told-in-Enum-Enum.ensures.no is) (ap names_in h))
 
 pub returns-in-Stream-Stream-clause-asked : goal.returns-in-Stream-Stream-clause-asked
 returns-in-Stream-Stream-clause-asked c = rw (c.in-Stream-Stream.is-0, c.in-Stream-Stream.is-1)

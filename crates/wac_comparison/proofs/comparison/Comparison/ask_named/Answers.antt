@@ -4,8 +4,14 @@ use Rattle.wac_collection.specs.Collection.{value_types, seconds}
 use Rattle.wac_comparison.specs.Compare.{value_in, entry_in}
 use Rattle.wac_shapes.proofs.Names.{ne-true, ne-false}
 use Rattle.wac_comparison.proofs.Values.{asks_of}
-use Rattle.wac_comparison.proofs.Agreeing.{handed_on, agree_more, under_name, among, differ_at}
+use Rattle.wac_comparison.proofs.Agreeing.{handed_on, agree_more, under_name, among, differ_at, field_held}
 use Rattle.wac_comparison.proofs.comparison.Comparison.ask_named.Goals as goal
+
+pub ask_value-requires-clause-first : goal.ask_value-requires-clause-first
+ask_value-requires-clause-first c = field_held c.args.self.first.now c.args.vs.now c.loop-i.i _ _ c.entry_at.ensures c.requires.first
+
+pub ask_value-requires-clause-second : goal.ask_value-requires-clause-second
+ask_value-requires-clause-second c = field_held c.args.self.second.now c.args.ws.now c.loop-i.i _ _ c.entry_at-in-loop-i.ensures c.requires.second
 
 pub returns-then-ne-clause-mismatch : goal.returns-then-ne-clause-mismatch
 returns-then-ne-clause-mismatch c = λ _. differ_at (entry_in c.args.self.first.now) (entry_in c.args.self.second.now) c.args.vs.now c.args.ws.now c.loop-i.i _ _ c.entry_at.ensures c.entry_at-in-loop-i.ensures

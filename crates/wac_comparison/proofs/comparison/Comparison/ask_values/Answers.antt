@@ -4,8 +4,14 @@ use Rattle.wac_shapes.specs.declared.component.«Type».TheVariants as ty
 use Rattle.wac_collection.specs.Collection.{value_types}
 use Rattle.wac_comparison.specs.Compare.{value_in}
 use Rattle.wac_comparison.proofs.Values.{asks_of}
-use Rattle.wac_comparison.proofs.Agreeing.{handed_on, agree_more, among, differ_at}
+use Rattle.wac_comparison.proofs.Agreeing.{handed_on, agree_more, among, differ_at, value_held}
 use Rattle.wac_comparison.proofs.comparison.Comparison.ask_values.Goals as goal
+
+pub ask_value-requires-clause-first : goal.ask_value-requires-clause-first
+ask_value-requires-clause-first c = value_held c.args.self.first.now c.args.vs.now c.loop-i.i _ (slice_get-get_or c.args.vs.now c.loop-i.i _ c.loop-i-test.true) c.requires.first
+
+pub ask_value-requires-clause-second : goal.ask_value-requires-clause-second
+ask_value-requires-clause-second c = value_held c.args.self.second.now c.args.ws.now c.loop-i.i _ (slice_get-get_or c.args.ws.now c.loop-i.i _ (omega (arith, c.loop-i-test.true, c.if-vs-ws.false))) c.requires.second
 
 pub returns-in_err-ask_value-clause-mismatch : goal.returns-in_err-ask_value-clause-mismatch
 returns-in_err-ask_value-clause-mismatch c = λ is.
