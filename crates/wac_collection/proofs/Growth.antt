@@ -216,31 +216,76 @@ pub resource_well_formed : (c : Collection) → IsWellFormed c → (x : Resource
 resource_well_formed c wf x h =
     let old = still c (with_resource c x) wf (keeps_resource c x) in
     let less : size c < size (with_resource c x) = omega (arith, longer c.resources (added c x)) in
-    record { resources = each_grown _ c.resources _ old.resources (newly c (with_resource c x) wf (keeps_resource c x) resource_mentions x less h); funcs = old.funcs; defined = old.defined; interfaces = old.interfaces; worlds = old.worlds; modules = old.modules; sources = each_grown _ c.resources _ wf.sources (source_within c x.alias h); parts = wf.parts }
+    record {
+      resources = each_grown _ c.resources _ old.resources (newly c (with_resource c x) wf (keeps_resource c x) resource_mentions x less h);
+      funcs = old.funcs;
+      defined = old.defined;
+      interfaces = old.interfaces;
+      worlds = old.worlds;
+      modules = old.modules;
+      sources = each_grown _ c.resources _ wf.sources (source_within c x.alias h);
+      parts = wf.parts;
+    }
 
 pub func_well_formed : (c : Collection) → IsWellFormed c → (x : FuncType) → holds_all c (func_mentions x) ≡ true → IsWellFormed (with_func c x)
 func_well_formed c wf x h =
     let old = still c (with_func c x) wf (keeps_func c x) in
     let less : size c < size (with_func c x) = omega (arith, longer c.funcs (added c x)) in
-    record { resources = old.resources; funcs = each_grown _ c.funcs _ old.funcs (newly c (with_func c x) wf (keeps_func c x) func_mentions x less h); defined = old.defined; interfaces = old.interfaces; worlds = old.worlds; modules = old.modules; sources = wf.sources; parts = wf.parts }
+    record {
+      resources = old.resources;
+      funcs = each_grown _ c.funcs _ old.funcs (newly c (with_func c x) wf (keeps_func c x) func_mentions x less h);
+      defined = old.defined;
+      interfaces = old.interfaces;
+      worlds = old.worlds;
+      modules = old.modules;
+      sources = wf.sources;
+      parts = wf.parts;
+    }
 
 pub defined_well_formed : (c : Collection) → IsWellFormed c → (x : DefinedType) → holds_all c (defined_mentions x) ≡ true → IsWellFormed (with_defined c x)
 defined_well_formed c wf x h =
     let old = still c (with_defined c x) wf (keeps_defined c x) in
     let less : size c < size (with_defined c x) = omega (arith, longer c.defined (added c x)) in
-    record { resources = old.resources; funcs = old.funcs; defined = each_grown _ c.defined _ old.defined (newly c (with_defined c x) wf (keeps_defined c x) defined_mentions x less h); interfaces = old.interfaces; worlds = old.worlds; modules = old.modules; sources = wf.sources; parts = each_grown _ c.defined _ wf.parts (parts_within c (defined_values x) h) }
+    record {
+      resources = old.resources;
+      funcs = old.funcs;
+      defined = each_grown _ c.defined _ old.defined (newly c (with_defined c x) wf (keeps_defined c x) defined_mentions x less h);
+      interfaces = old.interfaces;
+      worlds = old.worlds;
+      modules = old.modules;
+      sources = wf.sources;
+      parts = each_grown _ c.defined _ wf.parts (parts_within c (defined_values x) h);
+    }
 
 pub interface_well_formed : (c : Collection) → IsWellFormed c → (x : Interface) → holds_all c (interface_mentions x) ≡ true → IsWellFormed (with_interface c x)
 interface_well_formed c wf x h =
     let old = still c (with_interface c x) wf (keeps_interface c x) in
     let less : size c < size (with_interface c x) = omega (arith, longer c.interfaces (added c x)) in
-    record { resources = old.resources; funcs = old.funcs; defined = old.defined; interfaces = each_grown _ c.interfaces _ old.interfaces (newly c (with_interface c x) wf (keeps_interface c x) interface_mentions x less h); worlds = old.worlds; modules = old.modules; sources = wf.sources; parts = wf.parts }
+    record {
+      resources = old.resources;
+      funcs = old.funcs;
+      defined = old.defined;
+      interfaces = each_grown _ c.interfaces _ old.interfaces (newly c (with_interface c x) wf (keeps_interface c x) interface_mentions x less h);
+      worlds = old.worlds;
+      modules = old.modules;
+      sources = wf.sources;
+      parts = wf.parts;
+    }
 
 pub world_well_formed : (c : Collection) → IsWellFormed c → (x : World) → holds_all c (world_mentions x) ≡ true → IsWellFormed (with_world c x)
 world_well_formed c wf x h =
     let old = still c (with_world c x) wf (keeps_world c x) in
     let less : size c < size (with_world c x) = omega (arith, longer c.worlds (added c x)) in
-    record { resources = old.resources; funcs = old.funcs; defined = old.defined; interfaces = old.interfaces; worlds = each_grown _ c.worlds _ old.worlds (newly c (with_world c x) wf (keeps_world c x) world_mentions x less h); modules = old.modules; sources = wf.sources; parts = wf.parts }
+    record {
+      resources = old.resources;
+      funcs = old.funcs;
+      defined = old.defined;
+      interfaces = old.interfaces;
+      worlds = each_grown _ c.worlds _ old.worlds (newly c (with_world c x) wf (keeps_world c x) world_mentions x less h);
+      modules = old.modules;
+      sources = wf.sources;
+      parts = wf.parts;
+    }
 
 pub module_well_formed : (c : Collection) → IsWellFormed c → (x : ModuleType) → IsWellFormed (with_module c x)
 module_well_formed c wf x =

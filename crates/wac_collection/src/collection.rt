@@ -11,6 +11,7 @@ ghost use Rattle.wac_collection.specs.Uses.{AnswersBy, mention_fault, interface_
 
 use crate::shared::{Items, hold};
 use std::alloc::{AllocError, Global};
+use std::fmt;
 use std::marker::Model;
 use std::ops::Index;
 use thiserror::Error;
@@ -121,6 +122,20 @@ impl Clone for Types {
             worlds: self.worlds.clone()?,
             modules: self.modules.clone()?,
         })
+    }
+}
+
+/// It shows as the lists of its items.
+impl fmt::Debug for Types {
+    fn fmt<W: fmt::Write>(&self, f: &mut fmt::Formatter<W>) -> fmt::Result {
+        f.debug_struct("Types")
+            .field("resources", &self.resources)
+            .field("funcs", &self.funcs)
+            .field("defined", &self.defined)
+            .field("interfaces", &self.interfaces)
+            .field("worlds", &self.worlds)
+            .field("modules", &self.modules)
+            .finish()
     }
 }
 

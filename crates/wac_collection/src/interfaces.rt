@@ -11,7 +11,7 @@ use std::marker::Model;
 use wac_shapes::{Interface, InterfaceId};
 
 /// The interfaces of a collection that are still to come, each with its id.
-#[derive(Drop)]
+#[derive(Debug, Drop)]
 pub struct Interfaces<'a> {
     held: &'a Items<Interface>,
     position: usize,

@@ -10,6 +10,7 @@ ghost use Rattle.wac_shapes.specs.declared.component.«Type».TheVariants.{World
 use crate::collection::{AddTypeError, Types};
 use semver::Version;
 use std::alloc::AllocError;
+use std::fmt;
 use std::marker::Model;
 use wac_keys::PackageKey;
 use wac_shapes::{Interface, InterfaceId, Named, Type, WorldId};
@@ -43,6 +44,19 @@ impl Model for Package {
       world = p.world;
       instance_type = p.instance_type;
     } };
+}
+
+/// It shows without its bytes.
+impl fmt::Debug for Package {
+    fn fmt<W: fmt::Write>(&self, f: &mut fmt::Formatter<W>) -> fmt::Result {
+        f.debug_struct("Package")
+            .field("name", &self.key.name())
+            .field("version", &self.key.version())
+            .field("bytes", &"...")
+            .field("ty", &self.world)
+            .field("instance_type", &self.instance_type)
+            .finish()
+    }
 }
 
 impl Package {

@@ -8,6 +8,7 @@ ghost use Rattle.wac_collection.specs.declared.collection.AddTypeError.TheVarian
 
 use crate::collection::AddTypeError;
 use std::alloc::{AllocError, Global};
+use std::fmt;
 use std::marker::Model;
 use std::sync::Arc;
 
@@ -85,6 +86,16 @@ impl<T: Drop> Clone for Items<T> {
             },
             len: self.len,
         })
+    }
+}
+
+impl<T: Drop + fmt::Debug> fmt::Debug for Items<T> {
+    fn fmt<W: fmt::Write>(&self, f: &mut fmt::Formatter<W>) -> fmt::Result {
+        let mut list = f.debug_list();
+        for i in 0..self.len {
+            list.entry(self.item(i));
+        }
+        list.finish()
     }
 }
 

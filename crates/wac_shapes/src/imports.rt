@@ -80,7 +80,7 @@ impl<V: fmt::Debug> fmt::Debug for CoreImports<V> {
 }
 
 /// Values under a module and a name that are still to come, in order.
-#[derive(Drop)]
+#[derive(Debug, Drop)]
 pub struct CoreImportEntries<'a, V> {
     entries: map::Iter<'a, (String, String), V>,
 }

@@ -147,7 +147,26 @@ impl<T: fmt::Debug> fmt::Debug for Sequence<T> {
     }
 }
 
+impl<'a, T> IntoIterator for &'a Sequence<T> {
+    type Item = &'a T;
+
+    type IntoIter = slice::Iter<'a, T>;
+
+    ghost into_iter_gives = { λ s r. iter_rest r ≡ s.now };
+
+    fn into_iter(self) -> slice::Iter<'a, T> {
+        self.iter()
+    }
+}
+
 impl<T> Sequence<T> {
+    /// The values, one after another.
+    pub fn iter(&self) -> slice::Iter<'_, T>
+        ensures { iter_rest result ≡ self.now }
+    {
+        self.items.iter()
+    }
+
     /// The values.
     pub fn as_slice(&self) -> &[T]
         ensures { result.now ≡ self.now }
@@ -282,7 +301,7 @@ impl Labels {
 }
 
 /// Names that are still to come, in order.
-#[derive(Drop)]
+#[derive(Debug, Drop)]
 pub struct LabelNames<'a> {
     entries: Entries<'a, ()>,
 }
@@ -402,7 +421,7 @@ impl<V: fmt::Debug> fmt::Debug for Named<V> {
 }
 
 /// Values under names that are still to come, in order.
-#[derive(Drop)]
+#[derive(Debug, Drop)]
 pub struct Entries<'a, V> {
     few: slice::Iter<'a, (String, V)>,
     rest: map::Iter<'a, String, V>,
