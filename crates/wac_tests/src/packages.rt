@@ -1,7 +1,7 @@
 // Packages of the first world of a collection, and the keys under which they are known.
 use crate::adding::{Adding, BOOL};
 use crate::rows::Row::Adds;
-use crate::rows::{Table, assert_displayed, made};
+use crate::rows::{Table, assert_displayed, assert_shown, made};
 use semver::Version;
 use std::process::Abort;
 use wac_collection::*;
@@ -72,6 +72,15 @@ fn a_package_has_the_interface_of_its_instances(rt: HostRuntime) {
         let mut types = made(&rt, *table);
         assert!(rt; is_packaged(&mut types), "{}", table.0);
     }
+}
+
+#[test]
+fn a_package_shows_all_but_its_bytes(rt: HostRuntime) {
+    let mut types = made(&rt, FUNCTIONS);
+    let package = package(&mut types, None).expect(&rt, "a package");
+    let want =
+        "Package { name: \"n:p\", version: None, bytes: \"...\", ty: WorldId(0), instance_type: InterfaceId(0) }";
+    assert_shown(&rt, &package, want);
 }
 
 fn key(rt: &(impl Abort + AllocGlobal), version: Option<&Version>) -> PackageKey {

@@ -56,6 +56,15 @@ fn labels_keep_their_order(alloc: Global) -> Result<bool, Refusal> {
     Ok(labels.len() == 2 && labels.name_at(0) == "b")
 }
 
+fn sequences_keep_their_order(alloc: Global) -> Result<bool, Refusal> {
+    let parts = Sequence::new(alloc, &[U32, BOOL])?;
+    let mut last = None;
+    for part in &parts {
+        last = Some(*part);
+    }
+    Ok(last == Some(BOOL) && parts.iter().next() == Some(&U32))
+}
+
 fn fields_keep_their_order(alloc: Global) -> Result<bool, Refusal> {
     let record = Record::new(alloc, &[("y", U32), ("x", BOOL)])?;
     Ok(matches!(record.fields.get_full("x"), Some((1, _))))
@@ -73,6 +82,7 @@ fn shapes_keep_what_they_are_given(rt: HostRuntime) {
     assert_told(&rt, names_are_inserted_once(alloc), "inserted once");
     assert_told(&rt, shapes_compare_what_they_hold(alloc), "compared");
     assert_told(&rt, labels_keep_their_order(alloc), "labels");
+    assert_told(&rt, sequences_keep_their_order(alloc), "sequences");
     assert_told(&rt, fields_keep_their_order(alloc), "fields");
     assert_told(&rt, cases_have_their_types(alloc), "cases");
 }
@@ -100,9 +110,22 @@ fn imports_show_as_a_map(rt: &(impl Abort + AllocGlobal)) {
     assert_shown(rt, &imports, want);
 }
 
+fn collections_show_their_items(rt: &(impl Abort + AllocGlobal)) {
+    let mut types = Types::new(rt.alloc());
+    types
+        .add_defined_type(DefinedType::List(BOOL))
+        .expect(rt, "a list");
+    let lists = "resources: [], funcs: [], defined: [List(Primitive(Bool))]";
+    let want = format!(in rt.alloc();
+        "Types {{ {lists}, interfaces: [], worlds: [], modules: [] }}"
+    );
+    assert_shown(rt, &types, want.expect(rt, "a text").as_str());
+}
+
 #[test]
 fn shapes_show_what_they_hold(rt: HostRuntime) {
     names_show_as_a_map(&rt);
     labels_show_as_a_list(&rt);
     imports_show_as_a_map(&rt);
+    collections_show_their_items(&rt);
 }
