@@ -129,10 +129,9 @@ module _ (eq : Question → Question → Bool) (tells : (a b : Question) → eq 
   abbrev found : Bool
   found = list_any (eq q) o.others.keys
 
-  pub puts_none : not found ≡ false → k.questions ≡ o.questions → Puts o k q
-  puts_none old same =
+  pub puts_none : not found ≡ false → k.questions.items ≡ o.questions.items → Puts o k q
+  puts_none old items =
       let there : found ≡ true = not_false found old in
-      let items : k.questions.items ≡ o.questions.items = ap (λ x. x.items) same in
       let others : k.others.keys ≡ o.others.keys = noted ∙ ap (λ b. cond b o.others.keys (o.others.keys ++ q ∷ [])) there in
       record {
         added = [];

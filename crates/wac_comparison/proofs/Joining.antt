@@ -65,17 +65,17 @@ yes_same p qs q ha hb there n h below =
     plain_sub _ _ (plain_tree (first_of_pair q.turned p) q.first ha) (all_at (IsYesBelow p n) qs q h there (rw (plain_weight (first_of_pair q.turned p) q.first ha, plain_weight (second_of_pair q.turned p) q.second hb) below))
 
 -- a question that follows from what was asked before
-pub plain_follows : (o k : Asked) (q : Question) → k.questions ≡ o.questions → k.others ≡ o.others → Joins o.classes.links.entries k.classes.links.entries (first_node q) (second_node q) false → PutsPlain o k q
+pub plain_follows : (o k : Asked) (q : Question) → k.questions.items ≡ o.questions.items → k.others ≡ o.others → Joins o.classes.links.entries k.classes.links.entries (first_node q) (second_node q) false → PutsPlain o k q
 plain_follows o k q same others j =
     record {
       added = [];
-      grown = ap (λ x. x.items) same ∙ sym (append-nil o.questions.items);
+      grown = same ∙ sym (append-nil o.questions.items);
       only = tt;
       joined = λ p ha hb l.
-          let Q : _ → Type 0 = λ x. AreLinked p x.items k.classes.links.entries in
+          let Q : List Question → Type 0 = λ x. AreLinked p x k.classes.links.entries in
           (subst Q (sym same) (j.kept p o.questions.items l.0 (λ e. absurd (cc e))), rw (same, others) l.1);
       same = λ p ha hb l.
-          let Q : _ → Type 0 = λ x. AreSame p x.items (first_node q) (second_node q) in
+          let Q : List Question → Type 0 = λ x. AreSame p x (first_node q) (second_node q) in
           subst Q (sym same) (j.found p o.questions.items l.0 refl);
     }
 

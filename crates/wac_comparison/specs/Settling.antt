@@ -61,6 +61,10 @@ first_node q = record { turned = q.turned; ty = q.first }
 abbrev pub second_node : Question → Node
 second_node q = record { turned = not q.turned; ty = q.second }
 
+-- nothing more was asked
+abbrev pub AsksTheSame : Asked → Asked → Type 0
+AsksTheSame old new = (new.questions.items ≡ old.questions.items) × (new.others.keys ≡ old.others.keys) × (new.classes.links.entries ≡ old.classes.links.entries)
+
 -- what was asked after a question was put that does not ask whether types are the same
 pub record Puts (old new : Asked) (q : Question) : Type 0 where
   pub added : List Question

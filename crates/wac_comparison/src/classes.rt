@@ -1,6 +1,6 @@
 //! Which types are asked to be equal, in classes: of each type the class has another that stands above it, up to one that stands above all.
-ghost use Rattle.std.specs.Prelude.{◌≡◌, ◌<◌, [], length, IfOk};
-ghost use Rattle.indexmap.specs.IndexMap.{set_value_at};
+ghost use Rattle.std.specs.Prelude.{◌≡◌, ◌<◌, ◌≤◌, ◌+◌, [], length, OnOk};
+ghost use Rattle.indexmap.specs.IndexMap.{spare, set_value_at};
 ghost use Rattle.wac_comparison.specs.Classes.{AddsNode, HasLink, LeadsTo, PutsBelow, Joins};
 
 use indexmap::IndexMap;
@@ -44,22 +44,30 @@ impl Classes {
         }
     }
 
+    /// Makes room for two more nodes. Answers `AllocError` where memory ran out.
+    pub(crate) fn reserve(&mut self) -> Result<(), AllocError>
+        ensures same { self.new.links.entries ≡ self.old.links.entries }
+        ensures room { OnOk result (2 ≤ spare self.new.links) }
+    {
+        self.links.reserve(2)
+    }
+
     // The position of a node, which comes into a class of its own where it is in none.
-    fn position(&mut self, node: Node) -> Result<usize, AllocError>
-        ensures { IfOk result (λ i. AddsNode self.old.links.entries self.new.links.entries node i) }
+    fn position(&mut self, node: Node) -> usize
+        requires { 1 ≤ spare self.old.links }
+        ensures adds { AddsNode self.old.links.entries self.new.links.entries node result }
+        ensures room { spare self.old.links ≤ spare self.new.links + 1 }
     {
         let next = self.links.len();
         match self.links.get_full(&node) {
-            Some((position, _, _)) => Ok(position),
+            Some((position, _, _)) => position,
             None => {
                 let link = Link {
                     above: next,
                     size: 1,
                 };
-                match self.links.insert(node, link) {
-                    Ok(_) => Ok(next),
-                    Err(_) => Err(AllocError),
-                }
+                self.links.insert(node, link).unwrap();
+                next
             }
         }
     }
@@ -122,22 +130,23 @@ impl Classes {
         );
     }
 
-    /// Joins the classes of two nodes. Answers whether they were two.
-    pub(crate) fn join(&mut self, a: Node, b: Node) -> Result<bool, AllocError>
-        ensures { IfOk result (λ apart. Joins self.old.links.entries self.new.links.entries a b apart) }
+    /// Joins the classes of two nodes, for which there is room. Answers whether they were two.
+    pub(crate) fn join(&mut self, a: Node, b: Node) -> bool
+        requires { 2 ≤ spare self.old.links }
+        ensures { Joins self.old.links.entries self.new.links.entries a b result }
     {
-        let first = self.position(a)?;
-        let second = self.position(b)?;
+        let first = self.position(a);
+        let second = self.position(b);
         let first = self.top(first);
         let second = self.top(second);
         if first == second {
-            return Ok(false);
+            return false;
         }
         if self.link(first).size < self.link(second).size {
             self.put_below(first, second);
         } else {
             self.put_below(second, first);
         }
-        Ok(true)
+        true
     }
 }

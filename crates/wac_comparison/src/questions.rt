@@ -1,6 +1,6 @@
 //! The questions of a comparison.
-ghost use Rattle.std.specs.Prelude.{◌≡◌, ◌≢◌, [], ◌∷◌, ◌++◌, Err, OnOk};
-ghost use Rattle.wac_comparison.specs.Settling.{Puts, PutsPlain};
+ghost use Rattle.std.specs.Prelude.{◌≡◌, ◌≢◌, [], Err, OnOk, OnErr};
+ghost use Rattle.wac_comparison.specs.Settling.{AsksTheSame, Puts, PutsPlain};
 
 use crate::classes::{Classes, Node};
 use crate::fault::TypeFault;
@@ -44,36 +44,35 @@ impl Asked {
         }
     }
 
-    // Adds a question.
-    fn push(&mut self, question: Question) -> Result<(), TypeFault>
-        ensures pushed { OnOk result (self.new.questions.items ≡ self.old.questions.items ++ question ∷ []) }
-        ensures others { self.new.others ≡ self.old.others }
-        ensures classes { self.new.classes ≡ self.old.classes }
-        ensures no_mismatch { result ≢ Err TypeFault.Mismatch }
-    {
-        match self.questions.push(question) {
-            Ok(()) => Ok(()),
-            Err(_) => Err(TypeFault::OutOfMemory),
-        }
-    }
-
-    /// Adds a question, unless it was asked before.
+    /// Adds a question, unless it was asked before. Answers `OutOfMemory` where memory ran out; then nothing has changed.
     pub(crate) fn put(&mut self, question: Question) -> Result<(), TypeFault>
         ensures put { OnOk result (Puts self.old self.new question) }
+        ensures refused { OnErr result (AsksTheSame self.old self.new) }
         ensures no_mismatch { result ≢ Err TypeFault.Mismatch }
     {
+        if self.questions.reserve(1).is_err() {
+            return Err(TypeFault::OutOfMemory);
+        }
         match self.others.insert(question) {
-            Ok(true) => self.push(question),
+            Ok(true) => {
+                self.questions.push(question).unwrap();
+                Ok(())
+            }
             Ok(false) => Ok(()),
             Err(_) => Err(TypeFault::OutOfMemory),
         }
     }
 
-    /// Adds a question whether two types are the same, unless that follows from those that were asked before.
+    /// Adds a question whether two types are the same, unless that follows from those that were asked before. Answers `OutOfMemory` where
+    /// memory ran out; then nothing has changed.
     pub(crate) fn put_plain(&mut self, question: Question) -> Result<(), TypeFault>
         ensures put { OnOk result (PutsPlain self.old self.new question) }
+        ensures refused { OnErr result (AsksTheSame self.old self.new) }
         ensures no_mismatch { result ≢ Err TypeFault.Mismatch }
     {
+        if self.questions.reserve(1).is_err() || self.classes.reserve().is_err() {
+            return Err(TypeFault::OutOfMemory);
+        }
         let first = Node {
             turned: question.turned,
             ty: question.first,
@@ -82,10 +81,9 @@ impl Asked {
             turned: !question.turned,
             ty: question.second,
         };
-        match self.classes.join(first, second) {
-            Ok(true) => self.push(question),
-            Ok(false) => Ok(()),
-            Err(_) => Err(TypeFault::OutOfMemory),
+        if self.classes.join(first, second) {
+            self.questions.push(question).unwrap();
         }
+        Ok(())
     }
 }

@@ -5,10 +5,10 @@ use Rattle.wac_comparison.proofs.Equal.{same_node}
 use Rattle.wac_comparison.proofs.Joining.{node_found, node_new}
 use Rattle.wac_comparison.proofs.classes.Classes.position.Goals as goal
 
-pub returns-in-Some : goal.returns-in-Some
-returns-in-Some c = node_found (NodeEq.eq-value).it same_node c.args.self.now.links.entries c.args.node _ _ _ (sym c.in-Some.ensures.key) c.in-Some.ensures.entry
+pub returns-in-Some-clause-adds : goal.returns-in-Some-clause-adds
+returns-in-Some-clause-adds c = node_found (NodeEq.eq-value).it same_node c.args.self.now.links.entries c.args.node _ _ _ (sym c.in-Some.ensures.key) c.in-Some.ensures.entry
 
-pub returns-in-Ok : goal.returns-in-Ok
-returns-in-Ok c =
+pub returns-in-None-clause-adds : goal.returns-in-None-clause-adds
+returns-in-None-clause-adds c =
     node_new c.args.self.now.links.entries c.insert.new.self.entries c.args.node c.len-next.result c.len-next.ensures.len
-    (c.in-Ok.ensures.entries ∙ insert_entry-new (NodeEq.eq-value).it c.args.self.now.links c.args.node _ (sym c.in-None.ensures.value))
+    (rw c.unwrap.ensures at c.insert.ensures.entries ∙ insert_entry-new (NodeEq.eq-value).it c.args.self.now.links c.args.node _ (sym c.in-None.ensures.value))
