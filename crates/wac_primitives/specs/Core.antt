@@ -1,16 +1,16 @@
--- What a core module imports and exports.
+-- The items that a core module imports and exports.
 use Rattle.std.specs.Prelude.{ℕ, Bool, List, Option}
 use Rattle.wac_primitives.specs.declared.core_types.CoreType.{CoreType}
 use Rattle.wac_primitives.specs.declared.core_types.CoreRefType.{CoreRefType}
 
--- a core item; `no_item` is what stands under a name that is not there
+-- An import or export of a core module; `no_item` for a name that is not there.
 pub data CoreItem : Type 0 where
   no_item : CoreItem
   -- parameters, results
   core_function : List CoreType → List CoreType → CoreItem
-  -- element type, sixty-four bit, shared, minimum, maximum
+  -- element type, 64-bit, shared, minimum, maximum
   core_table : CoreRefType → Bool → Bool → ℕ → Option ℕ → CoreItem
-  -- sixty-four bit, shared, minimum, maximum, the page size's logarithm
+  -- 64-bit, shared, minimum, maximum, log2 of the page size
   core_memory : Bool → Bool → ℕ → Option ℕ → Option ℕ → CoreItem
   -- value type, mutable, shared
   core_global : CoreType → Bool → Bool → CoreItem

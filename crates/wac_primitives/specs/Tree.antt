@@ -1,27 +1,28 @@
--- A type without ids. Each resource is named by where it is bound.
+-- The tree of a type: the type unfolded, without ids. A resource is given by its binding.
 use Rattle.std.specs.Prelude.{ℕ, zero, suc, Bool, List, ◌++◌}
 use Rattle.wac_primitives.specs.declared.component.PrimitiveType.{PrimitiveType}
 use Rattle.wac_primitives.specs.Core.{CoreItem}
 use Rattle.wac_primitives.specs.Name.{Name}
 
+-- The imports or the exports of a component type or instance type.
 pub data Side : Type 0 where
   imported : Side
   exported : Side
 
--- a step of a path: a name, or at the root the position of an import
+-- A step of a path: a name, or at the root the index of an import.
 pub data Place : Type 0 where
   position : ℕ → Place
   named : Name → Place
 
--- where a resource is bound, seen from where it is used: scopes out, side, path
+-- A binding of a resource, seen from a use of it: the number of scopes out, the side there, the path from that side.
 pub record Leaf : Type 0 where
   pub out : ℕ
   pub side : Side
   pub path : List Place
 
--- A type without ids, in which L is what stands for a resource.
--- Parts in order are a function of their position, items by name a function of the name;
--- `absent` is what stands past the last part, under a name that is not there, and for an optional type that is missing.
+-- A type unfolded, in which L represents a resource.
+-- Parts in order are a function of the index, and items by name are a function of the name.
+-- `absent` is the part after the last, the item of an unknown name, and a missing optional type.
 pub data TypeTree (L : Type 0) : Type 0 where
   absent : TypeTree L
   resource : L → TypeTree L
@@ -42,9 +43,9 @@ pub data TypeTree (L : Type 0) : Type 0 where
   function : Bool → List Name → (ℕ → TypeTree L) → TypeTree L → TypeTree L
   instance : (Name → TypeTree L) → TypeTree L
   component : (Name → TypeTree L) → (Name → TypeTree L) → TypeTree L
-  -- a core module: imports by module and name, exports by name
+  -- The type of a core module: imports by module and name, exports by name.
   module_of : (Name → Name → CoreItem) → (Name → CoreItem) → TypeTree L
-  -- items
+  -- Imports and exports. `fresh` is `(type (sub resource))`, `type_equal t` is `(type (eq t))`.
   fresh : TypeTree L
   type_equal : TypeTree L → TypeTree L
   function_item : TypeTree L → TypeTree L
@@ -53,22 +54,24 @@ pub data TypeTree (L : Type 0) : Type 0 where
   module_item : TypeTree L → TypeTree L
   value_item : TypeTree L → TypeTree L
 
--- resources by where they are bound
+-- A tree whose resources are given by their bindings.
 abbrev pub Tree : Type 0
 Tree = TypeTree Leaf
 
+-- The binding, seen from one scope further in.
 abbrev pub further_out : Leaf → Leaf
 further_out l = record l { out = suc l.out }
 
+-- The step of `inside`, with the number of scopes out, the side and the path given apart.
 abbrev pub inside_from : (Leaf → Leaf) → ℕ → Side → List Place → Leaf
 inside_from f zero s p = record { out = 0; side = s; path = p }
 inside_from f (suc o) s p = further_out (f (record { out = o; side = s; path = p }))
 
--- a change of leaves, one scope further in: what that scope binds stays
+-- A change of bindings, applied one scope further in. A binding in that scope itself does not change.
 abbrev pub inside : (Leaf → Leaf) → Leaf → Leaf
 inside f l = inside_from f l.out l.side l.path
 
--- the tree with its leaves changed
+-- The tree with each binding changed.
 abbrev pub moved : (Leaf → Leaf) → Tree → Tree
 moved f absent = absent
 moved f (resource l) = resource (f l)
@@ -98,24 +101,25 @@ moved f (component_item t) = component_item (moved f t)
 moved f (module_item t) = module_item (moved f t)
 moved f (value_item t) = value_item (moved f t)
 
--- a leaf of so many scopes further out
+-- The binding, seen from some scopes further in.
 abbrev pub out_by : ℕ → Leaf → Leaf
 out_by zero l = l
 out_by (suc k) l = further_out (out_by k l)
 
--- a tree of k scopes further out
+-- The tree, seen from some scopes further in.
 abbrev pub seen_from : ℕ → Tree → Tree
 seen_from k = moved (out_by k)
 
+-- A binding of an instance type, seen from the scope that binds an instance of it at this side and path.
 abbrev pub taken_at : Side → List Place → ℕ → Side → List Place → Leaf
 taken_at side path zero s p = record { out = 0; side = side; path = path ++ p }
 taken_at side path (suc o) s p = record { out = o; side = s; path = p }
 
--- an item of an instance that is bound here, on this side under this path
+-- The tree of an item of the instance at this side and path, seen from the scope that binds the instance.
 abbrev pub taken_from : Side → List Place → Tree → Tree
 taken_from side path = moved (λ l. taken_at side path l.out l.side l.path)
 
--- the type in an item
+-- The type of an import or export.
 abbrev pub type_in : Tree → Tree
 type_in (type_equal t) = t
 type_in (function_item t) = t
@@ -125,15 +129,17 @@ type_in (module_item t) = t
 type_in (value_item t) = t
 type_in _ = absent
 
--- the items of an instance type
+-- The exports of an instance type.
 abbrev pub items_in : Tree → Name → Tree
 items_in (instance items) = items
 items_in _ = λ _. absent
 
+-- `own` of a resource.
 abbrev pub own_of : Tree → Tree
 own_of (resource l) = own l
 own_of _ = absent
 
+-- `borrow` of a resource.
 abbrev pub borrow_of : Tree → Tree
 borrow_of (resource l) = borrow l
 borrow_of _ = absent

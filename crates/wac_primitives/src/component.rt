@@ -27,8 +27,8 @@ pub enum PrimitiveType {
     F64,
     /// A Unicode scalar value.
     Char,
-    /// A text.
+    /// A string of Unicode scalar values.
     String,
-    /// What is known of an error.
+    /// Opaque information about an error, the component model's `error-context`.
     ErrorContext,
 }

@@ -5,7 +5,7 @@
 pub enum CoreRefType {
     /// A reference to a function.
     FuncRef,
-    /// A reference to something of the host.
+    /// A reference to a value of the host.
     ExternRef,
 }
 

@@ -1,5 +1,7 @@
-//! The primitive types of components and of core modules. The definitions that stand beside them are what types mean: names, and the
-//! trees without ids that types unfold to, whether they are held in a collection or written as bytes.
+//! Primitive types of components and of core modules.
+//!
+//! The definitions in `specs/` are the words of every contract about types: names, items of core modules, and trees.
+//! A tree is a type unfolded, without ids. Types of the collection and types in a binary are compared by their trees.
 #![tactic(auto)]
 
 mod component;
