@@ -1,4 +1,4 @@
-//! The name, with or without a version, under which a graph knows a package.
+//! The key of a package.
 ghost use Rattle.std.specs.Prelude.{◌≡◌, Some, IfOk};
 ghost use Rattle.std.proofs.Common.{refl};
 ghost use Rattle.std.specs.Cmp.{partial_equiv_from_equiv};
@@ -14,7 +14,7 @@ use std::fmt;
 use std::hash::{Hash, Hasher};
 use std::marker::Model;
 
-// The version, in memory of its own.
+// Clones an optional version.
 fn cloned(version: Option<&Version>) -> Result<Option<Version>, AllocError>
     ensures { IfOk result (λ v. option_map parts_of v ≡ option_map (λ x. parts_of x.now) version.entry) }
 {
@@ -24,13 +24,14 @@ fn cloned(version: Option<&Version>) -> Result<Option<Version>, AllocError>
     }
 }
 
-/// A package's name and version.
+/// The key of a package: its name, with or without a version.
 #[derive(Debug)]
 pub struct PackageKey {
     name: String,
     version: Option<Version>,
 }
 
+// By hand: a derived `Drop` is proved again wherever one goes out of scope (docs/PROOFS.md, 'Drop').
 impl Drop for PackageKey {
     fn drop(self) {
         let PackageKey {
@@ -52,7 +53,10 @@ impl Model for PackageKey {
 }
 
 impl PackageKey {
-    /// A key of this name and version. Answers `AllocError` where memory ran out.
+    /// Returns the key with this name and version.
+    ///
+    /// # Errors
+    /// - `AllocError` if out of memory.
     pub fn new(
         alloc: Global,
         name: &str,
@@ -80,7 +84,7 @@ impl PackageKey {
     }
 }
 
-/// The clone is the same key, in memory of its own. Answers `AllocError` where memory ran out.
+/// `clone` is `Err(AllocError)` if out of memory.
 impl Clone for PackageKey {
     ghost is_clone = { λ a b. b ≡ a };
 
@@ -91,7 +95,7 @@ impl Clone for PackageKey {
     }
 }
 
-/// Shows `name`, or `name@version`.
+/// Writes `name` or `name@version`.
 impl fmt::Display for PackageKey {
     ghost output = { λ k. Some (key_text k) };
 

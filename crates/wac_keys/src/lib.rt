@@ -1,6 +1,6 @@
-//! The keys of packages: a name, with or without a version, under which a graph knows a package.
+//! Keys of packages: a name, with or without a version.
 //!
-//! A layer of `wac_collection`, which re-exports it. It needs nothing of types, so it is proved beside them.
+//! A graph finds its packages by [`PackageKey`]. Keys are ordered and hashed by the name and all parts of the version.
 #![tactic(auto)]
 
 mod key;
