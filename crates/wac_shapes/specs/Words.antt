@@ -1,10 +1,11 @@
--- What sort of type or item it is, in words.
+-- The sort of a type and the kind of an item, in words.
 use Rattle.std.specs.Prelude.{ℕ, List, codes}
 use Rattle.wac_shapes.specs.declared.component.«Type».{«Type» as AnyType}
 use Rattle.wac_shapes.specs.declared.component.«Type».TheVariants as ty
 use Rattle.wac_shapes.specs.declared.component.ItemKind.{ItemKind}
 use Rattle.wac_shapes.specs.declared.component.ItemKind.TheVariants as kind
 
+-- The sort of a type, in words.
 abbrev pub type_text : AnyType → List ℕ
 type_text (ty.Resource r) = codes "resource"
 type_text (ty.Func f) = codes "function type"
@@ -13,6 +14,7 @@ type_text (ty.Interface i) = codes "interface"
 type_text (ty.World w) = codes "world"
 type_text (ty.Module m) = codes "module type"
 
+-- The kind of an item, in words.
 abbrev pub kind_text : ItemKind → List ℕ
 kind_text (kind.TypeItem t) = type_text t
 kind_text (kind.Func f) = codes "function"

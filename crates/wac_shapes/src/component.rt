@@ -1,5 +1,6 @@
-//! The shapes of component types. An id is a position in its list of a collection. A clone is equal to its source, in memory of its
-//! own; where memory ran out, `clone` answers `AllocError`.
+//! Shapes of component types.
+//!
+//! Constructors copy the names and values that they are given, in order.
 ghost use Rattle.std.specs.Prelude.{◌≡◌, [], None, Some, Err, IfOk, OnOk};
 ghost use Rattle.std.specs.Option.{option_copied};
 ghost use Rattle.wac_shapes.specs.Named.{NoNameTwice, named_pairs, labelled, given_names, used_pairs};
@@ -11,56 +12,56 @@ use crate::named::{Labels, Named, Sequence, ShapeError, Text};
 use std::alloc::{AllocError, Global};
 use wac_primitives::PrimitiveType;
 
-/// A resource of a collection, by its position.
+/// The id of a resource of a collection.
 #[derive(Clone, Copy, Debug, PartialEq, Eq, PartialOrd, Ord, Hash)]
 pub struct ResourceId(
-    /// The position among the collection's resources.
+    /// The index in the collection's list of resources.
     pub usize,
 );
 
-/// A function type of a collection, by its position.
+/// The id of a function type of a collection.
 #[derive(Clone, Copy, Debug, PartialEq, Eq, PartialOrd, Ord, Hash)]
 pub struct FuncTypeId(
-    /// The position among the collection's function types.
+    /// The index in the collection's list of function types.
     pub usize,
 );
 
-/// A defined type of a collection, by its position.
+/// The id of a defined type of a collection.
 #[derive(Clone, Copy, Debug, PartialEq, Eq, PartialOrd, Ord, Hash)]
 pub struct DefinedTypeId(
-    /// The position among the collection's defined types.
+    /// The index in the collection's list of defined types.
     pub usize,
 );
 
-/// An interface of a collection, by its position.
+/// The id of an interface of a collection.
 #[derive(Clone, Copy, Debug, PartialEq, Eq, PartialOrd, Ord, Hash)]
 pub struct InterfaceId(
-    /// The position among the collection's interfaces.
+    /// The index in the collection's list of interfaces.
     pub usize,
 );
 
-/// A world of a collection, by its position.
+/// The id of a world of a collection.
 #[derive(Clone, Copy, Debug, PartialEq, Eq, PartialOrd, Ord, Hash)]
 pub struct WorldId(
-    /// The position among the collection's worlds.
+    /// The index in the collection's list of worlds.
     pub usize,
 );
 
-/// The type of a core module in a collection, by its position.
+/// The id of the type of a core module of a collection.
 #[derive(Clone, Copy, Debug, PartialEq, Eq, PartialOrd, Ord, Hash)]
 pub struct ModuleTypeId(
-    /// The position among the collection's types of core modules.
+    /// The index in the collection's list of module types.
     pub usize,
 );
 
 /// A value type.
 #[derive(Clone, Copy, Debug, PartialEq, Eq, Hash)]
 pub enum ValueType {
-    /// A primitive.
+    /// A primitive type.
     Primitive(PrimitiveType),
-    /// A handle to a resource that is lent.
+    /// A borrowed handle to a resource.
     Borrow(ResourceId),
-    /// A handle to a resource that is owned.
+    /// An owned handle to a resource.
     Own(ResourceId),
     /// A defined type.
     Defined(DefinedTypeId),
@@ -83,7 +84,7 @@ pub enum Type {
     Module(ModuleTypeId),
 }
 
-/// What an import or export is.
+/// The kind of an import or export.
 #[derive(Clone, Copy, Debug, PartialEq, Eq, Hash)]
 pub enum ItemKind {
     /// A type.
@@ -101,7 +102,7 @@ pub enum ItemKind {
 }
 
 impl Type {
-    /// What sort of type it is, in words.
+    /// Returns the sort of the type, in words.
     pub fn desc(&self) -> &'static str
         ensures { result.now ≡ type_text self.now }
     {
@@ -117,7 +118,7 @@ impl Type {
 }
 
 impl ItemKind {
-    /// The type that an item is of.
+    /// Returns the type of the item; of a type item, the type itself.
     pub fn ty(&self) -> Type
         ensures { result ≡ kind_type self.now }
     {
@@ -131,8 +132,9 @@ impl ItemKind {
         }
     }
 
-    /// The item that a type item stands for where it is of a function type, an interface, a world or the type of a
-    /// core module; any other item itself.
+    /// Returns the item whose type a type item is: a function, an instance, a component or a core module.
+    ///
+    /// Any other item is returned unchanged.
     pub fn promote(&self) -> ItemKind
         ensures { result ≡ promoted self.now }
     {
@@ -145,7 +147,7 @@ impl ItemKind {
         }
     }
 
-    /// What sort of item it is, in words. Takes the collection as well, and does not look at it.
+    /// Returns the kind of the item, in words. The types are not read; upstream's method takes them too.
     pub fn desc<T>(&self, _types: &T) -> &'static str
         ensures { result.now ≡ kind_text self.now }
     {
@@ -160,24 +162,25 @@ impl ItemKind {
     }
 }
 
-/// Where a resource comes from that is another's alias.
+/// The source of a resource that is an alias.
 #[derive(Clone, Copy, Debug, PartialEq, Eq, Hash)]
 pub struct ResourceAlias {
-    /// The interface that owns the resource, where one does.
+    /// The interface that owns the source, if one does.
     pub owner: Option<InterfaceId>,
-    /// The resource that it is an alias of.
+    /// The resource that is aliased.
     pub source: ResourceId,
 }
 
-/// A resource.
+/// A resource type.
 #[derive(Clone, Debug, PartialEq, Eq)]
 pub struct Resource {
-    /// Its name.
+    /// The name of the resource.
     pub name: Text,
-    /// The resource that it is an alias of, where it is one.
+    /// The source, if the resource is an alias.
     pub alias: Option<ResourceAlias>,
 }
 
+// `Drop` is by hand here and below: a derived one is proved again at each use (docs/PROOFS.md, 'Drop').
 impl Drop for Resource {
     fn drop(self) {
         let Resource { name: _, alias: _ } = self;
@@ -185,7 +188,10 @@ impl Drop for Resource {
 }
 
 impl Resource {
-    /// A resource that is no alias.
+    /// Returns a resource that is not an alias.
+    ///
+    /// # Errors
+    /// - `AllocError` if out of memory.
     pub fn new(alloc: Global, name: &str) -> Result<Resource, AllocError>
         ensures { IfOk result (λ r. r ≡ record { name = name.now; alias = None }) }
     {
@@ -193,7 +199,10 @@ impl Resource {
         Ok(Resource { name, alias: None })
     }
 
-    /// An alias of a resource. The owner is the interface that owns the resource, where one does.
+    /// Returns an alias of a resource. `owner` is the interface that owns the source, if one does.
+    ///
+    /// # Errors
+    /// - `AllocError` if out of memory.
     pub fn alias(
         alloc: Global,
         name: &str,
@@ -208,10 +217,10 @@ impl Resource {
     }
 }
 
-/// A variant.
+/// A variant type.
 #[derive(Clone, Debug, PartialEq, Eq)]
 pub struct Variant {
-    /// The cases, in order, each with the type of its payload where it has one.
+    /// The cases, in order. A case has the type of its payload, if it has a payload.
     pub cases: Named<Option<ValueType>>,
 }
 
@@ -222,7 +231,11 @@ impl Drop for Variant {
 }
 
 impl Variant {
-    /// A variant with these cases, in the order given. Answers `NameTwice` where a name is given twice, and `OutOfMemory` where memory ran out.
+    /// Returns a variant with these cases.
+    ///
+    /// # Errors
+    /// - [`NameTwice`](ShapeError::NameTwice) if a name occurs twice.
+    /// - [`OutOfMemory`](ShapeError::OutOfMemory).
     pub fn new(alloc: Global, cases: &[(&str, Option<ValueType>)]) -> Result<Variant, ShapeError>
         ensures built { IfOk result (λ r. r ≡ record { cases = named_pairs cases.now }) }
         ensures names { OnOk result (NoNameTwice (named_pairs cases.now)) }
@@ -233,7 +246,7 @@ impl Variant {
     }
 }
 
-/// A record.
+/// A record type.
 #[derive(Clone, Debug, PartialEq, Eq)]
 pub struct Record {
     /// The fields, in order.
@@ -247,7 +260,11 @@ impl Drop for Record {
 }
 
 impl Record {
-    /// A record with these fields, in the order given. Answers `NameTwice` where a name is given twice, and `OutOfMemory` where memory ran out.
+    /// Returns a record with these fields.
+    ///
+    /// # Errors
+    /// - [`NameTwice`](ShapeError::NameTwice) if a name occurs twice.
+    /// - [`OutOfMemory`](ShapeError::OutOfMemory).
     pub fn new(alloc: Global, fields: &[(&str, ValueType)]) -> Result<Record, ShapeError>
         ensures built { IfOk result (λ r. r ≡ record { fields = named_pairs fields.now }) }
         ensures names { OnOk result (NoNameTwice (named_pairs fields.now)) }
@@ -258,7 +275,7 @@ impl Record {
     }
 }
 
-/// Flags.
+/// A flags type.
 #[derive(Clone, Debug, PartialEq, Eq)]
 pub struct Flags(pub Labels);
 
@@ -269,7 +286,11 @@ impl Drop for Flags {
 }
 
 impl Flags {
-    /// Flags of these names, in the order given. Answers `NameTwice` where a name is given twice, and `OutOfMemory` where memory ran out.
+    /// Returns flags with these names.
+    ///
+    /// # Errors
+    /// - [`NameTwice`](ShapeError::NameTwice) if a name occurs twice.
+    /// - [`OutOfMemory`](ShapeError::OutOfMemory).
     pub fn new(alloc: Global, names: &[&str]) -> Result<Flags, ShapeError>
         ensures built { IfOk result (λ r. r.0 ≡ given_names names.now) }
         ensures names { OnOk result (NoNameTwice (labelled (given_names names.now))) }
@@ -280,7 +301,7 @@ impl Flags {
     }
 }
 
-/// An enumeration.
+/// An enum type.
 #[derive(Clone, Debug, PartialEq, Eq)]
 pub struct Enum(pub Labels);
 
@@ -291,7 +312,11 @@ impl Drop for Enum {
 }
 
 impl Enum {
-    /// An enumeration of these names, in the order given. Answers `NameTwice` where a name is given twice, and `OutOfMemory` where memory ran out.
+    /// Returns an enum with these cases.
+    ///
+    /// # Errors
+    /// - [`NameTwice`](ShapeError::NameTwice) if a name occurs twice.
+    /// - [`OutOfMemory`](ShapeError::OutOfMemory).
     pub fn new(alloc: Global, names: &[&str]) -> Result<Enum, ShapeError>
         ensures built { IfOk result (λ r. r.0 ≡ given_names names.now) }
         ensures names { OnOk result (NoNameTwice (labelled (given_names names.now))) }
@@ -302,37 +327,37 @@ impl Enum {
     }
 }
 
-/// A value type with a definition.
+/// A defined value type.
 #[derive(Clone, Debug, PartialEq, Eq)]
 pub enum DefinedType {
-    /// A tuple of these types.
+    /// A tuple of values of these types.
     Tuple(Sequence<ValueType>),
-    /// A list of a type.
+    /// A list of values of a type.
     List(ValueType),
-    /// A list of a type that has this length.
+    /// A list of values of a type, with this length.
     FixedSizeList(ValueType, u32),
-    /// A value of a type, or none.
+    /// An optional value of a type.
     Option(ValueType),
     /// A result.
     Result {
-        /// The type of its value where it is one, if it has one.
+        /// The type of the `ok` payload, if there is one.
         ok: Option<ValueType>,
-        /// The type of its error where it is one, if it has one.
+        /// The type of the `error` payload, if there is one.
         err: Option<ValueType>,
     },
-    /// A variant.
+    /// A variant type.
     Variant(Variant),
-    /// A record.
+    /// A record type.
     Record(Record),
-    /// Flags.
+    /// A flags type.
     Flags(Flags),
-    /// An enumeration.
+    /// An enum type.
     Enum(Enum),
-    /// Another name for a type.
+    /// Another name for a value type.
     Alias(ValueType),
-    /// A stream, of a type where it has one.
+    /// A stream, with the type of its elements if there is one.
     Stream(Option<ValueType>),
-    /// A future, of a type where it has one.
+    /// A future, with the type of its value if there is one.
     Future(Option<ValueType>),
 }
 
@@ -356,7 +381,10 @@ impl Drop for DefinedType {
 }
 
 impl DefinedType {
-    /// A tuple of these types.
+    /// Returns the tuple of these types.
+    ///
+    /// # Errors
+    /// - `AllocError` if out of memory.
     pub fn tuple(alloc: Global, types: &[ValueType]) -> Result<DefinedType, AllocError>
         ensures { IfOk result (λ d. d ≡ Tuple types.now) }
     {
@@ -370,9 +398,9 @@ impl DefinedType {
 pub struct FuncType {
     /// The parameters, in order.
     pub params: Named<ValueType>,
-    /// The type of the result.
+    /// The type of the result, if there is one.
     pub result: Option<ValueType>,
-    /// Whether it is asynchronous.
+    /// Whether the function is async.
     pub is_async: bool,
 }
 
@@ -387,7 +415,11 @@ impl Drop for FuncType {
 }
 
 impl FuncType {
-    /// A function type, its parameters in the order given. Answers `NameTwice` where a name is given twice, and `OutOfMemory` where memory ran out.
+    /// Returns a function type with these parameters, this result and this asynchrony.
+    ///
+    /// # Errors
+    /// - [`NameTwice`](ShapeError::NameTwice) if a parameter's name occurs twice.
+    /// - [`OutOfMemory`](ShapeError::OutOfMemory).
     pub fn new(
         alloc: Global,
         params: &[(&str, ValueType)],
@@ -407,12 +439,12 @@ impl FuncType {
     }
 }
 
-/// A type that is taken from another interface.
+/// A type that an interface or a world uses from an interface.
 #[derive(Clone, Debug, PartialEq, Eq)]
 pub struct UsedType {
-    /// The interface that it is taken from.
+    /// The interface that exports the type.
     pub interface: InterfaceId,
-    /// Its name there; none where it is the name that it is used under.
+    /// The type's name in that interface, if it differs from the name in the user.
     pub name: Option<Text>,
 }
 
@@ -425,7 +457,7 @@ impl Drop for UsedType {
     }
 }
 
-// The types that triples stand for, each under the name that it is used under.
+// Builds used types from triples: the name in the user, the interface, and the name there if it differs.
 fn used_types(
     alloc: Global,
     uses: &[(&str, InterfaceId, Option<&str>)],
@@ -457,9 +489,9 @@ fn used_types(
 pub struct Interface {
     /// The interface's name, as `namespace:package/interface`.
     pub id: Option<Text>,
-    /// The types that it takes from other interfaces, by the names that it uses them under.
+    /// The types that it uses from other interfaces, by their names here.
     pub uses: Named<UsedType>,
-    /// What it exports, in order.
+    /// The exports, in order.
     pub exports: Named<ItemKind>,
 }
 
@@ -474,8 +506,11 @@ impl Drop for Interface {
 }
 
 impl Interface {
-    /// An interface that uses no other, its exports in the order given. Answers `NameTwice` where a name is given twice, and
-    /// `OutOfMemory` where memory ran out.
+    /// Returns an interface with these exports that uses no type from another.
+    ///
+    /// # Errors
+    /// - [`NameTwice`](ShapeError::NameTwice) if an export's name occurs twice.
+    /// - [`OutOfMemory`](ShapeError::OutOfMemory).
     pub fn new(
         alloc: Global,
         id: Option<&str>,
@@ -488,9 +523,13 @@ impl Interface {
         Interface::with_uses(alloc, id, &[], exports)
     }
 
-    /// An interface, its exports in the order given. Each use is the name that a type is used under, the interface that it is taken
-    /// from, and its name there where that is another. Answers `NameTwice` where a name is given twice among the uses or among the
-    /// exports, and `OutOfMemory` where memory ran out.
+    /// Returns an interface with these used types and exports.
+    ///
+    /// A use is the type's name here, the interface that exports it, and its name there if it differs.
+    ///
+    /// # Errors
+    /// - [`NameTwice`](ShapeError::NameTwice) if a name occurs twice in the uses, or twice in the exports.
+    /// - [`OutOfMemory`](ShapeError::OutOfMemory).
     pub fn with_uses(
         alloc: Global,
         id: Option<&str>,
@@ -515,11 +554,11 @@ impl Interface {
 pub struct World {
     /// The world's name, as `namespace:package/world`.
     pub id: Option<Text>,
-    /// The types that it takes from interfaces, by the names that it uses them under.
+    /// The types that it uses from interfaces, by their names here.
     pub uses: Named<UsedType>,
-    /// What it imports, in order.
+    /// The imports, in order.
     pub imports: Named<ItemKind>,
-    /// What it exports, in order.
+    /// The exports, in order.
     pub exports: Named<ItemKind>,
 }
 
@@ -535,8 +574,11 @@ impl Drop for World {
 }
 
 impl World {
-    /// A world that uses no interface, its imports and exports in the order given. Answers `NameTwice` where a name is given twice
-    /// among the imports or among the exports, and `OutOfMemory` where memory ran out.
+    /// Returns a world with these imports and exports that uses no type from an interface.
+    ///
+    /// # Errors
+    /// - [`NameTwice`](ShapeError::NameTwice) if a name occurs twice in the imports, or twice in the exports.
+    /// - [`OutOfMemory`](ShapeError::OutOfMemory).
     pub fn new(
         alloc: Global,
         id: Option<&str>,
@@ -550,9 +592,13 @@ impl World {
         World::with_uses(alloc, id, &[], imports, exports)
     }
 
-    /// A world, its imports and exports in the order given. Each use is the name that a type is used under, the interface that it
-    /// is taken from, and its name there where that is another. Answers `NameTwice` where a name is given twice among the uses, the
-    /// imports or the exports, and `OutOfMemory` where memory ran out.
+    /// Returns a world with these used types, imports and exports.
+    ///
+    /// A use is the type's name here, the interface that exports it, and its name there if it differs.
+    ///
+    /// # Errors
+    /// - [`NameTwice`](ShapeError::NameTwice) if a name occurs twice in the uses, the imports or the exports.
+    /// - [`OutOfMemory`](ShapeError::OutOfMemory).
     pub fn with_uses(
         alloc: Global,
         id: Option<&str>,
@@ -579,7 +625,7 @@ impl World {
     }
 }
 
-// The text, in memory of its own.
+// Copies an optional string into a `Text`.
 fn optional_text(alloc: Global, text: Option<&str>) -> Result<Option<Text>, AllocError>
     ensures { IfOk result (λ t. t ≡ option_copied text.entry) }
 {

@@ -1,4 +1,4 @@
-//! The shapes of core types. A clone is equal to its source, in memory of its own; where memory ran out, `clone` answers `AllocError`.
+//! Shapes of core types.
 
 ghost use Rattle.std.specs.Prelude.{◌≡◌, ◌++◌, ◌∷◌, ◌↔◌, [], Err, IfOk, OnOk, OnErr, IsSome};
 ghost use Rattle.wac_primitives.specs.Name.{find_name};
@@ -18,6 +18,7 @@ pub struct CoreFuncType {
     pub results: Sequence<CoreType>,
 }
 
+// `Drop` is by hand here and below: a derived one is proved again at each use (docs/PROOFS.md, 'Drop').
 impl Drop for CoreFuncType {
     fn drop(self) {
         let CoreFuncType {
@@ -28,7 +29,10 @@ impl Drop for CoreFuncType {
 }
 
 impl CoreFuncType {
-    /// The type of a core function with these parameters and results.
+    /// Returns the type of a core function with these parameters and results.
+    ///
+    /// # Errors
+    /// - `AllocError` if out of memory.
     pub fn new(
         alloc: Global,
         params: &[CoreType],
@@ -42,7 +46,7 @@ impl CoreFuncType {
     }
 }
 
-/// What a core module imports or exports.
+/// The type of an import or export of a core module.
 #[derive(Clone, Debug, Drop, PartialEq, Eq)]
 pub enum CoreExtern {
     /// A function.
@@ -51,35 +55,35 @@ pub enum CoreExtern {
     Table {
         /// The type of its elements.
         element_type: CoreRefType,
-        /// How many elements it has at least.
+        /// The minimum number of elements.
         initial: u64,
-        /// How many elements it has at most, where that is bounded.
+        /// The maximum number of elements, if there is one.
         maximum: Option<u64>,
-        /// Whether its indexes have 64 bits.
+        /// Whether indexes are 64-bit.
         table64: bool,
-        /// Whether it is shared between threads.
+        /// Whether the table is shared between threads.
         shared: bool,
     },
     /// A memory.
     Memory {
-        /// Whether its addresses have 64 bits.
+        /// Whether addresses are 64-bit.
         memory64: bool,
-        /// Whether it is shared between threads.
+        /// Whether the memory is shared between threads.
         shared: bool,
-        /// How many pages it has at least.
+        /// The minimum number of pages.
         initial: u64,
-        /// How many pages it has at most, where that is bounded.
+        /// The maximum number of pages, if there is one.
         maximum: Option<u64>,
-        /// The logarithm of the size of a page, where it is not the usual one.
+        /// The base-2 logarithm of the page size, if it is not the default.
         page_size_log2: Option<u32>,
     },
     /// A global.
     Global {
         /// The type of its value.
         val_type: CoreType,
-        /// Whether it can be set.
+        /// Whether the global is mutable.
         mutable: bool,
-        /// Whether it is shared between threads.
+        /// Whether the global is shared between threads.
         shared: bool,
     },
     /// A tag.
@@ -89,9 +93,9 @@ pub enum CoreExtern {
 /// The type of a core module.
 #[derive(Clone, Debug, PartialEq, Eq)]
 pub struct ModuleType {
-    /// What it imports, by module and name, in order.
+    /// The imports, by module and name, in order.
     pub imports: CoreImports<CoreExtern>,
-    /// What it exports, in order.
+    /// The exports, in order.
     pub exports: Named<CoreExtern>,
 }
 
@@ -105,7 +109,7 @@ impl Drop for ModuleType {
 }
 
 impl ModuleType {
-    /// The type of a core module that imports and exports nothing.
+    /// Returns the type of a core module without imports and exports.
     pub fn new(alloc: Global) -> ModuleType
         ensures { result ≡ record { imports = []; exports = [] } }
     {
@@ -115,8 +119,13 @@ impl ModuleType {
         }
     }
 
-    /// Adds an import, behind the others. Answers `NameTwice` where the name is imported already from that module, and
-    /// `OutOfMemory` where memory ran out; then nothing has changed.
+    /// Appends an import.
+    ///
+    /// # Errors
+    /// - [`NameTwice`](ShapeError::NameTwice) if the module already has an import of this name.
+    /// - [`OutOfMemory`](ShapeError::OutOfMemory).
+    ///
+    /// On an error nothing changes.
     pub fn import(
         &mut self,
         alloc: Global,
@@ -131,8 +140,13 @@ impl ModuleType {
         self.imports.insert(alloc, source, name, item)
     }
 
-    /// Adds an export, behind the others. Answers `NameTwice` where the name is exported already, and `OutOfMemory` where memory
-    /// ran out; then nothing has changed.
+    /// Appends an export.
+    ///
+    /// # Errors
+    /// - [`NameTwice`](ShapeError::NameTwice) if there already is an export of this name.
+    /// - [`OutOfMemory`](ShapeError::OutOfMemory).
+    ///
+    /// On an error nothing changes.
     pub fn export(&mut self, alloc: Global, name: &str, item: CoreExtern) -> Result<(), ShapeError>
         ensures exported { OnOk result (self.new ≡ record self.old { exports = self.old.exports ++ (name.now, item) ∷ [] }) }
         ensures refused { OnErr result (self.new ≡ self.old) }

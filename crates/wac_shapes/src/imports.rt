@@ -1,4 +1,4 @@
-//! Values under a module and a name, in the order given.
+//! Values by module and name, in the order given.
 ghost use Rattle.std.specs.Prelude.{◌≡◌, ◌<◌, ◌++◌, ◌∷◌, ◌↔◌, IsTrue, List, [], length, slice_get, Some, Err, OnOk, OnErr, IsSome};
 ghost use Rattle.std.specs.Cmp.Lexicographic.{pointwise, lists_per, lists_equiv};
 ghost use Rattle.std.specs.Iterator.{YieldsFirstBy, item_count};
@@ -12,7 +12,7 @@ use std::alloc::{AllocError, Global};
 use std::fmt;
 use std::marker::Model;
 
-// A module and a name where they are, to look up what stands under them.
+// A borrowed module and name, to look up a value without a copy of them.
 #[derive(Clone, Copy, PartialEq, Eq, Hash)]
 struct ImportKey<'a> {
     source: &'a str,
@@ -31,11 +31,12 @@ impl<'a> Equivalent<(String, String)> for ImportKey<'a> {
     }
 }
 
-/// Values under a module and a name, in the order given. No name of a module stands twice. It shows as a map.
+/// Values by module and name, in insertion order. No name of a module occurs twice. `Debug` writes a map.
 pub struct CoreImports<V> {
     entries: IndexMap<(String, String), V>,
 }
 
+// By hand: a derived `Drop` is proved again at each use (docs/PROOFS.md, 'Drop').
 impl<V: Drop> Drop for CoreImports<V> {
     fn drop(self) {
         let CoreImports { entries: _ } = self;
@@ -48,7 +49,7 @@ impl<V> Model for CoreImports<V> {
     ghost view = { λ i. by_pairs i.entries.entries };
 }
 
-/// The clone has the same modules and names in the same order, and under them clones of the values. Answers `AllocError` where memory ran out.
+/// `clone` clones each value, and is `Err(AllocError)` if out of memory.
 impl<V: Clone> Clone for CoreImports<V> {
     ghost is_clone = { λ a b. AllZip (IsImportClone V.is_clone) a b };
 
@@ -58,7 +59,7 @@ impl<V: Clone> Clone for CoreImports<V> {
     }
 }
 
-/// They are equal where the same names of the same modules stand in the same order, each with an equal value.
+/// Equality compares modules, names and values in order.
 impl<V: PartialEq> PartialEq for CoreImports<V> {
     ghost eq = { pointwise (same_import V.eq) };
 
@@ -79,7 +80,7 @@ impl<V: fmt::Debug> fmt::Debug for CoreImports<V> {
     }
 }
 
-/// Values under a module and a name that are still to come, in order.
+/// An iterator over the modules, names and values of [`CoreImports`], in order.
 #[derive(Debug, Drop)]
 pub struct CoreImportEntries<'a, V> {
     entries: map::Iter<'a, (String, String), V>,
@@ -117,7 +118,7 @@ impl<'a, V> IntoIterator for &'a CoreImports<V> {
 }
 
 impl<V> CoreImports<V> {
-    /// Nothing under any module.
+    /// Returns no values.
     pub fn new(alloc: Global) -> CoreImports<V>
         ensures { result ≡ [] }
     {
@@ -126,16 +127,16 @@ impl<V> CoreImports<V> {
         }
     }
 
-    /// The law of all values under a module and a name: no name of a module stands twice.
+    /// Proof only: no name of a module occurs twice (docs/PROOFS.md, 'Laws').
     #[tactic(auto, using(crate::proofs::Pairs::once_by_pairs))]
     pub fn law(&self)
         ensures { NoImportTwice self.now }
     {
-        // The length comes with the law that no key of the map stands twice.
+        // Proof only: the keys of a map are distinct.
         let _ = self.entries.len();
     }
 
-    /// The values under their modules and names, in order.
+    /// Returns an iterator over the modules, names and values, in order.
     pub fn iter(&self) -> CoreImportEntries<'_, V>
         ensures { result ≡ self.now }
     {
@@ -144,28 +145,28 @@ impl<V> CoreImports<V> {
         }
     }
 
-    /// How many there are.
+    /// The number of values.
     pub fn len(&self) -> usize
         ensures { result ≡ length self.now }
     {
         self.entries.len()
     }
 
-    /// Whether there is none.
+    /// Whether there are no values.
     pub fn is_empty(&self) -> bool
         ensures { IsTrue result ↔ (self.now ≡ []) }
     {
         self.entries.is_empty()
     }
 
-    /// The value under a module and a name.
+    /// Returns the value of a module and a name, if they are there.
     pub fn get(&self, source: &str, name: &str) -> Option<&V>
         ensures { option_copied result ≡ find_import self.now source.now name.now }
     {
         self.entries.get(ImportKey { source, name })
     }
 
-    /// The module, the name and the value at a position, which is one of the list.
+    /// Returns the module, the name and the value at `index`, which must be less than [`len`](Self::len).
     pub fn entry_at(&self, index: usize) -> ((&str, &str), &V)
         requires { index < length self.now }
         ensures { slice_get self.now index ≡ Some ((result.0.0.now, result.0.1.now), result.1.now) }
@@ -176,8 +177,13 @@ impl<V> CoreImports<V> {
 }
 
 impl<V: Drop> CoreImports<V> {
-    /// Puts a value under a new name of a module, behind the others. Answers `NameTwice` where the name is there under that module,
-    /// and `OutOfMemory` where memory ran out; then nothing has changed.
+    /// Appends a value under a module and a name.
+    ///
+    /// # Errors
+    /// - [`NameTwice`](ShapeError::NameTwice) if the module already has this name.
+    /// - [`OutOfMemory`](ShapeError::OutOfMemory).
+    ///
+    /// On an error nothing changes.
     pub fn insert(
         &mut self,
         alloc: Global,

@@ -1,4 +1,7 @@
-//! The shapes of component types and of core types, and the ids by which they mention each other.
+//! Shapes of component types and of core types, as plain data, and the ids by which they mention each other.
+//!
+//! An id is an index into a list of a collection; shapes alone do not check that it is in range. Names keep the order
+//! in which they were added, and none occurs twice. A `clone` is deep, and is `Err(AllocError)` if out of memory.
 #![tactic(auto)]
 
 mod component;

@@ -1,4 +1,4 @@
-//! Values under names in a map, where there is one.
+//! The part of a list of named values that is in a hash map.
 ghost use Rattle.std.specs.Prelude.{◌≡◌, ◌<◌, ◌^◌, ◌++◌, ◌∷◌, ℕ, List, IsTrue, IfSome, [], length, slice_get, Some, None, IfOk, OnOk, OnErr, string_bytes};
 ghost use Rattle.std.specs.Option.{option_map};
 ghost use Rattle.wac_primitives.specs.Name.{Name, find_name};
@@ -8,7 +8,7 @@ use indexmap::{IndexMap, map};
 use std::alloc::{AllocError, Global};
 use std::marker::Model;
 
-// Values under names, in order, in a map where there is one.
+// Named values in order, in a map. There is no map until the first value, unless room was asked for.
 #[derive(Drop)]
 pub(crate) struct Rest<V> {
     map: Option<Box<IndexMap<String, V>>>,
@@ -34,14 +34,14 @@ impl<V: Clone> Clone for Rest<V> {
 }
 
 impl<V> Rest<V> {
-    // Without a map.
+    // Returns no values, without a map.
     pub(crate) fn new() -> Rest<V>
         ensures { result ≡ [] }
     {
         Rest { map: None }
     }
 
-    // A map with room for so many values.
+    // Returns no values, with a map that has room for `count`.
     pub(crate) fn with_capacity(alloc: Global, count: usize) -> Result<Rest<V>, AllocError>
         ensures { IfOk result (λ r. r ≡ []) }
     {
@@ -55,7 +55,7 @@ impl<V> Rest<V> {
         }
     }
 
-    // Whether there is no map, and so no value.
+    // Whether there is no map; then there are no values.
     pub(crate) fn is_unmapped(&self) -> bool
         ensures { IsTrue result → self.now ≡ [] }
     {
@@ -65,7 +65,7 @@ impl<V> Rest<V> {
         }
     }
 
-    // The values under their names, in order.
+    // Returns an iterator over the names and values, in order.
     pub(crate) fn iter(&self) -> map::Iter<'_, String, V>
         ensures { by_bytes result ≡ self.now }
     {
@@ -75,19 +75,19 @@ impl<V> Rest<V> {
         }
     }
 
-    // The position of a name, and the value under it.
+    // Returns the index and the value of a name, if it is there.
     pub(crate) fn get_full(&self, name: &str) -> Option<(usize, &V)>
         ensures found { option_map (λ p. (p.0, p.1.now)) result ≡ named_at 0 name.now self.now }
         ensures small { IfSome result (λ p. p.0 < 2 ^ 63) }
     {
         let map = self.map.as_ref()?;
-        // The length comes with the law that no key of the map stands twice, and with its bound.
+        // Proof only: the keys are distinct, and there are fewer than 2^63 (docs/PROOFS.md, 'Laws').
         let _ = map.len();
         let (index, _, value) = map.get_full(name)?;
         Some((index, value))
     }
 
-    // How many there are.
+    // The number of values.
     pub(crate) fn len(&self) -> usize
         ensures len { result ≡ length self.now }
         ensures small { result < 2 ^ 63 }
@@ -98,7 +98,7 @@ impl<V> Rest<V> {
         }
     }
 
-    // The name and the value at a position, which is one of the list.
+    // Returns the name and the value at an index in range.
     pub(crate) fn entry_at(&self, index: usize) -> (&str, &V)
         requires { index < length self.now }
         ensures { slice_get self.now index ≡ Some (result.0.now, result.1.now) }
@@ -109,7 +109,7 @@ impl<V> Rest<V> {
     }
 }
 
-// Puts a value under a name that a map does not have, behind the others. Where memory ran out, nothing has changed.
+// Appends a value to a map under a name that is not there. If out of memory, the map is unchanged.
 fn put<V: Drop>(map: &mut IndexMap<String, V>, name: String, value: V) -> Result<(), AllocError>
     requires { find_name (by_bytes map.old.entries) (string_bytes name) ≡ None }
     ensures put { OnOk result (by_bytes map.new.entries ≡ by_bytes map.old.entries ++ (string_bytes name, value) ∷ []) }
@@ -122,7 +122,7 @@ fn put<V: Drop>(map: &mut IndexMap<String, V>, name: String, value: V) -> Result
 }
 
 impl<V: Drop> Rest<V> {
-    // Puts a value under a name that is not there, behind the others. Where memory ran out, nothing has changed.
+    // Appends a value under a name that is not there. If out of memory, nothing changes.
     pub(crate) fn put(&mut self, alloc: Global, name: String, value: V) -> Result<(), AllocError>
         requires { find_name self.old (string_bytes name) ≡ None }
         ensures put { OnOk result (self.new ≡ self.old ++ (string_bytes name, value) ∷ []) }

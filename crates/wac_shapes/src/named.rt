@@ -1,4 +1,4 @@
-//! Texts, and values under names in order.
+//! Strings, lists, and values by name, in the order given.
 ghost use Rattle.std.specs.Prelude.{◌≡◌, ◌<◌, ◌++◌, ◌∷◌, ◌↔◌, ℕ, List, [], length, slice_get, Some, Err, IfOk, OnOk, OnErr, IsOk, IsSome, string_bytes};
 ghost use Rattle.std.specs.Cmp.{partial_equiv_from_equiv};
 ghost use Rattle.std.specs.Cmp.Lexicographic.{pointwise, lists_per, lists_equiv};
@@ -18,23 +18,23 @@ use std::marker::Model;
 use std::{fmt, slice};
 use thiserror::Error;
 
-/// Why a shape is not built.
+/// Why a shape is not built. Names are added in order, and the first that fails decides.
 #[derive(Clone, Copy, Debug, PartialEq, Eq, Error)]
 pub enum ShapeError {
-    /// A name is given twice.
+    /// A name occurs twice.
     #[error("NameTwice")]
     NameTwice,
-    /// Memory ran out.
+    /// Out of memory.
     #[error("OutOfMemory")]
     OutOfMemory,
 }
 
-/// A text. It shows as the text in quotes.
+/// A string. `Debug` writes it in quotes.
 pub struct Text {
     text: String,
 }
 
-/// What texts, sequences, labels and values under names hold is let go of here, and not anew by each crate that drops one.
+// `Drop` is by hand here and below: a derived one is proved again at each use (docs/PROOFS.md, 'Drop').
 impl Drop for Text {
     fn drop(self) {
         let Text { text: _ } = self;
@@ -49,7 +49,7 @@ impl Model for Text {
     ghost view = { λ t. string_bytes t.text };
 }
 
-/// The clone is the same text, in memory of its own. Answers `AllocError` where memory ran out.
+/// `clone` is `Err(AllocError)` if out of memory.
 impl Clone for Text {
     ghost is_clone = { λ a b. b ≡ a };
 
@@ -60,7 +60,7 @@ impl Clone for Text {
     }
 }
 
-/// Texts are equal where their bytes are.
+/// Equality compares bytes.
 impl PartialEq for Text {
     ghost eq = { same_text };
 
@@ -82,7 +82,10 @@ impl fmt::Debug for Text {
 }
 
 impl Text {
-    /// The text, in memory of its own.
+    /// Copies a string.
+    ///
+    /// # Errors
+    /// - `AllocError` if out of memory.
     pub fn new(alloc: Global, text: &str) -> Result<Text, AllocError>
         ensures { IfOk result (λ t. t ≡ text.now) }
     {
@@ -90,7 +93,7 @@ impl Text {
         Ok(Text { text })
     }
 
-    /// The text.
+    /// The string.
     pub fn as_str(&self) -> &str
         ensures { result.now ≡ self.now }
     {
@@ -98,7 +101,7 @@ impl Text {
     }
 }
 
-/// Values in order. It shows as a list.
+/// A list of values. `Debug` writes a list.
 pub struct Sequence<T> {
     items: Vec<T>,
 }
@@ -115,7 +118,7 @@ impl<T> Model for Sequence<T> {
     ghost view = { λ s. s.items.items };
 }
 
-/// The clone has clones of the values, in the same order. Answers `AllocError` where memory ran out.
+/// `clone` clones each value, and is `Err(AllocError)` if out of memory.
 impl<T: Clone> Clone for Sequence<T> {
     ghost is_clone = { λ a b. AllZip T.is_clone a b };
 
@@ -126,7 +129,7 @@ impl<T: Clone> Clone for Sequence<T> {
     }
 }
 
-/// Sequences are equal where they have equal values in the same order.
+/// Equality compares the values in order.
 impl<T: PartialEq> PartialEq for Sequence<T> {
     ghost eq = { pointwise T.eq };
 
@@ -160,14 +163,14 @@ impl<'a, T> IntoIterator for &'a Sequence<T> {
 }
 
 impl<T> Sequence<T> {
-    /// The values, one after another.
+    /// Returns an iterator over the values, in order.
     pub fn iter(&self) -> slice::Iter<'_, T>
         ensures { iter_rest result ≡ self.now }
     {
         self.items.iter()
     }
 
-    /// The values.
+    /// The values, in order.
     pub fn as_slice(&self) -> &[T]
         ensures { result.now ≡ self.now }
     {
@@ -176,7 +179,10 @@ impl<T> Sequence<T> {
 }
 
 impl<T: Copy> Sequence<T> {
-    /// The values, in memory of their own.
+    /// Copies a slice of values.
+    ///
+    /// # Errors
+    /// - `AllocError` if out of memory.
     pub fn new(alloc: Global, values: &[T]) -> Result<Sequence<T>, AllocError>
         ensures { IfOk result (λ s. s ≡ values.now) }
     {
@@ -186,7 +192,7 @@ impl<T: Copy> Sequence<T> {
     }
 }
 
-/// Names in order. None stands twice. It shows as a list of the names.
+/// Names in order. No name occurs twice. `Debug` writes a list.
 pub struct Labels {
     names: Named<()>,
 }
@@ -203,7 +209,7 @@ impl Model for Labels {
     ghost view = { λ l. names_of l.names };
 }
 
-/// The clone has the same names in the same order. Answers `AllocError` where memory ran out.
+/// `clone` is `Err(AllocError)` if out of memory.
 impl Clone for Labels {
     ghost is_clone = { λ a b. b ≡ a };
 
@@ -214,7 +220,7 @@ impl Clone for Labels {
     }
 }
 
-/// Labels are equal where they have the same names in the same order.
+/// Equality compares the names in order.
 impl PartialEq for Labels {
     ghost eq = { same_labels };
 
@@ -248,7 +254,11 @@ impl<'a> IntoIterator for &'a Labels {
 }
 
 impl Labels {
-    /// The names, in the order given. Answers `NameTwice` where a name is given twice, and `OutOfMemory` where memory ran out.
+    /// Copies these names, in order.
+    ///
+    /// # Errors
+    /// - [`NameTwice`](ShapeError::NameTwice) if a name occurs twice.
+    /// - [`OutOfMemory`](ShapeError::OutOfMemory).
     pub fn new(alloc: Global, names: &[&str]) -> Result<Labels, ShapeError>
         ensures built { IfOk result (λ l. l ≡ given_names names.now) }
         ensures names { OnOk result (NoNameTwice (labelled (given_names names.now))) }
@@ -267,7 +277,7 @@ impl Labels {
         Ok(Labels { names: labels })
     }
 
-    /// The law of all names in order: none stands twice.
+    /// Proof only: no name occurs twice (docs/PROOFS.md, 'Laws').
     #[tactic(auto, using(crate::proofs::AsGiven::labelled_names_of))]
     pub fn law(&self)
         ensures { NoNameTwice (labelled self.now) }
@@ -275,14 +285,14 @@ impl Labels {
         self.names.law();
     }
 
-    /// How many there are.
+    /// The number of names.
     pub fn len(&self) -> usize
         ensures { result ≡ length self.now }
     {
         self.names.len()
     }
 
-    /// The name at a position, which is one of the list.
+    /// Returns the name at `index`, which must be less than [`len`](Self::len).
     pub fn name_at(&self, index: usize) -> &str
         requires { index < length self.now }
         ensures { slice_get self.now index ≡ Some result.now }
@@ -290,7 +300,7 @@ impl Labels {
         self.names.name_at(index)
     }
 
-    /// The names, in order.
+    /// Returns an iterator over the names, in order.
     pub fn iter(&self) -> LabelNames<'_>
         ensures { result ≡ self.now }
     {
@@ -300,7 +310,7 @@ impl Labels {
     }
 }
 
-/// Names that are still to come, in order.
+/// An iterator over the names of [`Labels`], in order.
 #[derive(Debug, Drop)]
 pub struct LabelNames<'a> {
     entries: Entries<'a, ()>,
@@ -325,13 +335,13 @@ impl<'a> Iterator for LabelNames<'a> {
     }
 }
 
-/// How many values stand in a list that is searched through, where it is not known how many there will be.
+/// The greatest number of entries that are searched one by one. Further entries go into a map.
 const FEW: usize = 32;
 
-/// How many do where it is known.
+/// The same, if the number of entries is announced. If more are announced, all go into a map.
 const FEW_KNOWN: usize = 8;
 
-// Whether two names are the same. Their lengths and their last bytes tell most names apart, and cost less than a comparison.
+// Whether two names are equal. Most unequal names already differ in length or last byte, which is cheap to compare.
 fn is_same(a: &str, b: &str) -> bool
     ensures { result ≡ bytes_eq a.now b.now }
 {
@@ -345,7 +355,7 @@ fn is_same(a: &str, b: &str) -> bool
     a == b
 }
 
-// The position of a name in a list, and the value under it.
+// Returns the index and the value of a name in a list, if it is there.
 fn found_among<'a, V>(entries: &'a [(String, V)], name: &str) -> Option<(usize, &'a V)>
     ensures { option_map (λ p. (p.0, p.1.now)) result ≡ named_at 0 name.now (by_bytes entries.now) }
 {
@@ -358,11 +368,11 @@ fn found_among<'a, V>(entries: &'a [(String, V)], name: &str) -> Option<(usize, 
     None
 }
 
-/// Values under names, in order. No name stands twice. It shows as a map.
+/// Values by name, in insertion order. No name occurs twice. `Debug` writes a map.
 pub struct Named<V> {
-    // The first ones, searched through.
+    // The first entries, searched one by one.
     few: Vec<(String, V)>,
-    // Those behind them, in a map.
+    // The entries after them, in a map.
     rest: Rest<V>,
 }
 
@@ -380,7 +390,7 @@ impl<V> Model for Named<V> {
     ghost invariant = { λ n. NoNameTwice (by_bytes n.few.items ++ n.rest) };
 }
 
-/// The clone has the same names in the same order, and under them clones of the values. Answers `AllocError` where memory ran out.
+/// `clone` clones each value, and is `Err(AllocError)` if out of memory.
 impl<V: Clone> Clone for Named<V> {
     ghost is_clone = { λ a b. AreNamedClones V.is_clone a b };
 
@@ -391,7 +401,7 @@ impl<V: Clone> Clone for Named<V> {
     }
 }
 
-/// They are equal where the same names stand in the same order, each with an equal value.
+/// Equality compares names and values in order.
 impl<V: PartialEq> PartialEq for Named<V> {
     ghost eq = { same_named V.eq };
 
@@ -420,7 +430,7 @@ impl<V: fmt::Debug> fmt::Debug for Named<V> {
     }
 }
 
-/// Values under names that are still to come, in order.
+/// An iterator over the names and values of [`Named`], in order.
 #[derive(Debug, Drop)]
 pub struct Entries<'a, V> {
     few: slice::Iter<'a, (String, V)>,
@@ -464,7 +474,7 @@ impl<'a, V> IntoIterator for &'a Named<V> {
 }
 
 impl<V> Named<V> {
-    /// Nothing under any name.
+    /// Returns no values.
     pub fn new(alloc: Global) -> Named<V>
         ensures { result ≡ [] }
     {
@@ -474,7 +484,10 @@ impl<V> Named<V> {
         }
     }
 
-    /// Nothing under any name, with room for so many values. Answers `AllocError` where memory ran out, which it does not where the room is for none.
+    /// Returns no values, with room for `count`.
+    ///
+    /// # Errors
+    /// - `AllocError` if out of memory; never if `count` is 0.
     pub fn with_capacity(alloc: Global, count: usize) -> Result<Named<V>, AllocError>
         ensures empty { IfOk result (λ n. n ≡ []) }
         ensures none { count ≡ 0 → IsOk result }
@@ -493,14 +506,14 @@ impl<V> Named<V> {
         })
     }
 
-    /// The law of all values under names: no name stands twice.
+    /// Proof only: no name occurs twice (docs/PROOFS.md, 'Laws').
     pub fn law(&self)
         ensures { NoNameTwice self.now }
     {
         let _ = &self.few;
     }
 
-    /// The values under their names, in order.
+    /// Returns an iterator over the names and values, in order.
     pub fn iter(&self) -> Entries<'_, V>
         ensures { result ≡ self.now }
     {
@@ -510,7 +523,7 @@ impl<V> Named<V> {
         }
     }
 
-    /// The value under a name.
+    /// Returns the value of a name, if it is there.
     #[tactic(auto, using(crate::proofs::Parts::found_named))]
     pub fn get(&self, name: &str) -> Option<&V>
         ensures { option_copied result ≡ find_name self.now name.now }
@@ -519,7 +532,7 @@ impl<V> Named<V> {
         Some(value)
     }
 
-    /// The position of a name, and the value under it.
+    /// Returns the index and the value of a name, if it is there.
     #[tactic(auto, using(crate::proofs::Parts::named_in_both))]
     pub fn get_full(&self, name: &str) -> Option<(usize, &V)>
         ensures { option_map (λ p. (p.0, p.1.now)) result ≡ named_at 0 name.now self.now }
@@ -533,14 +546,14 @@ impl<V> Named<V> {
         }
     }
 
-    /// How many there are.
+    /// The number of values.
     pub fn len(&self) -> usize
         ensures { result ≡ length self.now }
     {
         self.few.len() + self.rest.len()
     }
 
-    /// The name at a position, which is one of the list.
+    /// Returns the name at `index`, which must be less than [`len`](Self::len).
     pub fn name_at(&self, index: usize) -> &str
         requires { index < length self.now }
         ensures { option_map (λ e. e.0) (slice_get self.now index) ≡ Some result.now }
@@ -549,7 +562,7 @@ impl<V> Named<V> {
         name
     }
 
-    /// The name and the value at a position, which is one of the list.
+    /// Returns the name and the value at `index`, which must be less than [`len`](Self::len).
     pub fn entry_at(&self, index: usize) -> (&str, &V)
         requires { index < length self.now }
         ensures { slice_get self.now index ≡ Some (result.0.now, result.1.now) }
@@ -562,7 +575,7 @@ impl<V> Named<V> {
         }
     }
 
-    /// The value at a position, which is one of the list.
+    /// Returns the value at `index`, which must be less than [`len`](Self::len).
     pub fn value_at(&self, index: usize) -> &V
         requires { index < length self.now }
         ensures { option_map (λ e. e.1) (slice_get self.now index) ≡ Some result.now }
@@ -573,8 +586,13 @@ impl<V> Named<V> {
 }
 
 impl<V: Drop> Named<V> {
-    /// Puts a value under a new name, behind the others. Answers `NameTwice` where the name is there, and `OutOfMemory` where
-    /// memory ran out; then nothing has changed.
+    /// Appends a value under a new name.
+    ///
+    /// # Errors
+    /// - [`NameTwice`](ShapeError::NameTwice) if the name is already there.
+    /// - [`OutOfMemory`](ShapeError::OutOfMemory).
+    ///
+    /// On an error nothing changes.
     #[tactic(auto, using(crate::proofs::Parts::found_in_both))]
     pub fn insert(&mut self, alloc: Global, name: &str, value: V) -> Result<(), ShapeError>
         ensures inserted { OnOk result (self.new ≡ self.old ++ (name.now, value) ∷ []) }
@@ -601,7 +619,11 @@ impl<V: Drop> Named<V> {
 }
 
 impl<V: Copy> Named<V> {
-    /// Values under names, in the order given. Answers `NameTwice` where a name is given twice, and `OutOfMemory` where memory ran out.
+    /// Copies these names and values, in order.
+    ///
+    /// # Errors
+    /// - [`NameTwice`](ShapeError::NameTwice) if a name occurs twice.
+    /// - [`OutOfMemory`](ShapeError::OutOfMemory).
     pub fn from_pairs(alloc: Global, pairs: &[(&str, V)]) -> Result<Named<V>, ShapeError>
         ensures built { IfOk result (λ n. n ≡ named_pairs pairs.now) }
         ensures names { OnOk result (NoNameTwice (named_pairs pairs.now)) }
@@ -620,7 +642,10 @@ impl<V: Copy> Named<V> {
         Ok(named)
     }
 
-    /// The same, in memory of its own.
+    /// Copies all names and values.
+    ///
+    /// # Errors
+    /// - `AllocError` if out of memory.
     #[tactic(auto, using(crate::proofs::Names::taken))]
     pub fn copied(&self, alloc: Global) -> Result<Named<V>, AllocError>
         ensures { IfOk result (λ n. n ≡ self.now) }
