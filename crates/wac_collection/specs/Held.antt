@@ -1,4 +1,4 @@
--- The tree of a held type: what its ids mean. A Naming says what a resource is called from where it is looked at.
+-- The tree of a type of a collection. A naming gives each resource a name, by the scope in which it is used.
 use Rattle.std.specs.Prelude.{ℕ, zero, suc, Bool, if◌then◌else◌, List, [], ◌∷◌, length, map, Option, Some, None, slice_get}
 use Rattle.wac_primitives.specs.Name.{Name, same_name, find_name, option_case}
 use Rattle.wac_shapes.specs.Imports.{Pair, find_import}
@@ -23,35 +23,36 @@ use Rattle.wac_shapes.specs.declared.component.«Type».TheVariants as ty
 use Rattle.wac_shapes.specs.declared.component.ItemKind.{ItemKind}
 use Rattle.wac_shapes.specs.declared.component.ItemKind.TheVariants as kind
 
--- the end of a chain of at most so many aliases of resources
+-- The source of a resource that is an alias.
 abbrev pub source_of : Option (Held Resource) → Option ResourceId
 source_of None = None
 source_of (Some h) = option_case h.item.alias None (λ a. Some a.source)
 
+-- The end of a chain of at most n aliases of resources.
 abbrev pub resolved_in : ℕ → Collection → ResourceId → ResourceId
 resolved_in zero c r = r
 resolved_in (suc n) c r = option_case (source_of (slice_get c.resources r.0)) r (λ source. resolved_in n c source)
 
--- the resource at the end of the aliases
+-- The resource at the end of the aliases.
 abbrev pub resolved : Collection → ResourceId → ResourceId
 resolved c = resolved_in (length c.resources) c
 
--- what resources are called, where they are called anything
+-- The names of the resources that have one in a scope.
 abbrev pub Names : Type 0 → Type 0
 Names L = ResourceId → Option L
 
--- What resources are called inside an instance type and on the two sides of a component type, and which items are fresh there.
+-- The names inside an instance type and on both sides of a component type, and whether a type item is fresh there.
 pub record Naming (L : Type 0) : Type 0 where
   pub in_instance : Interface → Names L → Names L
   pub in_imports : World → Names L → Names L
   pub in_exports : World → Names L → Names L
   pub is_fresh : Names L → Side → Name × ItemKind → Bool
 
--- the tree of each type, under names of resources; a resource without a name has no tree
+-- The tree of each type, by the names of resources. A resource without a name has no tree.
 abbrev pub Unfolding : Type 0 → Type 0
 Unfolding L = Names L → AnyType → TypeTree L
 
--- what a core module imports or exports
+-- The type of an import or export of a core module.
 abbrev pub core_item : CoreExtern → CoreItem
 core_item (core.Func f) = core_function f.params f.results
 core_item (core.Table element least most wide shared) = core_table element wide shared least most
@@ -59,31 +60,32 @@ core_item (core.Memory wide shared least most page) = core_memory wide shared le
 core_item (core.Global value mutable shared) = core_global value mutable shared
 core_item (core.Tag f) = core_tag f.params f.results
 
--- the core item under a name
+-- The export of a core module under a name.
 abbrev pub core_under : List (Name × CoreExtern) → Name → CoreItem
 core_under es n = option_case (find_name es n) no_item core_item
 
--- the core item under a module and a name
+-- The import of a core module under a module and a name.
 abbrev pub core_imports : List (Pair × CoreExtern) → Name → Name → CoreItem
 core_imports es m n = option_case (find_import es m n) no_item core_item
 
 module _ {L : Type 0} where
-  -- parts in order, by position
+  -- The tree at an index.
   abbrev pub part_at : List (TypeTree L) → ℕ → TypeTree L
   part_at [] i = absent
   part_at (t ∷ ts) zero = t
   part_at (t ∷ ts) (suc i) = part_at ts i
 
-  -- items by name; the first, where a name stands twice
+  -- The tree of a name; of several, the first.
   abbrev pub items_under : List (Name × TypeTree L) → Name → TypeTree L
   items_under [] n = absent
   items_under (e ∷ rest) n = if same_name n e.0 then e.1 else items_under rest n
 
+  -- The tree of an optional type.
   abbrev pub option_tree : (ValueType → TypeTree L) → Option ValueType → TypeTree L
   option_tree t None = absent
   option_tree t (Some v) = t v
 
-  -- the tree of a definition; an alias has that of what it names
+  -- The tree of a definition; of an alias, that of its target.
   abbrev pub defined_tree : (ValueType → TypeTree L) → DefinedType → TypeTree L
   defined_tree t (def.Tuple vs) = tuple_of (length vs) (part_at (map t vs))
   defined_tree t (def.List v) = list_of (t v)
@@ -98,10 +100,11 @@ module _ {L : Type 0} where
   defined_tree t (def.Stream v) = stream_of (option_tree t v)
   defined_tree t (def.Future v) = future_of (option_tree t v)
 
+  -- The tree of a function type.
   abbrev pub func_tree : (ValueType → TypeTree L) → FuncType → TypeTree L
   func_tree t f = function f.is_async (map (λ p. p.0) f.params) (part_at (map (λ p. t p.1) f.params)) (option_tree t f.result)
 
-  -- the item that a listed kind is
+  -- The tree of an import or export.
   abbrev pub item_tree : (AnyType → TypeTree L) → Bool → ItemKind → TypeTree L
   item_tree t is_fresh (kind.TypeItem a) = if is_fresh then fresh else type_equal (t a)
   item_tree t is_fresh (kind.Func f) = function_item (t (ty.Func f))
@@ -110,32 +113,36 @@ module _ {L : Type 0} where
   item_tree t is_fresh (kind.Module m) = module_item (t (ty.Module m))
   item_tree t is_fresh (kind.Value v) = value_item (t (ty.Value v))
 
+  -- The tree of the type of a core module.
   abbrev pub module_tree : ModuleType → TypeTree L
   module_tree m = module_of (core_imports m.imports) (core_under m.exports)
 
-  -- the tree of what is held, where it is
+  -- The tree of an item, if there is one.
   abbrev pub of_held : {A : Type 0} → (A → TypeTree L) → Option (Held A) → TypeTree L
   of_held t None = absent
   of_held t (Some h) = t h.item
 
   module _ (naming : Naming L) (c : Collection) where
-    -- the items that are listed on a side, under these names of resources
+    -- The trees of a side's imports or exports, by name, with these names of resources in scope.
     abbrev pub listed_tree : Unfolding L → Names L → Side → List (Name × ItemKind) → Name → TypeTree L
     listed_tree u m side es = items_under (map (λ e. (e.0, item_tree (u m) (naming.is_fresh m side e) e.1)) es)
 
+    -- The tree of an interface.
     abbrev pub interface_tree : Unfolding L → Names L → Interface → TypeTree L
     interface_tree u m i = instance (listed_tree u (naming.in_instance i m) exported i.exports)
 
+    -- The tree of a world.
     abbrev pub world_tree : Unfolding L → Names L → World → TypeTree L
     world_tree u m w = component (listed_tree u (naming.in_imports w m) imported w.imports) (listed_tree u (naming.in_exports w m) exported w.exports)
 
+    -- The tree of a value type.
     abbrev pub value_tree : (ValueType → TypeTree L) → Names L → ValueType → TypeTree L
     value_tree t m (val.Primitive p) = primitive p
     value_tree t m (val.Own r) = option_case (m (resolved c r)) absent own
     value_tree t m (val.Borrow r) = option_case (m (resolved c r)) absent borrow
     value_tree t m (val.Defined d) = of_held (defined_tree t) (slice_get c.defined d.0)
 
-    -- one id unfolded, and those in it by u
+    -- The tree of a type, in which u gives the trees of the types that it mentions.
     abbrev pub step : Unfolding L → Unfolding L
     step u m (ty.Resource r) = option_case (m (resolved c r)) absent resource
     step u m (ty.Func f) = of_held (func_tree (λ v. u m (ty.Value v))) (slice_get c.funcs f.0)
@@ -144,11 +151,11 @@ module _ {L : Type 0} where
     step u m (ty.World w) = of_held (world_tree u m) (slice_get c.worlds w.0)
     step u m (ty.Module k) = of_held module_tree (slice_get c.modules k.0)
 
-    -- as many ids deep as the number says
+    -- The tree of a type, unfolded n ids deep.
     abbrev pub unfolded_to : ℕ → Unfolding L
     unfolded_to zero m t = absent
     unfolded_to (suc k) m t = step (unfolded_to k) m t
 
-    -- no chain of ids is longer than there are items
+    -- The tree of a type. No chain of ids is longer than the number of items.
     abbrev pub unfolded : Unfolding L
     unfolded = unfolded_to (suc (size c))

@@ -1,4 +1,4 @@
--- Laws of held trees, which calls give to their callers.
+-- Laws of the trees of types of a collection.
 use Rattle.std.specs.Prelude.{◌≡◌, ◌++◌, true, false, List, [], ◌∷◌, map, Option, Some, None}
 use Rattle.wac_primitives.specs.Name.{Name, same_name, find_name, option_case}
 use Rattle.wac_shapes.specs.declared.component.ResourceId.{ResourceId}
@@ -23,48 +23,49 @@ use Rattle.wac_collection.specs.Collection.{Collection, item_at, holds_type}
 use Rattle.wac_collection.specs.Held.{resolved, items_under}
 use Rattle.wac_collection.specs.Bound.{Bindings, own_name, inside_interface, binds_here, held_tree}
 
--- the leaf changed, where there is one
+-- The binding changed, if there is one.
 abbrev pub changed_leaf : (Leaf → Leaf) → Option Leaf → Option Leaf
 changed_leaf f o = option_case o None (λ l. Some (f l))
 
--- bindings with their leaves changed
+-- The bindings, each changed.
 abbrev pub changed : (Leaf → Leaf) → Bindings → Bindings
 changed f m r = changed_leaf f (m r)
 
--- a held tree with its leaves changed is the held tree under the changed bindings
+-- The tree of a type with its bindings changed is the tree of the type under the changed bindings.
 abbrev pub MovesWithBindings : Type 0
 MovesWithBindings = (c : Collection) (f : Leaf → Leaf) (m : Bindings) (t : AnyType) → moved f (held_tree c m t) ≡ held_tree c (changed f m) t
 
--- two changes of leaves in a row are one, and no change leaves the tree
+-- Two changes of bindings in a row are one change.
 abbrev pub MovesTwice : Type 0
 MovesTwice = (t : Tree) (f g : Leaf → Leaf) → moved f (moved g t) ≡ moved (λ l. f (g l)) t
 
+-- A change that changes no binding does not change the tree.
 abbrev pub MovesNothing : Type 0
 MovesNothing = (t : Tree) → moved (λ l. l) t ≡ t
 
--- these bindings call an interface's own resources as an instance of it binds them, on this side under this path
+-- These bindings bind the own resources of an interface as an instance of it at this side and path does.
 abbrev pub BindsInstance : Collection → Interface → Side → List Place → Bindings → Type 0
 BindsInstance c i side path m = (r : ResourceId) (n : Name) → own_name c i.uses i.exports r ≡ Some n → m r ≡ Some (record { out = 0; side = side; path = path ++ named n ∷ [] })
 
--- what is taken from an instance is what is held around it
+-- The tree of an instance's export, seen from the scope of the instance, is the tree of its type in that scope.
 abbrev pub TakenIsHeld : Type 0
 TakenIsHeld = (c : Collection) (i : Interface) (side : Side) (path : List Place) (m : Bindings) → BindsInstance c i side path m
     → (t : AnyType) → taken_from side path (held_tree c (inside_interface c i m) t) ≡ held_tree c m t
 
--- a resource that an interface has as its own is no alias: it is its own end
+-- A resource that is an interface's own is no alias.
 abbrev pub OwnIsItsEnd : Type 0
 OwnIsItsEnd = (c : Collection) (i : Interface) (r : ResourceId) (n : Name) → own_name c i.uses i.exports r ≡ Some n → resolved c r ≡ r
 
--- an interface's type item of a resource is fresh exactly under the own name of the resource at the end of the aliases
+-- A type export of a resource is fresh if and only if it has the interface's own name of the resolved resource.
 abbrev pub FreshByOwnName : Type 0
 FreshByOwnName = (c : Collection) (i : Interface) (m : Bindings) (n : Name) (r : ResourceId)
     → binds_here c (inside_interface c i m) exported (named n ∷ []) (kind.TypeItem (ty.Resource r)) ≡ option_case (own_name c i.uses i.exports (resolved c r)) false (λ q. same_name q n)
 
--- the item under a name is that of the entry found there
+-- The tree of a name is the tree of the item that is found under the name.
 abbrev pub ItemsAreFound : Type 0
 ItemsAreFound = (g : Name × ItemKind → Tree) (es : List (Name × ItemKind)) (n : Name) → items_under (map (λ e. (e.0, g e)) es) n ≡ option_case (find_name es n) absent (λ k. g (n, k))
 
--- what is found at a position is held
+-- An id that finds an item is an id of the collection.
 pub record FoundIsHeld (c : Collection) : Type 0 where
   pub resource : (i : ResourceId) (x : Resource) → item_at c.resources i.0 ≡ Some x → holds_type c (ty.Resource i) ≡ true
   pub func : (i : FuncTypeId) (x : FuncType) → item_at c.funcs i.0 ≡ Some x → holds_type c (ty.Func i) ≡ true
@@ -73,6 +74,6 @@ pub record FoundIsHeld (c : Collection) : Type 0 where
   pub world : (i : WorldId) (x : World) → item_at c.worlds i.0 ≡ Some x → holds_type c (ty.World i) ≡ true
   pub module_type : (i : ModuleTypeId) (x : ModuleType) → item_at c.modules i.0 ≡ Some x → holds_type c (ty.Module i) ≡ true
 
--- names that are the same are equal, and equal ones the same
+-- Names are the same if and only if they are equal.
 abbrev pub SameNamesAreEqual : Type 0
 SameNamesAreEqual = (a b : Name) → (same_name a b ≡ true → a ≡ b) × (a ≡ b → same_name a b ≡ true)

@@ -1,10 +1,10 @@
--- The interfaces of a collection, each under its id.
+-- The interfaces of a collection with their ids.
 use Rattle.std.specs.Prelude.{ℕ, suc, List, [], ◌∷◌}
 use Rattle.wac_collection.specs.declared.collection.Held.{Held}
 use Rattle.wac_shapes.specs.declared.component.Interface.{Interface}
 use Rattle.wac_shapes.specs.declared.component.InterfaceId.{InterfaceId}
 
--- each with the id of its position, counted on from i
+-- The interfaces with their ids, if counting starts at i.
 abbrev pub numbered : ℕ → List (Held Interface) → List (InterfaceId × Interface)
 numbered i [] = []
 numbered i (h ∷ rest) = (record { 0 = i }, h.item) ∷ numbered (suc i) rest

@@ -1,4 +1,4 @@
--- Packages: a component's bytes, with the world that they are said to be of.
+-- Packages: the bytes of a component, with its world.
 use Rattle.std.specs.Prelude.{ℕ, ◌≡◌, true, List, [], Option, None}
 use Rattle.wac_primitives.specs.Name.{Name}
 use Rattle.wac_keys.specs.Key.{VersionParts}
@@ -12,7 +12,7 @@ use Rattle.wac_shapes.specs.declared.component.WorldId.{WorldId}
 use Rattle.wac_shapes.specs.declared.component.ItemKind.{ItemKind}
 use Rattle.wac_shapes.specs.declared.component.«Type».TheVariants as ty
 
--- what a package says of itself
+-- The parts of a package.
 pub record PackageParts : Type 0 where
   pub name : Name
   pub version : Option VersionParts
@@ -20,19 +20,19 @@ pub record PackageParts : Type 0 where
   pub world : WorldId
   pub instance_type : InterfaceId
 
--- the interface of an instance of a component with these exports: it has no id
+-- The interface of an instance of a component with these exports. It has no id and uses no type.
 abbrev pub instance_with : List (Name × ItemKind) → Interface
 instance_with es = record { id = None; uses = []; exports = es }
 
--- with the interface of an instance of this world
+-- The collection with the interface of an instance of this world added.
 abbrev pub with_instance_of : Collection → WorldId → Collection
 with_instance_of c w = with_interface c (instance_with (world_exports c w))
 
--- what stands against that interface: an own resource that a component of this world exports under another name than its own
+-- The fault of that interface: a resource that is not an alias is exported under a name other than its own.
 abbrev pub package_fault : Collection → WorldId → Option AddTypeError
 package_fault c w = unless (named_right c [] (world_exports c w)) ResourceMisnamed
 
--- the package's world and its instances' interface are held, and list the same exports in the same order
+-- The package's world and instance interface are of the collection and have the same exports in order.
 abbrev pub HoldsPackage : Collection → PackageParts → Type 0
 HoldsPackage c p =
     (holds_type c (ty.World p.world) ≡ true)

@@ -1,4 +1,4 @@
-//! The types at the ends of aliases.
+//! Resolution of aliases.
 ghost use Rattle.std.specs.Prelude.{◌≡◌, None, slice_get};
 ghost use Rattle.wac_collection.specs.Collection.{holds_type, holds_value};
 ghost use Rattle.wac_collection.specs.Held.{resolved, source_of};
@@ -9,7 +9,9 @@ use crate::collection::Types;
 use wac_shapes::{ResourceId, Type, ValueType};
 
 impl Types {
-    /// The resource at the end of the aliases: held where the first is, and never an alias.
+    /// Follows the aliases of a resource to their end.
+    ///
+    /// The result is not an alias. It is of the collection if and only if `id` is.
     #[tactic(auto, using(crate::proofs::Ends::resource_end_is_held, crate::proofs::Ends::resource_end_no_alias))]
     pub fn resolve_resource(&self, id: ResourceId) -> ResourceId
         ensures end { result ≡ resolved self.now id }
@@ -20,7 +22,9 @@ impl Types {
         self.resource_end(id)
     }
 
-    /// The value type at the end of the aliases: held where the first is, and never an alias.
+    /// Follows the aliases of a value type to their end.
+    ///
+    /// The result is not an alias. It is of the collection if and only if `value` is.
     #[tactic(auto, using(crate::proofs::Ends::end_is_held, crate::proofs::Ends::end_no_alias))]
     pub fn resolve_value_type(&self, value: ValueType) -> ValueType
         ensures end { result ≡ value_resolved self.now value }
@@ -31,7 +35,7 @@ impl Types {
         self.value_end(value)
     }
 
-    // A type at the ends of its aliases.
+    // Resolves the aliases of a type. Of a handle, the resource's aliases are resolved too.
     pub(crate) fn resolve_type(&self, ty: Type) -> Type
         ensures { result ≡ type_resolved self.now ty }
     {
@@ -42,7 +46,7 @@ impl Types {
         }
     }
 
-    // A handle, to the resource at the end of the aliases.
+    // Resolves the aliases of the resource of a handle. Any other value type is returned unchanged.
     fn resolve_handle(&self, value: ValueType) -> ValueType
         ensures { result ≡ handle_resolved self.now value }
     {

@@ -1,4 +1,4 @@
-//! The collection: lists of items, each of which mentions only items added before it.
+//! The collection of types: lists of items, each of which mentions only items added before it.
 ghost use Rattle.std.specs.Prelude.{ℕ, ◌≡◌, ◌<◌, ◌==◌, length, vec_len, Some, None, IfOk, IfErr, OnErr, OnOk, IfSome};
 ghost use Rattle.std.specs.Option.{option_copied};
 ghost use Rattle.wac_collection.specs.Collection.{Collection, IsWellFormed, HasResource, HasFunc, HasDefined, HasInterface, HasWorld, HasModule, empty, size, func_mentions, resource_mentions, defined_mentions, holds_value, holds_type, with_resource, with_func, with_defined, with_interface, with_world, with_module, item_at};
@@ -20,54 +20,56 @@ use wac_shapes::{
     ModuleTypeId, Resource, ResourceId, Type, ValueType, World, WorldId,
 };
 
-/// Why an item is not added: the first that stands.
+/// Why an item is not added. Errors are tested in this order.
 #[derive(Clone, Copy, Debug, PartialEq, Eq, Error)]
 pub enum AddTypeError {
-    /// The item mentions an id that isn't held.
+    /// The item mentions an id that is not of the collection.
     #[error("NotHeld")]
     NotHeld,
-    /// A type is used of an interface without id.
+    /// A type is used from an interface without an id.
     #[error("UsedInterfaceUnnamed")]
     UsedInterfaceUnnamed,
-    /// A type is used of an interface that exports no type item of that name.
+    /// A type is used from an interface that does not export a type of that name.
     #[error("UsedTypeMissing")]
     UsedTypeMissing,
-    /// What is listed under the name of a used type isn't that type.
+    /// The import or export under the name of a used type is not that type.
     #[error("UsedTypeDiffers")]
     UsedTypeDiffers,
-    /// A resource is listed under another name than its own, neither as an alias nor as a used type.
+    /// A resource has a name here other than its own, and is neither an alias nor a used type.
     #[error("ResourceMisnamed")]
     ResourceMisnamed,
-    /// Memory ran out.
+    /// Out of memory.
     #[error("OutOfMemory")]
     OutOfMemory,
 }
 
-/// An item, and how many items were there before it.
+/// An item, with the number of items that were added before it.
 #[derive(Drop)]
 pub struct Held<T> {
     /// The item.
     pub item: T,
-    /// How many items were there before it.
+    /// The number of items, of any sort, that were added before it.
     pub before: usize,
 }
 
 /// A collection of types. Each item mentions only items added before it.
+///
+/// A method that adds an item returns its id. If it fails, the collection is unchanged.
 pub struct Types {
     alloc: Global,
     resources: Items<Resource>,
-    /// For each resource the one at the end of its aliases.
+    /// For each resource, the resource at the end of its aliases.
     resource_ends: Vec<ResourceId>,
     funcs: Items<FuncType>,
     defined: Items<DefinedType>,
-    /// For each definition up to the last alias the value type at the end of its aliases; those behind are their own.
+    /// For each definition up to the last alias, the value type at the end of its aliases. A later one is its own end.
     value_ends: Vec<ValueType>,
     interfaces: Items<Interface>,
     worlds: Items<World>,
     modules: Items<ModuleType>,
 }
 
-/// Each item is let go of here, and not anew by each program that drops a collection.
+// By hand: a derived `Drop` is proved again in each program that drops a collection (docs/PROOFS.md, 'Drop').
 impl Drop for Types {
     fn drop(self) {
         let Types {
@@ -106,7 +108,9 @@ impl Model for Types {
     }) t.resource_ends.items t.value_ends.items };
 }
 
-/// The clone is the same collection: each id means in it what it means here. Both grow on their own. Answers `AllocError` where memory ran out.
+/// A clone has the same items with the same ids, in shared memory. Each of the two can grow.
+///
+/// `clone` is `Err(AllocError)` if out of memory.
 impl Clone for Types {
     ghost is_clone = { λ a b. b ≡ a };
 
@@ -125,7 +129,7 @@ impl Clone for Types {
     }
 }
 
-/// It shows as the lists of its items.
+/// Writes the lists of items.
 impl fmt::Debug for Types {
     fn fmt<W: fmt::Write>(&self, f: &mut fmt::Formatter<W>) -> fmt::Result {
         f.debug_struct("Types")
@@ -139,7 +143,9 @@ impl fmt::Debug for Types {
     }
 }
 
-/// Keeps the ends of all definitions through one; those that were not kept are their own. No end changes where memory ran out either.
+/// Extends the ends through definition `last`. An added end is the definition itself, so no end changes.
+///
+/// If out of memory, no end changes either.
 #[tactic(auto, using(crate::proofs::Ends::own_end))]
 fn fill_ends(ends: &mut Vec<ValueType>, last: usize) -> Result<(), AllocError>
     ensures same { (i : ℕ) → end_at ends.new.items i ≡ end_at ends.old.items i }
@@ -153,7 +159,7 @@ fn fill_ends(ends: &mut Vec<ValueType>, last: usize) -> Result<(), AllocError>
 }
 
 impl Types {
-    /// An empty collection.
+    /// Returns an empty collection.
     pub fn new(alloc: Global) -> Types
         ensures { result ≡ empty }
     {
@@ -170,26 +176,26 @@ impl Types {
         }
     }
 
-    /// The law of every collection: each item mentions only items added before it.
+    /// Proof only: each item mentions only items added before it (docs/PROOFS.md, 'Laws').
     pub fn law(&self)
         ensures { IsWellFormed self.now }
     {
         let _ = &self.funcs;
     }
 
-    /// The law of uses: nothing stands against any interface or world that is held.
+    /// Proof only: no interface and no world of the collection has a fault (docs/PROOFS.md, 'Laws').
     pub fn uses_law(&self)
         ensures { IsSound self.now }
     {
         let _ = &self.interfaces;
     }
 
-    /// The memory that the collection grows in.
+    /// The allocator of the collection.
     pub fn allocator(&self) -> Global {
         self.alloc
     }
 
-    /// Whether the ids in a type are held.
+    /// Whether the type is of the collection: each id in it is one of an item.
     pub fn contains(&self, ty: Type) -> bool
         ensures { result ≡ holds_type self.now ty }
     {
@@ -203,14 +209,14 @@ impl Types {
         }
     }
 
-    /// Whether no resource is held, so that none is listed, mentioned or bound by what is.
+    /// Whether the collection has no resource. Then no item of it mentions or binds one.
     pub fn holds_no_resource(&self) -> bool
         ensures { result ≡ (length self.now.resources == 0) }
     {
         self.resources.len() == 0
     }
 
-    // Whether the ids in a value type are held.
+    // Whether the value type is of the collection: each id in it is one of an item.
     pub(crate) fn contains_value(&self, value: ValueType) -> bool
         ensures { result ≡ holds_value self.now value }
     {
@@ -221,7 +227,7 @@ impl Types {
         }
     }
 
-    // How many items there are, where a `usize` has that number.
+    // The number of items, if a `usize` can hold it.
     fn checked_count(&self) -> Option<usize>
         ensures { IfSome result (λ n. n ≡ size self.now) }
     {
@@ -232,7 +238,7 @@ impl Types {
         count.checked_add(self.modules.len())
     }
 
-    // How many items there are. Answers `OutOfMemory` where a `usize` has no such number, since no memory holds so many.
+    // The number of items. It is an `OutOfMemory` if a `usize` cannot hold it, since no memory has room for as many.
     fn count(&self) -> Result<usize, AddTypeError>
         ensures count { IfOk result (λ n. n ≡ size self.now) }
         ensures fault { IfErr result (λ e. e ≡ OutOfMemory) }
@@ -240,7 +246,11 @@ impl Types {
         self.checked_count().ok_or(AddTypeError::OutOfMemory)
     }
 
-    /// Adds a resource. Answers `NotHeld` where it mentions an id that isn't held, and `OutOfMemory` where memory ran out; then nothing has changed.
+    /// Adds a resource.
+    ///
+    /// # Errors
+    /// - [`NotHeld`](AddTypeError::NotHeld) if its source or the source's owner is not of the collection.
+    /// - [`OutOfMemory`](AddTypeError::OutOfMemory).
     pub fn add_resource(&mut self, resource: Resource) -> Result<ResourceId, AddTypeError>
         ensures added { IfOk result (λ id. (id.0 ≡ length self.old.resources) × (self.new ≡ with_resource self.old resource)) }
         ensures refused { OnErr result (self.new ≡ self.old) }
@@ -262,7 +272,11 @@ impl Types {
         Ok(id)
     }
 
-    /// Adds a function type. Answers `NotHeld` where it mentions an id that isn't held, and `OutOfMemory` where memory ran out; then nothing has changed.
+    /// Adds a function type.
+    ///
+    /// # Errors
+    /// - [`NotHeld`](AddTypeError::NotHeld) if it mentions a type that is not of the collection.
+    /// - [`OutOfMemory`](AddTypeError::OutOfMemory).
     pub fn add_func_type(&mut self, func: FuncType) -> Result<FuncTypeId, AddTypeError>
         ensures added { IfOk result (λ id. (id.0 ≡ length self.old.funcs) × (self.new ≡ with_func self.old func)) }
         ensures refused { OnErr result (self.new ≡ self.old) }
@@ -277,7 +291,11 @@ impl Types {
         Ok(FuncTypeId(id))
     }
 
-    /// Adds a defined type. Answers `NotHeld` where it mentions an id that isn't held, and `OutOfMemory` where memory ran out; then nothing has changed.
+    /// Adds a defined type.
+    ///
+    /// # Errors
+    /// - [`NotHeld`](AddTypeError::NotHeld) if it mentions a type that is not of the collection.
+    /// - [`OutOfMemory`](AddTypeError::OutOfMemory).
     pub fn add_defined_type(&mut self, defined: DefinedType) -> Result<DefinedTypeId, AddTypeError>
         ensures added { IfOk result (λ id. (id.0 ≡ length self.old.defined) × (self.new ≡ with_defined self.old defined)) }
         ensures refused { OnErr result (self.new ≡ self.old) }
@@ -301,8 +319,10 @@ impl Types {
         Ok(id)
     }
 
-    /// Adds an interface. Answers the first error, in the order of [`AddTypeError`], that stands against it, and `OutOfMemory`
-    /// where memory ran out; then nothing has changed.
+    /// Adds an interface.
+    ///
+    /// # Errors
+    /// - The first [`AddTypeError`] that applies. A used type is compared with the export of its name, if there is one.
     pub fn add_interface(&mut self, interface: Interface) -> Result<InterfaceId, AddTypeError>
         ensures added { IfOk result (λ id. (id.0 ≡ length self.old.interfaces) × (self.new ≡ with_interface self.old interface)) }
         ensures refused { OnErr result (self.new ≡ self.old) }
@@ -317,8 +337,10 @@ impl Types {
         Ok(InterfaceId(id))
     }
 
-    /// Adds a world. Answers the first error, in the order of [`AddTypeError`], that stands against it, and `OutOfMemory` where
-    /// memory ran out; then nothing has changed.
+    /// Adds a world.
+    ///
+    /// # Errors
+    /// - The first [`AddTypeError`] that applies. A used type is compared with the import of its name, if there is one.
     pub fn add_world(&mut self, world: World) -> Result<WorldId, AddTypeError>
         ensures added { IfOk result (λ id. (id.0 ≡ length self.old.worlds) × (self.new ≡ with_world self.old world)) }
         ensures refused { OnErr result (self.new ≡ self.old) }
@@ -333,7 +355,10 @@ impl Types {
         Ok(WorldId(id))
     }
 
-    /// Adds the type of a core module. Answers `OutOfMemory` where memory ran out; then nothing has changed.
+    /// Adds the type of a core module.
+    ///
+    /// # Errors
+    /// - [`OutOfMemory`](AddTypeError::OutOfMemory).
     pub fn add_module_type(&mut self, module_type: ModuleType) -> Result<ModuleTypeId, AddTypeError>
         ensures added { IfOk result (λ id. (id.0 ≡ length self.old.modules) × (self.new ≡ with_module self.old module_type)) }
         ensures refused { OnErr result (self.new ≡ self.old) }
@@ -345,14 +370,14 @@ impl Types {
         Ok(ModuleTypeId(id))
     }
 
-    // The resource at the end of the aliases; the resource itself where it isn't held.
+    // Returns the resource at the end of the aliases. A resource that is not of the collection is its own end.
     pub(crate) fn resource_end(&self, id: ResourceId) -> ResourceId
         ensures { result ≡ resolved self.now id }
     {
         self.resource_ends.get(id.0).copied().unwrap_or(id)
     }
 
-    // The value type at the end of the aliases; the value type itself where it isn't held.
+    // Returns the value type at the end of the aliases. A value type that is not of the collection is its own end.
     #[tactic(auto, using(crate::proofs::Ends::plain_value))]
     pub(crate) fn value_end(&self, value: ValueType) -> ValueType
         ensures { result ≡ value_resolved self.now value }
@@ -363,7 +388,7 @@ impl Types {
         }
     }
 
-    // The value type at the end of the aliases of a definition.
+    // Returns the value type at the end of the aliases of a definition.
     fn definition_end(&self, id: DefinedTypeId) -> ValueType
         ensures { result ≡ value_resolved self.now (val.Defined id) }
     {
@@ -373,20 +398,21 @@ impl Types {
         }
     }
 
-    // The interfaces, as they are held.
+    // The interfaces, as items.
     pub(crate) fn all_interfaces(&self) -> &Items<Interface>
         ensures { result.now ≡ self.now.interfaces }
     {
         &self.interfaces
     }
 
-    // What is held under an id; none where it isn't held.
+    // Returns the resource with this id, if it is of the collection.
     pub(crate) fn find_resource(&self, id: ResourceId) -> Option<&Resource>
         ensures { option_copied result ≡ item_at self.now.resources id.0 }
     {
         self.resources.get(id.0)
     }
 
+    // Returns the interface with this id, if it is of the collection.
     pub(crate) fn find_interface(&self, id: InterfaceId) -> Option<&Interface>
         ensures { option_copied result ≡ item_at self.now.interfaces id.0 }
     {

@@ -1,4 +1,4 @@
-//! The interfaces of a collection, in order.
+//! Iteration over the interfaces of a collection.
 ghost use Rattle.std.specs.Prelude.{◌≡◌, List, drop};
 ghost use Rattle.std.specs.Iterator.{YieldsFirstBy, item_count};
 ghost use Rattle.wac_shapes.specs.declared.component.Interface.{Interface};
@@ -10,7 +10,7 @@ use crate::shared::Items;
 use std::marker::Model;
 use wac_shapes::{Interface, InterfaceId};
 
-/// The interfaces of a collection that are still to come, each with its id.
+/// An iterator over the interfaces of a collection with their ids, in the order in which they were added.
 #[derive(Debug, Drop)]
 pub struct Interfaces<'a> {
     held: &'a Items<Interface>,
@@ -43,7 +43,7 @@ impl<'a> Iterator for Interfaces<'a> {
 }
 
 impl Types {
-    /// The interfaces, each with its id, in the order in which they were added.
+    /// Returns an iterator over the interfaces with their ids, in the order in which they were added.
     pub fn interfaces(&self) -> Interfaces<'_>
         ensures { result ≡ numbered 0 self.now.interfaces }
     {

@@ -1,9 +1,11 @@
-//! Laws of held trees and of names, each given to the caller of a call that does nothing else.
+//! Laws of the trees of types of a collection, and of names.
+//!
+//! Each function does nothing. Its contract is a law that a caller cites by a call (docs/PROOFS.md, 'Laws').
 ghost use Rattle.wac_collection.specs.HeldTrees.{MovesWithBindings, MovesTwice, MovesNothing, TakenIsHeld, OwnIsItsEnd, FreshByOwnName, ItemsAreFound, FoundIsHeld, SameNamesAreEqual};
 
 use crate::collection::Types;
 
-/// What a change of the leaves of a held tree gives, two in a row, and none.
+/// Changing the bindings of a tree: one change, two changes in a row, and no change.
 #[tactic(auto, using(crate::proofs::Leaves::held_moves, crate::proofs::Leaves::twice_moved, crate::proofs::Leaves::unmoved))]
 pub fn leaves_change()
     ensures bindings { MovesWithBindings }
@@ -11,7 +13,7 @@ pub fn leaves_change()
     ensures nothing { MovesNothing }
 {}
 
-/// What an instance has is what is held inside its interface, and which of its type items are fresh.
+/// Trees of an instance's exports are trees of its interface's exports; and which type exports are fresh.
 #[tactic(auto, using(crate::proofs::Leaves::held_taken, crate::proofs::Leaves::own_is_end, crate::proofs::Leaves::fresh_in_interface, crate::proofs::Leaves::items_found))]
 pub fn instances_are_held()
     ensures taken { TakenIsHeld }
@@ -20,7 +22,7 @@ pub fn instances_are_held()
     ensures items { ItemsAreFound }
 {}
 
-/// What is found in a collection is held.
+/// An id that finds an item is an id of the collection.
 #[tactic(auto, using(crate::proofs::Leaves::found_is_held))]
 pub fn found_is_held(types: &Types)
     ensures { FoundIsHeld types.now }
@@ -28,7 +30,7 @@ pub fn found_is_held(types: &Types)
     types.law();
 }
 
-/// Names are the same exactly where they are equal.
+/// Names are the same if and only if they are equal.
 #[tactic(auto, using(crate::proofs::Leaves::same_names))]
 pub fn same_names_are_equal()
     ensures { SameNamesAreEqual }

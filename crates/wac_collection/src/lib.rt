@@ -1,4 +1,8 @@
-//! The collection of types: what a collection of shapes holds, and packages. The shapes are those of `wac_shapes`.
+//! The collection of types, and packages.
+//!
+//! [`Types`] has resources, function types, defined types, interfaces, worlds and types of core modules, each with an
+//! id. An item can mention only items added before it, so types have no cycles. A [`Package`] is a component's bytes
+//! with its world. The functions of [`laws`] do nothing: their contracts are laws that proofs cite.
 #![tactic(auto)]
 
 mod aliases;

@@ -1,4 +1,4 @@
-//! Whether all that an item mentions is held.
+//! Whether all that an item mentions is of the collection.
 ghost use Rattle.std.specs.Prelude.{◌≡◌, []};
 ghost use Rattle.wac_collection.specs.Collection.{seconds, and_maybe, case_values, value_types, used_types, kind_types, resource_mentions, func_mentions, defined_mentions, interface_mentions, world_mentions, holds_all};
 

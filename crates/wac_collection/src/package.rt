@@ -1,4 +1,4 @@
-//! Packages: a component's bytes, with the world that they are said to be of.
+//! Packages: the bytes of a component, with its world.
 ghost use Rattle.std.specs.Prelude.{◌≡◌, ◌↔◌, true, length, IfOk, OnErr, IsTrue};
 ghost use Rattle.std.specs.Option.{option_map};
 ghost use Rattle.semver.specs.Identifiers.{parts_of};
@@ -15,7 +15,9 @@ use std::marker::Model;
 use wac_keys::PackageKey;
 use wac_shapes::{Interface, InterfaceId, Named, Type, WorldId};
 
-/// A package: a component's bytes under a name, with the world that they are said to be of.
+/// A package: the bytes of a component, with its name, its version and its world.
+///
+/// The bytes are not read. That they are a component of the world is for the caller to know.
 pub struct Package {
     key: PackageKey,
     bytes: Vec<u8>,
@@ -23,6 +25,7 @@ pub struct Package {
     instance_type: InterfaceId,
 }
 
+// By hand: a derived `Drop` is proved again wherever one goes out of scope (docs/PROOFS.md, 'Drop').
 impl Drop for Package {
     fn drop(self) {
         let Package {
@@ -46,7 +49,7 @@ impl Model for Package {
     } };
 }
 
-/// It shows without its bytes.
+/// Writes all but the bytes.
 impl fmt::Debug for Package {
     fn fmt<W: fmt::Write>(&self, f: &mut fmt::Formatter<W>) -> fmt::Result {
         f.debug_struct("Package")
@@ -60,9 +63,16 @@ impl fmt::Debug for Package {
 }
 
 impl Package {
-    /// A package of a held world. Adds the interface of its instances: one without an id, with the world's exports. Answers
-    /// `ResourceMisnamed` where the world exports a resource under another name than its own, unless it is an alias, and
-    /// `OutOfMemory` where memory ran out; then the collection is as it was.
+    /// Returns a package with a world of the collection, and adds the interface of its instances to the collection.
+    ///
+    /// That interface has no id and the exports of the world.
+    ///
+    /// # Errors
+    /// - [`ResourceMisnamed`](AddTypeError::ResourceMisnamed) if the world exports a resource that is not an alias,
+    ///   under a name other than its own.
+    /// - [`OutOfMemory`](AddTypeError::OutOfMemory).
+    ///
+    /// On an error the collection is unchanged.
     #[tactic(auto, using(crate::proofs::Packages::handed_on, crate::proofs::Packages::package_refused))]
     pub fn new(
         name: &str,
@@ -98,28 +108,28 @@ impl Package {
         })
     }
 
-    /// The package's name.
+    /// The name of the package.
     pub fn name(&self) -> &str
         ensures { result.now ≡ self.now.name }
     {
         self.key.name()
     }
 
-    /// The package's version.
+    /// The version of the package, if it has one.
     pub fn version(&self) -> Option<&Version>
         ensures { option_map (λ v. parts_of v.now) result ≡ self.now.version }
     {
         self.key.version()
     }
 
-    /// The component's bytes.
+    /// The bytes of the component.
     pub fn bytes(&self) -> &[u8]
         ensures { result.now ≡ self.now.bytes }
     {
         self.bytes.as_slice()
     }
 
-    /// The component's world.
+    /// The world of the component.
     pub fn ty(&self) -> WorldId
         ensures { result ≡ self.now.world }
     {
@@ -133,7 +143,10 @@ impl Package {
         self.instance_type
     }
 
-    /// The name and version, under which a graph knows the package.
+    /// Returns the key of the package: its name and version.
+    ///
+    /// # Errors
+    /// - `AllocError` if out of memory.
     pub fn key(&self) -> Result<PackageKey, AllocError>
         ensures { IfOk result (λ k. k ≡ (self.now.name, self.now.version)) }
     {
@@ -141,7 +154,7 @@ impl Package {
     }
 }
 
-/// The clone is the same package, in memory of its own. Answers `AllocError` where memory ran out.
+/// `clone` copies the bytes too, and is `Err(AllocError)` if out of memory.
 impl Clone for Package {
     ghost is_clone = { λ a b. b ≡ a };
 
@@ -155,7 +168,7 @@ impl Clone for Package {
     }
 }
 
-// The interface of an instance of a component of a held world.
+// Returns the interface of an instance of a component of this world.
 fn instance_of(types: &Types, world: WorldId) -> Result<Interface, AddTypeError>
     requires { holds_type types.now (world_type world) ≡ true }
     ensures built { IfOk result (λ i. i ≡ instance_with (world_exports types.now world)) }
@@ -178,7 +191,7 @@ fn instance_of(types: &Types, world: WorldId) -> Result<Interface, AddTypeError>
 }
 
 impl Types {
-    /// Whether a package's world and the interface of its instances are held, and list the same exports in the same order.
+    /// Whether the package's world and instance interface are of the collection and have the same exports in order.
     #[tactic(auto, using(crate::proofs::Ids::same_entries))]
     pub fn holds_package(&self, package: &Package) -> bool
         ensures { IsTrue result ↔ HoldsPackage self.now «package».now }

@@ -1,4 +1,4 @@
-//! The items of a collection, which its clones share.
+//! Lists of items that clones of a collection share.
 ghost use Rattle.std.specs.Prelude.{List, ◌≡◌, ◌<◌, ◌++◌, ◌∷◌, [], Some, IfErr, IfOk, OnErr, OnOk, length};
 ghost use Rattle.std.specs.Option.{option_copied};
 ghost use Rattle.wac_collection.specs.Collection.{item_at};
@@ -12,7 +12,7 @@ use std::fmt;
 use std::marker::Model;
 use std::sync::Arc;
 
-/// An item, and how many items were there before it. A clone has the same item, in the same memory.
+/// An item, with the number of items that were added before it. A clone shares the item's memory.
 #[derive(Drop)]
 struct Shared<T> {
     item: Arc<T>,
@@ -45,11 +45,12 @@ impl<T> Shared<T> {
     }
 }
 
-/// Items in two lists. A clone has the same lists, and what is put behind them then stands in a list of its own; so no item is looked at
-/// to clone many.
+/// Items in two lists. Clones share both lists, so that `clone` looks at no item.
+///
+/// A shared `rest` is not appended to. It becomes `first`; if there is a `first`, it is copied.
 #[derive(Drop)]
 struct Lists<T> {
-    // Those that clones had too when the first of the rest was put.
+    // The items that were shared when `rest` was begun.
     first: Option<Arc<Vec<Shared<T>>>>,
     rest: Option<Arc<Vec<Shared<T>>>>,
 }
@@ -100,7 +101,7 @@ impl<T: Drop + fmt::Debug> fmt::Debug for Items<T> {
 }
 
 impl<T: Drop> Lists<T> {
-    /// The item at a position.
+    /// Returns the item at an index, if there is one.
     fn get(&self, index: usize) -> Option<&T>
         ensures { option_copied result ≡ item_at self.now index }
     {
@@ -114,7 +115,7 @@ impl<T: Drop> Lists<T> {
         Some(self.rest.as_ref()?.get(index)?.item())
     }
 
-    /// Puts an item behind the others. Answers `AllocError` where memory ran out; then nothing has changed.
+    /// Appends an item. If out of memory, nothing changes.
     fn put(&mut self, alloc: Global, item: Shared<T>) -> Result<(), AllocError>
         ensures put { OnOk result (self.new ≡ self.old ++ item ∷ []) }
         ensures kept { OnErr result (self.new ≡ self.old) }
@@ -128,7 +129,7 @@ impl<T: Drop> Lists<T> {
         self.put_apart(alloc, item)
     }
 
-    /// The same where clones have the rest too, or there is none: it is kept as the first list, or copied where there is one already.
+    /// Appends an item if `rest` is shared or missing. If out of memory, nothing changes.
     fn put_apart(&mut self, alloc: Global, item: Shared<T>) -> Result<(), AllocError>
         ensures put { OnOk result (self.new ≡ self.old ++ item ∷ []) }
         ensures kept { OnErr result (self.new ≡ self.old) }
@@ -143,7 +144,7 @@ impl<T: Drop> Lists<T> {
     }
 }
 
-/// A copy of a list, in memory of its own.
+/// Copies a list; no list is copied to an empty one.
 fn copied<T: Drop>(
     alloc: Global,
     list: &Option<Arc<Vec<Shared<T>>>>,
@@ -157,7 +158,7 @@ fn copied<T: Drop>(
 }
 
 impl<T: Drop> Items<T> {
-    /// No item.
+    /// Returns no items.
     pub(crate) fn new() -> Items<T>
         ensures { result ≡ [] }
     {
@@ -170,21 +171,21 @@ impl<T: Drop> Items<T> {
         }
     }
 
-    /// How many there are.
+    /// The number of items.
     pub(crate) fn len(&self) -> usize
         ensures { result ≡ length self.now }
     {
         self.len
     }
 
-    /// The item at a position.
+    /// Returns the item at an index, if there is one.
     pub(crate) fn get(&self, index: usize) -> Option<&T>
         ensures { option_copied result ≡ item_at self.now index }
     {
         self.lists.get(index)
     }
 
-    /// The item at a position at which there is one.
+    /// Returns the item at an index in range.
     pub(crate) fn item(&self, index: usize) -> &T
         requires { index < length self.now }
         ensures { item_at self.now index ≡ Some result.now }
@@ -193,7 +194,7 @@ impl<T: Drop> Items<T> {
     }
 }
 
-/// Puts an item behind the others. Answers `OutOfMemory` where memory ran out; then nothing has changed.
+/// Appends an item. If out of memory, nothing changes.
 pub(crate) fn hold<T: Drop>(
     alloc: Global,
     items: &mut Items<T>,

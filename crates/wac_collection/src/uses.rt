@@ -1,4 +1,4 @@
-//! What an interface or a world uses of other interfaces, and what stands against adding it.
+//! Types that an interface or a world uses from other interfaces, and why one is not added.
 ghost use Rattle.std.specs.Prelude.{◌≡◌};
 ghost use Rattle.wac_primitives.specs.Name.{same_name};
 ghost use Rattle.wac_collection.specs.Uses.{used_item, is_used_by_id, is_there, same_type, same_type_item, is_listed_as_used, is_named_right, used_by_id, are_there, listed_as_used, named_right, uses_fault, interface_fault, world_fault};
@@ -13,7 +13,7 @@ fn same_type(a: Type, b: Type) -> bool
     a == b
 }
 
-// Whether a resource has this name.
+// Whether the resource has this name.
 #[tactic(auto, using(crate::proofs::Ids::same_bytes))]
 fn is_named(resource: &Resource, name: &str) -> bool
     ensures { result ≡ same_name resource.now.name name.now }
@@ -22,7 +22,7 @@ fn is_named(resource: &Resource, name: &str) -> bool
 }
 
 impl Types {
-    // The item that the interface of a used type exports under its name there.
+    // Returns the item that the interface of a used type exports under the type's name there.
     fn used_item(&self, name: &str, used: &UsedType) -> Option<ItemKind>
         ensures { result ≡ used_item self.now name.now used.now }
     {
@@ -39,14 +39,14 @@ impl Types {
             .is_some_and(|interface| interface.id.is_some())
     }
 
-    // Whether that interface exports a type item of the used name.
+    // Whether the interface that a type is used from exports it as a type.
     fn is_there(&self, name: &str, used: &UsedType) -> bool
         ensures { result ≡ is_there self.now (name.now, used.now) }
     {
         matches!(self.used_item(name, used), Some(ItemKind::TypeItem(_)))
     }
 
-    // Whether two items are type items of the same type, at the ends of aliases.
+    // Whether both are type items of the same type, once aliases are resolved.
     fn same_type_item(&self, a: ItemKind, b: ItemKind) -> bool
         ensures { result ≡ same_type_item self.now a b }
     {
@@ -58,7 +58,7 @@ impl Types {
         }
     }
 
-    // Whether what is listed under the name of a used type, where something is, is the used type.
+    // Whether the item under the name of a used type, if there is one, is the used type.
     fn is_listed_as_used(&self, listed: &Named<ItemKind>, name: &str, used: &UsedType) -> bool
         ensures { result ≡ is_listed_as_used self.now listed.now (name.now, used.now) }
     {
@@ -68,7 +68,7 @@ impl Types {
         })
     }
 
-    // Whether an item, where it is an own resource, is listed under the resource's own name.
+    // Whether a resource has its own name here, unless it is an alias or a used type. True of any other item.
     fn is_named_right(&self, uses: &Named<UsedType>, name: &str, kind: ItemKind) -> bool
         ensures { result ≡ is_named_right self.now uses.now (name.now, kind) }
     {
@@ -110,7 +110,7 @@ impl Types {
             .all(|(name, kind)| self.is_named_right(uses, name, *kind))
     }
 
-    // The lowest error that stands against uses beside these items.
+    // Returns the first fault of these uses, with the items that have their names.
     fn uses_fault(&self, uses: &Named<UsedType>, listed: &Named<ItemKind>) -> Option<AddTypeError>
         ensures { result ≡ uses_fault self.now uses.now listed.now }
     {
@@ -125,7 +125,7 @@ impl Types {
         }
     }
 
-    // The lowest error that stands against an interface.
+    // Returns the first fault of an interface.
     pub(crate) fn interface_fault(&self, interface: &Interface) -> Option<AddTypeError>
         ensures { result ≡ interface_fault self.now interface.now }
     {
@@ -139,7 +139,7 @@ impl Types {
         (!named_right).then_some(AddTypeError::ResourceMisnamed)
     }
 
-    // The lowest error that stands against a world.
+    // Returns the first fault of a world.
     pub(crate) fn world_fault(&self, world: &World) -> Option<AddTypeError>
         ensures { result ≡ world_fault self.now world.now }
     {
