@@ -13,7 +13,7 @@ pub fn leaves_change()
     ensures nothing { MovesNothing }
 {}
 
-/// Trees of an instance's exports are trees of its interface's exports; and which type exports are fresh.
+/// The exports of an instance: their trees, the own resources of its interface, and which type exports are fresh.
 #[tactic(auto, using(crate::proofs::Leaves::held_taken, crate::proofs::Leaves::own_is_end, crate::proofs::Leaves::fresh_in_interface, crate::proofs::Leaves::items_found))]
 pub fn instances_are_held()
     ensures taken { TakenIsHeld }
