@@ -1,4 +1,4 @@
--- What a type mentions, and what it reaches.
+-- The types that a type mentions, and those that it reaches.
 use Rattle.std.specs.Prelude.{◌≡◌, ◌⊎◌, true, List, [], ◌∷◌}
 use Rattle.wac_primitives.specs.Name.{option_case}
 use Rattle.wac_shapes.specs.declared.component.«Type».{«Type» as AnyType}
@@ -6,7 +6,7 @@ use Rattle.wac_shapes.specs.declared.component.«Type».TheVariants as ty
 use Rattle.wac_shapes.specs.declared.component.ValueType.TheVariants as val
 use Rattle.wac_collection.specs.Collection.{Collection, holds_type, item_at, resource_mentions, func_mentions, defined_mentions, interface_mentions, world_mentions}
 
--- what a type of a collection mentions: the types whose ids stand in it
+-- The types that a type mentions: those whose ids are in it.
 abbrev pub mentions : Collection → AnyType → List AnyType
 mentions c (ty.Resource r) = option_case (item_at c.resources r.0) [] resource_mentions
 mentions c (ty.Func f) = option_case (item_at c.funcs f.0) [] func_mentions
@@ -18,17 +18,17 @@ mentions c (ty.Interface i) = option_case (item_at c.interfaces i.0) [] interfac
 mentions c (ty.World w) = option_case (item_at c.worlds w.0) [] world_mentions
 mentions c (ty.Module m) = []
 
--- the type is one of the list
+-- The type is in the list.
 abbrev pub IsIn : AnyType → List AnyType → Type 0
 IsIn t [] = ⊥
 IsIn t (u ∷ us) = (t ≡ u) ⊎ IsIn t us
 
--- the first type reaches the second: it mentions it, or what it mentions reaches it
+-- A type reaches the types that it mentions, and those that they reach.
 pub data Reaches (c : Collection) : AnyType → AnyType → Type 0 where
   at_once : (a b : AnyType) → IsIn b (mentions c a) → Reaches c a b
   further : (a b d : AnyType) → IsIn b (mentions c a) → Reaches c b d → Reaches c a d
 
--- the types are held, and what they mention is among them
+-- The types are of the collection, and mention only each other.
 pub record AreClosed (c : Collection) (ts : List AnyType) : Type 0 where
   pub held : (t : AnyType) → IsIn t ts → holds_type c t ≡ true
   pub mentioned : (u t : AnyType) → IsIn u ts → IsIn t (mentions c u) → IsIn t ts

@@ -1,4 +1,4 @@
-//! How types are hashed: by the numbers that they are made of, with a step for each.
+//! A hasher of types, and sets of types.
 ghost use Rattle.std.specs.Prelude.{◌≡◌};
 ghost use Rattle.wac_reach.specs.Hashing.{step, fed};
 
@@ -8,8 +8,10 @@ use wac_collection::Type;
 
 const MULTIPLIER: u64 = 0x9e37_79b9_7f4a_7c15;
 
-/// A hasher of few small numbers, which are not chosen to collide: sorts, and positions in a collection. Where the last numbers differ
-/// in their last two bits alone, the hashes differ in their first two alone, so that neighbours come to stand beside each other.
+/// A hasher for few small numbers that nobody chooses to collide: sorts of types, and indexes in a collection.
+///
+/// If the last numbers differ only in their lowest two bits, the hashes differ only in their highest two. So types with
+/// neighbouring indexes are near each other in a hash table.
 #[derive(Clone, Copy, Default)]
 pub struct TypeHasher(u64);
 
@@ -55,5 +57,5 @@ impl Hasher for TypeHasher {
     }
 }
 
-/// Types, each once.
+/// A set of types, in insertion order.
 pub type TypeSet = IndexSet<Type, BuildHasherDefault<TypeHasher>>;

@@ -1,4 +1,4 @@
-//! What a type of a collection reaches: what it mentions, in one or more steps.
+//! The types that a type of a collection reaches: those that it mentions, those that they mention, and so on.
 #![tactic(auto)]
 
 mod hasher;

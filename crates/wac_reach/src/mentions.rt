@@ -1,4 +1,4 @@
-//! What types mention, put to what is reached.
+//! Adding the types that a type mentions.
 ghost use Rattle.std.specs.Prelude.{◌≡◌, ◌∷◌, [], OnOk, true};
 ghost use Rattle.wac_collection.specs.Collection.{seconds, and_maybe, case_values, value_types, used_types, kind_types, resource_mentions, func_mentions, defined_mentions, interface_mentions, world_mentions, holds_type};
 ghost use Rattle.wac_reach.specs.Reach.{mentions};
@@ -140,7 +140,7 @@ impl Reached {
         }
     }
 
-    /// Puts what a held type mentions behind what was found, each type once.
+    /// Adds the types that a type of the collection mentions and that are not there yet.
     pub(crate) fn put_mentions(&mut self, types: &Types, ty: Type) -> Result<(), AllocError>
         requires { holds_type types.now ty ≡ true }
         ensures { OnOk result (self.new ≡ with_all self.old (mentions types.now ty)) }

@@ -12,12 +12,12 @@ use std::hash::BuildHasherDefault;
 use std::marker::Model;
 use wac_collection::{Type, Types};
 
-/// Types, each once, in the order in which they were found.
+/// Types without repetition, in the order in which they were found.
 pub struct Reached {
     pub(crate) types: TypeSet,
 }
 
-/// The types are let go of here, and not anew at each place where they go out of scope.
+// By hand: a derived `Drop` is proved again wherever one goes out of scope (docs/PROOFS.md, 'Drop').
 impl Drop for Reached {
     fn drop(self) {
         let Reached { types: _ } = self;
@@ -34,7 +34,7 @@ impl Model for Reached {
 }
 
 impl Reached {
-    /// No type.
+    /// Returns no types.
     pub fn new(alloc: Global) -> Reached
         ensures { result ≡ [] }
     {
@@ -43,27 +43,27 @@ impl Reached {
         }
     }
 
-    /// These types.
+    /// Returns these types.
     pub fn of(types: TypeSet) -> Reached
         ensures { result ≡ types.keys }
     {
         Reached { types }
     }
 
-    /// Whether the type is one of them.
+    /// Whether the type is one of these.
     pub fn contains(&self, ty: Type) -> bool
         ensures { IsTrue result ↔ IsIn ty self.now }
     {
         self.types.contains(&ty)
     }
 
-    /// The position of the type, which stands at no other.
+    /// Returns the index of the type, if it is one of these.
     pub fn position(&self, ty: Type) -> Option<usize>
         ensures there { IfSome result (λ k. slice_get self.now k ≡ Some ty) }
         ensures alone { IfSome result (λ k. (j : ℕ) → slice_get self.now j ≡ Some ty → j ≡ k) }
         ensures none { IfNone result (IsIn ty self.now → ⊥) }
     {
-        // No type stands twice.
+        // Proof only: no type occurs twice.
         let _types = self.types.as_slice();
         self.types.get_index_of(&ty)
     }
@@ -76,9 +76,13 @@ impl Reached {
         self.types.as_slice()
     }
 
-    /// Puts the types that a held type reaches behind these, each once, where what these mention is among them. Answers
-    /// `AllocError` where memory ran out, and no type is left then. Linear in what is mentioned by the type and by those
-    /// that were not there yet, without recursion.
+    /// Adds the types that `ty` reaches and that are not there yet.
+    ///
+    /// `ty` must be of the collection, and the types here must mention no others. Takes time linear in what `ty` and
+    /// the added types mention, without recursion.
+    ///
+    /// # Errors
+    /// - `AllocError` if out of memory. Then no type is left, since some would mention others.
     pub fn reach_from(&mut self, types: &Types, ty: Type) -> Result<(), AllocError>
         requires held { holds_type types.now ty ≡ true }
         requires closed { AreClosed types.now self.old }
@@ -96,6 +100,7 @@ impl Reached {
         }
     }
 
+    // Adds the types that `ty` reaches. If out of memory, only some are added.
     fn find_from(&mut self, types: &Types, ty: Type) -> Result<(), AllocError>
         requires held { holds_type types.now ty ≡ true }
         requires closed { AreClosed types.now self.old }
@@ -115,8 +120,10 @@ impl Reached {
     }
 }
 
-/// The types that a held type reaches: those that it mentions, those that they mention, and so on. Answers `AllocError`
-/// where memory ran out. Linear, without recursion.
+/// Returns the types that a type of the collection reaches. Takes linear time, without recursion.
+///
+/// # Errors
+/// - `AllocError` if out of memory.
 pub fn reach(types: &Types, ty: Type) -> Result<Reached, AllocError>
     requires { holds_type types.now ty ≡ true }
     ensures { IfOk result (λ r. (t : AnyType) → IsIn t r ↔ Reaches types.now ty t) }
