@@ -1,4 +1,4 @@
--- How early a held type was added.
+-- The rank of a type: the number of items added until the item that it names was there.
 use Rattle.std.specs.Prelude.{ℕ, suc, Option, Some, None, slice_get}
 use Rattle.wac_shapes.specs.declared.component.ValueType.{ValueType}
 use Rattle.wac_shapes.specs.declared.component.ValueType.TheVariants as val
@@ -7,18 +7,19 @@ use Rattle.wac_shapes.specs.declared.component.«Type».TheVariants as ty
 use Rattle.wac_collection.specs.declared.collection.Held.{Held}
 use Rattle.wac_collection.specs.Collection.{Collection}
 
--- how many items there were up to the one that an id names, and that one
+-- The rank of an item, if there is one.
 abbrev pub rank_of_held : {A : Type 0} → Option (Held A) → ℕ
 rank_of_held None = 0
 rank_of_held (Some h) = suc h.before
 
--- how many items of any sort were added up to the one that a type names, and that one
+-- The rank of a value type.
 abbrev pub value_rank : Collection → ValueType → ℕ
 value_rank c (val.Primitive p) = 0
 value_rank c (val.Own r) = rank_of_held (slice_get c.resources r.0)
 value_rank c (val.Borrow r) = rank_of_held (slice_get c.resources r.0)
 value_rank c (val.Defined d) = rank_of_held (slice_get c.defined d.0)
 
+-- The rank of a type.
 abbrev pub type_rank : Collection → AnyType → ℕ
 type_rank c (ty.Resource r) = rank_of_held (slice_get c.resources r.0)
 type_rank c (ty.Func f) = rank_of_held (slice_get c.funcs f.0)

@@ -1,4 +1,4 @@
--- Laws of trees and of subtyping, which calls give to their callers.
+-- Laws of the trees of types of a collection.
 use Rattle.std.specs.Prelude.{ℕ, ◌≡◌, ◌<◌, true, Some}
 use Rattle.wac_collection.specs.Collection.{Collection, size, holds_type, with_resource, with_func, with_defined, with_interface, with_world, with_module}
 use Rattle.wac_collection.specs.Held.{Naming, Names, step, unfolded, unfolded_to}
@@ -16,26 +16,26 @@ use Rattle.wac_shapes.specs.declared.component.ValueType.{ValueType}
 use Rattle.wac_shapes.specs.declared.component.«Type».{«Type» as AnyType}
 use Rattle.wac_shapes.specs.declared.component.«Type».TheVariants as ty
 
--- an unfolding deeper than there are items is no other one
+-- Unfolding a type deeper than the number of items does not change its tree.
 abbrev pub IsDeepEnough : {L : Type 0} → Naming L → Collection → Type 0
 IsDeepEnough naming c = (n : ℕ) → size c < n → (m : Names _) (t : AnyType) → holds_type c t ≡ true → unfolded_to naming c n m t ≡ unfolded naming c m t
 
--- what is held unfolds to its parts unfolded
+-- The tree of a type consists of the trees of the types that it mentions.
 abbrev pub UnfoldsByParts : {L : Type 0} → Naming L → Collection → Type 0
 UnfoldsByParts naming c = (m : Names _) (t : AnyType) → holds_type c t ≡ true → unfolded naming c m t ≡ step naming c (unfolded naming c) m t
 
--- an alias has the trees of what it names
+-- An alias has the trees of its target.
 abbrev pub AliasesAgree : Collection → Type 0
 AliasesAgree c = (v w : ValueType) → target_of c v ≡ Some w →
     (type_tree c (ty.Value v) ≡ type_tree c (ty.Value w))
     × ((m : Bindings) → held_tree c m (ty.Value v) ≡ held_tree c m (ty.Value w))
     × ((m : Names Called) → unfolded (by_binding c) c m (ty.Value v) ≡ unfolded (by_binding c) c m (ty.Value w))
 
--- each type that the one holds has the same trees in the other
+-- Each type of the first collection has the same trees in the second.
 abbrev pub KeepsTrees : Collection → Collection → Type 0
 KeepsTrees c d = ((t : AnyType) → holds_type c t ≡ true → type_tree d t ≡ type_tree c t) × ((m : Bindings) (t : AnyType) → holds_type c t ≡ true → held_tree d m t ≡ held_tree c m t)
 
--- whatever is added, the trees of what is held stay
+-- The trees of a collection's types do not change when an item is added.
 pub record GrowthKeepsTrees (c : Collection) : Type 0 where
   pub resource : (x : Resource) → KeepsTrees c (with_resource c x)
   pub func : (x : FuncType) → KeepsTrees c (with_func c x)
@@ -44,11 +44,11 @@ pub record GrowthKeepsTrees (c : Collection) : Type 0 where
   pub world : (x : World) → KeepsTrees c (with_world c x)
   pub module_type : (x : ModuleType) → KeepsTrees c (with_module c x)
 
--- and its tree by what binds resources
+-- Each type of the first collection has the same tree in the second, with resources known by bindings and names.
 abbrev pub KeepsCalledTrees : Collection → Collection → Type 0
 KeepsCalledTrees c d = (m : Names Called) (t : AnyType) → holds_type c t ≡ true → unfolded (by_binding d) d m t ≡ unfolded (by_binding c) c m t
 
--- so it is whatever is added
+-- These trees do not change when an item is added.
 pub record GrowthKeepsCalledTrees (c : Collection) : Type 0 where
   pub resource : (x : Resource) → KeepsCalledTrees c (with_resource c x)
   pub func : (x : FuncType) → KeepsCalledTrees c (with_func c x)

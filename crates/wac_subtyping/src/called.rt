@@ -1,23 +1,23 @@
-//! What resources are called where entries are compared.
+//! How a resource is known when types of imports are compared: by its binding.
 
 use wac_collection::ResourceId;
 
-/// On which side of a component a resource is bound. An instance binds on the side of exports.
+/// The side of a component type on which a resource is bound. An instance type has exports only.
 #[derive(Clone, Copy, PartialEq, Eq, Hash)]
 pub enum Side {
-    /// By an import.
+    /// Bound by an import.
     Imported,
-    /// By an export.
+    /// Bound by an export.
     Exported,
 }
 
-/// What a resource is called, with its own name.
+/// How a resource is known: by its binding, together with its own name.
 #[derive(PartialEq, Eq, Hash, Drop)]
 pub enum Called {
-    /// Bound by the item, so many scopes out, on a side, under a path of names.
+    /// Bound inside the compared type: the number of scopes out, the side there, the path, and the resource's name.
     Bound(usize, Side, Vec<String>, String),
-    /// Bound by the import of the class of this number, under a path of names.
+    /// Bound by the import of a class: the class, the path in it, and the resource's name.
     OfClass(usize, Vec<String>, String),
-    /// Bound by nothing: itself.
+    /// Not bound: the resource itself, and its name.
     Itself(ResourceId, String),
 }

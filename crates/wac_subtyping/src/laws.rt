@@ -1,4 +1,6 @@
-//! Laws of subtyping and of the trees of held types, each given to the caller of a call that does nothing else.
+//! Laws of subtyping and of the trees of types of a collection.
+//!
+//! Each function does nothing. Its contract is a law that a caller cites by a call (docs/PROOFS.md, 'Laws').
 ghost use Rattle.wac_collection.specs.Bound.{by_place};
 ghost use Rattle.wac_collection.specs.Collection.{IsKeptBy};
 ghost use Rattle.wac_subtyping.specs.Called.{by_binding};
@@ -34,7 +36,7 @@ pub fn subtyping_is_transitive(
     let _ = (a, b, c);
 }
 
-/// The tree of a held type is the same at each depth above the number of items.
+/// The tree of a type is the same at each depth above the number of items.
 #[tactic(auto, using(crate::proofs::Trees::deep_enough))]
 pub fn trees_are_whole(types: &Types)
     ensures named { IsDeepEnough by_name types.now }
@@ -44,7 +46,7 @@ pub fn trees_are_whole(types: &Types)
     types.law();
 }
 
-/// The tree of a held type is made of the trees of its parts.
+/// The tree of a type consists of the trees of the types that it mentions.
 #[tactic(auto, using(crate::proofs::Unfolding::unfolded_step))]
 pub fn trees_are_made_of_parts(types: &Types)
     ensures named { UnfoldsByParts by_name types.now }
@@ -54,14 +56,14 @@ pub fn trees_are_made_of_parts(types: &Types)
     types.law();
 }
 
-/// An alias of a value type has the trees of what it names.
+/// An alias of a value type has the trees of its target.
 pub fn aliases_have_the_same_tree(types: &Types)
     ensures { AliasesAgree types.now }
 {
     types.law();
 }
 
-/// Each type that a collection holds keeps its trees when something is added.
+/// The trees of a collection's types do not change when an item is added.
 #[tactic(auto, using(crate::proofs::Kept::growth_keeps))]
 pub fn growth_keeps_trees(types: &Types)
     ensures { GrowthKeepsTrees types.now }
@@ -69,7 +71,7 @@ pub fn growth_keeps_trees(types: &Types)
     types.law();
 }
 
-/// Each type that a collection holds keeps its tree by what binds resources when something is added.
+/// The same for trees with resources known by their bindings and names.
 #[tactic(auto, using(crate::proofs::Kept::growth_keeps_called))]
 pub fn growth_keeps_called_trees(types: &Types)
     ensures { GrowthKeepsCalledTrees types.now }
@@ -77,7 +79,7 @@ pub fn growth_keeps_called_trees(types: &Types)
     types.law();
 }
 
-/// Each type that a collection holds keeps its trees in any that holds the same items at the same positions, and maybe more.
+/// The trees of a collection's types are the same in each collection that has its items with the same ids.
 pub fn kept_types_keep_their_trees(before: &Types, after: &Types)
     ensures trees { IsKeptBy before.now after.now → KeepsTrees before.now after.now }
     ensures called { IsKeptBy before.now after.now → KeepsCalledTrees before.now after.now }

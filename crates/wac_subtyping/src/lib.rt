@@ -1,4 +1,7 @@
-//! The subtype relation over the trees of held types, trees under what binds resources, and laws of both; what a resource is called by what binds it.
+//! The subtype relation, the binding of a resource as a value, and laws of both.
+//!
+//! A type is a subtype of another if its tree is, with resources given by their names. The functions of [`laws`] do
+//! nothing: their contracts are laws that proofs cite.
 #![tactic(auto)]
 
 pub mod called;
