@@ -1,4 +1,4 @@
--- What was asked settles statements: they hold only where the answers to the new questions are yes, and do where all are.
+-- Questions settle a fact: it holds only if the new ones have the answer yes, and it holds if all have.
 use Rattle.std.specs.Prelude.{ℕ, ◌≤◌, ◌≡◌, ◌↔◌, Bool, true, not, List, ◌++◌, ◌⊎◌}
 use Rattle.std.specs.List.{AllByRecursion, Contains}
 use Rattle.wac_comparison.specs.declared.questions.Question.{Question}
@@ -14,15 +14,16 @@ use Rattle.wac_comparison.specs.Weights.{type_weight}
 use Rattle.wac_comparison.specs.Questions.{in_order, IsEnd, IsYes, IsYesBelow, IsPlainType, IsAskableQuestion, AreBelow}
 use Rattle.wac_comparison.specs.Classes.{AreLinked, AreSame}
 
--- the others were asked
+-- Each question that is noted as not about equality was asked.
 abbrev pub AreAsked : Asked → Type 0
 AreAsked s = AllByRecursion (Contains s.questions.items) s.others.keys
 
--- the types that are joined are the same, where the answers are yes, and the others were asked
+-- Types in one class are equal if all answers are yes, and the noted questions were asked.
 abbrev pub AreJoined : Collection × Collection → Asked → Type 0
 AreJoined p s = AreLinked p s.questions.items s.classes.links.entries × AreAsked s
 
--- The questions after some were added that settle E: E holds only where these are answered yes, and does where all are that have a type lighter than n.
+-- The added questions settle E. If E holds, the answer to each is yes.
+-- If the answer to all questions about types lighter than n is yes, E holds.
 pub record Settles (p : Collection × Collection) (n : ℕ) (old new : Asked) (E : Type 0) : Type 0 where
   pub added : List Question
   pub grown : new.questions.items ≡ old.questions.items ++ added
@@ -31,22 +32,22 @@ pub record Settles (p : Collection × Collection) (n : ℕ) (old new : Asked) (E
   pub complete : E → AllByRecursion (IsYes p) added
   pub sound : AreJoined p old → AllByRecursion (IsYesBelow p n) new.questions.items → E
 
--- the questions after some were added that settle E, which speaks of these types of the one collection and of the other
+-- The added questions settle E, a fact about these types of both collections.
 pub record Asks (turned : Bool) (x y : Collection) (xs ys : List AnyType) (old new : Asked) (E : Type 0) : Type 0 where
   pub settles : (n : ℕ) → AreBelow x n xs ⊎ AreBelow y n ys → Settles (in_order turned x y) n old new E
 
--- the same, where E is the answer for these two types and speaks of what they mention
+-- The added questions settle E, which compares these two types and is about the types that they mention.
 pub record RestsOn (turned : Bool) (x y : Collection) (a b : AnyType) (old new : Asked) (E : Type 0) : Type 0 where
   pub settles : (n : ℕ) → (type_weight x a ≤ n) ⊎ (type_weight y b ≤ n) → Settles (in_order turned x y) n old new E
 
--- the type at the end of the aliases of a held type
+-- The type e is at the end of the aliases of t.
 pub record HasEnd (c : Collection) (t e : AnyType) : Type 0 where
   pub end : IsEnd c e
   pub held : holds_type c e ≡ true
   pub is : type_tree c t ≡ type_tree c e
   pub weight : type_weight c t ≡ type_weight c e
 
--- two value types are the same just where a and b are, which are held and not heavier
+-- The value types v and w are equal if and only if a and b are, which are of their collections and not heavier.
 pub record Tells (x y : Collection) (v w a b : ValueType) : Type 0 where
   pub first : holds_type x (ty.Value a) ≡ true
   pub second : holds_type y (ty.Value b) ≡ true
@@ -54,18 +55,19 @@ pub record Tells (x y : Collection) (v w a b : ValueType) : Type 0 where
   pub lighter_first : type_weight x (ty.Value a) ≤ type_weight x (ty.Value v)
   pub lighter_second : type_weight y (ty.Value b) ≤ type_weight y (ty.Value w)
 
--- the types of a question as nodes
+-- The first type of a question as a node.
 abbrev pub first_node : Question → Node
 first_node q = record { turned = q.turned; ty = q.first }
 
+-- The second type of a question as a node.
 abbrev pub second_node : Question → Node
 second_node q = record { turned = not q.turned; ty = q.second }
 
--- nothing more was asked
+-- No question was added.
 abbrev pub AsksTheSame : Asked → Asked → Type 0
 AsksTheSame old new = (new.questions.items ≡ old.questions.items) × (new.others.keys ≡ old.others.keys) × (new.classes.links.entries ≡ old.classes.links.entries)
 
--- what was asked after a question was put that does not ask whether types are the same
+-- The question was added, unless it was asked before.
 pub record Puts (old new : Asked) (q : Question) : Type 0 where
   pub added : List Question
   pub grown : new.questions.items ≡ old.questions.items ++ added
@@ -74,7 +76,7 @@ pub record Puts (old new : Asked) (q : Question) : Type 0 where
   pub asked : AreAsked old → AreAsked new
   pub there : AreAsked old → Contains new.questions.items q
 
--- What was asked after a question whether types are the same was put: it was added, or the answer follows from what was asked.
+-- The question, whether two types are equal, was added, unless its answer follows from earlier ones.
 pub record PutsPlain (old new : Asked) (q : Question) : Type 0 where
   pub added : List Question
   pub grown : new.questions.items ≡ old.questions.items ++ added

@@ -1,4 +1,4 @@
--- How heavy types are: heavier than what they mention. What is the same weighs the same, in whatever collection it is.
+-- The weight of a type: greater than that of each type that it mentions. Equal types have equal weights.
 use Rattle.std.specs.Prelude.{ℕ, zero, suc, ◌+◌, length}
 use Rattle.wac_primitives.specs.Tree.{TypeTree, record_of, variant_of, list_of, fixed_list_of, tuple_of, option_of, result_of, stream_of, future_of, function}
 use Rattle.wac_collection.specs.Collection.{Collection}
@@ -8,12 +8,12 @@ use Rattle.wac_shapes.specs.declared.component.ValueType.TheVariants as val
 use Rattle.wac_shapes.specs.declared.component.«Type».{«Type» as AnyType}
 use Rattle.wac_shapes.specs.declared.component.«Type».TheVariants as ty
 
--- the sum of the first so many
+-- The sum of the first n numbers.
 abbrev pub total : ℕ → (ℕ → ℕ) → ℕ
 total zero f = 0
 total (suc n) f = f 0 + total n (λ i. f (suc i))
 
--- the tree of a value type or a function is heavier than its parts together
+-- The weight of a tree: for a value type or a function, greater than the sum of its parts.
 abbrev pub weight : {L : Type 0} → TypeTree L → ℕ
 weight (record_of names parts) = suc (total (length names) (λ i. weight (parts i)))
 weight (variant_of names parts) = suc (total (length names) (λ i. weight (parts i)))
@@ -27,11 +27,11 @@ weight (future_of t) = suc (weight t)
 weight (function is_async names params result) = suc (total (length names) (λ i. weight (params i)) + weight result)
 weight _ = 0
 
--- no value type and no function of the collection is heavier
+-- A bound of the weights of all value types and function types of the collection.
 abbrev pub heaviest : Collection → ℕ
 heaviest c = total (length c.defined) (λ i. weight (type_tree c (ty.Value (val.Defined (record { 0 = i }))))) + total (length c.funcs) (λ i. weight (type_tree c (ty.Func (record { 0 = i }))))
 
--- any type is heavier than what it mentions
+-- The weight of a type of the collection.
 abbrev pub type_weight : Collection → AnyType → ℕ
 type_weight c (ty.Interface i) = suc (heaviest c + type_rank c (ty.Interface i))
 type_weight c (ty.World w) = suc (heaviest c + type_rank c (ty.World w))

@@ -1,4 +1,6 @@
-//! Which types are asked to be equal, in classes: of each type the class has another that stands above it, up to one that stands above all.
+//! Classes of types that are asked to be equal, as a union-find structure.
+//!
+//! Each node of a class links to a node above it, up to the top, which links to itself.
 ghost use Rattle.std.specs.Prelude.{◌≡◌, ◌<◌, ◌≤◌, ◌+◌, [], length, OnOk};
 ghost use Rattle.indexmap.specs.IndexMap.{spare, set_value_at};
 ghost use Rattle.wac_comparison.specs.Classes.{AddsNode, HasLink, LeadsTo, PutsBelow, Joins};
@@ -18,24 +20,24 @@ pub struct Node {
     pub ty: Type,
 }
 
-/// What is known of a node in its class.
+/// The link of a node to the node above it in its class.
 #[derive(Clone, Copy)]
 pub struct Link {
-    /// The position of the node above it; its own, where none is.
+    /// The index of the node above, or the node's own index if it is the top.
     pub above: usize,
-    /// How many nodes there were in the class of which it was last above all.
+    /// The number of nodes in the class when this node was last the top.
     pub size: usize,
 }
 
 /// The classes of types that are asked to be equal.
 #[derive(Drop)]
 pub struct Classes {
-    /// What is known of each node.
+    /// The link of each node.
     pub links: IndexMap<Node, Link, BuildHasherDefault<TypeHasher>>,
 }
 
 impl Classes {
-    /// No classes.
+    /// Returns no classes.
     pub(crate) fn new(alloc: Global) -> Classes
         ensures { result.links.entries ≡ [] }
     {
@@ -44,7 +46,7 @@ impl Classes {
         }
     }
 
-    /// Makes room for two more nodes. Answers `AllocError` where memory ran out.
+    /// Makes room for two more nodes.
     pub(crate) fn reserve(&mut self) -> Result<(), AllocError>
         ensures same { self.new.links.entries ≡ self.old.links.entries }
         ensures room { OnOk result (2 ≤ spare self.new.links) }
@@ -52,7 +54,7 @@ impl Classes {
         self.links.reserve(2)
     }
 
-    // The position of a node, which comes into a class of its own where it is in none.
+    // Returns the index of a node. A new node gets a class of its own.
     fn position(&mut self, node: Node) -> usize
         requires { 1 ≤ spare self.old.links }
         ensures adds { AddsNode self.old.links.entries self.new.links.entries node result }
@@ -80,7 +82,7 @@ impl Classes {
         *self.links.get_index(position).unwrap().1
     }
 
-    // The position of the node above all in the class of a node.
+    // Returns the index of the top of a node's class. The top is the only node whose link has no greater size above it.
     fn top(&self, position: usize) -> usize
         requires { position < length self.now.links.entries }
         ensures within { result < length self.now.links.entries }
@@ -106,7 +108,7 @@ impl Classes {
         self.links[position] = link;
     }
 
-    // Puts one node, and with it its class, below another.
+    // Links the top of one class to the top of another.
     fn put_below(&mut self, low: usize, high: usize)
         requires low { low < length self.old.links.entries }
         requires high { high < length self.old.links.entries }
@@ -130,7 +132,7 @@ impl Classes {
         );
     }
 
-    /// Joins the classes of two nodes, for which there is room. Answers whether they were two.
+    /// Joins the classes of two nodes, for which there must be room. Returns whether they were different.
     pub(crate) fn join(&mut self, a: Node, b: Node) -> bool
         requires { 2 ≤ spare self.old.links }
         ensures { Joins self.old.links.entries self.new.links.entries a b result }

@@ -1,4 +1,4 @@
-//! What a comparison asks: types part by part, listed items name by name.
+//! Comparison of two types part by part, and of imports and exports name by name.
 ghost use Rattle.std.specs.Prelude.{◌≡◌, ◌≢◌, [], ◌∷◌, map, not, true, None, Err, IfOk, IsTrue};
 ghost use Rattle.std.specs.Option.{option_copied};
 ghost use Rattle.wac_primitives.specs.Name.{find_name};
@@ -19,10 +19,13 @@ use wac_collection::{
     DefinedType, FuncType, FuncTypeId, ItemKind, Named, ResourceId, Type, Types, ValueType,
 };
 
-/// A comparison of types of two collections: the first is asked to be a subtype of the second, or the same.
+/// Two collections, types of which are compared.
+///
+/// A method that asks for a fact adds the questions that decide it. It is `Err(Mismatch)` if the fact is already known
+/// to be false, and `Err(OutOfMemory)` if memory ran out. Then some questions may have been added.
 #[derive(Clone, Copy)]
 pub struct Comparison<'a> {
-    /// Whether the collections stand in the other order than those of the first question.
+    /// Whether the collections are swapped: `first` is the second collection of the check.
     pub turned: bool,
     /// The collection of the first type.
     pub first: &'a Types,
@@ -31,7 +34,7 @@ pub struct Comparison<'a> {
 }
 
 impl<'a> Comparison<'a> {
-    /// The comparison with its collections in the other order.
+    /// Returns the comparison with its collections swapped.
     pub fn turned(self) -> Comparison<'a>
         ensures turned { result.turned ≡ not self.entry.turned }
         ensures first { result.first.now ≡ self.entry.second.now }
@@ -44,7 +47,7 @@ impl<'a> Comparison<'a> {
         }
     }
 
-    /// Asks whether one type is a subtype of another.
+    /// Asks whether `a` is a subtype of `b`.
     #[tactic(auto, using(crate::proofs::Asking::asks_put, crate::proofs::Joining::asks_plain, crate::proofs::Joining::asks_ends))]
     pub(crate) fn ask_type(self, asked: &mut Asked, a: Type, b: Type) -> Answer
         requires first { holds_type self.first.now a ≡ true }
@@ -65,7 +68,7 @@ impl<'a> Comparison<'a> {
         asked.put(question)
     }
 
-    // Asks whether both are there and one is the other, or neither is there.
+    // Asks whether two optional value types are equal: both missing, or both there and equal.
     #[tactic(auto, using(crate::proofs::Values::asks_now, crate::proofs::Opened::some_none, crate::proofs::Opened::none_some))]
     fn ask_optional(self, asked: &mut Asked, v: Option<ValueType>, w: Option<ValueType>) -> Answer
         requires first { AreHeld self.first.now (value_types (and_maybe v [])) }
@@ -82,7 +85,7 @@ impl<'a> Comparison<'a> {
         }
     }
 
-    // Asks whether the value types of one list are those of the other.
+    // Asks whether two lists of value types are equal.
     #[tactic(auto, using(crate::proofs::Agreeing::agree_none, crate::proofs::Agreeing::agree_maps))]
     fn ask_values(self, asked: &mut Asked, vs: &[ValueType], ws: &[ValueType]) -> Answer
         requires first { AreHeld self.first.now (value_types vs.now) }
@@ -99,7 +102,7 @@ impl<'a> Comparison<'a> {
         Ok(())
     }
 
-    // Asks whether the names of one list are those of the other, and the value types under them.
+    // Asks whether two lists have the same names in the same order, with equal value types.
     #[tactic(auto, using(crate::proofs::Agreeing::agree_none, crate::proofs::Agreeing::agree_maps))]
     fn ask_named(self, asked: &mut Asked, vs: &Named<ValueType>, ws: &Named<ValueType>) -> Answer
         requires first { AreHeld self.first.now (value_types (seconds vs.now)) }
@@ -121,7 +124,7 @@ impl<'a> Comparison<'a> {
         Ok(())
     }
 
-    // Asks whether the cases of one variant are those of the other.
+    // Asks whether two lists have the same cases in the same order, with equal payloads.
     #[tactic(auto, using(crate::proofs::Agreeing::agree_none, crate::proofs::Agreeing::agree_maps))]
     fn ask_cases(
         self,
@@ -148,7 +151,7 @@ impl<'a> Comparison<'a> {
         Ok(())
     }
 
-    /// Asks whether one function type is the other.
+    /// Asks whether two function types are equal.
     #[tactic(auto, using(crate::proofs::Definitions::params_back, crate::proofs::Agreeing::maybe_first, crate::proofs::Agreeing::maybe_rest))]
     pub fn ask_func(self, asked: &mut Asked, f: &FuncType, g: &FuncType) -> Result<(), TypeFault>
         requires first { AreHeld self.first.now (func_mentions f.now) }
@@ -163,7 +166,7 @@ impl<'a> Comparison<'a> {
         self.ask_named(asked, &f.params, &g.params)
     }
 
-    // Asks whether one function type is the other. Those of few parameters under short names are looked into at once.
+    // Asks whether two function types are equal. Those of few parameters with short names are opened at once.
     #[tactic(auto, using(crate::proofs::Asking::asks_rested, crate::proofs::Opens::func_held, crate::proofs::Typing::answer_funcs, crate::proofs::Typing::funcs_refuse))]
     fn ask_func_type(self, asked: &mut Asked, i: FuncTypeId, j: FuncTypeId) -> Answer
         requires first { holds_type self.first.now (ty.Func i) ≡ true }
@@ -180,7 +183,7 @@ impl<'a> Comparison<'a> {
         self.ask_type(asked, Type::Func(i), Type::Func(j))
     }
 
-    // Asks whether one definition is the other; neither is an alias.
+    // Asks whether two definitions are equal, neither of which is an alias.
     fn ask_defined(self, asked: &mut Asked, d: &DefinedType, e: &DefinedType) -> Answer
         requires first { AreHeld self.first.now (defined_mentions d.now) }
         requires second { AreHeld self.second.now (defined_mentions e.now) }
@@ -216,7 +219,7 @@ impl<'a> Comparison<'a> {
         }
     }
 
-    /// Asks whether two resources have the same name at the ends of their aliases.
+    /// Checks that two resources have the same name at the ends of their aliases.
     pub fn ask_resource(self, r: ResourceId, s: ResourceId) -> Result<(), TypeFault>
         requires first { holds_type self.first.now (ty.Resource r) ≡ true }
         requires second { holds_type self.second.now (ty.Resource s) ≡ true }
@@ -230,7 +233,7 @@ impl<'a> Comparison<'a> {
         told(first.name.as_str() == second.name.as_str())
     }
 
-    /// Asks whether one item is a subtype of the other.
+    /// Asks whether the item `x` is a subtype of `y`. Types of type items are compared in both directions.
     pub fn ask_kinds(self, asked: &mut Asked, x: ItemKind, y: ItemKind) -> Result<(), TypeFault>
         requires first { holds_type self.first.now (kind_type x) ≡ true }
         requires second { holds_type self.second.now (kind_type y) ≡ true }
@@ -257,7 +260,7 @@ impl<'a> Comparison<'a> {
         }
     }
 
-    /// Asks whether each item of the second list is offered by the first.
+    /// Asks whether `xs` has a subtype of each item of `ys`, under the same name.
     #[tactic(auto, using(crate::proofs::Subtyping::asks_no_offer, crate::proofs::Subtyping::asks_offer, crate::proofs::Subtyping::item_stops, crate::proofs::Subtyping::item_held, crate::proofs::Subtyping::found_held))]
     pub fn ask_items(
         self,
@@ -281,7 +284,7 @@ impl<'a> Comparison<'a> {
         Ok(())
     }
 
-    /// Asks what the answer for two value types rests on; neither is an alias.
+    /// Compares two value types and asks about the types that they mention. Neither may be an alias.
     #[tactic(auto, using(crate::proofs::Asking::rests_now, crate::proofs::Values::primitives_same, crate::proofs::Values::primitives_inj, crate::proofs::Equal::primitives_told, crate::proofs::Answering::owns_same, crate::proofs::Answering::owns_back, crate::proofs::Answering::borrows_same, crate::proofs::Answering::borrows_back, crate::proofs::Opens::defined_held, crate::proofs::Answering::definitions_rest, crate::proofs::Answering::other_value, crate::proofs::Answering::no_primitive, crate::proofs::Answering::no_own, crate::proofs::Answering::no_borrow, crate::proofs::Answering::no_defined))]
     pub fn answer_value(
         self,
@@ -310,7 +313,7 @@ impl<'a> Comparison<'a> {
     }
 }
 
-// The type at the end of the aliases.
+// Returns the type at the end of the aliases.
 #[tactic(auto, using(crate::proofs::Answering::value_end))]
 fn end(types: &Types, ty: Type) -> Type
     requires { holds_type types.now ty ≡ true }
@@ -323,7 +326,7 @@ fn end(types: &Types, ty: Type) -> Type
     }
 }
 
-// Whether a type is a subtype of its equal alone.
+// Whether the type is a subtype only of equal types.
 fn is_plain(ty: Type) -> bool
     ensures { IsTrue result → IsPlainType ty }
 {
@@ -333,7 +336,7 @@ fn is_plain(ty: Type) -> bool
     }
 }
 
-// The item under a name, looked for at a position first.
+// Returns the item of a name. Looks at `index` first: lists that are compared often have the same order.
 fn item_near<'a>(items: &'a Named<ItemKind>, index: usize, name: &str) -> Option<&'a ItemKind>
     ensures { option_copied result ≡ find_name items.now name.now }
 {

@@ -1,4 +1,4 @@
-//! Subtyping between types of core modules.
+//! Subtyping of core module types.
 ghost use Rattle.std.specs.Prelude.{◌≡◌, ◌≤◌, ◌↔◌, All, IsSomeAnd, IsTrue};
 ghost use Rattle.wac_primitives.specs.Name.{find_name};
 ghost use Rattle.wac_shapes.specs.Imports.{find_import};
@@ -8,7 +8,7 @@ ghost use Rattle.wac_comparison.specs.Compare.{IsTableSubtype, IsMemorySubtype, 
 
 use wac_collection::{CoreExtern, CoreFuncType, CoreImports, ModuleType, Named};
 
-// Whether a greatest size is one that the second allows.
+// Whether the maximum `a` is within the maximum `b`, if there is one.
 fn is_maximum_within(a: Option<u64>, b: Option<u64>) -> bool
     ensures { IsTrue result ↔ IsMaximumWithin a b }
 {
@@ -19,14 +19,14 @@ fn is_maximum_within(a: Option<u64>, b: Option<u64>) -> bool
     }
 }
 
-// Whether a size of at least `initial` and at most `maximum` is one of at least `least` and at most `most`.
+// Whether the limits `initial` and `maximum` are within the limits `least` and `most`.
 fn is_within(initial: u64, maximum: Option<u64>, least: u64, most: Option<u64>) -> bool
     ensures { IsTrue result ↔ ((least ≤ initial) × IsMaximumWithin maximum most) }
 {
     least <= initial && is_maximum_within(maximum, most)
 }
 
-// Whether the parameters and results of one core function are those of the other.
+// Whether two core functions have the same parameters and results.
 #[tactic(auto, using(crate::proofs::Equal::core_types_told))]
 fn same_core_func(f: &CoreFuncType, g: &CoreFuncType) -> bool
     ensures { IsTrue result ↔ ((f.now.params ≡ g.now.params) × (f.now.results ≡ g.now.results)) }
@@ -34,7 +34,7 @@ fn same_core_func(f: &CoreFuncType, g: &CoreFuncType) -> bool
     f.params == g.params && f.results == g.results
 }
 
-// Whether both are tables, and one is a subtype of the other.
+// Whether both are tables, and `x` is a subtype of `y`.
 fn is_table_subtype(x: &CoreExtern, y: &CoreExtern) -> bool
     ensures { IsTrue result ↔ IsTableSubtype (core_item x.now) (core_item y.now) }
 {
@@ -64,7 +64,7 @@ fn is_table_subtype(x: &CoreExtern, y: &CoreExtern) -> bool
     }
 }
 
-// Whether both are memories, and one is a subtype of the other.
+// Whether both are memories, and `x` is a subtype of `y`.
 fn is_memory_subtype(x: &CoreExtern, y: &CoreExtern) -> bool
     ensures { IsTrue result ↔ IsMemorySubtype (core_item x.now) (core_item y.now) }
 {
@@ -94,7 +94,7 @@ fn is_memory_subtype(x: &CoreExtern, y: &CoreExtern) -> bool
     }
 }
 
-// Whether one core item is a subtype of the other.
+// Whether the core item `x` is a subtype of `y`.
 fn is_core_subtype(x: &CoreExtern, y: &CoreExtern) -> bool
     ensures { IsTrue result ↔ IsCoreSubtype (core_item x.now) (core_item y.now) }
 {
@@ -119,21 +119,21 @@ fn is_core_subtype(x: &CoreExtern, y: &CoreExtern) -> bool
     }
 }
 
-// Whether each core item of the second list is offered by the first.
+// Whether `xs` has a subtype of each item of `ys`, under the same name.
 fn offers_core(xs: &Named<CoreExtern>, ys: &Named<CoreExtern>) -> bool
     ensures { IsTrue result ↔ All (λ e. IsSomeAnd (find_name xs.now e.0) (λ x. IsCoreSubtype (core_item x) (core_item e.1))) ys.now }
 {
     ys.iter().all(|(name, y)| xs.get(name).is_some_and(|x| is_core_subtype(x, y)))
 }
 
-// The same by module and name.
+// Whether `xs` has a subtype of each item of `ys`, under the same module and name.
 fn offers_modules(xs: &CoreImports<CoreExtern>, ys: &CoreImports<CoreExtern>) -> bool
     ensures { IsTrue result ↔ All (λ e. IsSomeAnd (find_import xs.now e.0.0 e.0.1) (λ x. IsCoreSubtype (core_item x) (core_item e.1))) ys.now }
 {
     ys.iter().all(|((source, name), y)| xs.get(source, name).is_some_and(|x| is_core_subtype(x, y)))
 }
 
-/// Whether one type of a core module is a subtype of the other.
+/// Whether the core module type `m` is a subtype of `n`.
 pub fn is_module_subtype(m: &ModuleType, n: &ModuleType) -> bool
     ensures { IsTrue result ↔ (OffersModules n.now.imports m.now.imports × OffersCore m.now.exports n.now.exports) }
 {

@@ -6,18 +6,18 @@ use thiserror::Error;
 /// Why an item is not known to be a subtype of another.
 #[derive(Clone, Copy, Debug, PartialEq, Eq, Error)]
 pub enum TypeFault {
-    /// It isn't a subtype.
+    /// It is not a subtype.
     #[error("Mismatch")]
     Mismatch,
-    /// Memory ran out.
+    /// Out of memory.
     #[error("OutOfMemory")]
     OutOfMemory,
 }
 
-/// What a step of a comparison answers.
+/// The result of a step of a comparison.
 pub(crate) type Answer = Result<(), TypeFault>;
 
-/// The answer where something holds, and where it doesn't.
+/// Returns `Ok` if `holds`, else `Mismatch`.
 pub(crate) fn told(holds: bool) -> Answer
     ensures yes { IfOk result (λ _. IsTrue holds) }
     ensures no { result ≡ Err TypeFault.Mismatch → holds ≡ false }

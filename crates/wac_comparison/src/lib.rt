@@ -1,6 +1,8 @@
-//! What a comparison of types of two collections asks, and what the answers to its questions settle.
+//! Comparison of types of two collections, as a list of questions.
 //!
-//! A layer of `wac_types`, whose `SubtypeChecker` is the door.
+//! A question is whether one type is a subtype of another. A comparison looks at the heads of two types and asks about
+//! the types that they mention. So nothing recurses, and each pair of types is compared once. The type checker takes
+//! the questions one after another until none is left or one has the answer no.
 #![tactic(auto)]
 
 mod classes;

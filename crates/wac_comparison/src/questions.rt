@@ -1,4 +1,4 @@
-//! The questions of a comparison.
+//! The questions that a comparison asks.
 ghost use Rattle.std.specs.Prelude.{◌≡◌, ◌≢◌, [], Err, OnOk, OnErr};
 ghost use Rattle.wac_comparison.specs.Settling.{AsksTheSame, Puts, PutsPlain};
 
@@ -8,10 +8,10 @@ use indexmap::IndexSet;
 use std::alloc::Global;
 use wac_collection::Type;
 
-/// Whether the first type is a subtype of the second.
+/// A question: whether the first type is a subtype of the second.
 #[derive(Clone, Copy, PartialEq, Eq, Hash)]
 pub struct Question {
-    /// Whether the first type is of the second collection, and the second of the first.
+    /// Whether the first type is of the second collection, and the second type of the first.
     pub turned: bool,
     /// The first type.
     pub first: Type,
@@ -19,19 +19,19 @@ pub struct Question {
     pub second: Type,
 }
 
-/// The questions that were asked, and which types are the same where their answers are yes.
+/// The questions asked so far, and the classes of types that are equal if all answers are yes.
 #[derive(Drop)]
 pub struct Asked {
     /// The questions, in the order in which they were asked.
     pub questions: Vec<Question>,
-    /// Those of them that do not ask whether two types are the same.
+    /// The questions that are not about equality, so that none is asked twice.
     pub others: IndexSet<Question>,
-    /// Which types are the same.
+    /// The classes of types that are equal if all answers are yes.
     pub classes: Classes,
 }
 
 impl Asked {
-    /// Nothing was asked.
+    /// Returns no questions.
     pub fn new(alloc: Global) -> Asked
         ensures questions { result.questions.items ≡ [] }
         ensures others { result.others.keys ≡ [] }
@@ -44,7 +44,7 @@ impl Asked {
         }
     }
 
-    /// Adds a question, unless it was asked before. Answers `OutOfMemory` where memory ran out; then nothing has changed.
+    /// Asks a question, unless it was asked before. If out of memory, nothing changes.
     pub(crate) fn put(&mut self, question: Question) -> Result<(), TypeFault>
         ensures put { OnOk result (Puts self.old self.new question) }
         ensures refused { OnErr result (AsksTheSame self.old self.new) }
@@ -63,8 +63,7 @@ impl Asked {
         }
     }
 
-    /// Adds a question whether two types are the same, unless that follows from those that were asked before. Answers `OutOfMemory` where
-    /// memory ran out; then nothing has changed.
+    /// Asks whether two types are equal, unless that follows from earlier questions. If out of memory, nothing changes.
     pub(crate) fn put_plain(&mut self, question: Question) -> Result<(), TypeFault>
         ensures put { OnOk result (PutsPlain self.old self.new question) }
         ensures refused { OnErr result (AsksTheSame self.old self.new) }

@@ -1,4 +1,4 @@
-//! Small types, which are looked into wherever they are mentioned.
+//! Small types, which are compared at once wherever they are mentioned.
 ghost use Rattle.std.specs.Prelude.{◌≡◌, ◌≤◌, [], ◌∷◌, length, map, true, All, Err, IfOk, IsTrue};
 ghost use Rattle.wac_collection.specs.Collection.{holds_type, value_types, seconds};
 ghost use Rattle.wac_comparison.specs.Compare.{value_in, entry_in};
@@ -11,14 +11,15 @@ use crate::fault::{Answer, TypeFault, told};
 use crate::questions::Asked;
 use wac_collection::{DefinedType, Named, Type, ValueType};
 
-/// How many parameters or fields a type may have that is looked into wherever it is mentioned.
+/// The greatest number of parameters or fields of a small type.
 const FEW_PARTS: usize = 8;
 
-/// How many bytes the name of each of them may have.
+/// The greatest length of their names, in bytes.
 const SHORT_NAME: usize = 32;
 
 impl<'a> Comparison<'a> {
-    // What tells whether two value types are the same: the elements of two lists or of two options, and else they themselves.
+    // Returns two value types that are equal if and only if `v` and `w` are: the elements of two lists or options, else
+    // `v` and `w`.
     #[tactic(auto, using(crate::proofs::Opened::opened_itself))]
     fn opened(self, v: ValueType, w: ValueType) -> (ValueType, ValueType)
         requires first { holds_type self.first.now (ty.Value v) ≡ true }
@@ -37,7 +38,7 @@ impl<'a> Comparison<'a> {
         }
     }
 
-    // Whether both are known at sight to be the same: a primitive, or a list or an option of one.
+    // Whether both are seen at once to be equal: primitives, or lists or options of primitives.
     #[tactic(auto, using(crate::proofs::Opened::told_primitives, crate::proofs::Equal::primitives_told))]
     fn is_same_flat(self, v: ValueType, w: ValueType) -> bool
         requires first { holds_type self.first.now (ty.Value v) ≡ true }
@@ -50,7 +51,7 @@ impl<'a> Comparison<'a> {
         }
     }
 
-    // Whether there are few fields under short names, which are known at sight to be the same.
+    // Whether both have the same few fields with short names, whose types are seen at once to be equal.
     #[tactic(auto, using(crate::proofs::Agreeing::maps_agree, crate::proofs::Agreeing::field_held))]
     fn have_same_fields(self, vs: &Named<ValueType>, ws: &Named<ValueType>) -> bool
         requires first { AreHeld self.first.now (value_types (seconds vs.now)) }
@@ -73,7 +74,7 @@ impl<'a> Comparison<'a> {
         true
     }
 
-    // Whether both are small records, which are known at sight to be the same.
+    // Whether both are small records that are seen at once to be equal.
     #[tactic(auto, using(crate::proofs::Opened::same_records, crate::proofs::Opens::defined_held))]
     fn is_same_record(self, v: ValueType, w: ValueType) -> bool
         requires first { holds_type self.first.now (ty.Value v) ≡ true }
@@ -93,7 +94,9 @@ impl<'a> Comparison<'a> {
         }
     }
 
-    /// Asks whether one value type is another. Lists, options and small records are looked into at once, which takes no longer than a question does.
+    /// Asks whether two value types are equal.
+    ///
+    /// Lists, options and small records are opened at once, which takes no longer than a question.
     pub(crate) fn ask_value(self, asked: &mut Asked, v: ValueType, w: ValueType) -> Answer
         requires first { holds_type self.first.now (ty.Value v) ≡ true }
         requires second { holds_type self.second.now (ty.Value w) ≡ true }
@@ -110,7 +113,7 @@ impl<'a> Comparison<'a> {
     }
 }
 
-/// Whether there are few parts, all under short names.
+/// Whether there are few parts, all with short names.
 pub(crate) fn has_small_parts(parts: &Named<ValueType>) -> bool
     ensures few { IsTrue result → length parts.now ≤ 8 }
     ensures short { IsTrue result → All (λ e. length e.0 ≤ 32) parts.now }
