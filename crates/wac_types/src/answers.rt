@@ -1,4 +1,4 @@
-//! What the answer to a question of a comparison rests on.
+//! Comparison of the two types of a question.
 ghost use Rattle.std.specs.Prelude.{◌≡◌, true, Err, IfOk};
 ghost use Rattle.wac_collection.specs.Collection.{holds_type, world_mentions};
 ghost use Rattle.wac_comparison.specs.Compare.{world_in};
@@ -9,7 +9,7 @@ ghost use Rattle.wac_subtyping.specs.Subtype.{Sub, type_tree};
 use wac_collection::{Type, World};
 use wac_comparison::{Asked, Comparison, TypeFault, is_module_subtype};
 
-/// Asks what the answer to a question rests on.
+/// Compares two types and asks about the types that they mention. Neither may be an alias.
 #[tactic(auto, using(wac_comparison::proofs::Opens::func_held, wac_comparison::proofs::Opens::interface_held, wac_comparison::proofs::Opens::world_held, wac_comparison::proofs::Asking::rests_now, wac_comparison::proofs::Values::values_are, wac_comparison::proofs::Typing::resources_are, wac_comparison::proofs::Typing::interfaces_are, wac_comparison::proofs::Typing::worlds_are, wac_comparison::proofs::Typing::modules_are, wac_comparison::proofs::Typing::answer_funcs, wac_comparison::proofs::Typing::answer_interfaces, wac_comparison::proofs::Typing::answer_worlds, wac_comparison::proofs::Typing::funcs_refuse, wac_comparison::proofs::Typing::other_sort, wac_comparison::proofs::Typing::no_resource, wac_comparison::proofs::Typing::no_func, wac_comparison::proofs::Typing::no_value, wac_comparison::proofs::Typing::no_interface, wac_comparison::proofs::Typing::no_world, wac_comparison::proofs::Typing::no_module))]
 pub(crate) fn answer(
     comparison: Comparison<'_>,
@@ -47,7 +47,7 @@ pub(crate) fn answer(
     }
 }
 
-// Asks whether one world is a subtype of the other.
+// Asks whether the world `w` is a subtype of `v`.
 #[tactic(auto, using(wac_comparison::proofs::Subtyping::of_components, wac_comparison::proofs::Subtyping::imports_held, wac_comparison::proofs::Subtyping::exports_held))]
 fn ask_worlds(
     comparison: Comparison<'_>,

@@ -10,19 +10,24 @@ use crate::answers::answer;
 use wac_collection::{ItemKind, Types};
 use wac_comparison::{Asked, Comparison, Question, TypeFault};
 
-/// Compares items of two collections.
+/// Decides whether an item is a subtype of another.
 #[derive(Clone, Copy, Debug)]
 pub struct SubtypeChecker {}
 
 impl SubtypeChecker {
-    /// A checker.
+    /// Returns a checker.
     pub fn new() -> SubtypeChecker {
         SubtypeChecker {}
     }
 
-    /// Whether an item of one collection is a subtype of an item of another; each is to be held. Answers `Mismatch` where it isn't,
-    /// and `OutOfMemory` where memory ran out before that was known. Each pair of types is compared once; only small ones are
-    /// compared wherever they are mentioned.
+    /// Checks that the item `a` of collection `at` is a subtype of the item `b` of collection `bt`.
+    ///
+    /// Both items must be of their collections. Each pair of types is compared once; small types are compared wherever
+    /// they are mentioned.
+    ///
+    /// # Errors
+    /// - [`Mismatch`](TypeFault::Mismatch) if it is not a subtype.
+    /// - [`OutOfMemory`](TypeFault::OutOfMemory) if memory ran out before that was known.
     #[tactic(auto, using(wac_comparison::proofs::Comparing::compares_first))]
     pub fn is_subtype(
         &self,
@@ -55,7 +60,7 @@ impl SubtypeChecker {
     }
 }
 
-/// Asks what the answer to a question rests on, which says of which collection its first type is.
+/// Compares the two types of a question, each of its collection.
 fn answer_question(
     comparison: Comparison<'_>,
     asked: &mut Asked,

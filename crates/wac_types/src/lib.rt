@@ -1,4 +1,8 @@
-//! Types of components: the collection that holds them, and subtyping.
+//! Types of components: the collection of types, packages, and subtyping.
+//!
+//! [`Types`] is the collection. Its items mention each other by id, and each item only items added before it.
+//! [`SubtypeChecker`] decides whether an item of one collection is a subtype of an item of another. A [`Package`] is a
+//! component's bytes with its world. The functions of [`laws`] do nothing: their contracts are laws that proofs cite.
 #![tactic(auto)]
 
 mod answers;
