@@ -78,8 +78,8 @@ impl Reached {
 
     /// Adds the types that `ty` reaches and that are not there yet.
     ///
-    /// `ty` must be of the collection, and the types here must mention no others. Takes time linear in what `ty` and
-    /// the added types mention, without recursion.
+    /// `ty` must be of the collection, and the types here must mention only one another. Takes time linear in what `ty`
+    /// and the added types mention, without recursion.
     ///
     /// # Errors
     /// - `AllocError` if out of memory. Then no type is left, since some would mention others.
