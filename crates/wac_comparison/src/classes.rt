@@ -82,7 +82,7 @@ impl Classes {
         *self.links.get_index(position).unwrap().1
     }
 
-    // Returns the index of the top of a node's class. The top is the only node whose link has no greater size above it.
+    // Returns the index of the top of a node's class. Sizes grow towards the top, so the loop ends there.
     fn top(&self, position: usize) -> usize
         requires { position < length self.now.links.entries }
         ensures within { result < length self.now.links.entries }
