@@ -3,20 +3,20 @@ use Rattle.std.specs.Prelude.{ℕ, ◌≡◌, ◌<◌, ◌≤◌, true, List, le
 use Rattle.std.specs.BTreeSet.{BTreeSet, contains}
 use Rattle.std.specs.Ordering.{nat_cmp}
 
--- one step or more of a relation, one after another
+-- A path of one or more steps.
 pub data Path (steps : ℕ → ℕ → Type 0) : ℕ → ℕ → Type 0 where
   step : (a b : ℕ) → steps a b → Path steps a b
   further : (a b d : ℕ) → steps a b → Path steps b d → Path steps a d
 
--- a step leads from a to b: b is in the set of a
+-- A step leads from a to b: b is in the set of a.
 abbrev pub IsStep : List (BTreeSet ℕ) → ℕ → ℕ → Type 0
 IsStep targets a b = (s : BTreeSet ℕ) × (slice_get targets a ≡ Some s) × (contains nat_cmp s b ≡ true)
 
--- steps lead to numbers that have sets
+-- Steps lead only to numbers that have a set.
 abbrev pub AreWithin : List (BTreeSet ℕ) → Type 0
 AreWithin targets = (a b : ℕ) → IsStep targets a b → b < length targets
 
--- steps lead from the number back to it
+-- A path leads from the number back to it.
 abbrev pub LeadsBack : List (BTreeSet ℕ) → ℕ → Type 0
 LeadsBack targets n = Path (IsStep targets) n n
 
@@ -24,7 +24,7 @@ LeadsBack targets n = Path (IsStep targets) n n
 abbrev pub HasNoCycle : List (BTreeSet ℕ) → Type 0
 HasNoCycle targets = (n : ℕ) → LeadsBack targets n → ⊥
 
--- of the numbers on cycles the lowest
+-- The lowest number on a cycle.
 pub record HasLowestOnCycle (targets : List (BTreeSet ℕ)) (n : ℕ) : Type 0 where
   pub on : LeadsBack targets n
   pub lowest : (m : ℕ) → LeadsBack targets m → n ≤ m

@@ -1,9 +1,9 @@
--- The search that gives numbers their ranks. Private functions alone cite this.
+-- The search that gives numbers their ranks. No public contract cites this.
 use Rattle.std.specs.Prelude.{ℕ, ◌≡◌, length}
 use Rattle.wac_cycles.specs.declared.ranks.Search.{Search}
 use Rattle.wac_cycles.specs.Numbers.{AreBelow}
 
--- the search is one among the numbers below this
+-- The search is about the numbers less than count.
 pub record IsAmong (count : ℕ) (s : Search) : Type 0 where
   pub placed : length s.places.items ≡ count
   pub ranked : length s.ranks.items ≡ count

@@ -1,4 +1,6 @@
 //! Cycles of steps between numbers.
+//!
+//! A list of sets has the steps: a step leads from `a` to each number in `targets[a]`.
 ghost use Rattle.std.specs.Prelude.{◌≡◌, ◌<◌, ◌≤◌, ◌↔◌, ◌⊎◌, ℕ, length, fold, slice_index, IfOk, OnOk, MatchOption};
 ghost use Rattle.std.specs.Bool.{OnTrue, OnFalse};
 ghost use Rattle.wac_cycles.specs.CycleSearch.{AreUpTo, Descends, marked};
@@ -9,7 +11,10 @@ use crate::ranks::ranks;
 use std::alloc::{AllocError, Global};
 use std::collections::BTreeSet;
 
-/// As many empty sets as there are numbers, between which there are no steps.
+/// Returns `count` empty sets: as many numbers, without steps.
+///
+/// # Errors
+/// - `AllocError` if out of memory.
 pub fn empty_sets(alloc: Global, count: usize) -> Result<Vec<BTreeSet<usize>>, AllocError>
     ensures counted { IfOk result (λ v. length v.items ≡ count) }
     ensures empty { IfOk result (λ v. (a b : ℕ) → IsStep v.items a b → ⊥) }
@@ -21,7 +26,10 @@ pub fn empty_sets(alloc: Global, count: usize) -> Result<Vec<BTreeSet<usize>>, A
     Ok(sets)
 }
 
-/// Adds a step from one number to another.
+/// Adds a step.
+///
+/// # Errors
+/// - `AllocError` if out of memory.
 pub fn add_step(targets: &mut [BTreeSet<usize>], from: usize, to: usize) -> Result<(), AllocError>
     requires { from < length targets.old }
     ensures { OnOk result ((a b : ℕ) → (IsStep targets.new a b ↔ (IsStep targets.old a b ⊎ ((a ≡ from) × (b ≡ to))))) }
@@ -32,8 +40,10 @@ pub fn add_step(targets: &mut [BTreeSet<usize>], from: usize, to: usize) -> Resu
     }
 }
 
-/// The lowest number from which a path of one step or more leads back to it, where `targets[a]` has the numbers to which
-/// the steps from a lead.
+/// Returns the lowest number on a cycle, if there is one. Steps must lead only to numbers that have a set.
+///
+/// # Errors
+/// - `AllocError` if out of memory.
 pub fn lowest_on_cycle(
     alloc: Global,
     targets: &[BTreeSet<usize>],
@@ -54,7 +64,7 @@ pub fn lowest_on_cycle(
     Ok(None)
 }
 
-/// Whether no step leads to a number of a greater rank.
+/// Whether no step leads to a number of higher rank.
 fn descends(targets: &[BTreeSet<usize>], ranks: &[usize]) -> bool
     requires long { length ranks.now ≡ length targets.now }
     requires within { AreWithin targets.now }
@@ -68,7 +78,7 @@ fn descends(targets: &[BTreeSet<usize>], ranks: &[usize]) -> bool
     true
 }
 
-/// The highest rank of these numbers, zero where there are none.
+/// Returns the highest rank of these numbers, or 0 if there are none.
 fn highest(steps: &BTreeSet<usize>, ranks: &[usize]) -> usize
     requires { AreBelow (length ranks.now) steps.now.keys }
     ensures { AreUpTo ranks.now result steps.now.keys }
@@ -80,7 +90,7 @@ fn highest(steps: &BTreeSet<usize>, ranks: &[usize]) -> usize
     highest
 }
 
-/// The higher of a rank and that of a number.
+/// Returns the higher of `rank` and the rank of `b`.
 fn higher(ranks: &[usize], rank: usize, b: usize) -> usize
     requires { b < length ranks.now }
     ensures other { rank ≤ result }
@@ -89,8 +99,8 @@ fn higher(ranks: &[usize], rank: usize, b: usize) -> usize
     if rank < ranks[b] { ranks[b] } else { rank }
 }
 
-/// Whether ranks tell that a number is on no cycle: no step leads to a greater rank, and those from the number lead to
-/// lower ones.
+/// Whether ranks show that `n` is on no cycle: no step leads to a higher rank, and the steps from `n` lead to lower
+/// ones.
 fn is_ruled_out(targets: &[BTreeSet<usize>], ranks: &[usize], descends: bool, n: usize) -> bool
     requires small { n < length targets.now }
     requires long { length ranks.now ≡ length targets.now }
@@ -104,7 +114,7 @@ fn is_ruled_out(targets: &[BTreeSet<usize>], ranks: &[usize], descends: bool, n:
     highest(&targets[n], ranks) < ranks[n]
 }
 
-/// Whether a path of one step or more leads from a number back to it.
+/// Whether a path of at least one step leads from `n` back to it.
 fn is_on_cycle(alloc: Global, targets: &[BTreeSet<usize>], n: usize) -> Result<bool, AllocError>
     requires small { n < length targets.now }
     requires within { AreWithin targets.now }
@@ -120,7 +130,7 @@ fn is_on_cycle(alloc: Global, targets: &[BTreeSet<usize>], n: usize) -> Result<b
     Ok(reached[n])
 }
 
-/// Reaches some numbers. Those that were not reached before are to be looked at.
+/// Marks numbers as reached. Those that were not reached before are appended to `pending`.
 fn mark(
     steps: &BTreeSet<usize>,
     reached: &mut Vec<bool>,
@@ -135,7 +145,7 @@ fn mark(
     Ok(())
 }
 
-/// Reaches a number. If it was not reached before it is to be looked at.
+/// Marks a number as reached. If it was not reached before, it is appended to `pending`.
 fn mark_one(b: usize, reached: &mut Vec<bool>, pending: &mut Vec<usize>) -> Result<(), AllocError>
     requires { b < length reached.old.items }
     ensures { OnOk result ((reached.new.items, pending.new.items) ≡ marked (reached.old.items, pending.old.items) b) }

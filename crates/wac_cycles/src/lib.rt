@@ -1,4 +1,4 @@
-//! Steps between numbers: which of them are on a cycle, and the lowest of these.
+//! Steps between numbers: whether some form a cycle, and the lowest number on one.
 #![tactic(auto)]
 
 pub mod cycles;

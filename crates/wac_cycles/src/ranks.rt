@@ -1,9 +1,9 @@
-//! Ranks of numbers by the groups of those that lead to each other.
+//! Ranks of numbers by their strongly connected groups.
 //!
-//! This is the path-based search for strongly connected groups: it keeps a path of groups, each of which leads to the
-//! next, looks at a step of the last one, and puts together the groups between it and an earlier one to which the step
-//! leads. A group whose steps were all looked at is closed, and its members get the next rank. So no step leads to a
-//! greater rank, and where one leads to the same rank both of its ends are on a cycle.
+//! This is the path-based search for strongly connected components. It keeps a path of groups, each of which leads to
+//! the next. A step from the last group to an earlier one joins the groups between them. Once all steps of the last
+//! group are taken, the group is closed, and its members get the next rank. So no step leads to a higher rank, and both
+//! ends of a step within a rank are on a cycle.
 ghost use Rattle.std.specs.Prelude.{◌≡◌, ◌<◌, ◌++◌, length, IfOk, OnOk};
 ghost use Rattle.wac_cycles.specs.Cycles.{AreWithin};
 ghost use Rattle.wac_cycles.specs.Numbers.{AreBelow};
@@ -12,34 +12,36 @@ ghost use Rattle.wac_cycles.specs.RankSearch.{IsAmong};
 use std::alloc::{AllocError, Global};
 use std::collections::BTreeSet;
 
-/// Numbers on the path that lead to each other.
+/// A group of the path: numbers that lead to each other.
 #[derive(Clone, Copy)]
 struct Group {
-    // The place of its first member.
+    // The index of its first member in `members`.
     first: usize,
-    // How many numbers were to be looked at before it was begun.
+    // The length of `pending` before it was begun.
     before: usize,
 }
 
 /// A search along steps.
 #[derive(Drop)]
 pub(crate) struct Search {
-    // For each number that was reached its place among the members.
+    // For each number that was reached, the index at which it became a member.
     places: Vec<Option<usize>>,
-    // For each number the rank of its group, from one on; zero while that is not closed.
+    // For each number the rank of its group, counted from 1; 0 until the group is closed.
     ranks: Vec<usize>,
-    // How many groups are closed.
+    // The number of closed groups.
     closed: usize,
-    // The members of the groups on the path, one group after another.
+    // The members of the groups of the path, group by group.
     members: Vec<usize>,
-    // The numbers to which steps lead that were not looked at yet, one group after another; before them those to begin at.
+    // The targets of steps that were not taken yet, group by group, after the numbers at which to begin.
     pending: Vec<usize>,
-    // The groups on the path.
+    // The groups of the path.
     groups: Vec<Group>,
 }
 
-/// A rank for each number. No contract says that these are those of the groups, and none needs it: the search for a cycle
-/// reads from them only what it has compared itself. Takes time and memory in the number of numbers and steps.
+/// Returns a rank for each number, in time and memory linear in the numbers and steps.
+///
+/// No contract says that these are the ranks of groups. None needs it, since the search for a cycle compares the ranks
+/// that it relies on.
 pub(crate) fn ranks(alloc: Global, targets: &[BTreeSet<usize>]) -> Result<Vec<usize>, AllocError>
     requires { AreWithin targets.now }
     ensures { IfOk result (λ r. length r.items ≡ length targets.now) }
@@ -53,8 +55,7 @@ pub(crate) fn ranks(alloc: Global, targets: &[BTreeSet<usize>]) -> Result<Vec<us
     Ok(search.ranks)
 }
 
-/// How many moves a search has: each number is begun at, each step looked at, and no more groups are closed than there are
-/// numbers.
+/// A bound of the moves of a search: each number is a beginning, each step is taken, and each group is closed.
 fn moves(targets: &[BTreeSet<usize>]) -> usize {
     let mut moves = targets.len().saturating_mul(2);
     for steps in targets {
@@ -63,7 +64,7 @@ fn moves(targets: &[BTreeSet<usize>]) -> usize {
     moves
 }
 
-/// How many numbers were to be looked at before the last group was begun.
+/// The length of `pending` before the last group was begun; 0 if there is no group.
 fn before(groups: &[Group]) -> usize {
     match groups.last() {
         Some(group) => group.before,
@@ -71,7 +72,7 @@ fn before(groups: &[Group]) -> usize {
     }
 }
 
-/// Puts the groups from the one that has this place on together.
+/// Joins the groups from the one with the member at `place` on.
 fn join(groups: &mut Vec<Group>, place: usize) {
     while let Some(group) = groups.last() {
         if group.first <= place {
@@ -81,7 +82,7 @@ fn join(groups: &mut Vec<Group>, place: usize) {
     }
 }
 
-/// Takes the members from this place on, and gives them their rank.
+/// Removes the members from index `first` on, and gives them their rank.
 fn close(ranks: &mut [usize], members: &mut Vec<usize>, first: usize, rank: usize)
     requires { AreBelow (length ranks.old) members.old.items }
     ensures { AreBelow (length ranks.old) members.new.items }
@@ -94,7 +95,7 @@ fn close(ranks: &mut [usize], members: &mut Vec<usize>, first: usize, rank: usiz
     }
 }
 
-/// Adds some numbers.
+/// Appends numbers.
 fn add_all(numbers: &mut Vec<usize>, steps: &BTreeSet<usize>) -> Result<(), AllocError>
     ensures { OnOk result (numbers.new.items ≡ numbers.old.items ++ steps.now.keys) }
 {
@@ -105,7 +106,7 @@ fn add_all(numbers: &mut Vec<usize>, steps: &BTreeSet<usize>) -> Result<(), Allo
 }
 
 impl Search {
-    /// A search that is to begin at each of so many numbers.
+    /// Returns a search that begins at each of the first `count` numbers.
     fn new(alloc: Global, count: usize) -> Result<Search, AllocError>
         ensures { IfOk result (λ s. IsAmong count s) }
     {
@@ -123,7 +124,7 @@ impl Search {
         })
     }
 
-    /// Looks at a number, or closes a group. Answers false where nothing is left.
+    /// Takes a step or closes a group. Returns false if nothing is left.
     fn advance(&mut self, targets: &[BTreeSet<usize>]) -> Result<bool, AllocError>
         requires within { AreWithin targets.now }
         requires among { IsAmong (length targets.now) self.old }
@@ -140,7 +141,7 @@ impl Search {
         Ok(true)
     }
 
-    /// Looks at the last of the numbers that are to be looked at.
+    /// Takes the last step that was not taken yet.
     fn look(&mut self, targets: &[BTreeSet<usize>]) -> Result<bool, AllocError>
         requires within { AreWithin targets.now }
         requires among { IsAmong (length targets.now) self.old }
@@ -153,7 +154,7 @@ impl Search {
         Ok(true)
     }
 
-    /// Begins a group of a number that was not reached yet. To one on the path the groups are put together.
+    /// Takes a step to `b`. If `b` was not reached, it begins a group; if it is on the path, groups are joined.
     fn follow(&mut self, targets: &[BTreeSet<usize>], b: usize) -> Result<(), AllocError>
         requires low { b < length targets.now }
         requires within { AreWithin targets.now }
@@ -169,7 +170,7 @@ impl Search {
         Ok(())
     }
 
-    /// Begins a group.
+    /// Begins a group with `n`.
     fn begin(&mut self, targets: &[BTreeSet<usize>], n: usize) -> Result<(), AllocError>
         requires low { n < length targets.now }
         requires within { AreWithin targets.now }
