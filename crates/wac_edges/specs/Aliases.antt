@@ -1,4 +1,4 @@
--- The aliases of exports, noted by source, position and target. Private functions alone cite this.
+-- Aliases by source, position and target. No public contract cites this.
 use Rattle.std.specs.Prelude.{ℕ, ◌≡◌, ◌==◌, ◌||◌, Bool, true, false, nat_eq, List, Option, Some, None, slice_get, Vec}
 use Rattle.std.specs.Global.{Global}
 use Rattle.std.specs.BTreeSet.{BTreeSet, contains}
@@ -10,44 +10,44 @@ use Rattle.wac_edges.specs.declared.node.NodeId.{NodeId}
 use Rattle.wac_edges.specs.Edge.{alias_edge}
 use Rattle.wac_edges.specs.Records.{Table, HasEdge}
 
--- three numbers, the first that differ decide
+-- Triples are ordered by the first numbers that differ.
 abbrev pub triple_cmp : ℕ × ℕ × ℕ → ℕ × ℕ × ℕ → Ordering
 triple_cmp x y = ordering_then (ordering_then (nat_cmp x.0 y.0) (nat_cmp x.1 y.1)) (nat_cmp x.2 y.2)
 
--- what stands at this position of a list, if there is such a place and it is not empty
+-- The alias at a position of a list, if there is one.
 abbrev pub place : List (Option ℕ) → ℕ → Option ℕ
 place places i = elim (slice_get places i) as (λ _. Option ℕ) [ None ↦ None | Some held ↦ held ]
 
--- what stands at this position of the list under the source's number, if there is one
+-- The first alias of a source at a position, if there is one.
 abbrev pub first : {S : Type 0} → HashMap ℕ (Vec (Option ℕ) Global) S → ℕ → ℕ → Option ℕ
 first firsts source i = elim (get nat_eq firsts source) as (λ _. Option ℕ) [ None ↦ None | Some places ↦ place places.items i ]
 
--- whether there is a number, and it is this one
+-- There is a number, and it is this one.
 abbrev pub is_number : ℕ → Option ℕ → Bool
 is_number k None = false
 is_number k (Some x) = x == k
 
--- whether the node is the alias of the source's export at this position that was noted first
+-- The target is the first alias of the source at this position.
 abbrev pub is_first : Aliases → NodeId → ℕ → NodeId → Bool
 is_first a source i target = is_number target.0 (first a.firsts source.0 i)
 
--- whether the node is among the others that are noted
+-- The target is another alias of the source at this position.
 abbrev pub is_among : BTreeSet (ℕ × ℕ × ℕ) → NodeId → ℕ → NodeId → Bool
 is_among s source i target = contains triple_cmp s (source.0, i, target.0)
 
--- whether the node is noted as an alias of the source's export at this position
+-- The target is noted as an alias of the source at this position.
 abbrev pub is_noted : Aliases → NodeId → ℕ → NodeId → Bool
 is_noted a source i target = is_first a source i target || is_among a.others source i target
 
--- the same nodes are noted
+-- Both have the same aliases.
 abbrev pub AreAlike : Aliases → Aliases → Type 0
 AreAlike a b = (source target : NodeId) (i : ℕ) → is_noted b source i target ≡ is_noted a source i target
 
--- whether the node is marked as one whose aliases are noted
+-- The node is marked as crowded.
 abbrev pub is_crowded : List Bool → NodeId → Bool
 is_crowded crowded n = elim (slice_get crowded n.0) as (λ _. Bool) [ None ↦ false | Some marked ↦ marked ]
 
--- an alias that is noted is one whose edge a record has, and of a crowded node all of these are noted
+-- Each noted alias has an edge, and each alias of a crowded node is noted.
 pub record AreNoted (crowded : List Bool) (s : Aliases) (t : Table) : Type 0 where
   pub sound : (source target : NodeId) (i : ℕ) → is_noted s source i target ≡ true → HasEdge t (alias_edge source target i)
   pub all : (source target : NodeId) (i : ℕ) → is_crowded crowded source ≡ true → HasEdge t (alias_edge source target i) → is_noted s source i target ≡ true

@@ -1,4 +1,4 @@
-//! The aliases of each export of a node from which many edges lead, noted by their source and position.
+//! The aliases of nodes with many outgoing edges, by source and position.
 ghost use Rattle.std.specs.Prelude.{◌≡◌, ◌≢◌, ◌↔◌, ◌⊎◌, ℕ, true, false, None, Some, Contains, IfOk, IfSome, IfNone, OnOk, OnErr};
 ghost use Rattle.std.specs.Bool.{OnTrue, OnFalse};
 ghost use Rattle.wac_edges.specs.declared.node.NodeId.{NodeId as AnId};
@@ -10,20 +10,21 @@ use crate::walk::Walk;
 use std::alloc::{AllocError, Global};
 use std::collections::{BTreeSet, HashMap};
 
-/// Aliases of exports that are noted: of each export the one that was noted first, and any others, in an order in which those of
-/// one export stand together. A graph has one alias of an export at most, so others are those alone whose positions are far apart.
+/// Aliases by their source and the position of the aliased export.
+///
+/// A graph has at most one alias of an export. So `others` has only aliases at positions far beyond the end of a list.
 #[derive(Drop)]
 pub(crate) struct Aliases {
-    // For each source a list: at each position the alias that was noted first, if there is one.
+    // For each source a list: at each position the first alias that was added, if there is one.
     firsts: HashMap<usize, Vec<Option<usize>>>,
     others: BTreeSet<(usize, usize, usize)>,
     alloc: Global,
 }
 
-/// So many places a list grows by at most for one alias, so that lists are no longer than eight times what was noted.
+/// The most places that a list grows by for one alias. So a list has at most eight places for each alias added.
 const NEAR: usize = 8;
 
-/// The clone has the same aliases. Answers `AllocError` where memory ran out.
+/// A clone has the same aliases. `clone` is `Err(AllocError)` if out of memory.
 impl Clone for Aliases {
     ghost use Rattle.wac_edges.specs.Aliases.{AreAlike};
 
@@ -41,7 +42,7 @@ impl Clone for Aliases {
 }
 
 impl Aliases {
-    /// No aliases.
+    /// Returns no aliases.
     pub(crate) fn new(alloc: Global) -> Aliases
         ensures { (source target : AnId) (i : ℕ) → is_noted result source i target ≡ false }
     {
@@ -53,7 +54,7 @@ impl Aliases {
     }
 }
 
-/// Notes an edge, where it leads to an alias; where memory runs out nothing has changed.
+/// Adds an edge, if it leads to an alias. If out of memory, nothing changes.
 pub(crate) fn note_alias(aliases: &mut Aliases, edge: Edge) -> Result<(), AllocError>
     ensures ok { OnOk result ((source target : AnId) (i : ℕ) → (is_noted aliases.new source i target ≡ true) ↔ ((is_noted aliases.old source i target ≡ true) ⊎ (alias_edge source target i ≡ edge))) }
     ensures err { OnErr result ((source target : AnId) (i : ℕ) → is_noted aliases.new source i target ≡ is_noted aliases.old source i target) }
@@ -71,8 +72,9 @@ pub(crate) fn note_alias(aliases: &mut Aliases, edge: Edge) -> Result<(), AllocE
     Ok(())
 }
 
-/// Writes a first alias of a source at a position, and answers whether. It does not where there is one, or where the list would
-/// grow by more than it may for one; where memory runs out nothing has changed.
+/// Sets the first alias of a source at a position, and returns whether it did.
+///
+/// It does not if there is one, or if the list would grow by more than `NEAR`. If out of memory, nothing changes.
 fn fill_first(
     firsts: &mut HashMap<usize, Vec<Option<usize>>>,
     alloc: Global,
@@ -97,8 +99,9 @@ fn fill_first(
     Ok(true)
 }
 
-/// Writes an alias at a position of a list, and answers whether. It does not where there is one, or where the list would grow by
-/// more than it may for one; where memory runs out nothing has changed.
+/// Sets the alias at a position of a list, and returns whether it did.
+///
+/// It does not if there is one, or if the list would grow by more than `NEAR`. If out of memory, nothing changes.
 fn fill_place(
     places: &mut Vec<Option<usize>>,
     position: usize,
@@ -120,7 +123,7 @@ fn fill_place(
     Ok(true)
 }
 
-/// The alias at a position of a list.
+/// Returns the alias at a position of a list, if there is one.
 fn place_of(places: &[Option<usize>], position: usize) -> Option<usize>
     ensures { result ≡ place places.now position }
 {
@@ -130,7 +133,7 @@ fn place_of(places: &[Option<usize>], position: usize) -> Option<usize>
     }
 }
 
-/// Whether the node of this number is marked as crowded.
+/// Whether the node is marked as crowded.
 pub(crate) fn is_crowded(crowded: &[bool], number: usize) -> bool
     ensures { result ≡ is_crowded crowded.now (node_number number) }
 {
@@ -140,7 +143,7 @@ pub(crate) fn is_crowded(crowded: &[bool], number: usize) -> bool
     }
 }
 
-/// Marks the node of this number as crowded; where memory runs out nothing has changed.
+/// Marks a node as crowded. If out of memory, nothing changes.
 pub(crate) fn mark(crowded: &mut Vec<bool>, number: usize) -> Result<(), AllocError>
     ensures marked { OnOk result (is_crowded crowded.new.items (node_number number) ≡ true) }
     ensures others { (n : AnId) → n.0 ≢ number → is_crowded crowded.new.items n ≡ is_crowded crowded.old.items n }
@@ -156,7 +159,7 @@ pub(crate) fn mark(crowded: &mut Vec<bool>, number: usize) -> Result<(), AllocEr
     Ok(())
 }
 
-/// Notes an edge, where it leads from a crowded node to an alias; where memory runs out nothing has changed.
+/// Adds an edge, if it leads from a crowded node to an alias. If out of memory, nothing changes.
 pub(crate) fn note(crowded: &[bool], aliases: &mut Aliases, edge: Edge) -> Result<(), AllocError>
     ensures ok { OnOk result ((source target : AnId) (i : ℕ) → (is_noted aliases.new source i target ≡ true) ↔ ((is_noted aliases.old source i target ≡ true) ⊎ ((is_crowded crowded.now source ≡ true) × (alias_edge source target i ≡ edge)))) }
     ensures err { OnErr result ((source target : AnId) (i : ℕ) → is_noted aliases.new source i target ≡ is_noted aliases.old source i target) }
@@ -167,7 +170,7 @@ pub(crate) fn note(crowded: &[bool], aliases: &mut Aliases, edge: Edge) -> Resul
     Ok(())
 }
 
-/// Notes those of some edges that lead to aliases; where memory runs out, only some of them.
+/// Adds the edges that lead to aliases. If out of memory, only some are added.
 pub(crate) fn note_all(aliases: &mut Aliases, walk: Walk<'_>) -> Result<(), AllocError>
     ensures more { (source target : AnId) (i : ℕ) → is_noted aliases.new source i target ≡ true → (is_noted aliases.old source i target ≡ true) ⊎ Contains walk.entry.left (alias_edge source target i) }
     ensures kept { (source target : AnId) (i : ℕ) → is_noted aliases.old source i target ≡ true → is_noted aliases.new source i target ≡ true }
@@ -179,7 +182,7 @@ pub(crate) fn note_all(aliases: &mut Aliases, walk: Walk<'_>) -> Result<(), Allo
     Ok(())
 }
 
-/// Strikes an edge out, where it leads to an alias. Takes no memory.
+/// Removes an edge, if it leads to an alias. Takes no memory.
 pub(crate) fn forget_alias(aliases: &mut Aliases, edge: Edge)
     ensures { (source target : AnId) (i : ℕ) → (is_noted aliases.new source i target ≡ true) ↔ ((is_noted aliases.old source i target ≡ true) × (alias_edge source target i ≡ edge → ⊥)) }
 {
@@ -192,7 +195,7 @@ pub(crate) fn forget_alias(aliases: &mut Aliases, edge: Edge)
     aliases.others.remove(&(source, position, target));
 }
 
-/// Strikes out a first alias of a source at a position where it is this one. Takes no memory.
+/// Removes the first alias of a source at a position, if it is `target`. Takes no memory.
 fn empty_first(
     firsts: &mut HashMap<usize, Vec<Option<usize>>>,
     source: usize,
@@ -209,7 +212,7 @@ fn empty_first(
     empty_place(places, position, target);
 }
 
-/// Empties the place at a position of a list where this alias is there. Takes no memory.
+/// Empties the place at a position of a list, if it has this alias. Takes no memory.
 fn empty_place(places: &mut Vec<Option<usize>>, position: usize, target: usize)
     ensures gone { place places.old.items position ≡ Some target → place places.new.items position ≡ None }
     ensures other { place places.old.items position ≢ Some target → place places.new.items position ≡ place places.old.items position }
@@ -220,7 +223,7 @@ fn empty_place(places: &mut Vec<Option<usize>>, position: usize, target: usize)
     }
 }
 
-/// The number of an alias of an export at this position that is noted: of the first one, where there is none of the lowest.
+/// Returns the number of an alias of an export: the first that was added, else the lowest.
 pub(crate) fn first_alias(aliases: &Aliases, source: usize, position: usize) -> Option<usize>
     ensures some { IfSome result (λ target. is_noted aliases.now (node_number source) position (node_number target) ≡ true) }
     ensures none { IfNone result ((target : AnId) → is_noted aliases.now (node_number source) position target ≡ false) }
@@ -231,7 +234,7 @@ pub(crate) fn first_alias(aliases: &Aliases, source: usize, position: usize) -> 
     lowest_among(&aliases.others, source, position)
 }
 
-/// The first alias of a source at a position.
+/// Returns the first alias of a source at a position, if there is one.
 fn first_of(
     firsts: &HashMap<usize, Vec<Option<usize>>>,
     source: usize,
@@ -245,7 +248,7 @@ fn first_of(
     }
 }
 
-/// The number of the lowest alias of an export at this position that is in a set.
+/// Returns the number of the lowest alias of an export that is in a set.
 fn lowest_among(
     aliases: &BTreeSet<(usize, usize, usize)>,
     source: usize,

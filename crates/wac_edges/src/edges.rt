@@ -1,4 +1,4 @@
-//! Labelled edges between nodes.
+//! Sets of labelled edges between nodes.
 ghost use Rattle.std.specs.Prelude.{◌≡◌, ◌<◌, ◌+◌, ◌↔◌, ◌⊎◌, ℕ, true, false, OnOk, OnErr, IfOk, IfSome, IfNone, MatchOption, length, slice_index};
 ghost use Rattle.std.specs.Bool.{OnTrue, OnFalse};
 ghost use Rattle.std.specs.FinSet as set;
@@ -20,30 +20,30 @@ use std::collections::BTreeSet;
 use std::marker::Model;
 use wac_cycles::cycles::{add_step, empty_sets, lowest_on_cycle};
 
-/// What an edge says.
+/// The meaning of an edge.
 #[derive(Clone, Copy, PartialEq, Eq)]
 pub enum Label {
-    /// From an instance to the alias of its export at this position.
+    /// From an instance to the alias of its export at this index.
     Alias(usize),
-    /// From a node to the instantiation whose import at this position it satisfies.
+    /// From an argument to the instantiation whose import at this index it satisfies.
     Argument(usize),
-    /// From a definition to one that mentions it.
+    /// From a definition to one that depends on it.
     Dependency,
 }
 
 /// An edge.
 #[derive(Clone, Copy, PartialEq, Eq)]
 pub struct Edge {
-    /// The node that it leads from.
+    /// The node from which it leads.
     pub source: NodeId,
-    /// The node that it leads to.
+    /// The node to which it leads.
     pub target: NodeId,
-    /// What it says.
+    /// Its meaning.
     pub label: Label,
 }
 
 impl Edge {
-    /// The node that has the edge at this end.
+    /// The node at this end.
     #[inline(always)]
     pub fn node(&self, end: End) -> NodeId
         ensures { result ≡ at_end end self.now }
@@ -55,32 +55,33 @@ impl Edge {
     }
 }
 
-/// An end of edges as their nodes see it.
+/// An end of edges, seen from a node.
 #[derive(Clone, Copy)]
 pub enum End {
-    /// The edges that lead from a node.
+    /// The edges out of the node.
     Outgoing,
-    /// The edges that lead to a node.
+    /// The edges into the node.
     Incoming,
 }
 
-/// A set of edges. Each has one record in a table; a record whose edge is taken out is used again. The record stands in a
-/// list of the edges from its source and in one of those to its target, so that each look-up reads the records at one node.
-/// The alias of an export of a node from which many edges lead is found without that, among those that are noted.
+/// A set of edges.
+///
+/// Each edge has a record in a table, in one list with the edges of its source and in one with those of its target. So
+/// a look-up reads only records of one node. The aliases of a node with many outgoing edges are in a map.
 #[derive(Drop)]
 pub struct Edges {
     records: Slab<Record>,
-    // For each node up to the greatest of a source or a target that was given.
+    // For each node up to the greatest source or target of an edge that was added.
     firsts: Vec<Firsts>,
-    // Marks the numbers of the nodes from which more edges led, once, than are looked through.
+    // Marks the nodes that once had more than `FEW` outgoing edges.
     crowded: Vec<bool>,
-    // The aliases of exports of these.
+    // The aliases of the marked nodes.
     aliases: Aliases,
-    // Whether an edge was added, once, that leads to no higher number.
+    // Whether an edge was ever added that leads to no higher number.
     falls: bool,
 }
 
-/// So many edges from a node are looked through for an alias.
+/// The greatest number of outgoing edges that are searched for an alias.
 const FEW: usize = 8;
 
 impl Model for Edges {
@@ -100,8 +101,9 @@ impl Model for Edges {
     ghost invariant = { λ a. AreListed (get a.records) a.firsts.items × AreNoted a.crowded.items a.aliases (get a.records) × RiseUnless a.falls (get a.records) };
 }
 
-/// The clone is the same set, and both change on their own. This takes as many steps as there are edges, and nodes up to the
-/// greatest of a source or a target that was given. Answers `AllocError` where memory ran out.
+/// A clone is the same set. It takes time linear in the edges and in the greatest node of one.
+///
+/// `clone` is `Err(AllocError)` if out of memory.
 impl Clone for Edges {
     ghost is_clone = { λ a b. b ≡ a };
 
@@ -121,7 +123,7 @@ impl Clone for Edges {
 }
 
 impl Edges {
-    /// The empty set.
+    /// Returns the empty set.
     pub fn new(alloc: Global) -> Edges
         ensures { result ≡ set.empty }
     {
@@ -134,15 +136,20 @@ impl Edges {
         }
     }
 
-    /// Makes room in the table of edges, so that it does not grow as so many edges are added. What is kept of each node grows as
-    /// edges are added all the same. Where memory runs out nothing has changed, as nothing that can be seen does otherwise.
+    /// Makes room for `count` edges in the table. What is kept of each node can still grow when an edge is added.
+    ///
+    /// # Errors
+    /// - `AllocError` if out of memory.
     pub fn reserve(&mut self, count: usize) -> Result<(), AllocError>
         ensures { self.new ≡ self.old }
     {
         self.records.reserve(count)
     }
 
-    /// Adds an edge; where memory runs out nothing has changed. No memory is there for more than 2 ^ 32 edges.
+    /// Adds an edge.
+    ///
+    /// # Errors
+    /// - `AllocError` if out of memory, or if there are 2^32 edges. Then the set is unchanged.
     pub fn add(&mut self, edge: Edge) -> Result<(), AllocError>
         ensures ok { OnOk result (self.new ≡ set.insert self.old edge) }
         ensures err { OnErr result (self.new ≡ self.old) }
@@ -163,7 +170,7 @@ impl Edges {
         Ok(())
     }
 
-    /// Notes the aliases of a node from which more edges lead than are looked through, where they are not noted yet.
+    /// Marks a node with more than `FEW` outgoing edges, and adds its aliases to the map.
     fn crowd(&mut self, node: NodeId) -> Result<(), AllocError>
         ensures { self.new ≡ self.old }
     {
@@ -179,22 +186,23 @@ impl Edges {
         Ok(())
     }
 
-    /// Whether the edge is in the set. This reads at most two records for each edge at the one of its ends that has fewer,
-    /// and one more.
+    /// Whether the edge is in the set.
+    ///
+    /// Reads at most two records for each edge at the end that has fewer, and one more.
     pub fn contains(&self, edge: Edge) -> bool
         ensures { result ≡ set.contains self.now edge }
     {
         find(&self.records, &self.firsts, edge).is_some()
     }
 
-    /// Takes the edge out, if it is in the set. Takes no memory.
+    /// Removes the edge, if it is in the set. Takes no memory.
     pub fn remove(&mut self, edge: Edge)
         ensures { self.new ≡ set.remove self.old edge }
     {
         let _ = self.take(edge);
     }
 
-    /// Takes the edge out, and answers whether it was in the set. Takes no memory.
+    /// Removes the edge, and returns whether it was in the set. Takes no memory.
     pub fn take(&mut self, edge: Edge) -> bool
         ensures taken { self.new ≡ set.remove self.old edge }
         ensures was { result ≡ set.contains self.old edge }
@@ -207,7 +215,7 @@ impl Edges {
         true
     }
 
-    /// A walk over the edges at this end of a node, the one added last first. Takes no memory.
+    /// Returns an iterator over the edges at this end of a node, the newest first. Takes no memory.
     #[inline(always)]
     pub fn walk(&self, node: NodeId, end: End) -> Walk<'_>
         ensures edges { AreAt self.now node end result.left }
@@ -216,7 +224,7 @@ impl Edges {
         Walk::new(records_at(&self.records, &self.firsts, node.0, end))
     }
 
-    /// Whether an edge of this label stands at this end of a node.
+    /// Whether an edge with this label is at this end of the node.
     pub fn has(&self, node: NodeId, end: End, label: Label) -> bool
         ensures there { OnTrue result (HasLabel self.now node end label) }
         ensures absent { OnFalse result (HasLabel self.now node end label → ⊥) }
@@ -229,8 +237,9 @@ impl Edges {
         false
     }
 
-    /// The alias of an instance's export at this position. This looks through the edges from the instance where they are few, and
-    /// asks a map where they are many.
+    /// Returns the alias of an instance's export at this index, if there is one.
+    ///
+    /// Searches the edges out of the instance if they are few, and else looks in a map.
     pub fn alias(&self, source: NodeId, position: usize) -> Option<NodeId>
         ensures some { IfSome result (λ target. set.contains self.now (alias_edge source target position) ≡ true) }
         ensures none { IfNone result ((target : AnId) → set.contains self.now (alias_edge source target position) ≡ false) }
@@ -247,7 +256,7 @@ impl Edges {
         None
     }
 
-    /// The instance and the position of the export that an alias stands for.
+    /// Returns the instance that an alias is of, and the index of the export.
     pub fn alias_source(&self, target: NodeId) -> Option<(NodeId, usize)>
         ensures some { IfSome result (λ s. set.contains self.now (alias_edge s.0 target s.1) ≡ true) }
         ensures none { IfNone result ((source : AnId) (position : ℕ) → set.contains self.now (alias_edge source target position) ≡ false) }
@@ -260,7 +269,7 @@ impl Edges {
         None
     }
 
-    /// The node that satisfies the import of an instantiation at this position.
+    /// Returns the node that satisfies the import of an instantiation at this index, if one does.
     pub fn argument(&self, target: NodeId, position: usize) -> Option<NodeId>
         ensures some { IfSome result (λ source. set.contains self.now (argument_edge source target position) ≡ true) }
         ensures none { IfNone result ((source : AnId) → set.contains self.now (argument_edge source target position) ≡ false) }
@@ -273,7 +282,10 @@ impl Edges {
         None
     }
 
-    /// The lowest node on a cycle of edges, all of which lead to one of the first so many nodes.
+    /// Returns the lowest node on a cycle, if there is one. Edges must lead only to the first `nodes` nodes.
+    ///
+    /// # Errors
+    /// - `AllocError` if out of memory.
     pub fn lowest_on_cycle(&self, alloc: Global, nodes: usize) -> Result<Option<NodeId>, AllocError>
         requires { (e : AnEdge) → set.contains self.now e ≡ true → e.target.0 < nodes }
         ensures { IfOk result (λ o. MatchOption o (IsAcyclic self.now) (λ n. IsLowestOnCycle self.now n)) }
@@ -285,7 +297,7 @@ impl Edges {
         }
     }
 
-    /// Whether each edge leads to a node of a higher number. Where none that does not was added, this reads no edge.
+    /// Whether each edge leads to a node with a higher number. Reads no edge unless one was added that does not.
     pub(crate) fn rise(&self) -> bool
         ensures { OnTrue result (AllRise self.now) }
     {
@@ -295,7 +307,7 @@ impl Edges {
         all_rise(&self.records)
     }
 
-    /// For each of the first so many nodes, those to which edges lead from it.
+    /// Returns for each of the first `nodes` nodes those to which edges lead from it.
     pub(crate) fn targets(
         &self,
         alloc: Global,
@@ -311,7 +323,7 @@ impl Edges {
         Ok(targets)
     }
 
-    /// For each of so many nodes as flags are given, how many edges lead to it from those that are left.
+    /// Returns for each node of `left` the number of edges to it from nodes that are left.
     pub(crate) fn counts(&self, alloc: Global, left: &[bool]) -> Result<Vec<usize>, AllocError>
         ensures long { IfOk result (λ v. length v.items ≡ length left.now) }
         ensures counted { IfOk result (λ v. AreCounted left.now self.now v.items) }
@@ -324,14 +336,14 @@ impl Edges {
     }
 }
 
-/// Counts an edge to its target, if it leads from a node that is left and there is a count of its target.
+/// Counts an edge to its target, if it leads from a node that is left, and the target has a count.
 fn count(counts: &mut [usize], left: &[bool], edge: Edge) -> Result<(), AllocError>
     ensures { OnOk result ((b : ℕ) → b < length counts.old → slice_index counts.new b ≡ one (leads_from left.now b edge) + slice_index counts.old b) }
 {
     let source = edge.source.0;
     let target = edge.target.0;
     if source < left.len() && left[source] && target < counts.len() {
-        // No memory holds so many edges.
+        // Never: no memory has room for so many edges.
         let Some(more) = counts[target].checked_add(1) else {
             return Err(AllocError);
         };
@@ -340,7 +352,7 @@ fn count(counts: &mut [usize], left: &[bool], edge: Edge) -> Result<(), AllocErr
     Ok(())
 }
 
-/// Adds steps from a node to those to which some edges lead.
+/// Adds steps from `a` to the targets of edges.
 fn add_targets(targets: &mut [BTreeSet<usize>], a: usize, walk: Walk<'_>) -> Result<(), AllocError>
     requires { a < length targets.old }
     ensures { OnOk result ((n b : ℕ) → (IsStep targets.new n b ↔ (IsStep targets.old n b ⊎ ((n ≡ a) × LeadsTo walk.entry.left (node_number b))))) }

@@ -1,4 +1,4 @@
-//! Labelled edges between numbered nodes: which form a cycle, and an order in which each node comes after those that lead to it.
+//! Labelled edges between numbered nodes: look-ups, the lowest node on a cycle, and a topological order.
 #![tactic(auto)]
 
 mod aliases;

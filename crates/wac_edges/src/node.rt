@@ -1,7 +1,7 @@
-//! Nodes by their numbers.
+//! The ids of nodes.
 use std::fmt;
 
-/// A node's number in its graph.
+/// The id of a node: its number in its graph.
 #[derive(Clone, Copy, Debug, PartialEq, Eq, PartialOrd, Ord, Hash)]
 pub struct NodeId(pub usize);
 

@@ -1,4 +1,6 @@
-//! The order in which nodes are written.
+//! The topological order in which nodes are written.
+//!
+//! A node is left if it is still to be written. Its count is the number of edges to it from nodes that are left.
 ghost use Rattle.std.specs.Prelude.{◌≡◌, ℕ, ◌<◌, ◌-◌, ◌&&◌, nat_lt, true, false, length, slice_index, slice_set, IfOk, OnOk, IfSome, IfNone};
 ghost use Rattle.wac_edges.specs.Edge.{is_left};
 ghost use Rattle.wac_edges.specs.declared.node.NodeId.{NodeId as AnId};
@@ -13,7 +15,7 @@ use std::alloc::{AllocError, Global};
 use std::cmp::Reverse;
 use std::collections::BinaryHeap;
 
-/// Whether a number is left and has this count.
+/// Whether the number is left and has this count.
 fn is_left_with(left: &[bool], counts: &[usize], b: usize, count: usize) -> bool
     requires long { length counts.now ≡ length left.now }
     requires small { b < length left.now }
@@ -22,7 +24,7 @@ fn is_left_with(left: &[bool], counts: &[usize], b: usize, count: usize) -> bool
     left[b] && counts[b] == count
 }
 
-/// Whether a number below a bound is left and one edge to it is.
+/// Whether the number is below the bound and left, and has one edge to it.
 fn is_freed(left: &[bool], counts: &[usize], bound: usize, b: usize) -> bool
     requires long { length counts.now ≡ length left.now }
     requires small { b < length left.now }
@@ -31,8 +33,10 @@ fn is_freed(left: &[bool], counts: &[usize], bound: usize, b: usize) -> bool
     b < bound && is_left_with(left, counts, b, 1)
 }
 
-/// Takes the lowest number that is left and whose count is zero. Those below a bound stand in a heap; where there is none, the
-/// others are looked through from there on, and the bound rises behind the one that is found.
+/// Removes and returns the lowest number that is left and has count 0.
+///
+/// Those below the bound are in a heap. If it is empty, the numbers from the bound on are searched, and the bound
+/// moves past the one that is found.
 fn next_ready(
     ready: &mut BinaryHeap<Reverse<usize>>,
     bound: &mut usize,
@@ -58,7 +62,7 @@ fn next_ready(
     None
 }
 
-/// Takes an edge to a number away. If it is below a bound and left and no other edge to it is, it is ready.
+/// Removes an edge to `b`. If `b` is below the bound and left, and has no other edge to it, it becomes ready.
 fn release_one(
     b: usize,
     bound: usize,
@@ -80,7 +84,7 @@ fn release_one(
     Ok(())
 }
 
-/// Takes some edges away. Those below a bound that are left and to which no edge is left are ready.
+/// Removes edges. Targets below the bound that are left, and to which no edge remains, become ready.
 fn release(
     walk: Walk<'_>,
     bound: usize,
@@ -112,7 +116,7 @@ fn is_done(left: &[bool]) -> bool
     true
 }
 
-/// The nodes that are left, by rising numbers.
+/// Returns the nodes that are left, by increasing number.
 fn rising(alloc: Global, left: &[bool]) -> Result<Vec<NodeId>, AllocError>
     ensures { IfOk result (λ ns. (edges : Edges) → AllRise edges → Writes edges (is_left left.now) ns.items) }
 {
@@ -125,8 +129,13 @@ fn rising(alloc: Global, left: &[bool]) -> Result<Vec<NodeId>, AllocError>
     Ok(ids)
 }
 
-/// The nodes that are left, each the lowest to which no edge leads from one that is left then; none where edges
-/// among them form a cycle. Where each edge leads to a higher number, the numbers are the order.
+/// Returns the nodes that are left in topological order, or `None` if edges form a cycle.
+///
+/// The next node is the lowest to which no edge leads from one that is left. If each edge leads to a higher number, no
+/// edge is counted.
+///
+/// # Errors
+/// - `AllocError` if out of memory.
 pub fn order(
     alloc: Global,
     edges: &Edges,
@@ -141,7 +150,7 @@ pub fn order(
     order_by_counts(alloc, edges, left)
 }
 
-/// The nodes that are left in that order, found by how many edges lead to each from those that are left.
+/// Returns the nodes that are left in topological order, by counting the edges to each.
 fn order_by_counts(
     alloc: Global,
     edges: &Edges,

@@ -1,4 +1,4 @@
-//! Edges as records of one table, each in a list of those at its source and in one of those at its target.
+//! Edges as records of one table. Each is in a list of the edges of its source and in one of its target.
 ghost use Rattle.std.specs.Prelude.{◌≡◌, ◌↔◌, ◌⊎◌, ℕ, ◌<◌, ◌≤◌, ◌^◌, Some, None, IfSome, IfNone, OnOk, length, vec_len};
 ghost use Rattle.std.specs.Bool.{OnTrue, OnFalse};
 ghost use Rattle.std.specs.Option.{option_map, ForNone, ForSome};
@@ -12,7 +12,7 @@ use crate::walk::records_at;
 use slab::Slab;
 use std::alloc::AllocError;
 
-/// How many records there may be, so that a key takes half the room of a number.
+/// The greatest number of records. So a key fits in a `u32`.
 pub(crate) const MOST: usize = 1 << 32;
 
 /// The keys of the records before and after one in a list.
@@ -22,7 +22,7 @@ pub(crate) struct Links {
     pub(crate) next: Option<u32>,
 }
 
-/// An edge with its place among the edges out of its source and among those into its target.
+/// An edge with its links in the list of its source and in that of its target.
 #[derive(Clone, Copy)]
 pub(crate) struct Record {
     pub(crate) edge: Edge,
@@ -31,7 +31,7 @@ pub(crate) struct Record {
 }
 
 impl Record {
-    /// A record that is in no list yet.
+    /// Returns a record that is in no list yet.
     #[inline(always)]
     pub(crate) fn new(edge: Edge) -> Record
         ensures { result.edge ≡ edge }
@@ -47,7 +47,7 @@ impl Record {
         }
     }
 
-    /// Its place in the list at this end.
+    /// The links in the list at this end.
     #[inline(always)]
     pub(crate) fn links(&self, end: End) -> Links
         ensures { result ≡ links_at end self.now }
@@ -58,7 +58,7 @@ impl Record {
         }
     }
 
-    /// The number of the node that has its edge at this end.
+    /// The number of the node at this end of the edge.
     #[inline(always)]
     fn number(&self, end: End) -> usize
         ensures { result ≡ number_at end self.now.edge }
@@ -67,14 +67,14 @@ impl Record {
     }
 }
 
-/// The keys of the first of the edges out of a node and of the first of those into it.
+/// The keys of the first edge out of a node and of the first edge into it.
 #[derive(Clone, Copy)]
 pub(crate) struct Firsts {
     pub(crate) out: Option<u32>,
     pub(crate) into: Option<u32>,
 }
 
-/// The first record of the list at this end of a node.
+/// Returns the first record of the list at this end of a node, if there is one.
 #[inline(always)]
 pub(crate) fn first(firsts: &[Firsts], node: usize, end: End) -> Option<u32>
     ensures { result ≡ first_at end firsts.now node }
@@ -86,7 +86,7 @@ pub(crate) fn first(firsts: &[Firsts], node: usize, end: End) -> Option<u32>
     }
 }
 
-/// Changes which record is the first of the list at this end of a node.
+/// Sets the first record of the list at this end of a node.
 #[inline(always)]
 fn set_first(firsts: &mut [Firsts], node: usize, end: End, key: Option<u32>)
     requires { node < length firsts.old }
@@ -99,7 +99,7 @@ fn set_first(firsts: &mut [Firsts], node: usize, end: End, key: Option<u32>)
     }
 }
 
-/// Moves a record to another place in the list at this end.
+/// Sets the links of a record in the list at this end.
 #[inline(always)]
 fn set_links(records: &mut Slab<Record>, key: usize, end: End, links: Links)
     requires { ContainsKey records.old key }
@@ -112,7 +112,7 @@ fn set_links(records: &mut Slab<Record>, key: usize, end: End, links: Links)
     }
 }
 
-/// Changes which record comes after one, where there is one, or is the first in the list at this end of a node.
+/// Sets the record after `key`, or the first record if there is no `key`, in the list at this end of a node.
 #[inline(always)]
 fn set_next(
     records: &mut Slab<Record>,
@@ -138,7 +138,7 @@ fn set_next(
     }
 }
 
-/// Changes which record comes before one, where there is one, in the list at this end.
+/// Sets the record before `key`, if there is a `key`, in the list at this end.
 #[inline(always)]
 fn set_previous(records: &mut Slab<Record>, end: End, key: Option<u32>, previous: Option<u32>)
     requires { ForSome key (λ k. ContainsKey records.old k) }
@@ -151,7 +151,7 @@ fn set_previous(records: &mut Slab<Record>, end: End, key: Option<u32>, previous
     }
 }
 
-/// Puts a record that is not in the list at this end of its node before all others there.
+/// Puts a record first into the list at this end of its node. It must not be in that list yet.
 #[inline(always)]
 fn link(records: &mut Slab<Record>, firsts: &mut [Firsts], key: usize, end: End)
     requires there { ContainsKey records.old key }
@@ -175,7 +175,7 @@ fn link(records: &mut Slab<Record>, firsts: &mut [Firsts], key: usize, end: End)
     set_first(firsts, node, end, here);
 }
 
-/// Takes a record out of the list at this end of its node: the records before and after it become neighbours.
+/// Removes a record from the list at this end of its node.
 #[inline(always)]
 fn unlink(records: &mut Slab<Record>, firsts: &mut [Firsts], key: usize, end: End)
     requires there { ContainsKey records.old key }
@@ -211,8 +211,9 @@ pub(crate) fn make_firsts(firsts: &mut Vec<Firsts>, node: usize) -> Result<(), A
     Ok(())
 }
 
-/// The key of an edge's record. This reads at most two records for each edge at the one of its ends that has fewer, and
-/// one more.
+/// Returns the key of the record of an edge.
+///
+/// Reads at most two records for each edge at the end that has fewer, and one more.
 pub(crate) fn find(records: &Slab<Record>, firsts: &[Firsts], edge: Edge) -> Option<usize>
     requires { AreListed (get records.now) firsts.now }
     ensures some { IfSome result (λ k. edge_at (get records.now) k ≡ Some edge) }
@@ -231,7 +232,7 @@ pub(crate) fn find(records: &Slab<Record>, firsts: &[Firsts], edge: Edge) -> Opt
     None
 }
 
-/// Puts an edge that has no record yet into the table, which has room for one more, and into the lists at both its ends.
+/// Adds an edge that has no record yet to the table, which must have room, and to the lists at both ends.
 pub(crate) fn put(records: &mut Slab<Record>, firsts: &mut [Firsts], edge: Edge)
     requires room { HasRoomFor records.old 1 }
     requires short { records.old.vacant_key < 2 ^ 32 }
@@ -247,7 +248,7 @@ pub(crate) fn put(records: &mut Slab<Record>, firsts: &mut [Firsts], edge: Edge)
     link(records, firsts, key, End::Incoming);
 }
 
-/// Takes a record out of the lists at both its ends and out of the table.
+/// Removes a record from the lists at both ends and from the table.
 pub(crate) fn take(records: &mut Slab<Record>, firsts: &mut [Firsts], key: usize)
     requires there { ContainsKey records.old key }
     requires listed { AreListed (get records.old) firsts.old }
@@ -259,7 +260,7 @@ pub(crate) fn take(records: &mut Slab<Record>, firsts: &mut [Firsts], key: usize
     records.remove(key);
 }
 
-/// Whether each edge leads to a node of a higher number. This reads the table from its first record to its last.
+/// Whether each edge leads to a node with a higher number. Reads the whole table.
 pub(crate) fn all_rise(records: &Slab<Record>) -> bool
     ensures { OnTrue result ((k : ℕ) (e : AnEdge) → edge_at (get records.now) k ≡ Some e → e.source.0 < e.target.0) }
 {
@@ -271,7 +272,7 @@ pub(crate) fn all_rise(records: &Slab<Record>) -> bool
     true
 }
 
-/// Whether the edge of the record of this key, if there is one, leads to a node of no higher number.
+/// Whether there is a record with this key, and its edge leads to a node with no higher number.
 fn falls(records: &Slab<Record>, key: usize) -> bool
     ensures { OnFalse result ((e : AnEdge) → edge_at (get records.now) key ≡ Some e → e.source.0 < e.target.0) }
 {

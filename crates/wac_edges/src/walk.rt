@@ -1,4 +1,4 @@
-//! Walks over the edges at one end of a node.
+//! Iteration over the edges at one end of a node.
 ghost use Rattle.std.specs.Prelude.{◌≡◌, ◌+◌, ◌<◌, ◌^◌, length, map};
 ghost use Rattle.slab.specs.Slab.{get};
 ghost use Rattle.wac_edges.specs.Records.{AreListed, list_at, first_at};
@@ -8,7 +8,7 @@ use crate::records::{Firsts, Record, first};
 use slab::Slab;
 use std::marker::Model;
 
-/// The records of one list that are still to come: the key and the edge of each.
+/// An iterator over the keys and edges of the records of one list.
 #[derive(Drop)]
 pub(crate) struct Records<'a> {
     table: &'a Slab<Record>,
@@ -49,7 +49,7 @@ impl<'a> Iterator for Records<'a> {
     }
 }
 
-/// The records of the list at this end of a node.
+/// Returns an iterator over the records of the list at this end of a node.
 #[inline(always)]
 pub(crate) fn records_at<'a>(
     table: &'a Slab<Record>,
@@ -61,7 +61,7 @@ pub(crate) fn records_at<'a>(
     ensures list { result ≡ list_at table.now end (first_at end firsts.now node) }
     ensures short { length result < 2 ^ 64 }
 {
-    // No list has more records than the table has room for.
+    // Proof only: no list has more records than the table has room for.
     let _room = table.capacity();
     Records {
         table,
@@ -70,7 +70,7 @@ pub(crate) fn records_at<'a>(
     }
 }
 
-/// A walk over the edges at one end of a node. It gives each of them once and reads one record for each.
+/// An iterator over the edges at one end of a node. Reads one record for each edge.
 #[derive(Drop)]
 pub struct Walk<'a> {
     records: Records<'a>,
@@ -90,7 +90,7 @@ impl<'a> Model for Walk<'a> {
 }
 
 impl<'a> Walk<'a> {
-    /// A walk over the edges of these records, none of which was read yet.
+    /// Returns an iterator over the edges of these records.
     #[inline(always)]
     pub(crate) fn new(records: Records<'a>) -> Walk<'a>
         requires { length records < 2 ^ 64 }
@@ -100,7 +100,7 @@ impl<'a> Walk<'a> {
         Walk { records, steps: 0 }
     }
 
-    /// How many records were read so far: as many as edges were given.
+    /// The number of records read so far, which is the number of edges returned.
     pub fn steps(&self) -> usize
         ensures { result ≡ self.now.steps }
     {
