@@ -1,7 +1,8 @@
-//! Which entries agree, over the table of nodes.
+//! The comparison of the entries of each class.
 //!
-//! All members of a class are compared at once, with the first of them, and so is what their instances export under each name. Where
-//! instances stand below two names for the same entries, they are one group, and looked at once.
+//! The entries of a class are compared at once, each with the first, and so are the exports of their instances under
+//! each name. Instances at one spot form a group. Two spots with the same entries and instances have one group, and its
+//! exports are compared once.
 ghost use Rattle.std.specs.Prelude.{◌≡◌, ◌<◌, ◌++◌, ◌∷◌, ℕ, List, Option, [], length, map, Some, IfOk, OnOk};
 ghost use Rattle.std.specs.List.{AllByRecursion};
 ghost use Rattle.std.specs.Option.{MatchOption};
@@ -17,7 +18,7 @@ use indexmap::IndexSet;
 use std::alloc::{AllocError, Global};
 use wac_tables::nodes::{Item, Nodes};
 
-/// The lesser of two pairs of entries, by the second and then by the first, where there is a first pair.
+/// Returns the lesser pair of entries, by the second entry and then by the first. `pair` may be none.
 fn lesser(pair: Option<(usize, usize)>, first: usize, second: usize) -> (usize, usize)
     ensures { IsLeast pair (first, second) (Some result) }
 {
@@ -29,17 +30,17 @@ fn lesser(pair: Option<(usize, usize)>, first: usize, second: usize) -> (usize, 
     }
 }
 
-/// Entries while they are compared.
+/// The state of the comparison.
 #[derive(Drop)]
 struct Walk {
-    /// The groups of instances that were met, each once: those that fit at one spot, with entries that have them.
+    /// The groups of instances found so far, each once. A group has entries and their instances at one spot.
     groups: IndexSet<Vec<(usize, Item)>>,
-    /// The first two that disagree so far.
+    /// The first two entries that disagree, among those compared so far.
     first: Option<(usize, usize)>,
 }
 
 impl Walk {
-    /// Sets what one more entry has at a spot beside what the first there has.
+    /// Compares an entry's item with the item of the first entry at the spot. An instance is added to the group.
     fn set_beside(
         &mut self,
         nodes: &Nodes,
@@ -66,7 +67,7 @@ impl Walk {
         Ok(())
     }
 
-    /// Compares what entries have at one spot with what the first of them has there.
+    /// Compares the items of entries at one spot with that of the first entry.
     fn compare(
         &mut self,
         alloc: Global,
@@ -89,7 +90,7 @@ impl Walk {
         Ok(())
     }
 
-    /// Compares what entries have at each of several spots.
+    /// Compares the items of entries at each spot.
     fn compare_all(&mut self, alloc: Global, nodes: &Nodes, rows: &Rows) -> Result<(), AllocError>
         requires { AreFull nodes.now (table_view rows.now.entries) }
         ensures { OnOk result (ComparesAll nodes.now self.old (table_view rows.now.entries) self.new) }
@@ -102,7 +103,13 @@ impl Walk {
     }
 }
 
-/// The first entry that disagrees with an earlier one of its class, and the first that it disagrees with.
+/// Returns the first disagreement as a pair of entries.
+///
+/// The second is the earliest entry that disagrees with an earlier one of its class. The first is the earliest entry
+/// that it disagrees with.
+///
+/// # Errors
+/// - [`AllocError`] if out of memory.
 pub fn first_disagreement(
     alloc: Global,
     nodes: &Nodes,
@@ -113,7 +120,7 @@ pub fn first_disagreement(
     requires low { AllByRecursion (λ x. type_of x < length nodes.now) (map item_view items.now) }
     ensures { IfOk result (λ o. MatchOption o (AllAgree nodes.now (map item_view items.now) classes.now) (λ p. IsFirstApart nodes.now (map item_view items.now) classes.now p.0 p.1)) }
 {
-    nodes.table_law();
+    nodes.table_law(); // proof only
     let mut walk = Walk {
         groups: IndexSet::new(alloc),
         first: None,

@@ -1,4 +1,4 @@
-//! What instances export, and which items fit.
+//! The exports of instances in a table.
 ghost use Rattle.std.specs.Prelude.{◌≡◌, ◌<◌, length, ◌↔◌, IsTrue};
 ghost use Rattle.std.specs.Option.{option_map};
 ghost use Rattle.wac_tables.specs.Nodes.{type_of};
@@ -7,7 +7,7 @@ ghost use Rattle.wac_agreeing.specs.Fitting.{Fits, exports_of};
 
 use wac_tables::nodes::{Item, Node, Nodes};
 
-/// What an item exports, where it is an instance.
+/// Returns the exports of an item, if it is an instance.
 pub fn exports<'a, 'b>(nodes: &'a Nodes<'b>, item: Item) -> Option<&'a [(&'b str, Item)]>
     requires { type_of (item_view item) < length nodes.now }
     ensures { option_map (λ es. listed es.now) result ≡ exports_of nodes.now (item_view item) }
@@ -21,7 +21,7 @@ pub fn exports<'a, 'b>(nodes: &'a Nodes<'b>, item: Item) -> Option<&'a [(&'b str
     }
 }
 
-/// Whether items are equal, or both instances, whose exports are compared one by one.
+/// Returns whether two items are equal or both are instances. Exports of instances are compared separately.
 pub fn fits(nodes: &Nodes, first: Item, second: Item) -> bool
     requires first { type_of (item_view first) < length nodes.now }
     requires second { type_of (item_view second) < length nodes.now }

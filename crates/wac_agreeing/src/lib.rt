@@ -1,6 +1,4 @@
-//! Which items of a table agree.
-//!
-//! A layer of `wac_merge`, whose crate is the door.
+//! The first two entries of a class that disagree, found in the interning table of their types.
 #![tactic(auto)]
 
 pub mod agreement;

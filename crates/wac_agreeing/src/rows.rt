@@ -1,4 +1,4 @@
-//! What entries have at each spot: as members of a class, or under a name that their instances export.
+//! The items to compare: those of each class, or the exports of instances under each name.
 ghost use Rattle.std.specs.Prelude.{◌≡◌, ◌<◌, [], length, map, IfOk, OnOk};
 ghost use Rattle.std.specs.List.{AllByRecursion};
 ghost use Rattle.wac_tables.specs.Nodes.{type_of};
@@ -10,19 +10,19 @@ use indexmap::IndexMap;
 use std::alloc::{AllocError, Global};
 use wac_tables::nodes::{Item, Nodes};
 
-/// Where items are compared.
+/// A spot at which items are compared.
 #[derive(PartialEq, Eq, Hash, Drop)]
 pub enum Spot<'a> {
-    /// As members of the class of this number.
+    /// The entries of the class with this number.
     Class(usize),
-    /// Under a name that instances of several entries export.
+    /// The exports of a group of instances under this name.
     Export(&'a str),
 }
 
-/// The entries that have each spot, with their items there.
+/// For each spot, the entries that have an item there, and the item.
 pub type Rows<'a> = IndexMap<Spot<'a>, Vec<(usize, Item)>>;
 
-/// Puts what an entry has at a spot behind what others have there.
+/// Appends an entry's item at a spot.
 fn put<'a>(
     alloc: Global,
     rows: &mut Rows<'a>,
@@ -45,7 +45,10 @@ fn put<'a>(
     }
 }
 
-/// The members of each class.
+/// Returns the entries of each class.
+///
+/// # Errors
+/// - [`AllocError`] if out of memory.
 pub fn members(
     alloc: Global,
     items: &[Item],
@@ -61,7 +64,7 @@ pub fn members(
     Ok(rows)
 }
 
-/// Puts what an instance of an entry exports.
+/// Appends the exports of an entry's instance.
 fn put_exports<'a>(
     alloc: Global,
     rows: &mut Rows<'a>,
@@ -77,7 +80,10 @@ fn put_exports<'a>(
     Ok(())
 }
 
-/// What instances of entries export, by name.
+/// Returns the exports of a group of instances by name.
+///
+/// # Errors
+/// - [`AllocError`] if out of memory.
 pub fn exported<'a>(
     alloc: Global,
     nodes: &Nodes<'a>,

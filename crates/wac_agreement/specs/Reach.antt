@@ -1,10 +1,10 @@
--- Which classes a type reaches. Private functions alone cite this.
+-- The classes whose resources a type mentions. Only contracts inside the merge cite this file.
 use Rattle.std.specs.Prelude.{ℕ, ◌≡◌, Bool, List}
 use Rattle.wac_primitives.specs.Name.{Name}
 use Rattle.wac_primitives.specs.Tree.{TypeTree, resource, own, borrow, record_of, variant_of, list_of, fixed_list_of, tuple_of, option_of, result_of, stream_of, future_of, function, instance, type_equal, function_item, instance_item, component_item, module_item, value_item}
 use Rattle.wac_subtyping.specs.Called.{Called, of_class}
 
--- a resource of which P holds is mentioned somewhere in the tree, but in no component
+-- The tree mentions, outside of components, a resource for which P holds.
 pub data Reaches {L : Type 0} (P : L → Type 0) : TypeTree L → Type 0 where
   as_resource : (l : L) → P l → Reaches P (resource l)
   as_own : (l : L) → P l → Reaches P (own l)
@@ -29,7 +29,7 @@ pub data Reaches {L : Type 0} (P : L → Type 0) : TypeTree L → Type 0 where
   in_module_item : (t : TypeTree L) → Reaches P t → Reaches P (module_item t)
   in_value_item : (t : TypeTree L) → Reaches P t → Reaches P (value_item t)
 
--- the resource is bound by the import of the class of this number
+-- The class with this number binds the resource.
 abbrev pub IsOfClass : ℕ → Called → Type 0
 IsOfClass b (of_class k path name) = k ≡ b
 IsOfClass b _ = ⊥

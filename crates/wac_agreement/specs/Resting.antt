@@ -1,4 +1,4 @@
--- On which classes one entry lets its class rest. Private functions alone cite this.
+-- The classes that one entry makes its class depend on. Only contracts inside the merge cite this file.
 use Rattle.std.specs.Prelude.{ℕ, ◌≡◌, ◌≢◌, ◌<◌, ◌⊎◌, List, [], ◌∷◌, Option, Some, None, slice_get}
 use Rattle.std.specs.Option.{option_map}
 use Rattle.wac_primitives.specs.Name.{Name, find_name, option_case}
@@ -16,30 +16,30 @@ use Rattle.wac_tables.specs.Nodes.{Node, Item, and_optional, tree_at, type_of}
 use Rattle.wac_agreement.specs.Reach.{Reaches, IsOfClass}
 use Rattle.wac_cycles.specs.Numbers.{Has}
 
--- the class under the id of an interface
+-- The class of an interface's id.
 abbrev pub interface_class : Collection → List (Name × ℕ) → InterfaceId → Option ℕ
 interface_class c names i = option_case (item_at c.interfaces i.0) None (λ it. option_case it.id None (λ id. find_name names id))
 
--- the classes under the ids of the interfaces from which types are used
+-- The classes of the interfaces from which types are used.
 abbrev pub used_classes : Collection → List (Name × ℕ) → List (Name × UsedType) → List ℕ
 used_classes c names [] = []
 used_classes c names (u ∷ us) = and_optional (interface_class c names u.1.interface) (used_classes c names us)
 
--- those from which an interface uses types
+-- The classes of the interfaces from which an interface uses types.
 abbrev pub classes_used : Collection → List (Name × ℕ) → InterfaceId → List ℕ
 classes_used c names i = option_case (item_at c.interfaces i.0) [] (λ it. used_classes c names it.uses)
 
--- the first class that binds the end of a resource
+-- The first class that binds a resource, after aliases are resolved.
 abbrev pub first_class : Collection → ClassBindings → ResourceId → Option ℕ
 first_class c bs q = option_map (λ p. p.0) (first_in bs (resolved c q))
 
--- the item of an entry leads to the class of this number, its own or another
+-- The item of an entry mentions or uses the class with this number, which may be its own class.
 abbrev pub ItemLeads : List Node → Collection → List (Name × ℕ) → ClassBindings → ItemKind → Item → ℕ → Type 0
 ItemLeads ns c names bs (kind.TypeItem (ty.Resource q)) x b = first_class c bs q ≡ Some b
 ItemLeads ns c names bs (kind.Instance i) x b = Reaches (IsOfClass b) (tree_at ns (type_of x)) ⊎ Has (classes_used c names i) b
 ItemLeads ns c names bs k x b = Reaches (IsOfClass b) (tree_at ns (type_of x))
 
--- one of the first n entries is of class a, and its item leads to class b, another
+-- One of the first n entries is of class a, and its item mentions or uses another class b.
 pub record EntryLeads (ns : List Node) (c : Collection) (es : List Entry) (xs : List Item) (numbers : List ℕ) (names : List (Name × ℕ)) (bs : ClassBindings) (n a b : ℕ) : Type 0 where
   pub at : ℕ
   pub entry : Entry
@@ -51,6 +51,6 @@ pub record EntryLeads (ns : List Node) (c : Collection) (es : List Entry) (xs : 
   pub other : a ≢ b
   pub leads : ItemLeads ns c names bs entry.kind item b
 
--- a set gains what of these is another than its own number
+-- The set gains those of these numbers that are not its own.
 abbrev pub Gains : ℕ → List ℕ → List ℕ → List ℕ → Type 0
 Gains own more old new = (b : ℕ) → (Has new b → Has old b ⊎ ((own ≢ b) × Has more b)) × (Has old b → Has new b) × ((own ≢ b) → Has more b → Has new b)

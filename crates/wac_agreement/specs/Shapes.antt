@@ -1,4 +1,5 @@
--- What items must be for a way to where they disagree. Private functions alone cite this.
+-- The conditions on two items under which their first disagreement is found. Only contracts inside the merge cite this
+-- file.
 use Rattle.std.specs.Prelude.{ℕ, ◌≡◌, ◌<◌, ◌≤◌, List, ◌∷◌, ◌++◌, Some, slice_get, IsSome}
 use Rattle.std.specs.List.{AllByRecursion}
 use Rattle.std.specs.Ordering.{nat_cmp}
@@ -14,13 +15,13 @@ use Rattle.wac_shapes.specs.declared.component.ItemKind.TheVariants as kind
 use Rattle.wac_tables.specs.Nodes.{Node, Item}
 use Rattle.wac_agreeing.specs.Apart.{ItemsAgree}
 
--- each instance, at each depth, is told by what it exports
+-- Each instance, at each depth, is given by its exports.
 abbrev pub IsShaped : TypeTree Called → Type 0
 IsShaped (instance_item (instance f)) = (n : Name) → IsShaped (f n)
 IsShaped (instance_item t) = ⊥
 IsShaped t = Unit {0}
 
--- a tree is of a kind: it is an instance where the kind is one of an interface, and then it exports what the interface lists, each of its kind
+-- A tree is of a kind: either both are instances, with the same exports, each of its kind, or neither is an instance.
 abbrev pub IsOfKind : Collection → TypeTree Called → ItemKind → Type 0
 IsOfKind c (instance_item (instance g)) (kind.Instance i) =
     HasInterface c i × ((n : Name) → (g n ≡ absent → ⊥) → IsSome (find_name (interface_exports c i) n)) × ((n : Name) (k : ItemKind) → find_name (interface_exports c i) n ≡ Some k → (g n ≡ absent → ⊥) × IsOfKind c (g n) k)
@@ -28,17 +29,17 @@ IsOfKind c (instance_item t) k = ⊥
 IsOfKind c t (kind.Instance i) = ⊥
 IsOfKind c t k = Unit {0}
 
--- what both list under a name agrees
+-- The exports under a name agree, if both are there.
 abbrev pub AgreeUnder : List Node → List (Name × Item) → List (Name × Item) → Name → Type 0
 AgreeUnder ns es fs n = (a b : Item) → find_name es n ≡ Some a → find_name fs n ≡ Some b → ItemsAgree ns a b
 
--- both list an item under a name, and these do not agree
+-- Both exports under a name are there, and they disagree.
 pub record AreApartUnder (ns : List Node) (es fs : List (Name × Item)) (n : Name) (a b : Item) : Type 0 where
   pub in_first : find_name es n ≡ Some a
   pub in_second : find_name fs n ≡ Some b
   pub apart : ItemsAgree ns a b → ⊥
 
--- the first of those that are listed under which both list items that do not agree
+-- The first of these names under which both exports are there and disagree.
 pub record IsNextListed (ns : List Node) (es fs : List (Name × Item)) (listed : List (Name × ItemKind)) (n : Name) (a b : Item) (k : ItemKind) : Type 0 where
   pub before : List (Name × ItemKind)
   pub after : List (Name × ItemKind)
@@ -46,14 +47,14 @@ pub record IsNextListed (ns : List Node) (es fs : List (Name × Item)) (listed :
   pub agree : AllByRecursion (λ e. AgreeUnder ns es fs e.0) before
   pub under : AreApartUnder ns es fs n a b
 
--- names in order, byte by byte
+-- The order of names, byte by byte.
 abbrev pub compare : Name → Name → Ordering
 compare = slice_cmp nat_cmp
 
--- the names of a listing before a position are less than a name
+-- The names before position `low` are less than n.
 abbrev pub AreBefore : {V : Type 0} → List (Name × V) → Name → ℕ → Type 0
 AreBefore {V} es n low = (k : ℕ) (e : Name × V) → k < low → slice_get es k ≡ Some e → compare e.0 n ≡ Less
 
--- those from a position on are greater
+-- The names from position `high` on are greater than n.
 abbrev pub AreBehind : {V : Type 0} → List (Name × V) → Name → ℕ → Type 0
 AreBehind {V} es n high = (k : ℕ) (e : Name × V) → high ≤ k → slice_get es k ≡ Some e → compare n e.0 ≡ Less

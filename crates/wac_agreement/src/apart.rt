@@ -1,7 +1,8 @@
-//! The way to where two items disagree.
+//! The exports that lead to a disagreement of two items.
 //!
-//! Exports are looked at one after another, in the order of the second's kind, and where both are instances theirs come next, so
-//! each pair is looked at once. The instances around one that is looked at wait in a list in place of recursion.
+//! Exports are compared in the order of the second item's interface. If both items export instances under a name, the
+//! exports of these come next, so each pair is compared once. Enclosing instances wait in a list instead of on the
+//! stack.
 ghost use Rattle.std.specs.Prelude.{◌≡◌, ◌<◌, ◌↔◌, length, map, None, IfOk, IsTrue, string_bytes};
 ghost use Rattle.std.specs.List.{AllByRecursion};
 ghost use Rattle.std.specs.Option.{MatchOption, option_map};
@@ -21,7 +22,7 @@ use wac_agreeing::fitting::exports;
 use wac_collection::{InterfaceId, ItemKind, Types};
 use wac_tables::nodes::{Item, Nodes};
 
-/// What stands under a name in a sorted listing.
+/// Returns the item under a name in a sorted list.
 fn find_export(exports: &[(&str, Item)], name: &str) -> Option<Item>
     requires { Sorted (listed exports.now) }
     ensures { option_map item_view result ≡ find_name (listed exports.now) name.now }
@@ -40,50 +41,50 @@ fn find_export(exports: &[(&str, Item)], name: &str) -> Option<Item>
     None
 }
 
-/// Whether two items are one.
+/// Returns whether two items are equal.
 fn is_one(first: Item, second: Item) -> bool
     ensures { IsTrue result ↔ (item_view first ≡ item_view second) }
 {
     first == second
 }
 
-/// What an instance exports under a name.
+/// Returns the export of an item under a name, if it is an instance.
 fn export_of(nodes: &Nodes, item: Item, name: &str) -> Option<Item>
     requires { type_of (item_view item) < length nodes.now }
     ensures { option_map item_view result ≡ option_case (exports_of nodes.now (item_view item)) None (λ es. find_name es name.now) }
 {
-    nodes.table_law();
+    nodes.table_law(); // proof only
     find_export(exports(nodes, item)?, name)
 }
 
-/// Two instances, and how far their exports were looked at.
+/// Two instances, and how many of their exports were compared.
 #[derive(Clone, Copy)]
 struct Level {
-    /// The first.
+    /// The first instance.
     first: Item,
-    /// The second.
+    /// The second instance.
     second: Item,
-    /// The interface of the second.
+    /// The interface of the second instance.
     interface: InterfaceId,
-    /// How many of the exports of that interface were looked at.
+    /// The number of exports of that interface that were compared.
     passed: usize,
 }
 
-/// What is found at the next export of two instances.
+/// The result of comparing the next export of two instances.
 #[derive(Clone, Copy)]
 enum Look {
-    /// There is none: they agree.
+    /// There is no further export, so the instances agree.
     Done,
-    /// What both export there agrees, or one of them exports nothing there.
+    /// The exports agree, or one of the instances lacks the export.
     Agree,
-    /// Both export instances there.
+    /// Both exports are instances that differ.
     Inside(Level),
-    /// What they export there does not agree, and is not two instances.
+    /// The exports disagree and are not both instances.
     Apart,
 }
 
 impl Level {
-    /// Two items whose exports are to be looked at, where both are instances.
+    /// Returns the level of two items if both are instances. Nothing is compared yet.
     fn of(nodes: &Nodes, first: Item, second: Item, kind: ItemKind) -> Option<Level>
         requires first_low { type_of (item_view first) < length nodes.now }
         requires second_low { type_of (item_view second) < length nodes.now }
@@ -91,7 +92,7 @@ impl Level {
         ensures { (c : Collection) → IsOfKind c (item_tree (tree_at nodes.now) (item_view second)) kind
             → MatchOption result (AreInstances (item_tree (tree_at nodes.now) (item_view first)) (item_tree (tree_at nodes.now) (item_view second)) → ⊥) (IsStart c nodes.now first second kind) }
     {
-        nodes.table_law();
+        nodes.table_law(); // proof only
         let Some(_) = exports(nodes, first) else {
             return None;
         };
@@ -109,14 +110,14 @@ impl Level {
         })
     }
 
-    /// Looks at the next export.
+    /// Compares the next export.
     fn look(&mut self, types: &Types, nodes: &Nodes) -> Look
         requires { IsLevel types.now nodes.now self.old }
         ensures { Looks types.now nodes.now self.old self.new result }
     {
-        nodes.table_law();
+        nodes.table_law(); // proof only
         let listed = &types[self.interface].exports;
-        listed.law();
+        listed.law(); // proof only
         let position = self.passed;
         if position == listed.len() {
             return Look::Done;
@@ -139,7 +140,7 @@ impl Level {
     }
 }
 
-/// The names of the exports that were looked at last.
+/// Returns the name of the last compared export of each level.
 fn names(alloc: Global, types: &Types, levels: &[Level]) -> Result<Vec<String>, AllocError>
     requires { AllByRecursion (HasPassed types.now) levels.now }
     ensures { IfOk result (λ names. map string_bytes names.items ≡ map (name_of types.now) levels.now) }
@@ -152,7 +153,11 @@ fn names(alloc: Global, types: &Types, levels: &[Level]) -> Result<Vec<String>, 
     Ok(names)
 }
 
-/// The names of the exports that lead to the first disagreement of two items, in the order of the second's kind.
+/// Returns the names of the exports that lead to the first disagreement of two items, in the order of the second's
+/// kind.
+///
+/// # Errors
+/// - [`AllocError`] if out of memory.
 pub fn path_apart(
     alloc: Global,
     types: &Types,
@@ -168,8 +173,8 @@ pub fn path_apart(
     requires apart { ItemsAgree nodes.now (item_view first) (item_view second) → ⊥ }
     ensures { IfOk result (λ names. LeadsApart types.now (item_tree (tree_at nodes.now) (item_view first)) (item_tree (tree_at nodes.now) (item_view second)) kind (map string_bytes names.items)) }
 {
-    nodes.table_law();
-    types.law();
+    nodes.table_law(); // proof only
+    types.law(); // proof only
     let mut levels = Vec::new(alloc);
     let Some(mut level) = Level::of(nodes, first, second, kind) else {
         return Ok(Vec::new(alloc));

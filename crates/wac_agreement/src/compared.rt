@@ -1,4 +1,4 @@
-//! Entries as items of a table, and the first two that do not agree.
+//! Entries as items of the table of types, and the first two that disagree.
 ghost use Rattle.std.specs.Prelude.{◌≡◌, ◌<◌, true, length, map, Some, None, IfOk, slice_get, string_bytes};
 ghost use Rattle.std.specs.Option.{IfNone, MatchOption};
 ghost use Rattle.wac_collection.specs.Collection.{holds_type};
@@ -31,7 +31,7 @@ use wac_entries::outward::outward_in;
 use wac_entries::scopes::{Opener, Scopes};
 use wac_tables::nodes::{Item, Nodes};
 
-/// What the item of an entry is compared as, from around its scopes.
+/// Returns the item of an entry in the table. `source` is outside the scopes of the entry.
 fn source_item<'a>(
     memo: &mut Memo,
     nodes: &mut Nodes<'a>,
@@ -57,7 +57,7 @@ fn source_item<'a>(
     listed_item(memo, nodes, source, kind, listings.as_slice())
 }
 
-/// Entries that are asked for, of a collection, and what their classes bind.
+/// The entries of a collection, and what their classes bind.
 #[derive(Clone, Copy)]
 struct Asked<'a, 'b> {
     /// The collection, from which nodes borrow names.
@@ -68,7 +68,7 @@ struct Asked<'a, 'b> {
     bindings: &'b Bindings,
 }
 
-/// What an entry of a class is compared as.
+/// Returns the item of an entry of a class in the table.
 fn entry_item<'a>(
     alloc: Global,
     memo: &mut Memo,
@@ -107,7 +107,10 @@ fn entry_item<'a>(
     source_item(memo, nodes, &source)
 }
 
-/// What the entries are compared as, in order.
+/// Returns the item of each entry in the table.
+///
+/// # Errors
+/// - [`AllocError`] if out of memory.
 pub fn entry_items<'a>(
     alloc: Global,
     nodes: &mut Nodes<'a>,
@@ -139,18 +142,18 @@ pub fn entry_items<'a>(
     Ok(items)
 }
 
-/// Two entries of one class that do not agree.
+/// Two entries of one class that disagree.
 #[derive(Drop)]
 pub struct Disagreement {
-    /// The position of the earlier.
+    /// The position of the earlier entry.
     pub first: usize,
-    /// The position of the later.
+    /// The position of the later entry.
     pub second: usize,
-    /// The names of the exports that lead to where they do not, joined by `/`.
+    /// The names of the exports that lead to the disagreement, joined by `/`.
     pub export: String,
 }
 
-/// Names joined by `/`.
+/// Joins names by `/`.
 fn join(alloc: Global, names: &[String]) -> Result<String, AllocError>
     ensures { IfOk result (λ text. string_bytes text ≡ joined (map string_bytes names.now)) }
 {
@@ -164,7 +167,13 @@ fn join(alloc: Global, names: &[String]) -> Result<String, AllocError>
     Ok(text)
 }
 
-/// The first entry that disagrees with an earlier one of its class, and the first that it disagrees with.
+/// Returns the first disagreement.
+///
+/// The later entry is the earliest one that disagrees with an earlier one of its class. The earlier entry is the
+/// earliest one that it disagrees with.
+///
+/// # Errors
+/// - [`AllocError`] if out of memory.
 pub fn first_pair(
     alloc: Global,
     nodes: &Nodes,
@@ -180,7 +189,7 @@ pub fn first_pair(
     ensures first { IfOk result (λ o. MatchOption o (HasNoDisagreement by_names types.now entries.now) (λ d. Disagrees by_names types.now entries.now d.first d.second (string_bytes d.export))) }
     ensures agreed { IfOk result (λ o. IfNone o (AllMembersAgree by_names types.now entries.now)) }
 {
-    types.law();
+    types.law(); // proof only
     let Some((first, second)) = first_disagreement(alloc, nodes, items, classes.numbers())? else {
         return Ok(None);
     };

@@ -1,4 +1,6 @@
-//! Which nodes mention a resource that a class binds: each is looked at once, and those that mention none need not be walked.
+//! Flags on the nodes that mention a resource bound by a class.
+//!
+//! Each node is examined once. A node without its flag need not be searched for classes.
 ghost use Rattle.std.specs.Prelude.{◌≡◌, ◌<◌, ◌||◌, [], is_some, length, OnOk};
 ghost use Rattle.std.specs.List.{list_any};
 ghost use Rattle.wac_tables.specs.Nodes.{and_optional, optionals, seconds, types_of};
@@ -9,14 +11,19 @@ use crate::reach::{node_class, type_of};
 use std::alloc::AllocError;
 use wac_tables::nodes::{Item, Node, Nodes};
 
-/// Flags the nodes up to this one that mention a resource which a class binds, anywhere but in components. What is flagged stays.
+/// Flags the nodes up to this one that mention, outside of components, a resource bound by a class.
+///
+/// Existing flags are kept.
+///
+/// # Errors
+/// - [`AllocError`] if out of memory.
 pub fn flag_through(nodes: &Nodes, flags: &mut Vec<bool>, number: usize) -> Result<(), AllocError>
     requires there { number < length nodes.now }
     requires flags { AreFlags nodes.now flags.old.items }
     ensures flags { OnOk result (AreFlags nodes.now flags.new.items) }
     ensures through { OnOk result (number < length flags.new.items) }
 {
-    nodes.table_law();
+    nodes.table_law(); // proof only
     while flags.len() <= number {
         let node = nodes.node(flags.len());
         let flag = is_flagged(node, flags.as_slice());
@@ -25,14 +32,14 @@ pub fn flag_through(nodes: &Nodes, flags: &mut Vec<bool>, number: usize) -> Resu
     Ok(())
 }
 
-/// Whether a node names a resource that a class binds, or mentions a node that has its flag.
+/// Returns whether a node is a resource bound by a class, is a handle to one, or mentions a node with its flag.
 fn is_flagged(node: &Node, flags: &[bool]) -> bool
     ensures { result ≡ (is_some (node_class (node_view node.now)) || list_any (flag_of flags.now) (parts (node_view node.now))) }
 {
     node_class(node).is_some() || any_part(node, flags)
 }
 
-/// The flag of a node, which is none where it was not looked at.
+/// Returns the flag of a node; false if the node was not examined.
 pub fn flag_of(number: usize, flags: &[bool]) -> bool
     ensures { result ≡ flag_of flags.now number }
 {
@@ -42,7 +49,7 @@ pub fn flag_of(number: usize, flags: &[bool]) -> bool
     }
 }
 
-/// The same of a node that may be missing.
+/// Returns the flag of a node that may be missing.
 fn any_optional(number: Option<usize>, flags: &[bool]) -> bool
     ensures { result ≡ list_any (flag_of flags.now) (and_optional number []) }
 {
@@ -52,7 +59,7 @@ fn any_optional(number: Option<usize>, flags: &[bool]) -> bool
     }
 }
 
-/// Whether the type of a field has its flag.
+/// Returns whether the type of a field has its flag.
 fn any_field(fields: &[(&str, usize)], flags: &[bool]) -> bool
     ensures { result ≡ list_any (flag_of flags.now) (seconds (named fields.now)) }
 {
@@ -64,7 +71,7 @@ fn any_field(fields: &[(&str, usize)], flags: &[bool]) -> bool
     false
 }
 
-/// Whether the type of a case has its flag.
+/// Returns whether the type of a case has its flag.
 fn any_case(cases: &[(&str, Option<usize>)], flags: &[bool]) -> bool
     ensures { result ≡ list_any (flag_of flags.now) (optionals (named cases.now)) }
 {
@@ -76,7 +83,7 @@ fn any_case(cases: &[(&str, Option<usize>)], flags: &[bool]) -> bool
     false
 }
 
-/// Whether one of these has its flag.
+/// Returns whether one of these nodes has its flag.
 fn any_of(numbers: &[usize], flags: &[bool]) -> bool
     ensures { result ≡ list_any (flag_of flags.now) numbers.now }
 {
@@ -88,7 +95,7 @@ fn any_of(numbers: &[usize], flags: &[bool]) -> bool
     false
 }
 
-/// Whether the type of an item has its flag.
+/// Returns whether the type of an item has its flag.
 fn any_item(items: &[(&str, Item)], flags: &[bool]) -> bool
     ensures { result ≡ list_any (flag_of flags.now) (types_of (listed items.now)) }
 {
@@ -100,7 +107,7 @@ fn any_item(items: &[(&str, Item)], flags: &[bool]) -> bool
     false
 }
 
-/// Whether a node that a node mentions has its flag, but for those of a component.
+/// Returns whether a node mentions, outside of components, a node with its flag.
 fn any_part(node: &Node, flags: &[bool]) -> bool
     ensures { result ≡ list_any (flag_of flags.now) (parts (node_view node.now)) }
 {

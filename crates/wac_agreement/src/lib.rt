@@ -1,6 +1,7 @@
-//! Whether imports of one class agree, on which classes a class rests, and in which order classes are written.
+//! What must hold before classes are merged: their entries agree, and no class depends on itself.
 //!
-//! The middle layer of `wac_merge`, whose crate is the door.
+//! The modules put the entries into the table of types, and find the first disagreement with the exports that lead to
+//! it. They find the classes that each class depends on, and the order of the classes.
 #![tactic(auto)]
 
 pub mod apart;

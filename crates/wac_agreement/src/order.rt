@@ -1,7 +1,8 @@
-//! The order in which classes are written: instances, type items, the rest, each directly after those that it rests on.
+//! The order of the merged imports: instances, then type items, then the rest, each after the classes that it depends
+//! on.
 //!
-//! A class whose turn has come waits in a list of steps, below those that it rests on, so that no chain of classes is too
-//! long. Each is opened once and placed once.
+//! A class waits in a list of steps until the classes that it depends on are placed, so a long chain of classes needs
+//! no stack. Each class is opened once and placed once.
 ghost use Rattle.std.specs.Prelude.{◌≡◌, ◌<◌, ◌↔◌, ◌++◌, ℕ, [], length, map, slice_get, slice_index, Contains, IfOk, OnOk, Some};
 ghost use Rattle.wac_cycles.specs.Numbers.{AreBelow, Has};
 ghost use Rattle.wac_cycles.specs.Cycles.{AreWithin, HasNoCycle, IsStep};
@@ -18,16 +19,16 @@ use wac_collection::{ItemKind, Types};
 use wac_entries::classes::Classes;
 use wac_entries::entry::Entry;
 
-/// What is to be done with a class.
+/// A step of ordering.
 #[derive(Clone, Copy)]
 enum Step {
-    /// Those that it rests on are to be placed first, where its turn hasn't come yet.
+    /// Place the classes that this one depends on first, unless they were opened.
     Open(usize),
-    /// Those are placed, and it is to be.
+    /// Place the class.
     Place(usize),
 }
 
-/// The numbers of the classes, instances first, then type items, then the rest, each by first appearance.
+/// Returns the numbers of the classes by group: instances, type items, the rest, each in order of first appearance.
 fn grouped(alloc: Global, entries: &[Entry], classes: &Classes) -> Result<Vec<usize>, AllocError>
     requires classes { AreClasses by_names entries.now classes.now.numbers.items classes.now.positions.items classes.now.names }
     ensures { IfOk result (λ v. v.items ≡ grouped by_names entries.now) }
@@ -38,7 +39,7 @@ fn grouped(alloc: Global, entries: &[Entry], classes: &Classes) -> Result<Vec<us
     let mut type_items = Vec::new(alloc);
     let mut others = Vec::new(alloc);
     for i in 0..entries.len() {
-        // Numbers go by first appearance, so the entry that has the next number is the first of its class.
+        // Classes are numbered by first appearance, so the entry with the next number is the first of its class.
         if numbers[i] != begun {
             continue;
         }
@@ -54,7 +55,7 @@ fn grouped(alloc: Global, entries: &[Entry], classes: &Classes) -> Result<Vec<us
     Ok(instances)
 }
 
-/// The position of each class among all of them.
+/// Returns the position of each class in the list.
 fn ranks(alloc: Global, all: &[usize], count: usize) -> Result<Vec<usize>, AllocError>
     requires below { AreBelow count all.now }
     requires once { IsOnce all.now }
@@ -68,7 +69,7 @@ fn ranks(alloc: Global, all: &[usize], count: usize) -> Result<Vec<usize>, Alloc
     Ok(ranks)
 }
 
-/// The positions of some classes, in order.
+/// Returns the positions of some classes, in order.
 fn positions(
     alloc: Global,
     ranks: &[usize],
@@ -84,7 +85,7 @@ fn positions(
     Ok(positions)
 }
 
-/// What of all the classes is among some, in order.
+/// Returns the classes of the list that are in the set, in order.
 fn selected(
     alloc: Global,
     all: &[usize],
@@ -104,7 +105,7 @@ fn selected(
     Ok(selected)
 }
 
-/// Classes are to be opened, the first of them first.
+/// Adds the steps that open these classes. The first class is opened first.
 fn open_all(steps: &mut Vec<Step>, numbers: &[usize]) -> Result<(), AllocError>
     ensures { OnOk result (steps.new.items ≡ steps.old.items ++ openings numbers.now) }
 {
@@ -116,7 +117,7 @@ fn open_all(steps: &mut Vec<Step>, numbers: &[usize]) -> Result<(), AllocError>
     Ok(())
 }
 
-/// All the classes in their order, but each directly after those that it rests on, where these are not there yet.
+/// Returns the classes in order, each after the classes that it depends on and that are not placed yet.
 fn arranged(
     alloc: Global,
     all: &[usize],
@@ -149,7 +150,10 @@ fn arranged(
     Ok(order)
 }
 
-/// The numbers of the classes in written order: each directly after those that it rests on, where these are not there yet.
+/// Returns the numbers of the classes in the order of their imports.
+///
+/// # Errors
+/// - [`AllocError`] if out of memory.
 pub fn written_order(
     alloc: Global,
     types: &Types,

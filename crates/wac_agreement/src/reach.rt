@@ -14,7 +14,12 @@ use std::collections::BTreeSet;
 use wac_subtyping::called::Called;
 use wac_tables::nodes::{Item, Node, Nodes};
 
-/// The classes whose resources a node mentions, anywhere but in components. Nothing is walked where its flag is none.
+/// Returns the classes whose resources a node mentions outside of components.
+///
+/// The flags must cover the node. If its flag is false, no node is visited.
+///
+/// # Errors
+/// - [`AllocError`] if out of memory.
 pub fn classes_reached(
     alloc: Global,
     nodes: &Nodes,
@@ -30,7 +35,7 @@ pub fn classes_reached(
     if !flag_of(number, flags) {
         return Ok(classes);
     }
-    nodes.table_law();
+    nodes.table_law(); // proof only
     let mut pending = BTreeSet::new(alloc);
     put(&mut pending, number)?;
     while let Some(next) = pending.pop_last() {
@@ -41,7 +46,7 @@ pub fn classes_reached(
     Ok(classes)
 }
 
-/// The class of the resource that a node names itself.
+/// Returns the class whose resource a node is, or is a handle to.
 pub fn node_class(node: &Node) -> Option<usize>
     ensures { result ≡ node_class (node_view node.now) }
 {
@@ -53,7 +58,7 @@ pub fn node_class(node: &Node) -> Option<usize>
     }
 }
 
-/// The class that binds a resource.
+/// Returns the class that binds a resource.
 fn class_of(called: &Called) -> Option<usize>
     ensures { result ≡ class_of (called_view called.now) }
 {
@@ -63,7 +68,10 @@ fn class_of(called: &Called) -> Option<usize>
     }
 }
 
-/// Puts a number among others.
+/// Adds a number.
+///
+/// # Errors
+/// - [`AllocError`] if out of memory.
 pub fn put(numbers: &mut BTreeSet<usize>, number: usize) -> Result<(), AllocError>
     ensures { OnOk result (numbers.new.keys ≡ set.insert_key nat_cmp numbers.old.keys number) }
 {
@@ -73,7 +81,10 @@ pub fn put(numbers: &mut BTreeSet<usize>, number: usize) -> Result<(), AllocErro
     }
 }
 
-/// Puts a number among others, where there is one.
+/// Adds a number if there is one.
+///
+/// # Errors
+/// - [`AllocError`] if out of memory.
 pub fn put_optional(numbers: &mut BTreeSet<usize>, number: Option<usize>) -> Result<(), AllocError>
     ensures { OnOk result (numbers.new.keys ≡ with_all numbers.old.keys (and_optional number [])) }
 {
@@ -83,7 +94,7 @@ pub fn put_optional(numbers: &mut BTreeSet<usize>, number: Option<usize>) -> Res
     }
 }
 
-/// Puts the types of fields among numbers.
+/// Adds the types of fields.
 fn put_fields(numbers: &mut BTreeSet<usize>, fields: &[(&str, usize)]) -> Result<(), AllocError>
     ensures { OnOk result (numbers.new.keys ≡ with_all numbers.old.keys (seconds (named fields.now))) }
 {
@@ -93,7 +104,7 @@ fn put_fields(numbers: &mut BTreeSet<usize>, fields: &[(&str, usize)]) -> Result
     Ok(())
 }
 
-/// Puts the types of cases among numbers.
+/// Adds the types of cases.
 fn put_cases(
     numbers: &mut BTreeSet<usize>,
     cases: &[(&str, Option<usize>)],
@@ -106,7 +117,7 @@ fn put_cases(
     Ok(())
 }
 
-/// Puts numbers among others.
+/// Adds numbers.
 fn put_all(numbers: &mut BTreeSet<usize>, more: &[usize]) -> Result<(), AllocError>
     ensures { OnOk result (numbers.new.keys ≡ with_all numbers.old.keys more.now) }
 {
@@ -116,7 +127,7 @@ fn put_all(numbers: &mut BTreeSet<usize>, more: &[usize]) -> Result<(), AllocErr
     Ok(())
 }
 
-/// The number of an item's type.
+/// Returns the number of an item's type.
 pub fn type_of(item: Item) -> usize
     ensures { result ≡ type_of (item_view item) }
 {
@@ -130,7 +141,7 @@ pub fn type_of(item: Item) -> usize
     }
 }
 
-/// Puts the types of items among numbers.
+/// Adds the types of items.
 fn put_items(numbers: &mut BTreeSet<usize>, items: &[(&str, Item)]) -> Result<(), AllocError>
     ensures { OnOk result (numbers.new.keys ≡ with_all numbers.old.keys (types_of (listed items.now))) }
 {
@@ -140,7 +151,7 @@ fn put_items(numbers: &mut BTreeSet<usize>, items: &[(&str, Item)]) -> Result<()
     Ok(())
 }
 
-/// Puts the nodes that a node mentions among numbers, but for those of a component.
+/// Adds the nodes that a node mentions outside of components.
 fn put_parts(numbers: &mut BTreeSet<usize>, node: &Node) -> Result<(), AllocError>
     ensures { OnOk result (numbers.new.keys ≡ with_all numbers.old.keys (parts (node_view node.now))) }
 {

@@ -1,4 +1,7 @@
-//! On which classes a class rests: those whose interfaces its members use, and those whose resources they mean.
+//! The classes that a class depends on.
+//!
+//! A class depends on the classes whose interfaces its entries use, and on those that bind resources which its entries
+//! mention.
 ghost use Rattle.std.specs.Prelude.{ℕ, ◌≡◌, ◌<◌, ◌↔◌, ◌⊎◌, true, length, map, Some, IfOk, OnOk};
 ghost use Rattle.wac_collection.specs.Collection.{holds_type, holds_all, used_types};
 ghost use Rattle.wac_shapes.specs.Kinds.{kind_type};
@@ -27,7 +30,7 @@ use wac_entries::classes::Classes;
 use wac_entries::entry::Entry;
 use wac_tables::nodes::{Item, Nodes};
 
-/// The class under the id of an interface.
+/// Returns the class of an interface's id.
 fn interface_class(types: &Types, classes: &Classes, id: InterfaceId) -> Option<usize>
     requires { holds_type types.now (kind_type (kind_of.Instance id)) ≡ true }
     ensures { result ≡ interface_class types.now classes.now.names id }
@@ -38,7 +41,7 @@ fn interface_class(types: &Types, classes: &Classes, id: InterfaceId) -> Option<
     }
 }
 
-/// Puts the classes under the ids of the interfaces from which types are used.
+/// Adds the classes of the interfaces from which types are used.
 fn put_used(
     numbers: &mut BTreeSet<usize>,
     types: &Types,
@@ -55,7 +58,8 @@ fn put_used(
     Ok(())
 }
 
-/// The classes to which an instance leads: those whose resources it means, and those from which it uses types.
+/// Returns the classes that an instance mentions or uses: those that bind its resources, and those of its used
+/// interfaces.
 fn instance_leads(
     nodes: &Nodes,
     flags: &[bool],
@@ -70,13 +74,13 @@ fn instance_leads(
     requires flagged { type_in (item_view item) < length flags.now }
     ensures { IfOk result (λ s. (b : ℕ) → (Has s.keys b ↔ (Reaches (IsOfClass b) (tree_at nodes.now (type_in (item_view item))) ⊎ Has (classes_used types.now classes.now.names id) b))) }
 {
-    types.law();
+    types.law(); // proof only
     let mut numbers = classes_reached(types.allocator(), nodes, flags, type_of(item))?;
     put_used(&mut numbers, types, classes, &types[id].uses)?;
     Ok(numbers)
 }
 
-/// The first class that binds the end of a resource.
+/// Returns the first class that binds a resource, after aliases are resolved.
 fn first_class(types: &Types, bindings: &Bindings, id: ResourceId) -> Option<usize>
     ensures { result ≡ first_class types.now bindings.now id }
 {
@@ -84,7 +88,7 @@ fn first_class(types: &Types, bindings: &Bindings, id: ResourceId) -> Option<usi
     Some(class)
 }
 
-/// The class to which a resource leads: the first that binds it.
+/// Returns the class that a resource import depends on, as a set: the first class that binds the resource.
 fn resource_leads(
     alloc: Global,
     types: &Types,
@@ -98,7 +102,7 @@ fn resource_leads(
     Ok(numbers)
 }
 
-/// The classes to which an item leads.
+/// Returns the classes that an item mentions or uses.
 fn item_leads(
     nodes: &Nodes,
     flags: &[bool],
@@ -122,7 +126,7 @@ fn item_leads(
     }
 }
 
-/// Puts what of these is another than a number among others.
+/// Adds numbers other than `own`.
 fn put_others(
     others: &mut BTreeSet<usize>,
     own: usize,
@@ -138,7 +142,10 @@ fn put_others(
     Ok(())
 }
 
-/// For each class those that it rests on.
+/// Returns, for each class, the classes that it depends on.
+///
+/// # Errors
+/// - [`AllocError`] if out of memory.
 pub fn rests(
     alloc: Global,
     nodes: &Nodes,

@@ -1,4 +1,4 @@
--- What the resources of a scope are called. Private functions alone cite this.
+-- How resources are named in a scope of an entry. Only contracts inside the merge cite this file.
 use Rattle.std.specs.Prelude.{ℕ, ◌≡◌, ◌<◌, length, Option, Some, None, List, slice_get}
 use Rattle.wac_primitives.specs.Name.{Name, option_case}
 use Rattle.wac_collection.specs.Collection.{Collection}
@@ -14,21 +14,21 @@ use Rattle.wac_entries.specs.Scopes.{AreScopes, called_in, called_in_root, opene
 use Rattle.wac_entries.specs.Walking.{AreBound}
 use Rattle.wac_entries.specs.Ways.{AreOutward}
 
--- what resources are called in a scope of an entry of a class, and around its outermost scopes
+-- How resources are named in a scope of an entry, or outside its scopes.
 abbrev pub names_of : Collection → List Entry → Name → ItemKind → List Scope → Option ℕ → Names Called
 names_of c es class kind ss None = called_in_class by_names c es class
 names_of c es class kind ss (Some i) = called_in c (called_in_root by_names c es class kind) ss i
 
--- what a resource is called that is no alias
+-- How a resource that is no alias is named.
 abbrev pub names_in : Collection → Calls → Names Called
 names_in c s r = option_case (slice_get (class_names by_names s.entries.now) s.class) None (λ class. names_of c s.entries.now class s.kind s.scopes.now s.scope r)
 
--- the scope is one of so many
+-- The scope, if there is one, is one of the first n.
 abbrev pub IsScopeOf : ℕ → Option ℕ → Type 0
 IsScopeOf n None = Unit {0}
 IsScopeOf n (Some i) = i < n
 
--- the class is one of the entries, the bindings are theirs, the scopes are those of the item, with what each binds and the way out of each
+-- The number is that of a class, and the bindings and scopes are those of the entries and the item.
 pub record AreNamed (c : Collection) (s : Calls) : Type 0 where
   pub name : Name
   pub class : slice_get (class_names by_names s.entries.now) s.class ≡ Some name

@@ -1,4 +1,4 @@
--- Types of a scope as nodes of a table. Private functions alone cite this.
+-- Types of a scope in an interning table. Only contracts inside the merge cite this file.
 use Rattle.std.specs.Prelude.{ℕ, ◌≡◌, ◌<◌, ◌++◌, ◌⊎◌, cond, nat_eq, List, [], ◌∷◌, length, Option, Some, None, IsSome}
 use Rattle.std.specs.Borrow.{Bor}
 use Rattle.std.specs.List.{AllByRecursion, AllZip}
@@ -27,59 +27,62 @@ use Rattle.wac_coding.specs.CallsView.{names_in}
 use Rattle.wac_tables.specs.Numbers.{number_at}
 use Rattle.wac_tables.specs.Tasks.{task_id, parts_of, openings, HasTask, IsHeldTask}
 
--- the tree of each type where resources are called so
+-- The tree of each type, with resources named in this way.
 unfoldable pub tree_in : Collection → Names Called → AnyType → TypeTree Called
 tree_in c m t = unfolded (by_binding c) c m t
 
--- the tree of each type, and of each value type, of a source
+-- The tree of each type of a scope.
 abbrev pub source_tree : Source → AnyType → TypeTree Called
 source_tree s = tree_in s.types.now (names_in s.types.now s.calls.now)
 
+-- The tree of each value type.
 abbrev pub values_of : (AnyType → TypeTree Called) → ValueType → TypeTree Called
 values_of t v = t (ty.Value v)
 
--- the table grew only behind, and the trees in it stayed
+-- The table may have more nodes, appended, and the trees of the old nodes are the same.
 pub record IsGrown (old new : List Node) : Type 0 where
   pub more : List Node
   pub is : new ≡ old ++ more
   pub trees : (i : ℕ) → i < length old → tree_at new i ≡ tree_at old i
 
--- the node of a number has this tree
+-- The node with this number has this tree.
 pub record HasTree (ns : List Node) (t : TypeTree Called) (i : ℕ) : Type 0 where
   pub there : i < length ns
   pub is : tree_at ns i ≡ t
 
--- the numbers in a memo
+-- The number of a definition in the memo.
 abbrev pub defined_number : Memo → DefinedTypeId → Option ℕ
 defined_number memo d = number_at memo.defined d.0
 
+-- The number of a function type in the memo.
 abbrev pub func_number : Memo → FuncTypeId → Option ℕ
 func_number memo f = number_at memo.funcs f.0
 
--- with one more number
+-- The new memo has the number of one more definition.
 pub record HasDefinedToo (old : Memo) (d : DefinedTypeId) (n : ℕ) (new : Memo) : Type 0 where
   pub defined : (k : DefinedTypeId) → defined_number new k ≡ cond (nat_eq d.0 k.0) (Some n) (defined_number old k)
   pub funcs : new.funcs ≡ old.funcs
 
+-- The new memo has the number of one more function type.
 pub record HasFuncToo (old : Memo) (f : FuncTypeId) (n : ℕ) (new : Memo) : Type 0 where
   pub funcs : (k : FuncTypeId) → func_number new k ≡ cond (nat_eq f.0 k.0) (Some n) (func_number old k)
   pub defined : new.defined ≡ old.defined
 
--- with the same numbers
+-- The two memos have the same numbers.
 pub record HasSame (old new : Memo) : Type 0 where
   pub defined : new.defined ≡ old.defined
   pub funcs : new.funcs ≡ old.funcs
 
--- each number in the memo has the tree of its type
+-- Each number in the memo has the tree of its type.
 pub record IsRight (t : AnyType → TypeTree Called) (memo : Memo) (ns : List Node) : Type 0 where
   pub defined : (d : DefinedTypeId) (n : ℕ) → defined_number memo d ≡ Some n → HasTree ns (t (ty.Value (val.Defined d))) n
   pub funcs : (f : FuncTypeId) (n : ℕ) → func_number memo f ≡ Some n → HasTree ns (t (ty.Func f)) n
 
--- what had a number has one
+-- A definition that had a number has one.
 pub record IsMore (old new : Memo) : Type 0 where
   pub defined : (d : DefinedTypeId) → IsSome (defined_number old d) → IsSome (defined_number new d)
 
--- a value type has a number, where it is a definition
+-- The value type is no definition, or it has a number.
 abbrev pub IsReady : Memo → ValueType → Type 0
 IsReady memo (val.Primitive p) = Unit {0}
 IsReady memo (val.Own r) = Unit {0}
@@ -89,7 +92,7 @@ IsReady memo (val.Defined d) = IsSome (defined_number memo d)
 abbrev pub AreReady : Memo → List ValueType → Type 0
 AreReady memo vs = AllByRecursion (IsReady memo) vs
 
--- the part of a definition that is made of one alone
+-- The part of a list, option or alias.
 abbrev pub only_part : DefinedType → Option ValueType
 only_part (def.Tuple vs) = None
 only_part (def.List v) = Some v
@@ -104,61 +107,63 @@ only_part (def.Alias v) = Some v
 only_part (def.Stream v) = None
 only_part (def.Future v) = None
 
--- the definition of a task has a number
+-- The definition of the task has a number.
 abbrev pub IsDone : Memo → Task → Type 0
 IsDone memo t = IsSome (defined_number memo (task_id t))
 
--- to be closed a definition needs numbers of its parts
+-- A task that closes a definition needs the numbers of its parts.
 abbrev pub MayBeDone : Collection → Memo → Task → Type 0
 MayBeDone c memo (Open d) = Unit {0}
 MayBeDone c memo (Close d) = AreReady memo (parts_of c d)
 
--- a task was done: its definition has a number, or its parts come first
+-- The task was performed: its definition has a number, or it was pushed again with its parts after it.
 pub data Did (c : Collection) (t : Task) (old new : Memo) (left now : List Task) : Type 0 where
   numbered : IsMore old new → IsDone new t → now ≡ left → Did c t old new left now
   put_off : (d : DefinedTypeId) → t ≡ Open d → new ≡ old → now ≡ left ++ Close d ∷ openings (parts_of c d) → Did c t old new left now
 
--- the number of an optional value type
+-- The number of an optional value type.
 abbrev pub HasOption : List Node → (ValueType → TypeTree Called) → Option ValueType → Option ℕ → Type 0
 HasOption ns t None None = Unit {0}
 HasOption ns t (Some v) (Some i) = HasTree ns (t v) i
 HasOption ns t _ _ = ⊥
 
--- numbers of values in order, of fields, and of cases, under their names
+-- The numbers of value types in order.
 abbrev pub AreParts : List Node → (ValueType → TypeTree Called) → List ValueType → List ℕ → Type 0
 AreParts ns t = AllZip (λ v i. HasTree ns (t v) i)
 
+-- The names of fields or parameters and the numbers of their types.
 abbrev pub AreFields : List Node → (ValueType → TypeTree Called) → List (Name × ValueType) → List (Bor (List ℕ) × ℕ) → Type 0
 AreFields ns t = AllZip (λ f e. (e.0.now ≡ f.0) × HasTree ns (t f.1) e.1)
 
+-- The names of cases and the numbers of their payloads.
 abbrev pub AreCases : List Node → (ValueType → TypeTree Called) → List (Name × Option ValueType) → List (Bor (List ℕ) × Option ℕ) → Type 0
 AreCases ns t = AllZip (λ f e. (e.0.now ≡ f.0) × HasOption ns t f.1 e.1)
 
--- a node that may be put into the table, where it gets this tree
+-- The node may be added to the table, and has this tree.
 pub record Fits (ns : List Node) (t : TypeTree Called) (n : Node) : Type 0 where
   pub lower : AllByRecursion (λ m. m < length ns) (mentions n)
   pub sorted : IsSorted n
   pub is : node_tree (tree_at ns) n ≡ t
 
--- a definition is a node, or has the number of what it names
+-- The definition has this node, or the number of the type that it is an alias of.
 abbrev pub Means : List Node → TypeTree Called → Meaning → Type 0
 Means ns t (meaning.New n) = Fits ns t (node_view n)
 Means ns t (meaning.Same i) = HasTree ns t i
 
--- a value type has a number, or its definition waits
+-- A value type has a number, or its definition has a task.
 abbrev pub IsAwaited : Memo → List Task → ValueType → Type 0
 IsAwaited memo ts (val.Primitive p) = Unit {0}
 IsAwaited memo ts (val.Own r) = Unit {0}
 IsAwaited memo ts (val.Borrow r) = Unit {0}
 IsAwaited memo ts (val.Defined d) = IsSome (defined_number memo d) ⊎ HasTask d ts
 
--- the parts of what is to be closed have numbers, or wait above it
+-- The parts of a definition that is to be closed have numbers, or later tasks.
 abbrev pub AreCovered : Collection → Memo → List Task → Type 0
 AreCovered c memo [] = Unit {0}
 AreCovered c memo (Open d ∷ ts) = AreCovered c memo ts
 AreCovered c memo (Close d ∷ ts) = AllByRecursion (IsAwaited memo ts) (parts_of c d) × AreCovered c memo ts
 
--- while tasks are done: what is wanted has a number or waits
+-- The invariant while tasks are performed: each wanted definition has a number or a task.
 pub record IsUnderWay (c : Collection) (t : AnyType → TypeTree Called) (first : List Node) (wanted : List Task) (ns : List Node) (memo : Memo) (tasks : List Task) : Type 0 where
   pub grown : IsGrown first ns
   pub right : IsRight t memo ns

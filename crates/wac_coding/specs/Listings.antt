@@ -1,4 +1,4 @@
--- What the scopes of an entry list, as items of a table. Private functions alone cite this.
+-- The items of the scopes of an entry in an interning table. Only contracts inside the merge cite this file.
 use Rattle.std.specs.Global.{Global}
 use Rattle.std.specs.Prelude.{ℕ, ◌≡◌, ◌≤◌, false, List, Option, Some, None, Vec, Contains, slice_get}
 use Rattle.wac_collection.specs.Collection.{Collection}
@@ -14,15 +14,15 @@ use Rattle.wac_coding.specs.ItemCoding.{AreItems}
 use Rattle.wac_tables.specs.Nodes.{Node}
 use Rattle.wac_entries.specs.Scopes.{listed_in, inside}
 
--- in another scope of the same entry
+-- How resources are named in another scope of the same entry.
 abbrev pub at_scope : Calls → ℕ → Calls
 at_scope s i = record { entries = s.entries; bindings = s.bindings; class = s.class; kind = s.kind; scopes = s.scopes; bound = s.bound; outward = s.outward; scope = Some i }
 
--- these stand as scopes in this one
+-- These scopes are directly inside this one.
 abbrev pub AreOpen : Calls → List Opener → Type 0
 AreOpen s os = (o : Opener) → Contains os o → Contains s.scopes.now (inside s.scope o)
 
--- resources are called by what is around where they are listed, but in the outermost scope of an instance, which has its own rule
+-- Not outside an instance, since the outermost scope of an instance names resources by a rule of its own.
 abbrev pub IsAroundIn : ItemKind → Option ℕ → Type 0
 IsAroundIn k None = is_instance k ≡ false
 IsAroundIn k (Some i) = Unit {0}
@@ -30,12 +30,12 @@ IsAroundIn k (Some i) = Unit {0}
 abbrev pub IsAround : Calls → Type 0
 IsAround s = IsAroundIn s.kind s.scope
 
--- what is listed in each scope from a position on
+-- The items of each scope from position `from` on.
 abbrev pub AreListings : List Node → Collection → Calls → ℕ → List (Vec Item Global) → Type 0
 AreListings ns c s from ls = (i : ℕ) (t : Scope) (xs : Vec Item Global) → from ≤ i → slice_get s.scopes.now i ≡ Some t → slice_get ls i ≡ Some xs
     → AreItems ns (tree_in c (names_in c (at_scope s i))) (listed_in c t.opener) xs.items
 
--- what is listed in each scope in this one
+-- The items of each scope directly inside this one.
 abbrev pub AreInnerListings : List Node → Collection → Calls → List (Vec Item Global) → Type 0
 AreInnerListings ns c s ls = (i : ℕ) (t : Scope) (xs : Vec Item Global) → t.parent ≡ s.scope → slice_get s.scopes.now i ≡ Some t → slice_get ls i ≡ Some xs
     → AreItems ns (tree_in c (names_in c (at_scope s i))) (listed_in c t.opener) xs.items

@@ -1,4 +1,4 @@
-//! What the resources of a scope are called.
+//! How resources are named in a scope of an entry.
 ghost use Rattle.std.specs.Prelude.{◌≡◌, Some, Contains, IfOk, slice_get};
 ghost use Rattle.wac_collection.specs.Collection.{HasResource};
 ghost use Rattle.wac_collection.specs.Held.{resolved};
@@ -17,29 +17,32 @@ use wac_entries::outward::Outward;
 use wac_entries::scopes::{Opener, Scope, Scopes};
 use wac_subtyping::called::Called;
 
-/// What resources are called in a scope of an entry of a class.
+/// How resources are named in a scope of an entry.
 #[derive(Clone, Copy)]
 pub struct Calls<'a> {
     /// All entries.
     pub entries: &'a [Entry],
-    /// What their classes bind.
+    /// What the classes of the entries bind.
     pub bindings: &'a Bindings,
-    /// The number of the class.
+    /// The number of the entry's class.
     pub class: usize,
-    /// The entry's item.
+    /// The kind of the entry.
     pub kind: ItemKind,
-    /// Its scopes.
+    /// The scopes of the entry.
     pub scopes: &'a Scopes,
-    /// What each of them binds.
+    /// For each scope, what it binds.
     pub bound: &'a [Bound],
-    /// The next one on the way out of each of them.
+    /// For each scope, the next scope on the way out.
     pub outward: &'a [Option<Outward>],
-    /// The scope; around the outermost ones, where there is none.
+    /// The position of the scope; `None` outside the scopes of the entry.
     pub scope: Option<usize>,
 }
 
 impl<'a> Calls<'a> {
-    /// What a resource is called.
+    /// Returns how a resource is named.
+    ///
+    /// # Errors
+    /// - [`AllocError`] if out of memory.
     pub fn called(
         &self,
         alloc: Global,
@@ -65,7 +68,7 @@ impl<'a> Calls<'a> {
         }
     }
 
-    /// In another scope of the entry.
+    /// Returns how resources are named in another scope of the entry.
     pub fn at(&self, scope: usize) -> Calls<'a>
         ensures { result ≡ at_scope self.now scope }
     {
@@ -75,7 +78,7 @@ impl<'a> Calls<'a> {
         }
     }
 
-    /// The position of a scope in this one.
+    /// Returns the position of a scope directly inside this one.
     pub fn position(&self, opener: Opener) -> usize
         requires { Contains self.now.scopes.now (inside self.now.scope opener) }
         ensures { slice_get self.now.scopes.now result ≡ Some (inside self.now.scope opener) }

@@ -1,7 +1,7 @@
-//! The types that a scope mentions, as nodes of a table.
+//! The value types and function types of a scope, put into a table.
 //!
-//! A definition whose parts have no numbers yet waits in a list of tasks, below its parts, so that no chain of definitions is
-//! too long. Each is opened once and numbered once.
+//! A definition waits in a list of tasks until its parts have numbers, so a long chain of definitions needs no stack.
+//! Each definition is opened once and numbered once.
 ghost use Rattle.std.specs.Prelude.{◌≡◌, ◌<◌, ◌↔◌, [], length, map, true, IsTrue, IfOk, OnOk};
 ghost use Rattle.std.specs.List.{AllByRecursion};
 ghost use Rattle.wac_collection.specs.Collection.{and_maybe, HasDefined, HasFunc, HasResource, holds_value, defined_values, case_values, seconds};
@@ -26,19 +26,19 @@ use wac_subtyping::laws::trees_are_whole;
 use wac_tables::nodes::{Node, Nodes};
 use wac_tables::tasks::{Task, open_fields, open_optional, open_parts, open_value};
 
-/// Where a scope's types are held, and what resources are called in it.
+/// The scope whose types are numbered: their collection, and how resources are named there.
 #[derive(Clone, Copy)]
 pub struct Source<'a, 'b> {
-    /// The memory that numbers are kept in.
+    /// The allocator.
     pub alloc: Global,
     /// The collection, from which nodes borrow names.
     pub types: &'a Types,
-    /// What resources are called.
+    /// How resources are named.
     pub calls: &'b Calls<'b>,
 }
 
 impl<'a, 'b> Source<'a, 'b> {
-    /// The types as they are where resources are called so.
+    /// Returns the same collection with other names of resources.
     pub fn with<'c>(&self, calls: &'c Calls<'c>) -> Source<'a, 'c>
         ensures { result ≡ record { alloc = self.now.alloc; types = self.now.types; calls = calls.entry } }
     {
@@ -50,33 +50,36 @@ impl<'a, 'b> Source<'a, 'b> {
     }
 }
 
-/// What a definition comes to.
+/// The node of a definition.
 #[derive(Drop)]
 pub enum Meaning<'a> {
-    /// A node.
+    /// A node that may not be in the table.
     New(Node<'a>),
-    /// The node of this number, that of what an alias names.
+    /// The number of the type that an alias names.
     Same(usize),
 }
 
-/// The number of a node, with the node's tree.
+/// Returns the number of a node, which is appended if it is not there. Its tree is that of the node.
+///
+/// # Errors
+/// - [`AllocError`] if out of memory.
 pub fn add<'a>(nodes: &mut Nodes<'a>, node: Node<'a>) -> Result<usize, AllocError>
     requires lower { AllByRecursion (λ m. m < length nodes.old) (mentions (node_view node)) }
     requires sorted { IsSorted (node_view node) }
     ensures grown { IsGrown nodes.old nodes.new }
     ensures number { IfOk result (λ n. HasTree nodes.new (node_tree (tree_at nodes.old) (node_view node.entry)) n) }
 {
-    nodes.table_law();
+    nodes.table_law(); // proof only
     match nodes.add(node) {
         Ok(number) => {
-            nodes.table_law();
+            nodes.table_law(); // proof only
             Ok(number)
         }
         Err(fault) => Err(fault),
     }
 }
 
-/// Names in order.
+/// Returns the names in order.
 fn names<'a>(alloc: Global, labels: &'a Labels) -> Result<Vec<&'a str>, AllocError>
     ensures { IfOk result (λ v. map (λ n. n.now) v.items ≡ labels.now) }
 {
@@ -87,7 +90,7 @@ fn names<'a>(alloc: Global, labels: &'a Labels) -> Result<Vec<&'a str>, AllocErr
     Ok(names)
 }
 
-/// The part of a definition that is made of one alone.
+/// Returns the part of a list, option or alias.
 fn only_part(definition: &DefinedType) -> Option<ValueType>
     ensures { result ≡ only_part definition.now }
 {
@@ -100,7 +103,7 @@ fn only_part(definition: &DefinedType) -> Option<ValueType>
     }
 }
 
-/// The number of a handle to a resource that is owned.
+/// Returns the number of an `own` handle.
 fn owned(nodes: &mut Nodes, source: &Source, id: ResourceId) -> Result<usize, AllocError>
     requires held { HasResource source.now.types.now id }
     requires named { AreNamed source.now.types.now source.now.calls.now }
@@ -111,7 +114,7 @@ fn owned(nodes: &mut Nodes, source: &Source, id: ResourceId) -> Result<usize, Al
     add(nodes, Node::Own(called))
 }
 
-/// The number of a handle to a resource that is lent.
+/// Returns the number of a `borrow` handle.
 fn lent(nodes: &mut Nodes, source: &Source, id: ResourceId) -> Result<usize, AllocError>
     requires held { HasResource source.now.types.now id }
     requires named { AreNamed source.now.types.now source.now.calls.now }
@@ -123,7 +126,7 @@ fn lent(nodes: &mut Nodes, source: &Source, id: ResourceId) -> Result<usize, All
 }
 
 impl Memo {
-    /// Whether a value type has a number, where it is a definition.
+    /// Returns whether a value type can be numbered: it is no definition, or a definition with a number.
     fn is_ready(&self, value: ValueType) -> bool
         ensures { IsTrue result ↔ IsReady self.now value }
     {
@@ -135,7 +138,7 @@ impl Memo {
         }
     }
 
-    /// The number of a value type that has one where it is a definition.
+    /// Returns the number of a value type that is ready.
     fn part(
         &self,
         nodes: &mut Nodes,
@@ -157,7 +160,7 @@ impl Memo {
         }
     }
 
-    /// The number of an optional value type.
+    /// Returns the number of an optional value type that is ready.
     fn optional(
         &self,
         nodes: &mut Nodes,
@@ -180,7 +183,7 @@ impl Memo {
         }
     }
 
-    /// The numbers of values, in order.
+    /// Returns the numbers of value types that are ready.
     fn parts(
         &self,
         nodes: &mut Nodes,
@@ -202,7 +205,7 @@ impl Memo {
         Ok(numbers)
     }
 
-    /// The numbers of fields or parameters, under their names.
+    /// Returns the numbers of the types of fields or parameters that are ready.
     fn fields<'a>(
         &self,
         nodes: &mut Nodes<'a>,
@@ -225,7 +228,7 @@ impl Memo {
         Ok(numbers)
     }
 
-    /// The numbers of the payloads of cases, under their names.
+    /// Returns the numbers of the payloads of cases that are ready.
     fn cases<'a>(
         &self,
         nodes: &mut Nodes,
@@ -248,7 +251,7 @@ impl Memo {
         Ok(numbers)
     }
 
-    /// The node of a result with these payloads.
+    /// Returns the node of a result whose payloads are ready.
     fn outcome<'a>(
         &self,
         nodes: &mut Nodes<'a>,
@@ -268,7 +271,7 @@ impl Memo {
         Ok(Node::Result(ok, err))
     }
 
-    /// What a definition comes to whose parts have numbers.
+    /// Returns the node of a definition whose parts are ready.
     fn meaning<'a>(
         &self,
         nodes: &mut Nodes<'a>,
@@ -307,7 +310,7 @@ impl Memo {
         Ok(Meaning::New(node))
     }
 
-    /// Numbers a definition whose parts have numbers.
+    /// Numbers a definition whose parts are ready.
     fn close<'a>(
         &mut self,
         nodes: &mut Nodes<'a>,
@@ -323,8 +326,8 @@ impl Memo {
         ensures more { OnOk result (IsMore self.old self.new) }
         ensures done { OnOk result (IsReady self.new (val.Defined id)) }
     {
-        source.types.law();
-        trees_are_whole(source.types);
+        source.types.law(); // proof only
+        trees_are_whole(source.types); // proof only
         let number = match self.meaning(nodes, source, &source.types[id])? {
             Meaning::New(node) => add(nodes, node)?,
             Meaning::Same(number) => number,
@@ -332,7 +335,9 @@ impl Memo {
         self.put_defined(id, number)
     }
 
-    /// Does a task: numbers its definition, or puts it off behind its parts. One whose only part has a number is not put off.
+    /// Performs a task: numbers its definition, or pushes the definition again and its parts after it.
+    ///
+    /// A definition whose only part is ready is numbered at once.
     fn perform<'a>(
         &mut self,
         nodes: &mut Nodes<'a>,
@@ -366,7 +371,7 @@ impl Memo {
         }
     }
 
-    /// Numbers the definitions of tasks, and what they reach.
+    /// Numbers the definitions of the tasks, and the definitions that they reach.
     fn finish<'a>(
         &mut self,
         nodes: &mut Nodes<'a>,
@@ -381,7 +386,7 @@ impl Memo {
         ensures right { OnOk result (IsRight (source_tree source.now) self.new nodes.new) }
         ensures done { OnOk result (AllByRecursion (IsDone self.new) tasks.items) }
     {
-        source.types.law();
+        source.types.law(); // proof only
         while let Some(task) = tasks.pop() {
             self.perform(nodes, source, task, &mut tasks)?;
         }
@@ -389,7 +394,10 @@ impl Memo {
         Ok(())
     }
 
-    /// The number of a value type.
+    /// Returns the number of a value type.
+    ///
+    /// # Errors
+    /// - [`AllocError`] if out of memory.
     pub fn value<'a>(
         &mut self,
         nodes: &mut Nodes<'a>,
@@ -414,7 +422,10 @@ impl Memo {
         self.part(nodes, source, value)
     }
 
-    /// The number of a function type.
+    /// Returns the number of a function type.
+    ///
+    /// # Errors
+    /// - [`AllocError`] if out of memory.
     pub fn func_type<'a>(
         &mut self,
         nodes: &mut Nodes<'a>,
@@ -431,8 +442,8 @@ impl Memo {
         if let Some(number) = self.func(id) {
             return Ok(number);
         }
-        source.types.law();
-        trees_are_whole(source.types);
+        source.types.law(); // proof only
+        trees_are_whole(source.types); // proof only
         let func = &source.types[id];
         let mut tasks = self.take_tasks(source.alloc);
         open_optional(&mut tasks, func.result)?;

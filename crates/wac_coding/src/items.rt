@@ -1,7 +1,4 @@
-//! What a scope lists, as nodes of a table.
-//!
-//! An entry's types are put into the table scope by scope, from the innermost out, each scope with a memo of its own: nothing
-//! recurses, and each type is treated once in each scope that mentions it.
+//! Types and items that open no scope, put into a table.
 ghost use Rattle.std.specs.Prelude.{◌≡◌, [], true, IfOk, OnOk};
 ghost use Rattle.wac_collection.specs.Collection.{holds_type};
 ghost use Rattle.wac_shapes.specs.Kinds.{kind_type};
@@ -19,7 +16,10 @@ use wac_collection::{ItemKind, Type};
 use wac_tables::nodes::{Item, Node, Nodes};
 
 impl Memo {
-    /// The number of a type that opens no scope.
+    /// Returns the number of a type that opens no scope.
+    ///
+    /// # Errors
+    /// - [`AllocError`] if out of memory.
     pub fn plain_type<'a>(
         &mut self,
         nodes: &mut Nodes<'a>,
@@ -46,7 +46,10 @@ impl Memo {
         }
     }
 
-    /// What an item that opens no scope is listed as.
+    /// Returns the item of a kind that opens no scope.
+    ///
+    /// # Errors
+    /// - [`AllocError`] if out of memory.
     pub fn plain_item<'a>(
         &mut self,
         nodes: &mut Nodes<'a>,

@@ -1,6 +1,7 @@
-//! The types of entries as nodes of one table: types are equal exactly where their numbers are.
+//! The types of entries, put into one interning table: two types are equal if and only if their numbers are.
 //!
-//! A layer of `wac_merge`, whose crate is the door.
+//! Types are numbered scope by scope, the innermost scopes first and without recursion. The numbers of a scope's types
+//! are recorded, so each type is numbered once in a scope. A call that fails may leave more nodes in the table.
 #![tactic(auto)]
 
 pub mod calls;

@@ -1,4 +1,4 @@
-//! What is listed in a scope, as an instance of a table.
+//! The instances and components of a table, made of the items of scopes.
 ghost use Rattle.std.specs.Prelude.{◌≡◌, true, IfOk};
 ghost use Rattle.wac_collection.specs.Collection.{holds_type, world_imports, world_exports, HasWorld};
 ghost use Rattle.wac_entries.specs.Scopes.{listed_in, opener_type, scope_tree};
@@ -16,7 +16,7 @@ use wac_collection::{ItemKind, Named, Types, WorldId};
 use wac_entries::scopes::Opener;
 use wac_tables::nodes::{Item, Node, Nodes};
 
-/// Items under their names, sorted by name.
+/// Returns the items under their names, sorted by name.
 fn entries<'a>(
     memo: &mut Memo,
     nodes: &Nodes,
@@ -28,8 +28,9 @@ fn entries<'a>(
     ensures same { HasSame memo.old memo.new }
     ensures lists { IfOk result (λ v. Lists nodes.now (source_tree source.now) kinds.now (listed v.items)) }
 {
+    // `nodes` serves the contract alone.
     let _ = nodes;
-    kinds.law();
+    kinds.law(); // proof only
     let mut entries = Vec::with_capacity(source.alloc, kinds.len())?;
     for i in 0..kinds.len() {
         entries.push((kinds.name_at(i), items[i]))?;
@@ -40,7 +41,7 @@ fn entries<'a>(
     Ok(entries)
 }
 
-/// The number of the instance that lists these items under their names.
+/// Returns the number of the instance with these exports.
 fn listing<'a>(
     memo: &mut Memo,
     nodes: &mut Nodes<'a>,
@@ -57,7 +58,7 @@ fn listing<'a>(
     add(nodes, Node::Instance(exports))
 }
 
-/// What is listed in a scope.
+/// Returns the items of a scope.
 pub fn listed_kinds(types: &Types, opener: Opener) -> &Named<ItemKind>
     requires { holds_type types.now (opener_type opener) ≡ true }
     ensures { result.now ≡ listed_in types.now opener }
@@ -69,7 +70,10 @@ pub fn listed_kinds(types: &Types, opener: Opener) -> &Named<ItemKind>
     }
 }
 
-/// The number of the instance that is listed in a scope, given what each of its items is listed as.
+/// Returns the number of the instance whose exports are the items of a scope. `items` are those already in the table.
+///
+/// # Errors
+/// - [`AllocError`] if out of memory.
 pub fn scope_instance<'a>(
     memo: &mut Memo,
     nodes: &mut Nodes<'a>,
@@ -87,7 +91,10 @@ pub fn scope_instance<'a>(
     listing(memo, nodes, source, kinds, items)
 }
 
-/// The number of the component of a world, given what is listed on each of its sides.
+/// Returns the number of the component of a world. `imported` and `exported` are the items of its sides in the table.
+///
+/// # Errors
+/// - [`AllocError`] if out of memory.
 pub fn component<'a>(
     memo: &mut Memo,
     nodes: &mut Nodes<'a>,

@@ -1,4 +1,4 @@
-//! What the scopes of an entry list, as items of a table: the inner ones first.
+//! The items of each scope of an entry, put into a table, innermost scopes first.
 ghost use Rattle.std.specs.Prelude.{◌≡◌, ◌≢◌, ◌+◌, ◌<◌, true, List, [], length, Some, IfOk, OnOk, slice_get};
 ghost use Rattle.wac_subtyping.specs.Called.{Called};
 ghost use Rattle.wac_primitives.specs.Tree.{TypeTree};
@@ -24,7 +24,7 @@ use wac_entries::scopes::Opener;
 use wac_subtyping::laws::trees_are_whole;
 use wac_tables::nodes::{Item, Nodes};
 
-/// An item of an instance type or of a component type, of this number.
+/// Returns the item of a kind that opens a scope, given the number of its type.
 fn opened_item(kind: ItemKind, number: usize) -> Item
     ensures { (ns : List Node) (t : AnyType → TypeTree Called) → opened_by kind ≢ [] → HasTree ns (t (kind_type kind)) number → HasItem ns t kind (item_view result) }
 {
@@ -35,7 +35,7 @@ fn opened_item(kind: ItemKind, number: usize) -> Item
     }
 }
 
-/// The number of the component of a world in a scope, where it is known what the scopes in it list.
+/// Returns the number of a world's component, given the items of the scopes inside this one.
 fn inner_component<'a>(
     memo: &mut Memo,
     nodes: &mut Nodes<'a>,
@@ -53,7 +53,7 @@ fn inner_component<'a>(
     ensures grown { IsGrown nodes.old nodes.new }
     ensures number { IfOk result (λ n. HasTree nodes.new (source_tree source.now (ty.World id)) n) }
 {
-    trees_are_whole(source.types);
+    trees_are_whole(source.types); // proof only
     let imports = source.calls.position(Opener::Imports(id));
     let calls = source.calls.at(imports);
     let inside = source.with(&calls);
@@ -65,7 +65,10 @@ fn inner_component<'a>(
     component(memo, nodes, id, &inside, imported, &outside, exported)
 }
 
-/// What an item of a scope is listed as, where it is known what the scopes in it list.
+/// Returns the item of a kind in a scope, given the items of the scopes inside it.
+///
+/// # Errors
+/// - [`AllocError`] if out of memory.
 pub fn listed_item<'a>(
     memo: &mut Memo,
     nodes: &mut Nodes<'a>,
@@ -84,7 +87,7 @@ pub fn listed_item<'a>(
     ensures right { OnOk result (IsRight (source_tree source.now) memo.new nodes.new) }
     ensures item { IfOk result (λ x. HasItem nodes.new (source_tree source.now) kind (item_view x)) }
 {
-    trees_are_whole(source.types);
+    trees_are_whole(source.types); // proof only
     match kind.ty() {
         Type::Interface(id) => {
             let position = source.calls.position(Opener::Interface(id));
@@ -102,7 +105,7 @@ pub fn listed_item<'a>(
     }
 }
 
-/// What items of a scope are listed as, where it is known what the scopes in it list.
+/// Returns the items of these kinds in a scope, given the items of the scopes inside it.
 fn listed_items<'a>(
     memo: &mut Memo,
     nodes: &mut Nodes<'a>,
@@ -128,7 +131,7 @@ fn listed_items<'a>(
     Ok(items)
 }
 
-/// What the scope at a position lists, where it is known what those behind it list.
+/// Returns the items of the scope at `position`, given the items of the scopes after it.
 fn listing_at<'a>(
     memo: &mut Memo,
     nodes: &mut Nodes<'a>,
@@ -143,14 +146,14 @@ fn listing_at<'a>(
     ensures grown { IsGrown nodes.old nodes.new }
     ensures items { IfOk result (λ xs. (t : AScope) → slice_get source.now.calls.now.scopes.now position ≡ Some t → AreItems nodes.new (tree_in source.now.types.now (names_in source.now.types.now (at_scope source.now.calls.now position))) (listed_in source.now.types.now t.opener) xs.items) }
 {
-    source.types.law();
+    source.types.law(); // proof only
     let calls = source.calls.at(position);
     let inside = source.with(&calls);
     let kinds = listed_kinds(source.types, calls.scopes.scope(position).opener);
     listed_items(memo, nodes, &inside, kinds, listings)
 }
 
-/// So many listings of nothing.
+/// Returns `count` empty lists of items.
 fn unlisted(alloc: Global, count: usize) -> Result<Vec<Vec<Item>>, AllocError>
     ensures { IfOk result (λ v. length v.items ≡ count) }
 {
@@ -161,7 +164,10 @@ fn unlisted(alloc: Global, count: usize) -> Result<Vec<Vec<Item>>, AllocError>
     Ok(listings)
 }
 
-/// What each scope of an entry lists. The memo is used for one scope after another.
+/// Returns the items of each scope of an entry. The memo is cleared for each scope.
+///
+/// # Errors
+/// - [`AllocError`] if out of memory.
 pub fn listings<'a>(
     memo: &mut Memo,
     nodes: &mut Nodes<'a>,

@@ -8,19 +8,19 @@ use wac_collection::{DefinedTypeId, FuncTypeId};
 use wac_tables::rounds::Numbers;
 use wac_tables::tasks::Task;
 
-/// The numbers of the types of a scope: of those that have one so far.
+/// The numbers of a scope's types that are already in the table.
 pub struct Memo {
-    /// Those of definitions, by position.
+    /// The numbers of definitions, by position.
     defined: Numbers,
-    /// Those of function types, by position.
+    /// The numbers of function types, by position.
     funcs: Numbers,
-    /// Memory for the tasks of a type. None is left between calls.
+    /// A buffer for tasks, empty between calls.
     tasks: Vec<Task>,
-    /// The exchanges of places that put the names of a listing in order: those of the last that needed others.
+    /// The swaps that sorted the last items for which new ones were needed.
     pub(crate) exchanges: Vec<(usize, usize)>,
 }
 
-/// The numbers are let go of here, and not anew at each place where they go out of scope.
+// By hand: a derived `Drop` is proved again wherever one goes out of scope (docs/PROOFS.md, 'Drop').
 impl Drop for Memo {
     fn drop(self) {
         let Memo {
@@ -33,7 +33,7 @@ impl Drop for Memo {
 }
 
 impl Memo {
-    /// No number.
+    /// Creates an empty memo.
     pub fn new(alloc: Global) -> Memo
         ensures defined { (id : DefinedTypeId) → defined_number result id ≡ None }
         ensures funcs { (id : FuncTypeId) → func_number result id ≡ None }
@@ -46,7 +46,7 @@ impl Memo {
         }
     }
 
-    /// Lets go of all numbers, for another scope.
+    /// Removes all numbers, before the next scope.
     pub fn clear(&mut self)
         ensures defined { (id : DefinedTypeId) → defined_number self.new id ≡ None }
         ensures funcs { (id : FuncTypeId) → func_number self.new id ≡ None }
@@ -55,35 +55,41 @@ impl Memo {
         self.funcs.clear();
     }
 
-    /// The number of a definition.
+    /// Returns the number of a definition.
     pub fn defined(&self, id: DefinedTypeId) -> Option<usize>
         ensures { result ≡ defined_number self.now id }
     {
         self.defined.get(id.0)
     }
 
-    /// The number of a function type.
+    /// Returns the number of a function type.
     pub fn func(&self, id: FuncTypeId) -> Option<usize>
         ensures { result ≡ func_number self.now id }
     {
         self.funcs.get(id.0)
     }
 
-    /// Gives a definition a number.
+    /// Records the number of a definition.
+    ///
+    /// # Errors
+    /// - [`AllocError`] if out of memory.
     pub fn put_defined(&mut self, id: DefinedTypeId, number: usize) -> Result<(), AllocError>
         ensures { OnOk result (HasDefinedToo self.old id number self.new) }
     {
         self.defined.put(id.0, number)
     }
 
-    /// Gives a function type a number.
+    /// Records the number of a function type.
+    ///
+    /// # Errors
+    /// - [`AllocError`] if out of memory.
     pub fn put_func(&mut self, id: FuncTypeId, number: usize) -> Result<(), AllocError>
         ensures { OnOk result (HasFuncToo self.old id number self.new) }
     {
         self.funcs.put(id.0, number)
     }
 
-    /// Takes the memory for tasks out. None is in it.
+    /// Takes the buffer for tasks, emptied.
     pub(crate) fn take_tasks(&mut self, alloc: Global) -> Vec<Task>
         ensures none { result.items ≡ [] }
         ensures same { HasSame self.old self.new }
@@ -93,7 +99,7 @@ impl Memo {
         tasks
     }
 
-    /// Keeps memory for tasks.
+    /// Puts the buffer for tasks back.
     pub(crate) fn keep_tasks(&mut self, tasks: Vec<Task>)
         ensures { HasSame self.old self.new }
     {

@@ -1,4 +1,4 @@
-//! The types of core modules, as nodes of a table.
+//! The types of core modules, put into a table.
 ghost use Rattle.std.specs.Prelude.{◌≡◌, IfOk, OnOk, string_bytes};
 ghost use Rattle.std.specs.List.{AllByRecursion};
 ghost use Rattle.std.specs.BTreeMap.{insert_entry, IsOrdered};
@@ -17,7 +17,10 @@ use std::collections::BTreeMap;
 use wac_collection::{CoreExtern, CoreImports, ModuleTypeId, Named};
 use wac_tables::nodes::{Core, Node, Nodes};
 
-/// The entries of a map, in the order of their names.
+/// Returns the entries of a map, in order of their names.
+///
+/// # Errors
+/// - [`AllocError`] if out of memory.
 pub fn in_order<V: Drop>(
     alloc: Global,
     map: BTreeMap<String, V>,
@@ -28,7 +31,10 @@ pub fn in_order<V: Drop>(
     map.into_iter().collect(alloc)
 }
 
-/// Puts a value under a name, in the place of one that is there.
+/// Puts a value under a name, and replaces the value that is there.
+///
+/// # Errors
+/// - [`AllocError`] if out of memory.
 pub fn put<V: Drop>(map: &mut BTreeMap<String, V>, name: String, value: V) -> Result<(), AllocError>
     ensures { OnOk result (map.new.entries ≡ insert_entry string_cmp map.old.entries name value) }
 {
@@ -38,7 +44,7 @@ pub fn put<V: Drop>(map: &mut BTreeMap<String, V>, name: String, value: V) -> Re
     }
 }
 
-/// What a core module imports or exports, in memory of its own.
+/// Copies an import or export of a core module.
 fn core(alloc: Global, item: &CoreExtern) -> Result<Core, AllocError>
     ensures { IfOk result (λ x. core_view x ≡ core_item item.now) }
 {
@@ -75,7 +81,7 @@ fn core(alloc: Global, item: &CoreExtern) -> Result<Core, AllocError>
     }
 }
 
-/// Core items, sorted by name.
+/// Returns the exports of a core module, sorted by name.
 fn cores(alloc: Global, items: &Named<CoreExtern>) -> Result<Vec<(String, Core)>, AllocError>
     ensures { IfOk result (λ v. AreCores items.now (core_items v.items)) }
 {
@@ -90,7 +96,7 @@ fn cores(alloc: Global, items: &Named<CoreExtern>) -> Result<Vec<(String, Core)>
     in_order(alloc, map)
 }
 
-/// Puts a core item under a name of a module, in the place of one that is there.
+/// Puts an import under its module and name, and replaces the one that is there.
 fn put_under(
     alloc: Global,
     modules: &mut BTreeMap<String, BTreeMap<String, Core>>,
@@ -109,7 +115,7 @@ fn put_under(
     put(modules, source, items)
 }
 
-/// Core items by module, in the order of the modules and of the names in each.
+/// Returns the imports sorted by module, those of a module sorted by name.
 fn grouped(
     alloc: Global,
     mut modules: BTreeMap<String, BTreeMap<String, Core>>,
@@ -125,7 +131,7 @@ fn grouped(
     Ok(listed)
 }
 
-/// Imports of core items, sorted by module and by name. No module is without an item.
+/// Returns the imports of a core module, sorted by module and name.
 fn imports(
     alloc: Global,
     imports: &CoreImports<CoreExtern>,
@@ -145,7 +151,10 @@ fn imports(
     grouped(alloc, modules)
 }
 
-/// The number of the type of a core module.
+/// Returns the number of a core module type.
+///
+/// # Errors
+/// - [`AllocError`] if out of memory.
 pub fn module_type(
     nodes: &mut Nodes,
     source: &Source,

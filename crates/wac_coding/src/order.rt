@@ -1,17 +1,17 @@
-//! Exchanges that put names in order.
+//! Swaps that sort names.
 //!
-//! Versions of an interface mostly list the same names. So the exchanges of places that put the names of one listing in order are
-//! made in the next before it is sorted, which then takes one look at each name. Nothing rests on them but time.
+//! Versions of an interface mostly have the same export names. So the swaps that sort the items of one scope are also
+//! made on those of the next. Sorting these then only compares neighbours. The swaps affect speed only.
 ghost use Rattle.std.specs.List.Sorted.{IsPermutation};
 
 use std::alloc::{AllocError, Global};
 use wac_collection::{ItemKind, Named};
 use wac_tables::nodes::Item;
 
-/// Names up to which a sort takes too little time to find exchanges for.
+/// The number of names up to which sorting is too fast to look for swaps.
 const FEW: usize = 16;
 
-/// Exchanges the entries at two places, where there are such.
+/// Swaps the entries at two positions, if both exist.
 #[tactic(auto, using(crate::proofs::SortedEntries::none_moved))]
 fn exchange(entries: &mut [(&str, Item)], one: usize, other: usize)
     ensures { IsPermutation entries.old entries.new }
@@ -21,7 +21,7 @@ fn exchange(entries: &mut [(&str, Item)], one: usize, other: usize)
     }
 }
 
-/// Makes exchanges, one after another, where they were found for as many entries.
+/// Makes these swaps in order, if they were found for as many entries.
 #[tactic(auto, using(crate::proofs::SortedEntries::none_moved))]
 pub(crate) fn exchange_all(entries: &mut [(&str, Item)], exchanges: &[(usize, usize)])
     ensures { IsPermutation entries.old entries.new }
@@ -35,7 +35,7 @@ pub(crate) fn exchange_all(entries: &mut [(&str, Item)], exchanges: &[(usize, us
     }
 }
 
-/// The exchanges that put names in order.
+/// Returns the swaps that sort these names.
 fn exchanges_of(alloc: Global, kinds: &Named<ItemKind>) -> Result<Vec<(usize, usize)>, AllocError> {
     let mut wanted = Vec::with_capacity(alloc, kinds.len())?;
     for number in 0..kinds.len() {
@@ -59,8 +59,7 @@ fn exchanges_of(alloc: Global, kinds: &Named<ItemKind>) -> Result<Vec<(usize, us
     Ok(exchanges)
 }
 
-/// Replaces exchanges that left entries out of order, of which there are more than a few, by those that put the names of what is
-/// listed in order.
+/// Replaces the swaps if they left the entries out of order and there are more than [`FEW`] entries.
 pub(crate) fn renew(
     alloc: Global,
     exchanges: &mut Vec<(usize, usize)>,

@@ -1,4 +1,4 @@
--- What the classes of asked entries bind, and what a resource means at the root.
+-- The resources that classes bind, and what a resource means at the root.
 use Rattle.std.specs.Prelude.{ℕ, suc, not, ◌&&◌, ◌==◌, if◌then◌else◌, List, [], ◌∷◌, Option, Some, None}
 use Rattle.wac_primitives.specs.Name.{Name, option_case, first_some}
 use Rattle.wac_primitives.specs.Tree.{imported, Place, position, named}
@@ -10,7 +10,8 @@ use Rattle.wac_shapes.specs.declared.component.ItemKind.TheVariants as kind
 use Rattle.wac_shapes.specs.declared.component.«Type».TheVariants as ty
 use Rattle.wac_entries.specs.Classes.{Entry, NameRules, same_track, class_names, members}
 
--- how a member of a class binds a resource: as an own resource of an interface whose id is on the class's track, or by being it
+-- An instance whose interface id has the class's track binds its own resources, and a resource type item binds its
+-- resource.
 abbrev pub kind_binds : NameRules → Collection → Name → ItemKind → ResourceId → Option (List Place)
 kind_binds rules c class (kind.Instance i) r =
     option_case (item_at c.interfaces i.0) None (λ it.
@@ -23,19 +24,19 @@ abbrev pub first_binds : NameRules → Collection → Name → List Entry → Re
 first_binds rules c class [] r = None
 first_binds rules c class (e ∷ rest) r = first_some (kind_binds rules c class e.kind r) (first_binds rules c class rest r)
 
--- under which names a class binds a resource
+-- The names under which a class binds a resource.
 abbrev pub class_binds : NameRules → Collection → List Entry → Name → ResourceId → Option (List Place)
 class_binds rules c es class r = first_binds rules c class (members rules es class) r
 
--- the number and the path of the first of these classes that binds a resource; the first of them has the number k
+-- The number and path of the first of these classes that binds a resource. The first of them has the number k.
 abbrev pub binding_from : NameRules → Collection → List Entry → ℕ → List Name → ResourceId → Option (ℕ × List Place)
 binding_from rules c es k [] r = None
 binding_from rules c es k (class ∷ rest) r = option_case (class_binds rules c es class r) (binding_from rules c es (suc k) rest r) (λ path. Some (k, path))
 
--- the first class, in asked order, that binds a resource
+-- The number and path of the first class that binds a resource.
 abbrev pub binding_class : NameRules → Collection → List Entry → ResourceId → Option (ℕ × List Place)
 binding_class rules c es = binding_from rules c es 0 (class_names rules es)
 
--- the leaf of each resource at the root, where the import of each class stands at the position that `at` says
+-- The leaf of each resource at the root, if `at` gives the position of each class's import.
 abbrev pub root_bindings : NameRules → Collection → List Entry → (ℕ → ℕ) → Bindings
 root_bindings rules c es at r = option_case (binding_class rules c es r) None (λ b. Some (record { out = 0; side = imported; path = position (at b.0) ∷ b.1 }))

@@ -1,4 +1,4 @@
--- What is known of what classes bind. Private functions alone cite this.
+-- What the code records of the resources that classes bind.
 use Rattle.std.specs.Prelude.{ℕ, suc, ◌≡◌, if◌then◌else◌, is_some, true, List, [], ◌∷◌, Some, None, slice_get}
 use Rattle.std.specs.Option.{option_map}
 use Rattle.wac_names.specs.Reading.{read_track}
@@ -16,46 +16,46 @@ use Rattle.wac_entries.specs.Binding.{kind_binds, first_binds, class_binds, bind
 use Rattle.wac_entries.specs.Numbering.{members_in}
 use Rattle.wac_entries.specs.Places.{find_resource, leaf_at}
 
--- what each class binds, by number, and the first class that binds each resource
+-- For each class what it binds, and for each resource the first class that binds it.
 pub record ClassBindings : Type 0 where
   pub classes : List (List (ResourceId × Leaf))
   pub firsts : List (ResourceId × ℕ)
 
--- the path under which a class binds a resource
+-- The path under which a class binds a resource.
 abbrev pub path_in : ClassBindings → ℕ → Names (List Place)
 path_in b k r = option_case (slice_get b.classes k) None (λ m. option_map (λ l. l.path) (find_resource m r))
 
--- the first class that binds a resource, and the path there
+-- The number of the first class that binds a resource, and its path there.
 abbrev pub first_in : ClassBindings → Names (ℕ × List Place)
 first_in b r = option_case (find_resource b.firsts r) None (λ k. option_case (path_in b k r) None (λ path. Some (k, path)))
 
--- the bindings are those of the classes of the entries
+-- The record describes what the classes of the entries bind.
 pub record AreBindings (c : Collection) (es : List Entry) (b : ClassBindings) : Type 0 where
   pub paths : (k : ℕ) (n : Name) (r : ResourceId) → slice_get (class_names by_names es) k ≡ Some n → path_in b k r ≡ class_binds by_names c es n r
   pub firsts : (r : ResourceId) → first_in b r ≡ binding_class by_names c es r
 
--- what is asked for is held
+-- The collection holds the type of each entry.
 abbrev pub AreHeld : Collection → List Entry → Type 0
 AreHeld c es = (i : ℕ) (e : Entry) → slice_get es i ≡ Some e → holds_type c (kind_type e.kind) ≡ true
 
--- the first classes have these tracks
+-- These are the tracks of the first classes.
 abbrev pub HaveTracks : List Entry → List Track → Type 0
 HaveTracks es tracks = (k : ℕ) (n : Name) (t : Track) → slice_get (class_names by_names es) k ≡ Some n → slice_get tracks k ≡ Some t → track_view t ≡ read_track n
 
--- what a member of a class binds, as leaves
+-- What an entry of a class binds, as leaves.
 abbrev pub member_leaves : Collection → Name → ItemKind → Names Leaf
 member_leaves c class k r = option_map (leaf_at imported) (kind_binds by_names c class k r)
 
--- each class has what its entries among those that were seen bind
+-- Each class has what its entries among those seen so far bind.
 abbrev pub HaveBound : Collection → List Entry → List Entry → List (List (ResourceId × Leaf)) → Type 0
 HaveBound c es seen classes = (k : ℕ) (n : Name) (m : List (ResourceId × Leaf)) (r : ResourceId) → slice_get (class_names by_names es) k ≡ Some n → slice_get classes k ≡ Some m
     → find_resource m r ≡ option_map (leaf_at imported) (first_binds by_names c n (members_in es seen n) r)
 
--- a number for what is bound there
+-- The number k for each resource that the map binds.
 abbrev pub numbered : ℕ → List (ResourceId × Leaf) → Names ℕ
 numbered k m r = if is_some (find_resource m r) then Some k else None
 
--- the number of the first of these classes that binds a resource; the first of them has the number k
+-- The number of the first of these maps that binds a resource. The first of them has the number k.
 abbrev pub first_from : ℕ → List (List (ResourceId × Leaf)) → Names ℕ
 first_from k [] r = None
 first_from k (m ∷ ms) r = if is_some (find_resource m r) then Some k else first_from (suc k) ms r

@@ -1,4 +1,4 @@
--- What resources are called, as scopes are walked outwards. Private functions alone cite this.
+-- How resources are named while scopes are walked outward. Only contracts inside the merge cite this file.
 use Rattle.std.specs.Prelude.{ℕ, suc, ◌+◌, ◌≡◌, ◌≤◌, Bool, true, false, List, length, Option, Some, None, slice_get}
 use Rattle.std.specs.Option.{option_map}
 use Rattle.wac_primitives.specs.Tree.{imported, exported, Place, Leaf}
@@ -11,28 +11,31 @@ use Rattle.wac_entries.specs.declared.scopes.Scope.{Scope}
 use Rattle.wac_entries.specs.Scopes.{binds, called_in}
 use Rattle.wac_entries.specs.Places.{find_resource}
 
--- for each scope what it binds
+-- For each scope, what it binds.
 pub record AreBound (c : Collection) (ss : List Scope) (bs : List (List (ResourceId × Leaf))) : Type 0 where
   pub counted : length bs ≡ length ss
   pub found : (i : ℕ) (s : Scope) (b : List (ResourceId × Leaf)) → slice_get ss i ≡ Some s → slice_get bs i ≡ Some b → (r : ResourceId) → find_resource b r ≡ binds c s.opener r
 
--- from so many scopes further in
+-- The name of a resource as seen from n scopes further in.
 abbrev pub out_by : ℕ → Called → Called
 out_by n (bound_at l name) = bound_at (record { out = l.out + n; side = l.side; path = l.path }) name
 out_by n (of_class k path name) = of_class k path name
 out_by n (itself r name) = itself r name
 
--- a walk from a scope has gone so many scopes out, to a position: the resource is called there what it is called where the walk began, but for how far out
+-- Seen from `position`, which is `out` scopes out of `start`, the resource has the same name but for the scopes
+-- between.
 pub record IsOut (c : Collection) (ss : List Scope) (start out position : ℕ) (r : ResourceId) : Type 0 where
   pub near : out + position ≤ start
   pub same : (root : Opener → Names Called) → called_in c root ss start r ≡ option_map (out_by out) (called_in c root ss position r)
 
--- where a class binds, seen from so many scopes in: inside an instance of it on the side of exports, else one scope further out on that of imports
+-- Where a class binds a resource, seen from `out` scopes in: as an export of its instance, else as an import one scope
+-- further.
 abbrev pub class_leaf : Bool → ℕ → List Place → Leaf
 class_leaf true out path = record { out = out; side = exported; path = path }
 class_leaf false out path = record { out = suc out; side = imported; path = path }
 
--- past the outermost scope: what the class binds, else what another class binds, else itself
+-- Past the outermost scope a resource is named by what the class binds, else by the first class that binds it, else by
+-- itself.
 abbrev pub past : Collection → ResourceId → Bool → ℕ → Option (List Place) → Option (ℕ × List Place) → Called
 past c r instance out (Some path) first = bound_at (class_leaf instance out path) (resource_name c r)
 past c r instance out None (Some b) = of_class b.0 b.1 (resource_name c r)

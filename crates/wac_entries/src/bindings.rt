@@ -1,4 +1,7 @@
-//! What the classes of asked entries bind.
+//! The resources that each class binds.
+//!
+//! An instance whose interface id has the track of the class binds its own resources. A resource type item binds its
+//! resource.
 ghost use Rattle.std.specs.Prelude.{◌≡◌, ℕ, List, [], true, Some, length, slice_get, IfOk, OnOk};
 ghost use Rattle.std.specs.Option.{option_map};
 ghost use Rattle.wac_names.specs.Reading.{read_track};
@@ -24,7 +27,10 @@ use wac_collection::{InterfaceId, ItemKind, ResourceId, Types};
 use wac_names::Track;
 use wac_subtyping::called::Side;
 
-/// The track of each class.
+/// Returns the track of each class.
+///
+/// # Errors
+/// - [`AllocError`] if out of memory.
 pub fn class_tracks<'a>(
     alloc: Global,
     entries: &'a [Entry],
@@ -42,7 +48,7 @@ pub fn class_tracks<'a>(
     Ok(tracks)
 }
 
-/// Puts what a class on a track binds by a member that is an instance.
+/// Records the own resources of an instance if its interface id has the track of the class.
 fn put_instance(
     alloc: Global,
     types: &Types,
@@ -53,7 +59,7 @@ fn put_instance(
     requires { holds_type types.now (kind_type (kind_of.Instance id)) ≡ true }
     ensures { OnOk result ((class : Name) → track_view track.now ≡ read_track class → Adds bound.old (member_leaves types.now class (kind_of.Instance id)) bound.new) }
 {
-    types.law();
+    types.law(); // proof only
     let it = &types[id];
     let Some(text) = &it.id else {
         return Ok(());
@@ -64,7 +70,7 @@ fn put_instance(
     bound.put_own(alloc, types, &it.uses, Side::Imported, None, &it.exports)
 }
 
-/// Puts what a class on a track binds by a member.
+/// Records what a class binds through one of its entries.
 fn put_member(
     alloc: Global,
     types: &Types,
@@ -84,7 +90,7 @@ fn put_member(
     }
 }
 
-/// Maps in which nothing is bound, as many as there are classes.
+/// Returns `count` maps in which nothing is bound.
 fn unbound(alloc: Global, count: usize) -> Result<Vec<Bound>, AllocError>
     ensures counted { IfOk result (λ classes. length classes.items ≡ count) }
     ensures empty { IfOk result (λ classes. (k : ℕ) (m : List (AnId × Leaf)) → slice_get classes.items k ≡ Some m → m ≡ []) }
@@ -96,7 +102,7 @@ fn unbound(alloc: Global, count: usize) -> Result<Vec<Bound>, AllocError>
     Ok(classes)
 }
 
-/// What each class binds.
+/// Returns what each class binds.
 fn class_bindings(
     alloc: Global,
     types: &Types,
@@ -119,7 +125,7 @@ fn class_bindings(
     Ok(bound)
 }
 
-/// Puts the number of a class for each resource that it binds and that has none.
+/// Records the number of a class for each of its resources that has no number yet.
 fn put_numbers(
     firsts: &mut IndexMap<ResourceId, usize>,
     bound: &Bound,
@@ -136,7 +142,7 @@ fn put_numbers(
     Ok(())
 }
 
-/// The number of the first class that binds each resource.
+/// Returns the number of the first class that binds each resource.
 fn first_classes(
     alloc: Global,
     classes: &[Bound],
@@ -150,15 +156,15 @@ fn first_classes(
     Ok(firsts)
 }
 
-/// What the classes of asked entries bind.
+/// The resources that each class binds, and the first class that binds each resource.
 pub struct Bindings {
-    /// What each class binds.
+    /// For each class, what it binds.
     classes: Vec<Bound>,
-    /// The number of the first class that binds each resource.
+    /// For each resource, the number of the first class that binds it.
     firsts: IndexMap<ResourceId, usize>,
 }
 
-/// What classes bind is let go of here, and not anew at each place where it goes out of scope.
+// By hand: a derived `Drop` is proved again wherever one goes out of scope (docs/PROOFS.md, 'Drop').
 impl Drop for Bindings {
     fn drop(self) {
         let Bindings {
@@ -177,7 +183,10 @@ impl Model for Bindings {
 }
 
 impl Bindings {
-    /// What the classes of these entries bind.
+    /// Finds what the classes of these entries bind.
+    ///
+    /// # Errors
+    /// - [`AllocError`] if out of memory.
     pub fn new(
         alloc: Global,
         types: &Types,
@@ -193,7 +202,7 @@ impl Bindings {
         Ok(Bindings { classes, firsts })
     }
 
-    /// The path under which a class binds a resource.
+    /// Returns the path under which a class binds a resource.
     pub fn path(&self, class: usize, resource: ResourceId) -> Option<&[String]>
         ensures { option_map (λ p. path_view p.now) result ≡ path_in self.now class resource }
     {
@@ -201,7 +210,7 @@ impl Bindings {
         Some(place.path.as_slice())
     }
 
-    /// The first class that binds a resource, and the path there.
+    /// Returns the number of the first class that binds a resource, and its path there.
     pub fn first(&self, resource: ResourceId) -> Option<(usize, &[String])>
         ensures { option_map (λ p. (p.0, path_view p.1.now)) result ≡ first_in self.now resource }
     {

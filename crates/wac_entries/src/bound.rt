@@ -1,4 +1,4 @@
-//! What one scope binds: for each resource, where.
+//! The resources that one scope binds.
 ghost use Rattle.std.specs.Prelude.{◌≡◌, ◌<◌, [], true, Some, length, slice_get, IfOk, OnOk};
 ghost use Rattle.std.specs.Option.{option_copied, option_map};
 ghost use Rattle.wac_collection.specs.Bound.{first_bound};
@@ -16,22 +16,22 @@ use std::marker::Model;
 use wac_collection::{ItemKind, Named, ResourceId, Type, Types, UsedType};
 use wac_subtyping::called::Side;
 
-/// Where a resource is bound: on a side, under a path of names.
+/// Where a scope binds a resource: a side and a path of names.
 pub struct Place {
     /// The side.
     pub side: Side,
-    /// The names, from the outermost on.
+    /// The names, outermost first.
     pub path: Vec<String>,
 }
 
-/// A place is let go of here, and not anew at each place where one goes out of scope.
+// By hand: a derived `Drop` is proved again wherever one goes out of scope (docs/PROOFS.md, 'Drop').
 impl Drop for Place {
     fn drop(self) {
         let Place { side: _, path: _ } = self;
     }
 }
 
-/// The path of these names, in memory of its own.
+/// Returns a path that owns copies of these names.
 fn owned_path(alloc: Global, names: &[&str]) -> Result<Vec<String>, AllocError>
     ensures { IfOk result (λ path. path_view path.items ≡ given_path names.now) }
 {
@@ -42,7 +42,7 @@ fn owned_path(alloc: Global, names: &[&str]) -> Result<Vec<String>, AllocError>
     Ok(path)
 }
 
-/// The resource that a type item is, where it is no alias.
+/// Returns the resource of a type item. `None` if the item is an alias of a resource or no resource.
 pub fn resource_itself(types: &Types, kind: ItemKind) -> Option<ResourceId>
     requires { holds_type types.now (kind_type kind) ≡ true }
     ensures { result ≡ resource_itself types.now kind }
@@ -56,7 +56,7 @@ pub fn resource_itself(types: &Types, kind: ItemKind) -> Option<ResourceId>
     Some(id)
 }
 
-/// The resource that an item lists as its own.
+/// Returns the own resource of an interface or world under a name: a type item without alias that `uses` does not name.
 pub fn own_resource(
     types: &Types,
     uses: &Named<UsedType>,
@@ -73,12 +73,14 @@ pub fn own_resource(
     Some(id)
 }
 
-/// What a scope itself binds: for each resource, where.
+/// The resources that a scope binds, and the place of each.
+///
+/// A resource keeps the place that was recorded first. Calls that record places fail only if out of memory.
 pub struct Bound {
     places: IndexMap<ResourceId, Place>,
 }
 
-/// What a scope binds is let go of here, and not anew at each place where one goes out of scope.
+// By hand: a derived `Drop` is proved again wherever one goes out of scope (docs/PROOFS.md, 'Drop').
 impl Drop for Bound {
     fn drop(self) {
         let Bound { places: _ } = self;
@@ -97,7 +99,7 @@ impl Model for Bound {
 }
 
 impl Bound {
-    /// Nothing is bound.
+    /// Creates a map in which nothing is bound.
     pub fn new(alloc: Global) -> Bound
         ensures { result ≡ [] }
     {
@@ -106,12 +108,15 @@ impl Bound {
         }
     }
 
-    /// What a scope binds.
+    /// Returns what a scope binds.
+    ///
+    /// # Errors
+    /// - [`AllocError`] if out of memory.
     pub fn of(alloc: Global, types: &Types, opener: Opener) -> Result<Bound, AllocError>
         requires { holds_type types.now (opener_type opener) ≡ true }
         ensures { IfOk result (λ b. (r : AnId) → find_resource b r ≡ binds types.now opener r) }
     {
-        types.law();
+        types.law(); // proof only
         let mut bound = Bound::new(alloc);
         match opener {
             Opener::Interface(id) => {
@@ -131,21 +136,21 @@ impl Bound {
         Ok(bound)
     }
 
-    /// Where a resource is bound.
+    /// Returns where a resource is bound.
     pub fn place(&self, resource: ResourceId) -> Option<&Place>
         ensures { option_map (λ p. place_view p.now) result ≡ find_resource self.now resource }
     {
         self.places.get(&resource)
     }
 
-    /// How many resources are bound.
+    /// The number of bound resources.
     pub fn len(&self) -> usize
         ensures { result ≡ length self.now }
     {
         self.places.len()
     }
 
-    /// The resource at a position, in the order in which they were put.
+    /// Returns the resource at a position, in the order in which places were recorded.
     pub fn resource_at(&self, index: usize) -> ResourceId
         requires { index < length self.now }
         ensures { option_map (λ e. e.0) (slice_get self.now index) ≡ Some result }
@@ -154,7 +159,12 @@ impl Bound {
         *resource
     }
 
-    /// Puts the place of a resource where none is known.
+    /// Records the place of a resource, unless it has one.
+    ///
+    /// # Errors
+    /// - [`AllocError`] if out of memory.
+    ///
+    /// On an error the map is unchanged.
     pub fn put(
         &mut self,
         alloc: Global,
@@ -174,7 +184,7 @@ impl Bound {
         }
     }
 
-    /// Puts the place of a resource under a name, and an outer name where there is one.
+    /// Records the place of a resource whose path is `name`, or `outer` and `name`.
     fn put_under(
         &mut self,
         alloc: Global,
@@ -191,7 +201,12 @@ impl Bound {
         }
     }
 
-    /// Puts the own resources of listed items; none is looked at where the collection holds no resource.
+    /// Records the own resources among the items of an interface, or of one side of a world.
+    ///
+    /// Each path is the item's name, after `outer` if that is given. On an error some of the places may be recorded.
+    ///
+    /// # Errors
+    /// - [`AllocError`] if out of memory.
     pub fn put_own(
         &mut self,
         alloc: Global,
@@ -216,7 +231,7 @@ impl Bound {
         Ok(())
     }
 
-    /// Puts the own resources of an instance that is listed under the id of its interface.
+    /// Records the own resources of an instance whose name is the id of its interface.
     fn put_instance(
         &mut self,
         alloc: Global,
@@ -231,7 +246,7 @@ impl Bound {
         let ItemKind::Instance(id) = kind else {
             return Ok(());
         };
-        types.law();
+        types.law(); // proof only
         let it = &types[id];
         match &it.id {
             Some(text) if text.as_str() == name => {
@@ -241,7 +256,7 @@ impl Bound {
         }
     }
 
-    /// Puts what the imports or the exports of a world bind: instances first, then type items.
+    /// Records what one side of a world binds: the own resources of its instances, then its own type items.
     fn put_listed(
         &mut self,
         alloc: Global,

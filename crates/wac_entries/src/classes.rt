@@ -1,7 +1,8 @@
 //! The classes of entries.
 //!
-//! A class is known by a key: that of the track where its name is one of an instance, else `-` and the name. Keys are equal
-//! exactly where names are of one class, so classes are numbered by look-ups, and a name that was seen is not read again.
+//! Each class has a key. The key of an instance's name is that of its track. The key of another name is `-` and the
+//! name. Two names have equal keys if and only if they are of one class, so a class is found by a look-up. A name that
+//! occurs again is not parsed again.
 ghost use Rattle.std.specs.Prelude.{◌≡◌, ◌+◌, ◌<◌, ℕ, [], length, Some, IfOk, OnOk, slice_get, take, string_bytes, is_some};
 ghost use Rattle.std.specs.Option.{option_and_then};
 ghost use Rattle.wac_primitives.specs.Name.{find_name};
@@ -14,7 +15,7 @@ use std::alloc::{AllocError, Global};
 use wac_collection::{Named, ShapeError};
 use wac_names::{Track, compare_versions};
 
-/// Puts a name among others, where it isn't there.
+/// Adds a name unless it is already there.
 fn put(alloc: Global, names: &mut Named<()>, name: &str) -> Result<(), AllocError>
     ensures { OnOk result (HasMore names.old name.now names.new) }
 {
@@ -25,7 +26,7 @@ fn put(alloc: Global, names: &mut Named<()>, name: &str) -> Result<(), AllocErro
     }
 }
 
-/// The names under which instances are asked for.
+/// Returns the names of the entries that are instances.
 fn instance_names(alloc: Global, entries: &[Entry]) -> Result<Named<()>, AllocError>
     ensures { IfOk result (λ names. AreInstances entries.now names) }
 {
@@ -38,7 +39,7 @@ fn instance_names(alloc: Global, entries: &[Entry]) -> Result<Named<()>, AllocEr
     Ok(names)
 }
 
-/// The key of a name's class: that of its track where it is the name of an instance, else its own.
+/// Returns the key of a name's class.
 fn class_key(alloc: Global, instances: &Named<()>, name: &str) -> Result<String, AllocError>
     ensures { IfOk result (λ key. string_bytes key ≡ key_for (is_some (find_name instances.now name.now)) name.now) }
 {
@@ -48,26 +49,26 @@ fn class_key(alloc: Global, instances: &Named<()>, name: &str) -> Result<String,
     }
 }
 
-/// Whether the first name is of a greater version.
+/// Returns whether the version in `a` is greater than the version in `b`.
 fn is_newer(alloc: Global, a: &str, b: &str) -> Result<bool, AllocError>
     ensures { IfOk result (λ r. r ≡ by_names.is_newer a.now b.now) }
 {
     Ok(compare_versions(alloc, a, b)?.is_gt())
 }
 
-/// Classes while they are numbered.
+/// The classes of the entries seen so far.
 #[derive(Drop)]
 struct Numbering {
-    /// The keys of the classes.
+    /// For each class, its key.
     keys: Named<()>,
-    /// The position of the entry at which each class begins.
+    /// For each class, the position of its first entry.
     firsts: Vec<usize>,
-    /// The class of each name.
+    /// For each name, the number of its class.
     names: Named<usize>,
 }
 
 impl Numbering {
-    /// The number of the class with a key. A class whose key is new begins at this entry.
+    /// Returns the number of the class with a key. A new key begins a class whose first entry is at `index`.
     fn place(&mut self, alloc: Global, key: &str, index: usize) -> Result<usize, AllocError>
         ensures placed { IfOk result (λ k. Places self.old.keys self.old.firsts.items key.now index self.new.keys self.new.firsts.items k) }
         ensures kept { self.new.names ≡ self.old.names }
@@ -84,7 +85,7 @@ impl Numbering {
         Ok(number)
     }
 
-    /// The number of the class of the entry at a position, behind those before it.
+    /// Returns the number of the class of the entry at `index`, after the entries before it were numbered.
     fn number(
         &mut self,
         alloc: Global,
@@ -113,7 +114,7 @@ impl Numbering {
     }
 }
 
-/// For each class, the position of an entry with the greatest of its versions, from where each class begins.
+/// Returns, for each class, the position of the first entry with its greatest version. `firsts` begins the search.
 fn newest_positions(
     alloc: Global,
     entries: &[Entry],
@@ -140,15 +141,15 @@ fn newest_positions(
 
 /// The classes of entries, numbered in order of first appearance.
 pub struct Classes {
-    /// The number of each entry's class.
+    /// For each entry, the number of its class.
     numbers: Vec<usize>,
-    /// For each class, the position of the entry with the canonical name.
+    /// For each class, the position of the entry with its canonical name.
     positions: Vec<usize>,
-    /// The number of the class of each name.
+    /// For each name, the number of its class.
     names: Named<usize>,
 }
 
-/// The numbers are let go of here, and not anew at each place where classes go out of scope.
+// By hand: a derived `Drop` is proved again wherever one goes out of scope (docs/PROOFS.md, 'Drop').
 impl Drop for Classes {
     fn drop(self) {
         let Classes {
@@ -160,7 +161,10 @@ impl Drop for Classes {
 }
 
 impl Classes {
-    /// The classes of entries.
+    /// Finds the classes of entries.
+    ///
+    /// # Errors
+    /// - [`AllocError`] if out of memory.
     pub fn new(alloc: Global, entries: &[Entry]) -> Result<Classes, AllocError>
         ensures { IfOk result (λ c. AreClasses by_names entries.now c.numbers.items c.positions.items c.names) }
     {
@@ -184,28 +188,28 @@ impl Classes {
         })
     }
 
-    /// The number of each entry's class.
+    /// Returns the number of each entry's class.
     pub fn numbers(&self) -> &[usize]
         ensures { result.now ≡ self.now.numbers.items }
     {
         self.numbers.as_slice()
     }
 
-    /// For each class, the position of the entry with the canonical name.
+    /// Returns, for each class, the position of the first entry with its canonical name.
     pub fn positions(&self) -> &[usize]
         ensures { result.now ≡ self.now.positions.items }
     {
         self.positions.as_slice()
     }
 
-    /// The number of the class of a name.
+    /// Returns the number of a name's class.
     pub fn number(&self, name: &str) -> Option<usize>
         ensures { result ≡ find_name self.now.names name.now }
     {
         self.names.get(name).copied()
     }
 
-    /// The position of the entry that has the canonical name of a name's class.
+    /// Returns the position of the first entry with the canonical name of a name's class.
     pub fn position(&self, name: &str) -> Option<usize>
         requires { (k : ℕ) → find_name self.now.names name.now ≡ Some k → k < length self.now.positions.items }
         ensures { result ≡ option_and_then (λ k. slice_get self.now.positions.items k) (find_name self.now.names name.now) }

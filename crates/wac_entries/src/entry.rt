@@ -1,4 +1,4 @@
-//! An import that is asked for.
+//! Entries: imports that the graph needs.
 ghost use Rattle.std.specs.Prelude.{◌≡◌, IfOk};
 ghost use Rattle.wac_entries.specs.Classes.{is_instance};
 
@@ -6,7 +6,7 @@ use std::alloc::{AllocError, Global};
 use std::marker::Model;
 use wac_collection::ItemKind;
 
-/// An import that is asked for: an item under a name.
+/// An import that the graph needs: an item under a name.
 #[derive(Drop)]
 pub struct Entry {
     name: String,
@@ -23,7 +23,10 @@ impl Model for Entry {
 }
 
 impl Entry {
-    /// An item under a name.
+    /// Creates an entry.
+    ///
+    /// # Errors
+    /// - [`AllocError`] if out of memory.
     pub fn new(alloc: Global, name: &str, kind: ItemKind) -> Result<Entry, AllocError>
         ensures { IfOk result (λ e. e ≡ record { name = name.now; kind = kind }) }
     {
@@ -31,21 +34,21 @@ impl Entry {
         Ok(Entry { name, kind })
     }
 
-    /// The name.
+    /// The name of the import.
     pub fn name(&self) -> &str
         ensures { result.now ≡ self.now.name }
     {
         self.name.as_str()
     }
 
-    /// The item.
+    /// The kind of the import.
     pub fn kind(&self) -> ItemKind
         ensures { result ≡ self.now.kind }
     {
         self.kind
     }
 
-    /// Whether it is an instance.
+    /// Returns whether the import is an instance.
     pub fn is_instance(&self) -> bool
         ensures { result ≡ is_instance self.now.kind }
     {

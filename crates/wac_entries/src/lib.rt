@@ -1,6 +1,8 @@
-//! Imports that are asked for: the classes in which they are merged, what each class binds and what a resource is called.
+//! Entries and their classes, the first step of merging the imports of a graph.
 //!
-//! With `wac_tables` the lowest layer of `wac_merge`, whose crate is the door.
+//! An entry is one import that the graph needs: an import node, or an unsatisfied import of an instantiation. Entries
+//! of one name, and instances whose names have one track, form a class and become one import. The modules find the
+//! class of each entry, the resources that each class binds, and how a resource is named when entries are compared.
 #![tactic(auto)]
 
 pub mod bindings;

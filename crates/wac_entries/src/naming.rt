@@ -1,4 +1,7 @@
-//! What resources are called in the scopes of an item.
+//! How resources are named when entries are compared.
+//!
+//! A resource is named by where it is bound: by an enclosing scope or the entry's own class, else by the first class
+//! that binds it. A resource that nothing binds is named by itself.
 ghost use Rattle.std.specs.Prelude.{ℕ, List, ◌≡◌, ◌+◌, ◌<◌, ◌^◌, length, Some, IfOk, slice_get, string_bytes};
 ghost use Rattle.wac_subtyping.specs.Called.{resource_name};
 ghost use Rattle.wac_collection.specs.Collection.{HasResource};
@@ -22,7 +25,10 @@ use std::alloc::{AllocError, Global};
 use wac_collection::{ItemKind, ResourceId, Types};
 use wac_subtyping::called::{Called, Side};
 
-/// What each of the scopes of an item binds.
+/// Returns what each scope of an item binds.
+///
+/// # Errors
+/// - [`AllocError`] if out of memory.
 pub fn bound_in(alloc: Global, types: &Types, scopes: &Scopes) -> Result<Vec<Bound>, AllocError>
     requires { (i : ℕ) → IsHeldAt types.now scopes.now i }
     ensures { IfOk result (λ bound. AreBound types.now scopes.now bound.items) }
@@ -34,7 +40,7 @@ pub fn bound_in(alloc: Global, types: &Types, scopes: &Scopes) -> Result<Vec<Bou
     Ok(bound)
 }
 
-/// A resource's own name, in memory of its own.
+/// Returns a copy of a resource's own name.
 fn own_name(alloc: Global, types: &Types, resource: ResourceId) -> Result<String, AllocError>
     requires { HasResource types.now resource }
     ensures { IfOk result (λ name. string_bytes name ≡ resource_name types.now resource) }
@@ -42,7 +48,7 @@ fn own_name(alloc: Global, types: &Types, resource: ResourceId) -> Result<String
     String::from_str(alloc, types[resource].name.as_str())
 }
 
-/// A path, in memory of its own.
+/// Returns a copy of a path.
 fn copied(alloc: Global, path: &[String]) -> Result<Vec<String>, AllocError>
     ensures { IfOk result (λ copy. path_view copy.items ≡ path_view path.now) }
 {
@@ -53,7 +59,7 @@ fn copied(alloc: Global, path: &[String]) -> Result<Vec<String>, AllocError>
     Ok(copy)
 }
 
-/// What a resource is called past the outermost scope, which is so many scopes out.
+/// Names a resource that no scope of the item binds. `out` is the number of scopes out to the outermost one.
 fn past_scopes(
     alloc: Global,
     types: &Types,
@@ -81,20 +87,23 @@ fn past_scopes(
     }
 }
 
-/// The scopes of an item, what each binds, and the next one on the way out of each.
+/// The scopes of an item with what naming a resource in them needs.
 #[derive(Clone, Copy)]
 pub struct BoundScopes<'a> {
     /// The scopes.
     pub scopes: &'a Scopes,
-    /// What each binds.
+    /// For each scope, what it binds.
     pub bound: &'a [Bound],
-    /// The next one on the way out of each.
+    /// For each scope, the next scope on the way out.
     pub outward: &'a [Option<Outward>],
-    /// The item.
+    /// The kind of the item.
     pub kind: ItemKind,
 }
 
-/// What a resource is called in a scope of an entry of a class.
+/// Names a resource as it is seen from a scope of an entry, where `class` is the number of the entry's class.
+///
+/// # Errors
+/// - [`AllocError`] if out of memory.
 pub fn called(
     alloc: Global,
     types: &Types,
@@ -112,7 +121,7 @@ pub fn called(
     ensures { IfOk result (λ x. (es : List classes.Entry) (name : Name) → AreBindings types.now es bindings.now → slice_get (class_names by_names es) class ≡ Some name
         → called_in types.now (called_in_root by_names types.now es name around.now.kind) around.now.scopes.now scope (resolved types.now resource) ≡ Some (called_view x)) }
 {
-    types.law();
+    types.law(); // proof only
     let resource = types.resolve_resource(resource);
     let (bound, outward) = (around.bound, around.outward);
     let mut position = scope;
@@ -131,7 +140,10 @@ pub fn called(
     }
 }
 
-/// What a resource is called around the scopes of an item.
+/// Names a resource as it is seen outside the scopes of an entry, where `class` is the number of the entry's class.
+///
+/// # Errors
+/// - [`AllocError`] if out of memory.
 pub fn called_outside(
     alloc: Global,
     types: &Types,
@@ -143,7 +155,7 @@ pub fn called_outside(
     ensures { IfOk result (λ x. (es : List classes.Entry) (name : Name) → AreBindings types.now es bindings.now → slice_get (class_names by_names es) class ≡ Some name
         → called_in_class by_names types.now es name (resolved types.now resource) ≡ Some (called_view x)) }
 {
-    types.law();
+    types.law(); // proof only
     let resource = types.resolve_resource(resource);
     let name = own_name(alloc, types, resource)?;
     if let Some(path) = bindings.path(class, resource) {

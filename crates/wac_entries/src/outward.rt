@@ -1,4 +1,4 @@
-//! The way out of a scope, past those around it that bind nothing.
+//! The way out of a scope, without the enclosing scopes that bind nothing.
 ghost use Rattle.std.specs.Prelude.{ℕ, ◌≡◌, ◌<◌, ◌≤◌, length, Some, IfOk, slice_get};
 ghost use Rattle.wac_entries.specs.declared.scopes.Scope.{Scope as AScope};
 ghost use Rattle.wac_entries.specs.Scopes.{IsBelow};
@@ -8,16 +8,16 @@ use crate::bound::Bound;
 use crate::scopes::Scopes;
 use std::alloc::{AllocError, Global};
 
-/// The next scope on the way out of another: the nearest around it that binds something, else the outermost.
+/// The next scope on the way out: the nearest enclosing scope that binds something, else the outermost.
 #[derive(Clone, Copy)]
 pub struct Outward {
-    /// Its position.
+    /// The position of that scope.
     pub position: usize,
     /// How many scopes out it is.
     pub out: usize,
 }
 
-/// The next scope on the way out of the one at a position, where it is known for those before it.
+/// Returns the next scope on the way out of the scope at `position`. `outward` holds that of each scope before it.
 fn way_out(
     scopes: &Scopes,
     bound: &[Bound],
@@ -44,7 +44,10 @@ fn way_out(
     }
 }
 
-/// For each of the scopes of an item the next one on the way out of it.
+/// Returns, for each scope of an item, the next scope on the way out.
+///
+/// # Errors
+/// - [`AllocError`] if out of memory.
 pub fn outward_in(
     alloc: Global,
     scopes: &Scopes,

@@ -1,4 +1,4 @@
-//! The scopes of an item: instance types, and the two sides of component types.
+//! The scopes of an item: its instance types, and the import and export sides of its component types.
 ghost use Rattle.std.specs.Prelude.{◌≡◌, ◌∷◌, [], ◌<◌, length, true, Some, Contains, IfOk, OnOk, slice_get};
 ghost use Rattle.wac_collection.specs.Collection.{holds_type};
 ghost use Rattle.wac_shapes.specs.Kinds.{kind_type};
@@ -10,27 +10,27 @@ use std::alloc::{AllocError, Global};
 use std::marker::Model;
 use wac_collection::{InterfaceId, ItemKind, Named, Type, Types, WorldId};
 
-/// What a scope is of.
+/// The type, or the side of a component type, that opens a scope.
 #[derive(Clone, Copy, PartialEq, Eq, Hash)]
 pub enum Opener {
-    /// An interface, as an instance type.
+    /// The instance type of an interface.
     Interface(InterfaceId),
-    /// The imports of a world, as a component type.
+    /// The import side of a world's component type.
     Imports(WorldId),
-    /// Its exports.
+    /// The export side of a world's component type.
     Exports(WorldId),
 }
 
 /// A scope of an item.
 #[derive(Clone, Copy, PartialEq, Eq, Hash)]
 pub struct Scope {
-    /// What it is of.
+    /// What opens the scope.
     pub opener: Opener,
-    /// The position of the scope around it.
+    /// The position of the enclosing scope; `None` for an outermost scope.
     pub parent: Option<usize>,
 }
 
-/// Puts a scope behind the others, unless it is one of them.
+/// Appends a scope unless it is already there.
 fn push(
     scopes: &mut IndexSet<Scope>,
     opener: Opener,
@@ -42,7 +42,7 @@ fn push(
     Ok(())
 }
 
-/// Puts the scopes that an item opens behind the others, but those that are there.
+/// Appends the scopes that an item opens, except those that are already there.
 fn push_item(
     scopes: &mut IndexSet<Scope>,
     kind: ItemKind,
@@ -60,7 +60,7 @@ fn push_item(
     }
 }
 
-/// Puts the scopes that listed items open behind the others, but those that are there.
+/// Appends the scopes that items of a scope open, except those that are already there.
 fn push_listed(
     scopes: &mut IndexSet<Scope>,
     listed: &Named<ItemKind>,
@@ -74,7 +74,7 @@ fn push_listed(
     Ok(())
 }
 
-/// Puts the scopes in the one at a position behind the others.
+/// Appends the scopes directly inside the scope at `position`.
 fn open(scopes: &mut IndexSet<Scope>, types: &Types, position: usize) -> Result<(), AllocError>
     requires within { position < length scopes.old.keys }
     requires held { IsHeldAt types.now scopes.old.keys position }
@@ -87,12 +87,14 @@ fn open(scopes: &mut IndexSet<Scope>, types: &Types, position: usize) -> Result<
     }
 }
 
-/// The scopes of an item, one for what is listed in one scope however often.
+/// The scopes of an item in breadth-first order.
+///
+/// Two items of one scope that have the same type share a scope.
 pub struct Scopes {
     scopes: IndexSet<Scope>,
 }
 
-/// A list of scopes is let go of here, and not anew at each place where one goes out of scope.
+// By hand: a derived `Drop` is proved again wherever one goes out of scope (docs/PROOFS.md, 'Drop').
 impl Drop for Scopes {
     fn drop(self) {
         let Scopes { scopes: _ } = self;
@@ -109,12 +111,15 @@ impl Model for Scopes {
 }
 
 impl Scopes {
-    /// The scopes of an item of a collection, without recursion, however deep it is.
+    /// Finds the scopes of an item, without recursion.
+    ///
+    /// # Errors
+    /// - [`AllocError`] if out of memory.
     pub fn new(alloc: Global, types: &Types, kind: ItemKind) -> Result<Scopes, AllocError>
         requires { holds_type types.now (kind_type kind) ≡ true }
         ensures { IfOk result (λ ss. AreScopes types.now (opened_by kind) ss) }
     {
-        types.law();
+        types.law(); // proof only
         let mut scopes = IndexSet::new(alloc);
         push_item(&mut scopes, kind, None)?;
         let mut position = 0;
@@ -125,14 +130,14 @@ impl Scopes {
         Ok(Scopes { scopes })
     }
 
-    /// How many there are.
+    /// The number of scopes.
     pub fn len(&self) -> usize
         ensures { result ≡ length self.now }
     {
         self.scopes.len()
     }
 
-    /// The scope at a position.
+    /// Returns the scope at a position.
     pub fn scope(&self, position: usize) -> Scope
         requires { position < length self.now }
         ensures { slice_get self.now position ≡ Some result }
@@ -140,7 +145,7 @@ impl Scopes {
         self.scopes[position]
     }
 
-    /// The position of a scope.
+    /// Returns the position of a scope.
     pub fn position(&self, scope: Scope) -> usize
         requires { Contains self.now scope }
         ensures { slice_get self.now result ≡ Some scope }

@@ -1,4 +1,4 @@
--- What the hashes of keys take in. Private functions alone cite this.
+-- The input of the hash of a key. Only contracts inside the merge cite this file.
 use Rattle.std.proofs.Common.{◌≡◌, ◌++◌, ◌&&◌, Bool, true, [], Option, Some, None, nat_eq, flat_map, ap, refl}
 use Rattle.std.proofs.lemmas.Bool.{eqb-true}
 use Rattle.std.specs.Option.{option_eq}
@@ -15,18 +15,20 @@ use Rattle.wac_made.specs.contracts.shapes.ShapePartialEq.TheImpl as ShapeEq
 use Rattle.wac_made.specs.declared.made.Form.{Form}
 use Rattle.wac_made.specs.declared.made.FuncForm.{FuncForm}
 
--- a named type, where there is one
+-- A named type, if there is one.
 abbrev pub named_writes : Option DefinedTypeId → HashWrites
 named_writes None = []
 named_writes (Some d) = fed.usize d.0
 
+-- The key of a definition.
 abbrev pub form_writes : Form → HashWrites
 form_writes f = named_writes f.named ++ shape_writes f.shape
 
+-- The key of a function type.
 abbrev pub func_form_writes : FuncForm → HashWrites
 func_form_writes k = fed.usize k.func.0 ++ flat_map value_writes k.params.items ++ optional_writes k.result
 
--- ---- equal keys are fed alike
+-- ---- Equal keys have the same input.
 abbrev id_eq : DefinedTypeId → DefinedTypeId → Bool
 id_eq a b = nat_eq a.0 b.0
 

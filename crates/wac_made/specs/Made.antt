@@ -1,4 +1,4 @@
--- Definitions and function types that were made in a merged collection. Private functions alone cite this.
+-- The memo of definitions and function types of a merged collection. Only contracts inside the merge cite this file.
 use Rattle.std.specs.Prelude.{ℕ, ◌≡◌, cond, map, Option, Some}
 use Rattle.std.specs.HashMap.{get}
 use Rattle.wac_shapes.specs.declared.component.DefinedType.{DefinedType}
@@ -14,27 +14,28 @@ use Rattle.wac_made.specs.declared.made.Form.{Form}
 use Rattle.wac_made.specs.declared.made.FuncForm.{FuncForm}
 use Rattle.wac_made.specs.declared.made.Made.{Made}
 
--- the named type that each definition is, told by a definition; none where it is none
+-- The named type of each definition, as the first definition of it.
 abbrev pub NamedTypeOf : Type 0
 NamedTypeOf = DefinedTypeId → Option DefinedTypeId
 
--- the id under which a definition was made
+-- The id of a definition in the memo.
 abbrev pub made_in : Made → Form → Option DefinedTypeId
 made_in made f = get (FormEq.ghosts).eq made.ids f
 
--- the id under which a function type was made of another
+-- The id of a function type in the memo.
 abbrev pub func_made_in : Made → FuncForm → Option FuncTypeId
 func_made_in made k = get (FuncFormEq.ghosts).eq made.funcs k
 
--- function types of one sort, whose parameters have the same names
+-- Both function types are async or neither is, and their parameters have the same names.
 abbrev pub AreCalledAlike : FuncType → FuncType → Type 0
 AreCalledAlike x y = (y.is_async ≡ x.is_async) × (map (λ e. e.0) y.params ≡ map (λ e. e.0) x.params)
 
--- a function type is called as one of a collection
+-- The function type resembles one of the collection in this way.
 abbrev pub IsCalledAlike : Collection → FuncTypeId → FuncType → Type 0
 IsCalledAlike m f y = (x : FuncType) × (item_at m.funcs f.0 ≡ Some x) × AreCalledAlike x y
 
--- a function type of a collection that was made of another, which it is not: it is called as that, and has these parameters and this result
+-- A function type of the collection with these parts. It resembles the one that it is rewritten from and differs from
+-- it.
 pub record IsOfForm (m : Collection) (k : FuncForm) (g : FuncTypeId) : Type 0 where
   pub after : FuncType
   pub is : item_at m.funcs g.0 ≡ Some after
@@ -43,52 +44,54 @@ pub record IsOfForm (m : Collection) (k : FuncForm) (g : FuncTypeId) : Type 0 wh
   pub params : seconds after.params ≡ k.params.items
   pub result : after.result ≡ k.result
 
--- each id is that of its definition, or of its function type
+-- Each recorded id is that of its definition or function type in the collection.
 pub record AreThere (m : Collection) (made : Made) : Type 0 where
   pub defined : (f : Form) (e : DefinedTypeId) → made_in made f ≡ Some e → item_at m.defined e.0 ≡ Some (shape_view f.shape)
   pub funcs : (k : FuncForm) (g : FuncTypeId) → func_made_in made k ≡ Some g → IsOfForm m k g
 
--- each id of a definition is of one named type, and that of one of the first collection of the one that it is there
+-- An id is recorded for one named type only. If the first collection holds it, that is its named type there.
 pub record AreApart (c : Collection) (t : NamedTypeOf) (made : Made) : Type 0 where
   pub one : (f g : Form) (e : DefinedTypeId) → made_in made f ≡ Some e → made_in made g ≡ Some e → f.named ≡ g.named
   pub own : (f : Form) (e : DefinedTypeId) → made_in made f ≡ Some e → HasDefined c e → f.named ≡ t e
 
--- with one more definition, or function type
+-- The new memo has one more definition.
 pub record HasMadeToo (old : Made) (f : Form) (e : DefinedTypeId) (new : Made) : Type 0 where
   pub ids : (k : Form) → made_in new k ≡ cond ((FormEq.ghosts).eq f k) (Some e) (made_in old k)
   pub funcs : new.funcs ≡ old.funcs
 
+-- The new memo has one more function type.
 pub record HasMadeFuncToo (old : Made) (f : FuncForm) (g : FuncTypeId) (new : Made) : Type 0 where
   pub funcs : (k : FuncForm) → func_made_in new k ≡ cond ((FuncFormEq.ghosts).eq f k) (Some g) (func_made_in old k)
   pub ids : new.ids ≡ old.ids
 
--- what was made: a definition for a named type, or a function type of another
+-- The key of a definition or of a function type.
 pub data Key : Type 0 where
   form : Form → Key
   func_form : FuncForm → Key
 
--- it has the id of this number
+-- The key has this id.
 abbrev pub IsMadeAs : Made → Key → ℕ → Type 0
 IsMadeAs made (form f) n = made_in made f ≡ Some (record { 0 = n })
 IsMadeAs made (func_form k) n = func_made_in made k ≡ Some (record { 0 = n })
 
--- what was made still is
+-- The new memo has all keys of the old one, with the same ids.
 abbrev pub StayMade : Made → Made → Type 0
 StayMade old new = (k : Key) (n : ℕ) → IsMadeAs old k n → IsMadeAs new k n
 
--- an id under which a definition was made for a named type
+-- The definition has this id for the named type.
 abbrev pub IsMadeFor : Made → Option DefinedTypeId → DefinedType → DefinedTypeId → Type 0
 IsMadeFor made named x e = (f : Form) × (f.named ≡ named) × (shape_view f.shape ≡ x) × (made_in made f ≡ Some e)
 
--- the id under which a function type was made of another
+-- The function type, rewritten from f, has this id.
 abbrev pub IsFuncMadeFor : Made → FuncTypeId → FuncType → FuncTypeId → Type 0
 IsFuncMadeFor made f x g = (k : FuncForm) × (k.func ≡ f) × (k.params.items ≡ seconds x.params) × (k.result ≡ x.result) × (func_made_in made k ≡ Some g)
 
--- a definition, and a function type, that was put behind what is there
+-- The collection grew, if at all, and the definition has this id.
 pub record IsDefinedBehind (c m : Collection) (d : DefinedType) (id : DefinedTypeId) : Type 0 where
   pub extended : IsExtended c m
   pub there : item_at m.defined id.0 ≡ Some d
 
+-- The collection grew, if at all, and the function type has this id.
 pub record IsFuncBehind (c m : Collection) (f : FuncType) (id : FuncTypeId) : Type 0 where
   pub extended : IsExtended c m
   pub there : item_at m.funcs id.0 ≡ Some f

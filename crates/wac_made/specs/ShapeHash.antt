@@ -1,4 +1,4 @@
--- What the hash of a definition takes in. Private functions alone cite this.
+-- The input of the hash of a shape. Only contracts inside the merge cite this file.
 use Rattle.std.proofs.Common.{◌≡◌, ◌++◌, ◌&&◌, true, List, [], ◌∷◌, Option, Some, None, nat_eq, pos, flat_map, ap, refl, rules}
 use Rattle.std.proofs.lemmas.Bool.{eqb-true}
 use Rattle.std.specs.Global.{Global}
@@ -21,7 +21,7 @@ use Rattle.wac_made.specs.contracts.shapes.ShapePartialEq.TheImpl as ShapeEq
 use Rattle.wac_made.specs.declared.shapes.Shape.{Shape}
 use Rattle.wac_made.specs.declared.shapes.Shape.TheVariants as shape
 
--- a primitive, or the position of what a value type names
+-- A primitive type, or the id of a handle or definition.
 abbrev pub value_writes : ValueType → HashWrites
 value_writes (val.Primitive p) = (PrimitiveHash.ghosts).hash_input p
 value_writes (val.Borrow r) = fed.usize r.0
@@ -41,7 +41,7 @@ field_writes e = fed.str (string_bytes e.0) ++ (ValueHash.ghosts).hash_input e.1
 abbrev case_writes : String Global × Option ValueType → HashWrites
 case_writes e = fed.str (string_bytes e.0) ++ fed.option (ValueHash.ghosts).hash_input e.1
 
--- the parts of a definition, and not its sort: no part is a definition's of more sorts than a few
+-- The parts of a shape, without its variant. Few variants have parts that are equal.
 abbrev pub shape_writes : Shape → HashWrites
 shape_writes (shape.Tuple vs) = flat_map value_writes vs.items
 shape_writes (shape.List v) = value_writes v
@@ -56,7 +56,7 @@ shape_writes (shape.Alias v) = value_writes v
 shape_writes (shape.Stream v) = optional_writes v
 shape_writes (shape.Future v) = optional_writes v
 
--- ---- equal definitions are fed alike
+-- ---- Equal shapes have the same input.
 texts_alike : Alike (pointwise nat_eq) fed.str
 texts_alike = same_Alike fed.str bytes_decides
 

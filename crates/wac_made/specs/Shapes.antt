@@ -1,4 +1,4 @@
--- What keys of definitions stand for.
+-- Shapes as definitions.
 use Rattle.std.specs.Prelude.{List, map, string_bytes}
 use Rattle.std.specs.declared.string.String.{String}
 use Rattle.wac_primitives.specs.Name.{Name}
@@ -7,11 +7,11 @@ use Rattle.wac_shapes.specs.declared.component.DefinedType.TheVariants as def
 use Rattle.wac_made.specs.declared.shapes.Shape.{Shape}
 use Rattle.wac_made.specs.declared.shapes.Shape.TheVariants as shape
 
--- values under names
+-- Names and their values.
 abbrev pub pairs : {A V : Type 0} → List (String A × V) → List (Name × V)
 pairs es = map (λ e. (string_bytes e.0, e.1)) es
 
--- the definition that a key stands for
+-- The definition of a shape.
 abbrev pub shape_view : Shape → DefinedType
 shape_view (shape.Tuple vs) = def.Tuple vs.items
 shape_view (shape.List v) = def.List v

@@ -1,7 +1,7 @@
-//! Definitions and function types that were made in a merged collection, as keys, so that what is made again is found. A definition
-//! is made once for the named type that it is, a function type once for the one that it was made of.
+//! A memo of the types that were added to a merged collection.
 //!
-//! A layer of `wac_merge`, whose crate is the door.
+//! Merging rewrites types over new resources. A type that is rewritten again gets the same id: a definition if it is
+//! for the same named type, a function type if it is from the same original.
 #![tactic(auto)]
 
 pub mod made;

@@ -1,5 +1,7 @@
-//! Definitions and function types that were made in a merged collection: each definition once for the named type that it is, each
-//! function type once for the one that it was made of.
+//! The memo of definitions and function types of a merged collection.
+//!
+//! A definition is added once for each named type, a function type once for each function type that it is rewritten
+//! from.
 ghost use Rattle.std.specs.Prelude.{◌≡◌, None, Some, IfOk, OnOk};
 ghost use Rattle.std.specs.Option.{unwrap_or};
 ghost use Rattle.wac_collection.specs.Collection.{Collection, HasDefined, defined_values, func_values, item_at, seconds};
@@ -19,27 +21,29 @@ use wac_collection::{
 };
 use wac_subtyping::laws::growth_keeps_trees;
 
-/// A definition, and the named type that it is, if it is one.
+/// The key of a definition: its shape, and the named type that it is, if any.
+///
+/// Definitions with one name in a merged interface are one named type, which the first of them represents.
 #[derive(PartialEq, Eq, Drop)]
 pub struct Form {
-    /// The named type.
+    /// The named type, as the first definition of it.
     pub named: Option<DefinedTypeId>,
-    /// The definition.
+    /// The shape of the definition.
     pub shape: Shape,
 }
 
-/// A function type, and the types of the parameters and of the result of one that is made of it.
+/// The key of a function type: the one that it is rewritten from, and its parameter and result types.
 #[derive(PartialEq, Eq, Drop)]
 pub struct FuncForm {
-    /// The function type.
+    /// The original function type.
     pub func: FuncTypeId,
-    /// The types of the parameters, in order.
+    /// The parameter types, in order.
     pub params: Vec<ValueType>,
-    /// The type of the result.
+    /// The result type.
     pub result: Option<ValueType>,
 }
 
-/// The named type is hashed where there is one, and the definition.
+// The named type is hashed only if there is one, which saves a write.
 impl Hash for Form {
     ghost hash_input = { form_writes };
 
@@ -53,7 +57,7 @@ impl Hash for Form {
     }
 }
 
-/// The function type is hashed, and each type in one write.
+// The parameter and result types are hashed without their variants, each in one write.
 impl Hash for FuncForm {
     ghost hash_input = { func_form_writes };
 
@@ -66,14 +70,14 @@ impl Hash for FuncForm {
     }
 }
 
-/// What was made.
+/// The ids of the definitions and function types that were added, by their keys.
 #[derive(Drop)]
 pub struct Made {
     ids: HashMap<Form, DefinedTypeId>,
     funcs: HashMap<FuncForm, FuncTypeId>,
 }
 
-/// An error of an adder, where nothing stands against what it adds: memory ran out.
+/// Returns the error of an adder for which only memory can have run out.
 pub(crate) fn out_of_memory(fault: AddTypeError) -> AllocError
     requires { fault ≡ OutOfMemory }
 {
@@ -83,7 +87,7 @@ pub(crate) fn out_of_memory(fault: AddTypeError) -> AllocError
     AllocError
 }
 
-/// The types of parameters, in order.
+/// Returns the types of parameters, in order.
 fn param_types(alloc: Global, params: &Named<ValueType>) -> Result<Vec<ValueType>, AllocError>
     ensures { IfOk result (λ types. types.items ≡ seconds params.now) }
 {
@@ -94,13 +98,13 @@ fn param_types(alloc: Global, params: &Named<ValueType>) -> Result<Vec<ValueType
     Ok(types)
 }
 
-/// Adds a function type whose values are held.
+/// Adds a function type whose parts the collection holds.
 fn add_func(merged: &mut Types, func: FuncType) -> Result<FuncTypeId, AllocError>
     requires held { AreHeldValues merged.old (func_values func) }
     ensures extended { IsExtended merged.old merged.new }
     ensures added { IfOk result (λ id. IsFuncBehind merged.old merged.new func id) }
 {
-    growth_keeps_trees(merged);
+    growth_keeps_trees(merged); // proof only
     match merged.add_func_type(func) {
         Ok(id) => Ok(id),
         Err(fault) => Err(out_of_memory(fault)),
@@ -108,7 +112,7 @@ fn add_func(merged: &mut Types, func: FuncType) -> Result<FuncTypeId, AllocError
 }
 
 impl Form {
-    /// The key of a definition.
+    /// Returns the key of a definition.
     fn of(
         alloc: Global,
         named: Option<DefinedTypeId>,
@@ -123,7 +127,7 @@ impl Form {
 }
 
 impl Made {
-    /// Nothing was made yet.
+    /// Creates an empty memo.
     pub fn new(alloc: Global) -> Made
         ensures there { (m : Collection) → AreThere m result }
         ensures apart { (c : Collection) (t : NamedTypeOf) → AreApart c t result }
@@ -134,14 +138,14 @@ impl Made {
         }
     }
 
-    /// The id of a definition that was made.
+    /// Returns the id of a definition.
     fn get(&self, form: &Form) -> Option<DefinedTypeId>
         ensures { result ≡ made_in self.now form.now }
     {
         self.ids.get(form).copied()
     }
 
-    /// A definition was made.
+    /// Records the id of a definition.
     fn put(&mut self, form: Form, id: DefinedTypeId) -> Result<(), AllocError>
         ensures { OnOk result (HasMadeToo self.old form id self.new) }
     {
@@ -151,7 +155,7 @@ impl Made {
         }
     }
 
-    /// The id under the key of a definition: that which is there, or else this one, which is put there.
+    /// Returns the recorded id of a definition, or records this one and returns it.
     fn get_or_put(&mut self, form: Form, id: DefinedTypeId) -> Result<DefinedTypeId, AllocError>
         ensures put { IfOk result (λ e. HasMadeToo self.old form e self.new) }
         ensures is { IfOk result (λ e. e ≡ unwrap_or (made_in self.old form) id) }
@@ -159,14 +163,14 @@ impl Made {
         Ok(*self.ids.entry(form)?.or_insert(id))
     }
 
-    /// The id of a function type that was made.
+    /// Returns the id of a function type.
     fn func(&self, form: &FuncForm) -> Option<FuncTypeId>
         ensures { result ≡ func_made_in self.now form.now }
     {
         self.funcs.get(form).copied()
     }
 
-    /// A function type was made.
+    /// Records the id of a function type.
     fn put_func(&mut self, form: FuncForm, id: FuncTypeId) -> Result<(), AllocError>
         ensures { OnOk result (HasMadeFuncToo self.old form id self.new) }
     {
@@ -176,8 +180,12 @@ impl Made {
         }
     }
 
-    /// The id of a definition whose values are held: that under which it was made for the same named type, or else a new
-    /// one, behind what is there.
+    /// Returns the id of a definition for a named type, and adds the definition if it is not recorded.
+    ///
+    /// The collection must hold the parts of the definition.
+    ///
+    /// # Errors
+    /// - [`AllocError`] if out of memory. The collection may then hold the definition.
     pub fn make(
         &mut self,
         alloc: Global,
@@ -199,7 +207,7 @@ impl Made {
         if let Some(id) = self.get(&form) {
             return Ok(id);
         }
-        growth_keeps_trees(merged);
+        growth_keeps_trees(merged); // proof only
         match merged.add_defined_type(definition) {
             Ok(id) => {
                 self.put(form, id)?;
@@ -209,8 +217,10 @@ impl Made {
         }
     }
 
-    /// The id of a definition of which each part stays what it is: that under which one was made for the same named type, or
-    /// else its own.
+    /// Returns the id of a definition whose parts are unchanged: the one recorded for the named type, else its own.
+    ///
+    /// # Errors
+    /// - [`AllocError`] if out of memory.
     pub fn keep(
         &mut self,
         alloc: Global,
@@ -228,14 +238,19 @@ impl Made {
         ensures named { IfOk result (λ e. IsMadeFor self.new named definition.now e) }
         ensures stay { OnOk result (StayMade self.old self.new) }
     {
+        // `merged` serves the contract alone.
         let _ = merged;
         let form = Form::of(alloc, named, definition)?;
         let kept = self.get_or_put(form, id)?;
         Ok(kept)
     }
 
-    /// The id of a function type whose values are held, made of another that is called alike and is another: that under which
-    /// it was made of this one before, or else a new one, behind what is there.
+    /// Returns the id of a function type that is rewritten from `of`, and adds the function type if it is not recorded.
+    ///
+    /// It must have the parameter names of the original and differ from it. The collection must hold its parts.
+    ///
+    /// # Errors
+    /// - [`AllocError`] if out of memory. The collection may then hold the function type.
     pub fn make_func(
         &mut self,
         alloc: Global,

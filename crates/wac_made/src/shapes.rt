@@ -1,4 +1,4 @@
-//! Definitions as keys.
+//! Shapes of definitions, as parts of keys.
 ghost use Rattle.std.specs.Prelude.{◌≡◌, IfOk, fold, map, flat_map, string_bytes};
 ghost use Rattle.wac_made.specs.ShapeHash.{optional_writes, shape_alike, shape_writes, value_writes};
 ghost use Rattle.wac_made.specs.Shapes.{pairs, shape_view};
@@ -7,28 +7,28 @@ use std::alloc::{AllocError, Global};
 use std::hash::{Hash, Hasher};
 use wac_collection::{DefinedType, Labels, Named, ValueType};
 
-/// A definition, in memory of its own.
+/// A definition that owns its names and can be hashed.
 #[derive(PartialEq, Eq, Drop)]
 pub enum Shape {
     /// A tuple.
     Tuple(Vec<ValueType>),
     /// A list.
     List(ValueType),
-    /// A list of this length.
+    /// A list of fixed length.
     FixedSizeList(ValueType, u32),
-    /// A value or none.
+    /// An option.
     Option(ValueType),
-    /// A value or an error.
+    /// A result with its `ok` and `err` types.
     Result(Option<ValueType>, Option<ValueType>),
-    /// Cases under names.
+    /// A variant with its cases.
     Variant(Vec<(String, Option<ValueType>)>),
-    /// Fields under names.
+    /// A record with its fields.
     Record(Vec<(String, ValueType)>),
     /// Flags.
     Flags(Vec<String>),
-    /// One of these names.
+    /// An enum.
     Enum(Vec<String>),
-    /// Another name.
+    /// An alias of a value type.
     Alias(ValueType),
     /// A stream.
     Stream(Option<ValueType>),
@@ -36,7 +36,7 @@ pub enum Shape {
     Future(Option<ValueType>),
 }
 
-/// The parts of a definition are hashed, and not its sort, so that a list or an option is one write.
+// Only the parts are hashed, without the variant: a list or an option is a single write.
 impl Hash for Shape {
     ghost hash_input = { shape_writes };
 
@@ -63,7 +63,7 @@ impl Hash for Shape {
     }
 }
 
-/// Hashes a primitive, or the position of what a value type names, in one write.
+/// Hashes a primitive type, or only the id of a handle or definition, in one write.
 fn hash_value<H: Hasher>(value: ValueType, state: &mut H)
     ensures { state.new ≡ fold H.write state.old (value_writes value) }
 {
@@ -75,7 +75,7 @@ fn hash_value<H: Hasher>(value: ValueType, state: &mut H)
     }
 }
 
-/// Hashes a value type where there is one.
+/// Hashes a value type if there is one.
 pub(crate) fn hash_optional<H: Hasher>(value: Option<ValueType>, state: &mut H)
     ensures { state.new ≡ fold H.write state.old (optional_writes value) }
 {
@@ -84,7 +84,7 @@ pub(crate) fn hash_optional<H: Hasher>(value: Option<ValueType>, state: &mut H)
     }
 }
 
-/// Hashes value types, one after another.
+/// Hashes value types in order.
 pub(crate) fn hash_values<H: Hasher>(values: &[ValueType], state: &mut H)
     ensures { state.new ≡ fold H.write state.old (flat_map value_writes values.now) }
 {
@@ -93,7 +93,7 @@ pub(crate) fn hash_values<H: Hasher>(values: &[ValueType], state: &mut H)
     }
 }
 
-/// Names in order.
+/// Copies names.
 fn names(alloc: Global, labels: &Labels) -> Result<Vec<String>, AllocError>
     ensures { IfOk result (λ names. map string_bytes names.items ≡ labels.now) }
 {
@@ -104,7 +104,7 @@ fn names(alloc: Global, labels: &Labels) -> Result<Vec<String>, AllocError>
     Ok(names)
 }
 
-/// Values in order.
+/// Copies value types.
 fn copied(alloc: Global, values: &[ValueType]) -> Result<Vec<ValueType>, AllocError>
     ensures { IfOk result (λ copy. copy.items ≡ values.now) }
 {
@@ -113,7 +113,7 @@ fn copied(alloc: Global, values: &[ValueType]) -> Result<Vec<ValueType>, AllocEr
     Ok(copy)
 }
 
-/// Values under names, in order.
+/// Copies names and their values.
 fn entries<V: Copy>(alloc: Global, named: &Named<V>) -> Result<Vec<(String, V)>, AllocError>
     ensures { IfOk result (λ entries. pairs entries.items ≡ named.now) }
 {
@@ -126,7 +126,10 @@ fn entries<V: Copy>(alloc: Global, named: &Named<V>) -> Result<Vec<(String, V)>,
 }
 
 impl Shape {
-    /// A definition as a key.
+    /// Returns the shape of a definition.
+    ///
+    /// # Errors
+    /// - [`AllocError`] if out of memory.
     pub fn of(alloc: Global, definition: &DefinedType) -> Result<Shape, AllocError>
         ensures { IfOk result (λ s. shape_view s ≡ definition.now) }
     {

@@ -1,4 +1,4 @@
--- What the hash of an item takes in. Private functions alone cite this.
+-- The input of an item's hash. Only contracts inside the merge cite this file.
 use Rattle.std.proofs.Common.{◌≡◌, true, ap}
 use Rattle.std.proofs.lemmas.Bool.{eqb-true}
 use Rattle.std.specs.Hash as fed
@@ -9,11 +9,11 @@ use Rattle.wac_tables.specs.declared.nodes.Item.TheVariants as item
 use Rattle.wac_tables.specs.Nodes.{type_of}
 use Rattle.wac_tables.specs.NodeViews.{item_view}
 
--- the number of its type, and not its sort
+-- The number of its type, without the sort.
 abbrev pub item_writes : Item → HashWrites
 item_writes x = fed.usize (type_of (item_view x))
 
--- equal items are fed alike
+-- Equal items have the same input.
 pub item_alike : (a b : Item) → (ItemEq.ghosts).eq a b ≡ true → item_writes a ≡ item_writes b
 item_alike (item.«Type» a) (item.«Type» b) e = ap fed.usize (eqb-true a b e)
 item_alike (item.Func a) (item.Func b) e = ap fed.usize (eqb-true a b e)

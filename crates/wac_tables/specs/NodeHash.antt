@@ -1,4 +1,4 @@
--- What the hash of a node takes in. Private functions alone cite this.
+-- The input of a node's hash. Only contracts inside the merge cite this file.
 use Rattle.std.proofs.Common.{◌≡◌, ◌++◌, ◌&&◌, Bool, true, ℕ, List, [], Option, Some, None, nat_eq, ap, refl, eq-eqb, rules}
 use Rattle.std.proofs.lemmas.Bool.{eqb-true}
 use Rattle.std.specs.Borrow.{Bor}
@@ -28,17 +28,20 @@ use Rattle.wac_tables.specs.declared.nodes.Node.{Node}
 use Rattle.wac_tables.specs.declared.nodes.Node.TheVariants as node
 use Rattle.wac_tables.specs.ItemHash.{item_writes, item_alike}
 
+-- A name and what it names.
 abbrev pub entry_writes : {V : Type 0} → (V → HashWrites) → Bor (List ℕ) × V → HashWrites
 entry_writes w e = fed.str e.0.now ++ w e.1
 
+-- A number, if there is one.
 abbrev pub number_writes : Option ℕ → HashWrites
 number_writes None = []
 number_writes (Some n) = fed.usize n
 
+-- An import or export of a core module.
 abbrev pub core_writes : String Global × Core → HashWrites
 core_writes e = fed.str (string_bytes e.0) ++ (CoreHash.ghosts).hash_input e.1
 
--- the parts of a node, and not its sort: no part is a node's of more sorts than a few
+-- The parts of a node, without its variant. Few variants have parts that are equal.
 abbrev pub node_writes : Node → HashWrites
 node_writes (node.Resource r) = (CalledHash.ghosts).hash_input r
 node_writes (node.Primitive p) = (PrimitiveHash.ghosts).hash_input p
@@ -60,7 +63,7 @@ node_writes (node.Instance exports) = fed.slice (entry_writes item_writes) expor
 node_writes (node.Component imports exports) = fed.slice (entry_writes item_writes) imports.items ++ fed.slice (entry_writes item_writes) exports.items
 node_writes (node.Module imports exports) = fed.slice core_writes exports.items
 
--- ---- equal nodes are fed alike
+-- ---- Equal nodes have the same input.
 numbers_alike : Alike nat_eq fed.usize
 numbers_alike = same_Alike fed.usize (λ x y. (eqb-true x y, eq-eqb x y))
 

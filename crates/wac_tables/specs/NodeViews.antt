@@ -1,4 +1,4 @@
--- What the nodes of a table stand for.
+-- The nodes of the table as values.
 use Rattle.std.specs.Global.{Global}
 use Rattle.std.specs.Prelude.{Vec, List, map, string_bytes, ℕ}
 use Rattle.std.specs.Borrow.{Bor}

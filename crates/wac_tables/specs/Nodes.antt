@@ -1,4 +1,4 @@
--- Types as nodes of a table, each once. A node mentions others by their numbers, which are lower than its own.
+-- Types as nodes of an interning table. A node mentions other types by numbers lower than its own.
 use Rattle.std.specs.Prelude.{ℕ, zero, suc, ◌≡◌, ◌≢◌, ◌<◌, Bool, List, [], ◌∷◌, ◌++◌, ◌⊎◌, length, map, Option, Some, None, slice_get}
 use Rattle.std.specs.List.{AllByRecursion}
 use Rattle.std.specs.Ordering.{nat_cmp}
@@ -11,7 +11,7 @@ use Rattle.wac_primitives.specs.Tree.{TypeTree, absent, resource, primitive, own
 use Rattle.wac_collection.specs.Held.{part_at, items_under}
 use Rattle.wac_subtyping.specs.Called.{Called}
 
--- what an instance or a component lists under a name: its sort, and the number of its type
+-- An import or export of an instance or component: its sort, and the number of its type.
 pub data Item : Type 0 where
   a_type : ℕ → Item
   a_func : ℕ → Item
@@ -65,7 +65,7 @@ abbrev pub types_of : List (Name × Item) → List ℕ
 types_of [] = []
 types_of (e ∷ es) = type_of e.1 ∷ types_of es
 
--- the nodes that a node mentions
+-- The numbers that a node mentions.
 abbrev pub mentions : Node → List ℕ
 mentions (of_resource r) = []
 mentions (of_primitive p) = []
@@ -102,14 +102,15 @@ item_tree t (a_value n) = value_item (t n)
 abbrev pub listed_tree : (ℕ → TypeTree Called) → List (Name × Item) → Name → TypeTree Called
 listed_tree t es = items_under (map (λ e. (e.0, item_tree t e.1)) es)
 
--- the core item under a name, and under two
+-- The import or export of a core module under its name.
 abbrev pub core_under : List (Name × CoreItem) → Name → CoreItem
 core_under es n = option_case (find_name es n) no_item (λ x. x)
 
+-- The import of a core module under its module and name.
 abbrev pub core_under_both : List (Name × List (Name × CoreItem)) → Name → Name → CoreItem
 core_under_both ms m = option_case (find_name ms m) (λ n. no_item) core_under
 
--- the tree of a node, given those of the nodes that it mentions
+-- The tree of a node, given the trees of the nodes that it mentions.
 abbrev pub node_tree : (ℕ → TypeTree Called) → Node → TypeTree Called
 node_tree t (of_resource r) = resource r
 node_tree t (of_primitive p) = primitive p
@@ -131,37 +132,37 @@ node_tree t (of_instance exports) = instance (listed_tree t exports)
 node_tree t (of_component imports exports) = component (listed_tree t imports) (listed_tree t exports)
 node_tree t (of_module imports exports) = module_of (core_under_both imports) (core_under exports)
 
--- as many nodes deep as the number says
+-- The tree of a number, down to depth k.
 abbrev pub tree_to : ℕ → List Node → ℕ → TypeTree Called
 tree_to zero ns i = absent
 tree_to (suc k) ns i = option_case (slice_get ns i) absent (node_tree (tree_to k ns))
 
--- the tree of the node of a number
+-- The tree of a number.
 abbrev pub tree_at : List Node → ℕ → TypeTree Called
 tree_at ns i = tree_to (suc i) ns i
 
--- each name comes before those behind it, byte by byte
+-- The names ascend byte by byte.
 abbrev pub Sorted : {V : Type 0} → List (Name × V) → Type 0
 Sorted [] = Unit {0}
 Sorted (e ∷ es) = AllByRecursion (λ x. slice_cmp nat_cmp e.0 x.0 ≡ Less) es × Sorted es
 
--- core items, sorted, each there
+-- The items are sorted by name, and each is there.
 abbrev pub AreCoreItems : List (Name × CoreItem) → Type 0
 AreCoreItems es = Sorted es × AllByRecursion (λ e. e.1 ≢ no_item) es
 
--- what a node lists is sorted; no module is listed without an item
+-- The imports and exports of a node are sorted by name. A module from which nothing is imported is not named.
 abbrev pub IsSorted : Node → Type 0
 IsSorted (of_instance exports) = Sorted exports
 IsSorted (of_component imports exports) = Sorted imports × Sorted exports
 IsSorted (of_module imports exports) = (Sorted imports × AllByRecursion (λ e. AreCoreItems e.1 × (e.1 ≢ [])) imports) × AreCoreItems exports
 IsSorted _ = Unit {0}
 
--- each node is sorted, mentions lower ones, and stands once
+-- Each node is sorted, is there once, and mentions only lower numbers.
 pub record IsTable (ns : List Node) : Type 0 where
   pub sorted : (i : ℕ) (n : Node) → slice_get ns i ≡ Some n → IsSorted n
   pub lower : (i : ℕ) (n : Node) → slice_get ns i ≡ Some n → AllByRecursion (λ m. m < i) (mentions n)
   pub once : (i j : ℕ) (n : Node) → slice_get ns i ≡ Some n → slice_get ns j ≡ Some n → i ≡ j
 
--- the node stands at i: it was there, or it was put behind the others
+-- The node has the number i: it was there already, or it was appended.
 abbrev pub Added : List Node → Node → List Node → ℕ → Type 0
 Added old n new i = (slice_get new i ≡ Some n) × ((new ≡ old) ⊎ (new ≡ old ++ n ∷ []))

@@ -1,13 +1,13 @@
--- Nodes whose numbers are noted by those of their parts. Private functions alone cite this.
+-- Lists and options recorded by the number of their part. Only contracts inside the merge cite this file.
 use Rattle.std.specs.Prelude.{ℕ, ◌≡◌, List, Option, Some, slice_get}
 use Rattle.wac_tables.specs.Nodes.{Node, IsTable, of_list, of_option}
 use Rattle.wac_tables.specs.Numbers.{number_at}
 
--- what is noted at a number is the number of a node that is made of it
+-- The number recorded for a part is that of the node made of it.
 abbrev pub AreOver : (ℕ → Node) → List Node → List (Option ℕ) → Type 0
 AreOver over ns noted = (part i : ℕ) → number_at noted part ≡ Some i → slice_get ns i ≡ Some (over part)
 
--- a table, and the lists and options in it that are noted
+-- A table, and the lists and options that are recorded.
 pub record IsNoted (ns : List Node) (over_list over_option : List (Option ℕ)) : Type 0 where
   pub table : IsTable ns
   pub lists : AreOver of_list ns over_list

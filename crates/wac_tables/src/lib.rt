@@ -1,6 +1,7 @@
-//! A table of types as nodes, each once, numbers at positions, and the tasks by which the parts of types are gone through.
+//! An interning table of types, and what filling it needs.
 //!
-//! Types of imports that are asked for are put into such a table, and compared there; it is proved beside their classes.
+//! The types of all entries are put into one table, so that types are equal if and only if their numbers are equal. The
+//! other modules have maps from positions to numbers, and the tasks that number the parts of a type before the type.
 #![tactic(auto)]
 
 pub mod nodes;

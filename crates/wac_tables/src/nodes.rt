@@ -1,4 +1,4 @@
-//! Types as nodes of a table, each once.
+//! An interning table of types. Each type is a node that mentions other types by number.
 ghost use Rattle.std.specs.Prelude.{◌≡◌, ◌<◌, ℕ, [], fold, length, Some, slice_get, OnOk, OnErr, IfOk};
 ghost use Rattle.std.specs.List.{AllByRecursion};
 ghost use Rattle.wac_tables.specs.Nodes.{mentions, of_list, of_option, tree_at, Added, IsSorted, IsTable};
@@ -15,7 +15,7 @@ use std::mem::replace;
 use wac_collection::{CoreRefType, CoreType, PrimitiveType};
 use wac_subtyping::called::Called;
 
-/// What an instance or a component lists under a name: its sort, and the number of its type.
+/// An import or export of an instance or component: its sort, and the number of its type.
 #[derive(Clone, Copy, PartialEq, Eq)]
 pub enum Item {
     /// A type.
@@ -32,7 +32,7 @@ pub enum Item {
     Value(usize),
 }
 
-/// The number of an item's type is hashed, and not its sort, in one write.
+// Only the number is hashed, without the sort: one write instead of two.
 impl Hash for Item {
     ghost hash_input = { item_writes };
 
@@ -50,66 +50,68 @@ impl Hash for Item {
     }
 }
 
-/// What a core module imports or exports.
+/// An import or export of a core module.
 #[derive(PartialEq, Eq, Hash, Drop)]
 pub enum Core {
-    /// A function: its parameters and its results.
+    /// A function with its parameters and results.
     Func(Vec<CoreType>, Vec<CoreType>),
-    /// A table: its element type, whether it has indexes of 64 bits, whether it is shared, its least and greatest size.
+    /// A table: element type, whether it has 64-bit indexes, whether it is shared, its least and greatest size.
     Table(CoreRefType, bool, bool, u64, Option<u64>),
-    /// A memory: whether it has addresses of 64 bits, whether it is shared, its least and greatest size, and the logarithm of its page size.
+    /// A memory: whether it has 64-bit addresses, whether it is shared, its least and greatest size, its page size
+    /// (log2).
     Memory(bool, bool, u64, Option<u64>, Option<u32>),
     /// A global: its type, whether it is mutable, whether it is shared.
     Global(CoreType, bool, bool),
-    /// A tag: its parameters and its results.
+    /// A tag with its parameters and results.
     Tag(Vec<CoreType>, Vec<CoreType>),
 }
 
-/// A type that mentions other types by their numbers in a table. Its names are borrowed, from the collection that holds the type;
-/// those of core modules are its own.
+/// A type that mentions other types by their numbers in the table.
+///
+/// Names are borrowed from the collection; those of core modules are owned.
 #[derive(PartialEq, Eq, Drop)]
 pub enum Node<'a> {
     /// A resource.
     Resource(Called),
-    /// A primitive.
+    /// A primitive type.
     Primitive(PrimitiveType),
-    /// A handle to a resource that is owned.
+    /// An `own` handle.
     Own(Called),
-    /// A handle to a resource that is lent.
+    /// A `borrow` handle.
     Borrow(Called),
-    /// Fields under names.
+    /// A record with its fields.
     Record(Vec<(&'a str, usize)>),
-    /// Cases under names.
+    /// A variant with its cases.
     Variant(Vec<(&'a str, Option<usize>)>),
-    /// A list of any length.
+    /// A list.
     List(usize),
-    /// A list of this length.
+    /// A list of fixed length.
     FixedSizeList(usize, u32),
-    /// Values one after another.
+    /// A tuple.
     Tuple(Vec<usize>),
-    /// Flags under names.
+    /// Flags.
     Flags(Vec<&'a str>),
-    /// One of these names.
+    /// An enum.
     Enum(Vec<&'a str>),
-    /// A value or none.
+    /// An option.
     Option(usize),
-    /// A value or an error.
+    /// A result with its `ok` and `err` types.
     Result(Option<usize>, Option<usize>),
     /// A stream.
     Stream(Option<usize>),
     /// A future.
     Future(Option<usize>),
-    /// A function: whether it is asynchronous, its parameters, its result.
+    /// A function: whether it is async, its parameters, its result.
     Func(bool, Vec<(&'a str, usize)>, Option<usize>),
-    /// An instance: its exports, sorted by name.
+    /// An instance with its exports, sorted by name.
     Instance(Vec<(&'a str, Item)>),
-    /// A component: its imports and its exports, each sorted by name.
+    /// A component with its imports and its exports, each sorted by name.
     Component(Vec<(&'a str, Item)>, Vec<(&'a str, Item)>),
-    /// A core module: its imports by module and name, and its exports, each sorted by name.
+    /// A core module with its imports by module and name, and its exports, each sorted by name.
     Module(Vec<(String, Vec<(String, Core)>)>, Vec<(String, Core)>),
 }
 
-/// The parts of a node are hashed, and not its sort, so that a list or an option is one write.
+// Only the parts are hashed, without the variant: a list or an option is a single write.
 impl<'a> Hash for Node<'a> {
     ghost hash_input = { node_writes };
 
@@ -149,7 +151,7 @@ impl<'a> Hash for Node<'a> {
     }
 }
 
-/// Hashes a number where there is one.
+/// Hashes a number if there is one.
 fn hash_number<H: Hasher>(number: Option<usize>, state: &mut H)
     ensures { state.new ≡ fold H.write state.old (number_writes number) }
 {
@@ -158,18 +160,20 @@ fn hash_number<H: Hasher>(number: Option<usize>, state: &mut H)
     }
 }
 
-/// Nodes, each once, which mention lower ones.
+/// The nodes of the table, each once. A node mentions only nodes with lower numbers.
+///
+/// A call that fails leaves the table unchanged.
 pub struct Nodes<'a> {
     nodes: IndexSet<Node<'a>>,
-    /// The numbers of lists, by those of their parts: of those that were noted.
+    /// For the number of an element type, the number of its list. It may lack some lists of the table.
     lists: Numbers,
-    /// The numbers of options, likewise.
+    /// For the number of a type, the number of its option. It may lack some options of the table.
     options: Numbers,
-    /// Memory for fields.
+    /// A buffer that is reused for the fields of a node.
     fields: Vec<(&'a str, usize)>,
 }
 
-/// The nodes are let go of here, and not anew at each place where a table goes out of scope.
+// By hand: a derived `Drop` is proved again wherever one goes out of scope (docs/PROOFS.md, 'Drop').
 impl<'a> Drop for Nodes<'a> {
     fn drop(self) {
         let Nodes {
@@ -195,7 +199,7 @@ impl<'a> Model for Nodes<'a> {
 }
 
 impl<'a> Nodes<'a> {
-    /// No node.
+    /// Creates an empty table.
     pub fn new(alloc: Global) -> Nodes<'a>
         ensures { result ≡ [] }
     {
@@ -207,21 +211,21 @@ impl<'a> Nodes<'a> {
         }
     }
 
-    /// The law of all tables: nodes of equal trees are one.
+    /// The law of all tables: two numbers with equal trees are equal.
     pub fn law(&self)
         ensures { (i j : ℕ) → i < length self.now → j < length self.now → tree_at self.now i ≡ tree_at self.now j → i ≡ j }
     {
         let _ = &self.nodes;
     }
 
-    /// The law of all tables: each node is sorted, mentions lower ones, and stands once.
+    /// The law of all tables: each node is sorted, is there once, and mentions only lower numbers.
     pub fn table_law(&self)
         ensures { IsTable self.now }
     {
         let _ = &self.nodes;
     }
 
-    /// The node of a number.
+    /// Returns the node with a number.
     pub fn node(&self, number: usize) -> &Node<'a>
         requires { number < length self.now }
         ensures { slice_get self.now number ≡ Some (node_view result.now) }
@@ -229,7 +233,7 @@ impl<'a> Nodes<'a> {
         self.nodes.get_index(number).unwrap()
     }
 
-    /// Memory for the fields of a node, taken out: that of one which was there already. None is in it.
+    /// Takes an empty buffer for the fields of a node. `add` gives the buffer back if the node is already there.
     pub fn take_fields(&mut self, alloc: Global) -> Vec<(&'a str, usize)>
         ensures none { result.items ≡ [] }
         ensures same { self.new ≡ self.old }
@@ -239,7 +243,7 @@ impl<'a> Nodes<'a> {
         fields
     }
 
-    /// Keeps the memory of the fields of a node.
+    /// Gives back the buffer with the fields of a node.
     fn keep_fields(&mut self, node: Node<'a>)
         ensures { self.new ≡ self.old }
     {
@@ -250,7 +254,7 @@ impl<'a> Nodes<'a> {
         }
     }
 
-    /// The number of a node, by its hash.
+    /// Returns the number of a node. The node is found by its hash, and appended if it is not there.
     fn insert(&mut self, node: Node<'a>) -> Result<usize, AllocError>
         requires lower { AllByRecursion (λ m. m < length self.old) (mentions (node_view node)) }
         requires sorted { IsSorted (node_view node) }
@@ -263,7 +267,7 @@ impl<'a> Nodes<'a> {
         Ok(index)
     }
 
-    /// The number of a list of a part.
+    /// Returns the number of a list, which is appended if it is not there.
     fn add_list(&mut self, part: usize) -> Result<usize, AllocError>
         requires { part < length self.old }
         ensures added { OnOk result (IfOk result (λ i. Added self.old (of_list part) self.new i)) }
@@ -273,12 +277,12 @@ impl<'a> Nodes<'a> {
             return Ok(number);
         }
         let number = self.insert(Node::List(part))?;
-        // Where memory runs out here, the list is found by its hash again.
+        // If this fails, the list is found by its hash next time.
         let _ = self.lists.put(part, number);
         Ok(number)
     }
 
-    /// The number of an option of a part.
+    /// Returns the number of an option, which is appended if it is not there.
     fn add_option(&mut self, part: usize) -> Result<usize, AllocError>
         requires { part < length self.old }
         ensures added { OnOk result (IfOk result (λ i. Added self.old (of_option part) self.new i)) }
@@ -292,7 +296,7 @@ impl<'a> Nodes<'a> {
         Ok(number)
     }
 
-    /// The number of a node that is looked for first, so that the memory of its fields stays where it is there.
+    /// Returns the number of a node, which is appended if it is not there. If it is there, its buffer is given back.
     fn add_found(&mut self, node: Node<'a>) -> Result<usize, AllocError>
         requires lower { AllByRecursion (λ m. m < length self.old) (mentions (node_view node)) }
         requires sorted { IsSorted (node_view node) }
@@ -306,7 +310,10 @@ impl<'a> Nodes<'a> {
         self.insert(node)
     }
 
-    /// The number of a node, which is put behind the others where it is not there. Where memory runs out nothing has changed.
+    /// Returns the number of a node, which is appended if it is not there.
+    ///
+    /// # Errors
+    /// - [`AllocError`] if out of memory.
     pub fn add(&mut self, node: Node<'a>) -> Result<usize, AllocError>
         requires lower { AllByRecursion (λ m. m < length self.old) (mentions (node_view node)) }
         requires sorted { IsSorted (node_view node) }

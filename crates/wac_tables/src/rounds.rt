@@ -1,29 +1,30 @@
-//! Numbers at positions, of which all are let go of at once.
+//! A map from positions to numbers that is cleared in constant time.
 //!
-//! Beside each number stands the round in which it was put. A number of an earlier round counts as none, so a new round
-//! begins without a walk over them, and their memory is used again.
+//! Each number has the round in which it was put. Numbers of earlier rounds do not count, so `clear` begins a new round
+//! and the memory is used again.
 ghost use Rattle.std.specs.Prelude.{◌≡◌, ◌<◌, ℕ, [], None, Some, cond, nat_eq, length, IfSome, OnOk, OnErr};
 ghost use Rattle.wac_tables.specs.Numbers.{number_at};
 
 use std::alloc::{AllocError, Global};
 use std::marker::Model;
 
-/// A number, and the round in which it was put.
+/// A number and the round in which it was put.
 #[derive(Clone, Copy)]
 struct Put {
     round: u32,
     number: u32,
 }
 
-/// Numbers at positions.
+/// A map from positions to numbers below 2 ^ 32.
 #[derive(Drop)]
 pub struct Numbers {
     puts: Vec<Put>,
-    /// This round. No number was put in a later one, and none in the round 0.
+    /// The current round, at least 1. No number is of a later round.
     round: u32,
 }
 
-/// How many numbers there is to be room for up to a position: as many as there is memory for, if that is enough.
+/// Returns how many positions to make room for, so that `position` is one of them. The capacity is used if it is
+/// enough.
 fn room_for(position: usize, capacity: usize) -> Option<usize>
     ensures { IfSome result (λ count. position < count) }
 {
@@ -45,7 +46,7 @@ impl Model for Numbers {
 }
 
 impl Numbers {
-    /// No number.
+    /// Creates an empty map.
     pub fn new(alloc: Global) -> Numbers
         ensures { result ≡ [] }
     {
@@ -55,7 +56,7 @@ impl Numbers {
         }
     }
 
-    /// Lets go of all numbers.
+    /// Removes all numbers.
     pub fn clear(&mut self)
         ensures { (k : ℕ) → number_at self.new k ≡ None }
     {
@@ -67,7 +68,7 @@ impl Numbers {
         }
     }
 
-    /// The number at a position.
+    /// Returns the number at a position.
     pub fn get(&self, position: usize) -> Option<usize>
         ensures { result ≡ number_at self.now position }
     {
@@ -103,7 +104,12 @@ impl Numbers {
         Ok(())
     }
 
-    /// Puts a number at a position. Where memory runs out nothing has changed; a number of 2 ^ 32 or more is refused in the same way.
+    /// Puts a number at a position.
+    ///
+    /// # Errors
+    /// - [`AllocError`] if out of memory, or if the number is 2 ^ 32 or more.
+    ///
+    /// On an error the map is unchanged.
     pub fn put(&mut self, position: usize, number: usize) -> Result<(), AllocError>
         ensures put { OnOk result ((k : ℕ) → number_at self.new k ≡ cond (nat_eq position k) (Some number) (number_at self.old k)) }
         ensures refused { OnErr result ((k : ℕ) → number_at self.new k ≡ number_at self.old k) }

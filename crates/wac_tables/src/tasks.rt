@@ -1,4 +1,4 @@
-//! What is left to do while the definitions that a type reaches are numbered.
+//! Tasks that number the definitions that a type reaches, without recursion.
 ghost use Rattle.std.specs.Prelude.{◌≡◌, ◌++◌, [], ◌∷◌, OnOk};
 ghost use Rattle.wac_collection.specs.Collection.{and_maybe, case_values, defined_values, seconds};
 ghost use Rattle.wac_tables.specs.Tasks.{openings};
@@ -6,16 +6,19 @@ ghost use Rattle.wac_tables.specs.Tasks.{openings};
 use std::alloc::AllocError;
 use wac_collection::{DefinedType, DefinedTypeId, Named, ValueType};
 
-/// What is to be done with a definition.
+/// What is left to do with a definition.
 #[derive(Clone, Copy)]
 pub enum Task {
-    /// Its parts are to be numbered first.
+    /// Number its parts first, then the definition.
     Open(DefinedTypeId),
-    /// Its parts are numbered, and it is to be.
+    /// Number the definition; its parts have their numbers.
     Close(DefinedTypeId),
 }
 
-/// A value type's definition is to be opened, where it has one.
+/// Adds the task to open a value type's definition, if it has one.
+///
+/// # Errors
+/// - [`AllocError`] if out of memory.
 pub fn open_value(tasks: &mut Vec<Task>, value: ValueType) -> Result<(), AllocError>
     ensures { OnOk result (tasks.new.items ≡ tasks.old.items ++ openings (value ∷ [])) }
 {
@@ -25,7 +28,10 @@ pub fn open_value(tasks: &mut Vec<Task>, value: ValueType) -> Result<(), AllocEr
     Ok(())
 }
 
-/// An optional value type's definition is to be opened.
+/// Adds the task to open the definition of an optional value type.
+///
+/// # Errors
+/// - [`AllocError`] if out of memory.
 pub fn open_optional(tasks: &mut Vec<Task>, value: Option<ValueType>) -> Result<(), AllocError>
     ensures { OnOk result (tasks.new.items ≡ tasks.old.items ++ openings (and_maybe value [])) }
 {
@@ -35,7 +41,7 @@ pub fn open_optional(tasks: &mut Vec<Task>, value: Option<ValueType>) -> Result<
     }
 }
 
-/// The definitions of values are to be opened.
+/// Adds the tasks to open the definitions of these value types.
 fn open_values(tasks: &mut Vec<Task>, values: &[ValueType]) -> Result<(), AllocError>
     ensures { OnOk result (tasks.new.items ≡ tasks.old.items ++ openings values.now) }
 {
@@ -45,7 +51,10 @@ fn open_values(tasks: &mut Vec<Task>, values: &[ValueType]) -> Result<(), AllocE
     Ok(())
 }
 
-/// The definitions of fields or parameters are to be opened.
+/// Adds the tasks to open the definitions of the types of fields or parameters.
+///
+/// # Errors
+/// - [`AllocError`] if out of memory.
 pub fn open_fields(tasks: &mut Vec<Task>, fields: &Named<ValueType>) -> Result<(), AllocError>
     ensures { OnOk result (tasks.new.items ≡ tasks.old.items ++ openings (seconds fields.now)) }
 {
@@ -55,7 +64,7 @@ pub fn open_fields(tasks: &mut Vec<Task>, fields: &Named<ValueType>) -> Result<(
     Ok(())
 }
 
-/// The definitions of the payloads of cases are to be opened.
+/// Adds the tasks to open the definitions of the payloads of cases.
 fn open_cases(tasks: &mut Vec<Task>, cases: &Named<Option<ValueType>>) -> Result<(), AllocError>
     ensures { OnOk result (tasks.new.items ≡ tasks.old.items ++ openings (case_values cases.now)) }
 {
@@ -65,7 +74,10 @@ fn open_cases(tasks: &mut Vec<Task>, cases: &Named<Option<ValueType>>) -> Result
     Ok(())
 }
 
-/// The definitions of the parts of a definition are to be opened.
+/// Adds the tasks to open the definitions of a definition's parts.
+///
+/// # Errors
+/// - [`AllocError`] if out of memory.
 pub fn open_parts(tasks: &mut Vec<Task>, definition: &DefinedType) -> Result<(), AllocError>
     ensures { OnOk result (tasks.new.items ≡ tasks.old.items ++ openings (defined_values definition.now)) }
 {

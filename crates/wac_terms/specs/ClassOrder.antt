@@ -1,4 +1,5 @@
--- The order in which classes are written: instances, type items, the rest, each after what it rests on.
+-- The order of the merged imports: instances, then type items, then the rest, each after the classes that it depends
+-- on.
 use Rattle.std.specs.Prelude.{ℕ, suc, ◌≡◌, ◌≢◌, ◌≤◌, Bool, true, ◌==◌, if◌then◌else◌, List, [], ◌∷◌, ◌++◌, Some, slice_get, Contains}
 use Rattle.wac_cycles.specs.Cycles.{Path}
 use Rattle.wac_primitives.specs.Name.{Name, same_name}
@@ -13,7 +14,7 @@ use Rattle.wac_entries.specs.Classes.{Entry, NameRules, same_class, class_names,
 use Rattle.wac_entries.specs.Binding.{root_bindings}
 use Rattle.wac_terms.specs.Union.{member_tree}
 
--- a resource of which P holds is mentioned somewhere in the tree
+-- The tree mentions a resource for which P holds.
 pub data Mentions {L : Type 0} (P : L → Type 0) : TypeTree L → Type 0 where
   as_resource : (l : L) → P l → Mentions P (resource l)
   as_own : (l : L) → P l → Mentions P (own l)
@@ -40,12 +41,12 @@ pub data Mentions {L : Type 0} (P : L → Type 0) : TypeTree L → Type 0 where
   in_module_item : (t : TypeTree L) → Mentions P t → Mentions P (module_item t)
   in_value_item : (t : TypeTree L) → Mentions P t → Mentions P (value_item t)
 
--- the leaf is bound at the root by the import at this position
+-- The import at this position binds the leaf at the root.
 abbrev pub begins_at : ℕ → List Place → Type 0
 begins_at k (position j ∷ path) = j ≡ k
 begins_at k _ = ⊥
 
--- The class of number a rests on that of number b: a member uses an interface of it, or means a resource that it binds.
+-- Class a depends on class b if an entry of a uses an interface of b, or mentions a resource that b binds.
 pub data RestsOn (rules : NameRules) (c : Collection) (es : List Entry) : ℕ → ℕ → Type 0 where
   by_use : (a b : ℕ) (class other name id : Name) (e : Entry) (i : InterfaceId) (it used : Interface) (u : UsedType)
       → a ≢ b → slice_get (class_names rules es) a ≡ Some class → slice_get (class_names rules es) b ≡ Some other
@@ -57,42 +58,42 @@ pub data RestsOn (rules : NameRules) (c : Collection) (es : List Entry) : ℕ �
       → Mentions (λ l. begins_at b l.path) (member_tree rules c es class a (root_bindings rules c es (λ k. k)) e.kind)
       → RestsOn rules c es a b
 
--- the class rests on itself through others
+-- The class depends on itself, through other classes.
 abbrev pub IsOnCircle : NameRules → Collection → List Entry → ℕ → Type 0
 IsOnCircle rules c es a = Path (RestsOn rules c es) a a
 
--- of the classes on circles the one that is asked first
+-- The first class that is on a cycle.
 pub record IsFirstOnCircle (rules : NameRules) (c : Collection) (es : List Entry) (a : ℕ) : Type 0 where
   pub on : IsOnCircle rules c es a
   pub first : (b : ℕ) → IsOnCircle rules c es b → a ≤ b
 
--- 0 instances, 1 type items, 2 the rest
+-- The group of an item: 0 for instances, 1 for type items, 2 for the rest.
 abbrev pub group_of : ItemKind → ℕ
 group_of (kind.Instance i) = 0
 group_of (kind.TypeItem t) = 1
 group_of _ = 2
 
--- the group of the first entry of a name
+-- The group of the first entry with this name.
 abbrev pub group_under : List Entry → Name → ℕ
 group_under [] n = 2
 group_under (e ∷ rest) n = if same_name e.name n then group_of e.kind else group_under rest n
 
--- the numbers of the classes in a group, the first of which has the number i
+-- The numbers of the classes in a group. The first of these classes has the number i.
 abbrev pub in_group : ℕ → List Entry → ℕ → List Name → List ℕ
 in_group g es i [] = []
 in_group g es i (n ∷ ns) = if group_under es n == g then i ∷ in_group g es (suc i) ns else in_group g es (suc i) ns
 
--- instances, type items, the rest, each in order of first appearance
+-- The classes by group, each group in order of first appearance.
 abbrev pub grouped : NameRules → List Entry → List ℕ
 grouped rules es = in_group 0 es 0 (class_names rules es) ++ (in_group 1 es 0 (class_names rules es) ++ in_group 2 es 0 (class_names rules es))
 
--- the second list is what of the first has P, in order
+-- The second list has the members of the first for which P holds, in order.
 pub data Selects (P : ℕ → Type 0) : List ℕ → List ℕ → Type 0 where
   none : Selects P [] []
   takes : (n : ℕ) (ns taken : List ℕ) → P n → Selects P ns taken → Selects P (n ∷ ns) (n ∷ taken)
   leaves : (n : ℕ) (ns taken : List ℕ) → (P n → ⊥) → Selects P ns taken → Selects P (n ∷ ns) taken
 
--- From a list to that with more numbers placed, one after another, each that is not there yet directly after those of `all` that it rests on.
+-- Each number is appended unless it is there, after the numbers of `all` that it depends on and that are not there yet.
 pub data Arranges (rests : ℕ → ℕ → Type 0) (all : List ℕ) : List ℕ → List ℕ → List ℕ → Type 0 where
   done : (placed : List ℕ) → Arranges rests all placed [] placed
   there : (placed after : List ℕ) (n : ℕ) (ns : List ℕ) → Contains placed n → Arranges rests all placed ns after → Arranges rests all placed (n ∷ ns) after
@@ -100,6 +101,6 @@ pub data Arranges (rests : ℕ → ℕ → Type 0) (all : List ℕ) : List ℕ �
       → Selects (rests n) all under → Arranges rests all placed under before → Arranges rests all (before ++ n ∷ []) ns after
       → Arranges rests all placed (n ∷ ns) after
 
--- the numbers of the classes in written order
+-- The numbers of the classes in the order of their imports.
 abbrev pub IsWrittenOrder : NameRules → Collection → List Entry → List ℕ → Type 0
 IsWrittenOrder rules c es order = Arranges (RestsOn rules c es) (grouped rules es) [] (grouped rules es) order

@@ -1,4 +1,4 @@
--- Why entries have no merge.
+-- Why entries cannot be merged.
 use Rattle.std.specs.Prelude.{ℕ, ◌≡◌, List, Option, Some, None, slice_get, string_bytes}
 use Rattle.wac_primitives.specs.Name.{Name}
 use Rattle.wac_collection.specs.Collection.{Collection}
@@ -9,7 +9,7 @@ use Rattle.wac_terms.specs.declared.fault.MergeFault.{MergeFault}
 use Rattle.wac_terms.specs.declared.fault.MergeFault.TheVariants as merge
 use Rattle.wac_terms.specs.NoDisagreement.{HasNoDisagreement}
 
--- the earliest entry that disagrees, the earliest that it disagrees with, and the names of the exports that lead to where they do
+-- The first disagreement: its two entries, and the export names that lead to it.
 pub record Disagrees (rules : NameRules) (c : Collection) (es : List Entry) (first second : ℕ) (export : Name) : Type 0 where
   pub is_first : IsFirstDisagreement rules c es first second
   pub names : List Name
@@ -17,11 +17,11 @@ pub record Disagrees (rules : NameRules) (c : Collection) (es : List Entry) (fir
       is_first.disagree.later.kind names
   pub path : export ≡ joined names
 
--- no class rests on itself through others
+-- No class depends on itself through other classes.
 abbrev pub HasNoCircle : NameRules → Collection → List Entry → Type 0
 HasNoCircle rules c es = (a : ℕ) → IsOnCircle rules c es a → ⊥
 
--- of the classes that rest on themselves through others the one that is asked first has this canonical name
+-- The canonical name of the first class that is on a cycle.
 pub record UseEachOther (rules : NameRules) (c : Collection) (es : List Entry) (import : Name) : Type 0 where
   pub number : ℕ
   pub class : Name
@@ -29,22 +29,22 @@ pub record UseEachOther (rules : NameRules) (c : Collection) (es : List Entry) (
   pub numbered : slice_get (class_names rules es) number ≡ Some class
   pub named : import ≡ canonical rules es class
 
--- what a refusal can name
+-- What an error names.
 pub data Fault : Type 0 where
   disagree : ℕ → ℕ → Name → Fault
   use_each_other : Name → Fault
 
--- the fault stands, and none that comes before it
+-- The entries have this fault, and no fault that is tested before it.
 abbrev pub HasFault : NameRules → Collection → List Entry → Fault → Type 0
 HasFault rules c es (disagree first second export) = Disagrees rules c es first second export
 HasFault rules c es (use_each_other import) = HasNoDisagreement rules c es × UseEachOther rules c es import
 
--- the fault that a refusal names; want of memory names none
+-- The fault that an error names. `OutOfMemory` names none.
 abbrev pub fault_of : MergeFault → Option Fault
 fault_of (merge.Disagree first second export) = Some (disagree first second (string_bytes export))
 fault_of (merge.UseEachOther import) = Some (use_each_other (string_bytes import))
 fault_of merge.OutOfMemory = None
 
--- entries have one fault at most
+-- Entries have at most one fault.
 abbrev pub OneFault : Type 0
 OneFault = (c : Collection) (es : List Entry) (a b : Fault) → HasFault by_names c es a → HasFault by_names c es b → a ≡ b

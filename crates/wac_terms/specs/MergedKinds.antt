@@ -1,4 +1,4 @@
--- What the classes of entries are imported as. Private functions alone cite this.
+-- The kinds of the merged imports. Only contracts inside the merge cite this file.
 use Rattle.std.specs.Prelude.{ℕ, ◌≡◌, ◌<◌, true, false, List, [], length, Option, Some, None, slice_get, Contains}
 use Rattle.std.specs.List.{AllZip, list_any}
 use Rattle.wac_primitives.specs.Name.{Name}
@@ -19,24 +19,25 @@ use Rattle.wac_entries.specs.Classes.{Entry, by_names, canonical, class_names, i
 use Rattle.wac_terms.specs.Merge.{is_on_track}
 use Rattle.wac_entries.specs.Places.{resource_itself}
 
--- the interface of no part lists a name twice
+-- The interface of each part has distinct export names.
 abbrev pub AreListedOnce : Collection → List Part → Type 0
 AreListedOnce c ps = (p : ℕ) (x : Part) (it : Interface) → slice_get ps p ≡ Some x → item_at c.interfaces x.interface.0 ≡ Some it → NoNameTwice it.exports
 
--- the resources that one class is have one name
+-- All resource imports of a class have the same name.
 abbrev pub AreNamedAlike : Collection → List Entry → Type 0
 AreNamedAlike c es = (k : ℕ) (class : Name) (r q : ResourceId) → slice_get (class_names by_names es) k ≡ Some class → class_binds by_names c es class r ≡ Some [] → class_binds by_names c es class q ≡ Some []
     → resource_name c r ≡ resource_name c q
 
--- the entries are instances of these interfaces
+-- The entries are instances of these interfaces.
 abbrev pub AreInstancesOf : List Entry → List InterfaceId → Type 0
 AreInstancesOf es is = AllZip (λ e i. e.kind ≡ kind.Instance i) es is
 
--- no entry is an instance
+-- No entry is an instance.
 abbrev pub AreNoInstances : List Entry → Type 0
 AreNoInstances es = (e : Entry) → Contains es e → is_instance e.kind ≡ false
 
--- What a class is imported as: an instance of the interface of its union, the new resource that it is, or another item, which binds nothing.
+-- A class is imported as an instance of its union's interface, as its new resource, or as another item that binds
+-- nothing.
 pub data IsMergedKind (es : List Entry) (roots : List (List InterfaceId)) (f : Fresh) (m : Collection) (ws : List InterfaceId) (k : ℕ) (class : Name) : ItemKind → Type 0 where
   as_instance : (w : InterfaceId) (is : List InterfaceId) → slice_get roots k ≡ Some is → AreInstancesOf (members by_names es class) is → slice_get ws k ≡ Some w → IsMergedKind es roots f m ws k class (kind.Instance w)
   as_resource : (q : ResourceId) → AreNoInstances (members by_names es class) → whole_in f k ≡ Some q → IsMergedKind es roots f m ws k class (kind.TypeItem (ty.Resource q))
@@ -50,5 +51,5 @@ pub record AreMergedKinds (c : Collection) (es : List Entry) (roots : List (List
   pub count : length imports ≡ length order
   pub names : (p k : ℕ) (class : Name) (e : Entry) → slice_get order p ≡ Some k → slice_get (class_names by_names es) k ≡ Some class → slice_get imports p ≡ Some e → e.name ≡ canonical by_names es class
   pub kinds : (p k : ℕ) (class : Name) (e : Entry) → slice_get order p ≡ Some k → slice_get (class_names by_names es) k ≡ Some class → slice_get imports p ≡ Some e → IsMergedKind es roots f m ws k class e.kind
-  -- the union of a class has its canonical name as id, where a member's id is on the class's track
+  -- The union of a class has the canonical name as id if an entry's id has the track of the class.
   pub tracked : (k : ℕ) (class : Name) → slice_get (class_names by_names es) k ≡ Some class → list_any (λ e. is_on_track by_names c class e.kind) (members by_names es class) ≡ true → slice_get ids k ≡ Some (Some (canonical by_names es class))

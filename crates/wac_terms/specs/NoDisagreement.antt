@@ -4,6 +4,6 @@ use Rattle.wac_collection.specs.Collection.{Collection}
 use Rattle.wac_entries.specs.Agreement.{IsDisagreement}
 use Rattle.wac_entries.specs.Classes.{Entry, NameRules}
 
--- no entry disagrees with an earlier one of its class
+-- No entry disagrees with an earlier entry of its class.
 abbrev pub HasNoDisagreement : NameRules → Collection → List Entry → Type 0
 HasNoDisagreement rules c es = (i j : ℕ) → IsDisagreement rules c es i j → ⊥

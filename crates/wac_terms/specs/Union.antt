@@ -1,4 +1,4 @@
--- The item that a class is: the union of its members' items.
+-- The item of a class: the union of its entries' items.
 use Rattle.std.specs.Prelude.{ℕ, List, [], ◌∷◌, map, Some, None}
 use Rattle.wac_primitives.specs.Name.{Name, option_case, first_some}
 use Rattle.wac_primitives.specs.Tree.{imported, exported, position, named, Tree, absent, fresh, type_equal, instance, instance_item, further_out}
@@ -11,7 +11,7 @@ use Rattle.wac_shapes.specs.declared.component.ItemKind.TheVariants as kind
 use Rattle.wac_entries.specs.Classes.{Entry, NameRules, members}
 use Rattle.wac_entries.specs.Binding.{class_binds}
 
--- inside a member of a class: its own resources, those that the class binds, those around it
+-- Inside an instance of a class: its own resources, then those that the class binds, then the enclosing bindings.
 abbrev pub inside_member : NameRules → Collection → List Entry → Name → Interface → Bindings → Bindings
 inside_member rules c es class it m r =
     first_some
@@ -20,14 +20,14 @@ inside_member rules c es class it m r =
     (option_case (class_binds rules c es class r) None (λ path. Some (record { out = 0; side = exported; path = path })))
     (option_case (m r) None (λ l. Some (further_out l))))
 
--- the item of a member, where these are the bindings at the root, and the import of its class stands at this position
+-- The item of an entry, under bindings at the root, if the import of its class is at this position.
 abbrev pub member_tree : NameRules → Collection → List Entry → Name → ℕ → Bindings → ItemKind → Tree
 member_tree rules c es class at m (kind.Instance i) =
     option_case (item_at c.interfaces i.0) absent (λ it.
     instance_item (instance (items_under (map (λ e. (e.0, held_item c (inside_member rules c es class it m) exported (named e.0 ∷ []) e.1)) it.exports))))
 member_tree rules c es class at m k = held_item c m imported (position at ∷ []) k
 
--- the union of two items that agree: of instances, by name; a resource that is fresh in one is fresh
+-- The union of items that agree: instances are united name by name, and a resource is fresh if it is fresh in one.
 abbrev pub union : Tree → Tree → Tree
 union absent u = u
 union (type_equal t) fresh = fresh
@@ -35,10 +35,11 @@ union (instance f) (instance g) = instance (λ n. union (f n) (g n))
 union (instance_item t) (instance_item u) = instance_item (union t u)
 union t u = t
 
+-- The union of a list of items.
 abbrev pub union_all : List Tree → Tree
 union_all [] = absent
 union_all (t ∷ ts) = union t (union_all ts)
 
--- the item that a class is
+-- The item of a class.
 abbrev pub merged : NameRules → Collection → List Entry → Bindings → ℕ → Name → Tree
 merged rules c es m at class = union_all (map (λ e. member_tree rules c es class at m e.kind) (members rules es class))

@@ -1,4 +1,5 @@
--- Which value types items list and use. A value type is told by its definition, at the end of its aliases; primitives and handles are none.
+-- The value types that items export and use. A value type is known by its definition, with aliases resolved. Primitive
+-- types and handles have none.
 use Rattle.std.specs.Prelude.{◌==◌, Bool, false, if◌then◌else◌, List, [], ◌∷◌, Option, Some, None}
 use Rattle.std.specs.List.{list_any}
 use Rattle.wac_primitives.specs.Name.{Name, option_case}
@@ -13,30 +14,30 @@ use Rattle.wac_shapes.specs.declared.component.«Type».TheVariants as ty
 use Rattle.wac_shapes.specs.declared.component.ItemKind.{ItemKind}
 use Rattle.wac_shapes.specs.declared.component.ItemKind.TheVariants as kind
 
--- the definition of a value type, where it has one
+-- The definition of a value type.
 abbrev pub definition : ValueType → Option DefinedTypeId
 definition (val.Defined d) = Some d
 definition v = None
 
--- the value type that an item lists: that of a type item, its aliases followed to the end
+-- The value type of a type item, with aliases resolved.
 abbrev pub listed_value : Collection → ItemKind → Option DefinedTypeId
 listed_value c (kind.TypeItem (ty.Value v)) = definition (value_resolved c v)
 listed_value c k = None
 
--- whether it is this one
+-- The definition is this one.
 abbrev pub is_value : DefinedTypeId → Option DefinedTypeId → Bool
 is_value d None = false
 is_value d (Some q) = q.0 == d.0
 
--- the first name, in listed order, under which these items list a value type
+-- The first name under which these items have a value type.
 abbrev pub value_name : Collection → List (Name × ItemKind) → DefinedTypeId → Option Name
 value_name c [] d = None
 value_name c (e ∷ rest) d = if is_value d (listed_value c e.1) then Some e.0 else value_name c rest d
 
--- the value type that is used: what the interface that it is used from lists under its name there
+-- The value type that a use names: the one that the used interface exports under its name there.
 abbrev pub used_value : Collection → Name × UsedType → Option DefinedTypeId
 used_value c e = option_case (used_item c e.0 e.1) None (listed_value c)
 
--- whether a value type is among those that are used
+-- The value type is among those used.
 abbrev pub uses_value : Collection → List (Name × UsedType) → DefinedTypeId → Bool
 uses_value c uses d = list_any (λ e. is_value d (used_value c e)) uses

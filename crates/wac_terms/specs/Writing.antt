@@ -1,4 +1,4 @@
--- Unions as interfaces of a merged collection. Private functions alone cite this.
+-- Unions as interfaces of the merged collection. Only contracts inside the merge cite this file.
 use Rattle.std.specs.Prelude.{ℕ, ◌≡◌, Bool, true, false, List, [], Option, Some, None, slice_get}
 use Rattle.std.specs.List.{AllZip}
 use Rattle.wac_primitives.specs.Name.{Name}
@@ -18,18 +18,19 @@ use Rattle.wac_terms.specs.declared.parts.Export.{Export}
 use Rattle.wac_terms.specs.declared.parts.Union.{Union}
 use Rattle.wac_terms.specs.declared.fresh.Fresh.{Fresh}
 
--- an alias of a resource, under a name
+-- A resource that is an alias of another, under a name.
 pub record IsAliasOf (m : Collection) (n : Name) (q a : ResourceId) : Type 0 where
   pub there : HasResource m a
   pub is : item_at m.resources a.0 ≡ Some (record { name = n; alias = Some (record { owner = None; source = q }) })
 
--- the interface of what lies in an item is given where the item is an instance or an interface
+-- The union of an item's interfaces has an interface if the item is an instance or an interface.
 abbrev pub IsGiven : Collection → ItemKind → Option InterfaceId → Type 0
 IsGiven m (kind.Instance i) o = (j : InterfaceId) × (o ≡ Some j) × HasInterface m j
 IsGiven m (kind.TypeItem (ty.Interface i)) o = (j : InterfaceId) × (o ≡ Some j) × HasInterface m j
 IsGiven m k o = Unit {0}
 
--- The item of the first collection that stands under a name became one of the second, where resources became so, and `inner` is the interface of what lies in it.
+-- An item of the first collection becomes one of the second. Its resources become others by f, and `inner` replaces its
+-- interface.
 abbrev pub IsWrittenAs : Collection → Collection → (ResourceId → ResourceId) → Option InterfaceId → Name → ItemKind → ItemKind → Type 0
 IsWrittenAs c m f inner n (kind.TypeItem (ty.Resource q)) (kind.TypeItem (ty.Resource a)) = IsAliasOf m n (f (resolved c q)) a
 IsWrittenAs c m f inner n (kind.TypeItem (ty.Interface i)) (kind.TypeItem (ty.Interface j)) = inner ≡ Some j
@@ -44,12 +45,12 @@ IsWrittenAs c m f inner n (kind.Module v) (kind.Module w) = v ≡ w
 IsWrittenAs c m f inner n (kind.Value v) (kind.Value w) = IsRenamed c m f (ty.Value v) (ty.Value w)
 IsWrittenAs c m f inner n a b = ⊥
 
--- the interface of the union at a position, where there is one
+-- The interface of the union at a position.
 abbrev pub written_at : List InterfaceId → Option ℕ → Option InterfaceId
 written_at ws None = None
 written_at ws (Some v) = slice_get ws v
 
--- what stands under a name in a union became this: the union's own resource, or what the first part lists
+-- An export of a union becomes its new own resource, or the item that the first part exports.
 abbrev pub IsWrittenExport : Collection → Collection → List Part → ClassBindings → Fresh → List InterfaceId → ℕ → Name × Export → Name × ItemKind → Type 0
 IsWrittenExport c m ps bs f ws u (n, e) (o, k) = (n ≡ o) × under e.is_own
   where
@@ -57,7 +58,7 @@ IsWrittenExport c m ps bs f ws u (n, e) (o, k) = (n ≡ o) × under e.is_own
     under true = (q : ResourceId) × (own_in f u n ≡ Some q) × (k ≡ kind.TypeItem (ty.Resource q))
     under false = IsWrittenAs c m (became c ps bs f (Some e.part)) (written_at ws e.inner) n e.kind k
 
--- Each union became an interface that uses no other, under the id that it was given.
+-- Each union becomes an interface with the id given for it and without `uses`.
 pub record AreWritten (c m : Collection) (us : List Union) (ps : List Part) (bs : ClassBindings) (f : Fresh) (ids : List (Option Name)) (ws : List InterfaceId) : Type 0 where
   pub written : (u : ℕ) (x : Union) → slice_get us u ≡ Some x → (w : InterfaceId) × (it : Interface) × (slice_get ws u ≡ Some w) × (item_at m.interfaces w.0 ≡ Some it)
       × (it.uses ≡ []) × (slice_get ids u ≡ Some it.id) × AllZip (IsWrittenExport c m ps bs f ws u) x.exports it.exports

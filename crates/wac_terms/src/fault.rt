@@ -1,26 +1,27 @@
-//! Why entries are not merged.
+//! Why entries cannot be merged.
 ghost use Rattle.std.specs.Prelude.{◌≡◌};
 
 use std::alloc::{AllocError, AllocFailed};
 use thiserror::Error;
 
-/// Why `finish` is refused.
+/// Why entries cannot be merged, in the order in which the causes are tested.
 #[derive(Debug, Drop, Error)]
 pub enum MergeFault {
-    /// Two entries of one class do not agree: their positions among all entries, and the names of the exports that lead
-    /// to where they do not, joined by `/`. The later is the first that disagrees with an earlier one.
+    /// Two entries of one class disagree. `second` is the position of the earliest entry that disagrees with an earlier
+    /// one, `first` that of the earliest entry that it disagrees with. `export` has the export names down to the
+    /// disagreement, joined by `/`; it is empty if the entries themselves disagree.
     #[error("Disagree")]
     Disagree {
         first: usize,
         second: usize,
         export: String,
     },
-    /// Classes rest on each other in a circle: the canonical name of the one on a circle that is asked first.
+    /// Classes depend on each other in a cycle. `import` is the canonical name of the first class on a cycle.
     #[error("UseEachOther")]
     UseEachOther {
         import: String,
     },
-    /// There was no memory.
+    /// Out of memory.
     #[error("OutOfMemory")]
     OutOfMemory,
 }

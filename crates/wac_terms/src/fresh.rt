@@ -5,15 +5,18 @@ ghost use Rattle.wac_terms.specs.Became.{new_at, own_in, whole_in};
 
 use wac_collection::{Named, ResourceId};
 
-/// New resources.
+/// The new resources of a merged collection.
+///
+/// A union has one for each name under which it exports an own resource. A class of resource imports has one for the
+/// class.
 pub struct Fresh {
-    /// For each union those that it binds, by name.
+    /// For each union, its new resources by name.
     pub own: Vec<Named<ResourceId>>,
-    /// For each class the one that it is, where it is a resource that it binds.
+    /// For each class, its new resource if the class is a resource that it is the first to bind.
     pub whole: Vec<Option<ResourceId>>,
 }
 
-/// What is new is let go of here, and not anew at each place where one goes out of scope.
+// By hand: a derived `Drop` is proved again wherever one goes out of scope (docs/PROOFS.md, 'Drop').
 impl Drop for Fresh {
     fn drop(self) {
         let Fresh { own: _, whole: _ } = self;
@@ -21,14 +24,14 @@ impl Drop for Fresh {
 }
 
 impl Fresh {
-    /// The new resource that a class is.
+    /// Returns the new resource of a class of resource imports.
     pub fn whole(&self, class: usize) -> Option<ResourceId>
         ensures { result ≡ whole_in self.now class }
     {
         self.whole.get(class).copied()?
     }
 
-    /// The new resource that a class or a union binds under a path.
+    /// Returns the new resource that a class, or its union, binds under a path.
     pub fn at(&self, number: usize, path: &[String]) -> Option<ResourceId>
         ensures { result ≡ new_at self.now number (path_view path.now) }
     {
@@ -39,7 +42,7 @@ impl Fresh {
         }
     }
 
-    /// The new resource that a union binds under a name.
+    /// Returns the new resource that a union binds under a name.
     pub fn own_in(&self, union: usize, name: &str) -> Option<ResourceId>
         ensures { result ≡ own_in self.now union name.now }
     {

@@ -1,7 +1,7 @@
-//! What a merge is said in: the item that a class is, the order in which classes are written, what a finished merge holds, why
-//! there is none, and interfaces in unions, with the new resources of a merge.
+//! The data and definitions that the steps of merging share.
 //!
-//! Stands on `wac_entries`, and below all else of `wac_merge`, whose crate is the door.
+//! The code has the unions of interfaces, the new resources of a merge and its errors. The definitions say what a merge
+//! is: the item of each class, the order of the classes, what binds a type, and why there may be no merge.
 #![tactic(auto)]
 
 pub mod fault;

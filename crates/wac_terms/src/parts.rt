@@ -1,4 +1,6 @@
-//! Interfaces in unions.
+//! Unions: interfaces united name by name.
+//!
+//! The interfaces of one class form a union, and so do the interfaces that a union exports under one name.
 use wac_collection::{InterfaceId, ItemKind, Named};
 
 /// An interface in a union.
@@ -6,22 +8,22 @@ use wac_collection::{InterfaceId, ItemKind, Named};
 pub struct Part {
     /// The interface.
     pub interface: InterfaceId,
-    /// The position of the part whose interface lists it; none for that of a root.
+    /// The position of the part whose interface exports this one; `None` in the union of a class.
     pub outer: Option<usize>,
     /// The position of the union.
     pub union: usize,
 }
 
-/// What stands under a name in a union.
+/// An export of a union.
 #[derive(Clone, Copy)]
 pub struct Export {
-    /// What the first part that has the name lists under it.
+    /// The kind that the first part with this name exports.
     pub kind: ItemKind,
     /// The position of that part.
     pub part: usize,
-    /// Whether a part lists a resource of its own under the name.
+    /// Whether a part has an own resource under the name.
     pub is_own: bool,
-    /// The position of the union of the interfaces under the name, where that is an instance or an interface.
+    /// The position of the union of the exported interfaces, if the export is an instance or an interface.
     pub inner: Option<usize>,
 }
 
@@ -29,11 +31,11 @@ pub struct Export {
 pub struct Union {
     /// The positions of its parts.
     pub parts: Vec<usize>,
-    /// What stands under each name, in order of first appearance.
+    /// The exports by name, in order of first appearance.
     pub exports: Named<Export>,
 }
 
-/// A union is let go of here, and not anew at each place where one goes out of scope.
+// By hand: a derived `Drop` is proved again wherever one goes out of scope (docs/PROOFS.md, 'Drop').
 impl Drop for Union {
     fn drop(self) {
         let Union {

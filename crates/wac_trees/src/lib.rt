@@ -1,4 +1,4 @@
-//! The trees of unions: those of their parts united, each a subtype of each part's. Lemmas, over definitions of `wac_terms`.
+//! Lemmas on the trees of merged interfaces, without code.
 //!
-//! A layer of `wac_merge`, whose crate is the door.
+//! The tree of a union's interface is the union of the trees of its parts, and it is a subtype of each of them.
 #![tactic(auto)]
