@@ -1,4 +1,2 @@
-//! What resources become is what merged imports bind: lemmas, over definitions of `wac_terms`.
-//!
-//! A layer of `wac_merge`, whose crate is the door.
+//! Lemmas: the merged imports bind what a resource becomes as the entries bind the resource.
 #![tactic(auto)]

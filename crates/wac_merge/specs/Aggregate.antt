@@ -9,25 +9,25 @@ use Rattle.wac_terms.specs.Merge.{Merged, import_under}
 use Rattle.wac_terms.specs.declared.fault.MergeFault.{MergeFault}
 use Rattle.wac_terms.specs.declared.fault.MergeFault.TheVariants.{OutOfMemory}
 
--- the entries that are asked for, whether they were merged, and to what; to nothing as long as they were not
+-- The entries, whether they were merged, and the merge, which is empty until then.
 pub record Aggregate : Type 0 where
   pub entries : List Entry
   pub is_finished : Bool
   pub merge : Merged
 
--- no imports
+-- The empty merge.
 abbrev pub nothing : Merged
 nothing = record { types = empty; imports = [] }
 
--- entries that are asked for, and are not merged
+-- Entries that were not merged yet.
 abbrev pub unmerged : List Entry → Aggregate
 unmerged es = record { entries = es; is_finished = false; merge = nothing }
 
--- memory ran out, or the fault that the refusal names stands
+-- The error is `OutOfMemory`, or the entries have the fault that it names.
 abbrev pub IsFault : Collection → List Entry → MergeFault → Type 0
 IsFault c es e = (e ≡ OutOfMemory) ⊎ ((fault : Fault) × (fault_of e ≡ Some fault) × HasFault by_names c es fault)
 
--- the entries are held, what is kept of their classes and of what these bind is that, and each class is imported
+-- The entries are of the merged collection, their classes and bindings are known, and each class is imported.
 pub record AreKnown (m : Merged) (es : List Entry) (numbers positions : List ℕ) (names : List (Name × ℕ)) (b : ClassBindings) : Type 0 where
   pub held : AreHeld m.types es
   pub classes : AreClasses by_names es numbers positions names

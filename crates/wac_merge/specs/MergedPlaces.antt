@@ -1,4 +1,4 @@
--- Which imports of a finished merge bind what others mention, and where a resource of the entries' collection is bound.
+-- Which merged imports bind the resources that others mention, and which import binds a resource of the entries.
 use Rattle.std.specs.Prelude.{ℕ, ◌≡◌, ◌≤◌, List, [], ◌∷◌, Some, slice_get}
 use Rattle.wac_primitives.specs.Name.{Name}
 use Rattle.wac_shapes.specs.declared.component.ResourceId.{ResourceId}
@@ -9,12 +9,12 @@ use Rattle.wac_entries.specs.Classes.{Entry, NameRules, canonical, class_names}
 use Rattle.wac_terms.specs.ClassOrder.{Mentions, begins_at}
 use Rattle.wac_terms.specs.Merge.{Merged}
 
--- an import mentions what it binds itself and what imports before it bind, and nothing that an import behind it binds
+-- An import mentions no resource that a later import binds.
 abbrev pub MentionsBefore : NameRules → Merged → Type 0
 MentionsBefore rules m = (p j : ℕ) (e : Entry) → slice_get m.imports p ≡ Some e
     → Mentions (λ l. begins_at j l.path) (held_item m.types (root_bindings rules m.types m.imports (λ i. i)) imported (position p ∷ []) e.kind) → j ≤ p
 
--- The import at a position is that of the first class, in asked order, that binds a resource, which it does under this path.
+-- The import at a position is that of the first class of the entries that binds a resource. It binds it under a path.
 pub record IsRootPlace (rules : NameRules) (es : List Entry) (m : Merged) (r : ResourceId) (p : ℕ) (path : List Place) : Type 0 where
   pub number : ℕ
   pub class : Name

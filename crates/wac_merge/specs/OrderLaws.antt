@@ -1,4 +1,4 @@
--- The laws of the order in which classes are written.
+-- The laws of the order of classes.
 use Rattle.std.specs.Prelude.{ℕ, ◌≡◌, ◌<◌, ◌↔◌, true, false, List, take, length, Some, slice_get, Contains}
 use Rattle.wac_primitives.specs.Name.{Name, find_name}
 use Rattle.wac_shapes.specs.declared.component.Interface.{Interface}
@@ -18,22 +18,23 @@ use Rattle.wac_unions.specs.OneId.{HasOneIdEach}
 use Rattle.wac_terms.specs.Faults.{HasNoCircle}
 use Rattle.wac_merge.specs.Listed.{AreListedInOrder}
 
--- an order that has the number of each class, once where no class rests on itself through others, and is the only written one
+-- The order has each class, once if no class depends on itself through others, and no other order is a written one.
 pub record IsOnlyOrder (c : Collection) (es : List Entry) (order : List ℕ) : Type 0 where
   pub each : (k : ℕ) → (Contains order k ↔ k < length (class_names by_names es))
   pub once : HasNoCircle by_names c es → (i j k : ℕ) → slice_get order i ≡ Some k → slice_get order j ≡ Some k → i ≡ j
   pub only : (other : List ℕ) → IsWrittenOrder by_names c es other → order ≡ other
 
--- a written order is so
+-- A written order is the only one.
 abbrev pub OrderLaw : Type 0
 OrderLaw = (c : Collection) (es : List Entry) (order : List ℕ) → IsWrittenOrder by_names c es order → IsOnlyOrder c es order
 
--- where a class rests on another, that one stands before it in a written order
+-- If a class depends on another one, that one comes first in a written order.
 abbrev pub RestsLaw : Type 0
 RestsLaw = (c : Collection) (es : List Entry) (order : List ℕ) → IsWrittenOrder by_names c es order
     → (i a b : ℕ) → RestsOn by_names c es a b → b < length (class_names by_names es) → slice_get order i ≡ Some a → (j : ℕ) × (j < i) × (slice_get order j ≡ Some b)
 
--- Where a member of a class uses an interface, and an instance is asked for under its id, which is of another class, that class is imported before it, as an instance; and where an interface with that id is asked for under it, it has an id there, and lists a type under each name under which that interface does.
+-- If a class uses an interface whose id names an instance of another class, that class is imported first.
+-- If an entry of that name has that id, the import has an id, and it exports the used type if the entry does.
 abbrev pub UsedLaw : Type 0
 UsedLaw = (c : Collection) (es : List Entry) (m : Merged) → IsMerge by_names c es m
     → (p : ℕ) (e member : Entry) (i : InterfaceId) (it used : Interface) (n id : Name) (u : UsedType)
@@ -45,6 +46,6 @@ UsedLaw = (c : Collection) (es : List Entry) (m : Merged) → IsMerge by_names c
     → (is_used_by_id m.types (of_interface j u) ≡ true)
     × (IsDeepEnough by_name c → IsDeepEnough by_name m.types → (t : AnyType) → find_name own.exports (name_there n u) ≡ Some (kind.TypeItem t) → is_there m.types (n, of_interface j u) ≡ true))
 
--- What each interface of a merge lists, at each depth, stands in order of first appearance in what it unites.
+-- Each interface of a merge exports the names of those that it unites, in order of first appearance.
 abbrev pub ListedLaw : Type 0
 ListedLaw = (c : Collection) (es : List Entry) (m : Merged) → IsMerge by_names c es m → HasOneIdEach c es m → AreListedInOrder by_names c es m

@@ -1,4 +1,4 @@
--- When a used resource is what is listed under its name in a finished merge.
+-- When a used resource is the one that is exported under its name.
 use Rattle.std.specs.Prelude.{ℕ, ◌≡◌, true, false, List, [], ◌∷◌, map, Some, None, slice_get, Contains}
 use Rattle.wac_primitives.specs.Name.{Name, find_name}
 use Rattle.wac_shapes.specs.declared.component.Interface.{Interface}
@@ -21,7 +21,8 @@ use Rattle.wac_uses.specs.United.{listed_by}
 use Rattle.wac_unions.specs.OneId.{HasOneIdEach}
 use Rattle.wac_merge.specs.Listed.{united_interfaces}
 
--- The first member of the class of an import that lists a name lists a resource there, at the end of its aliases, which no member has as its own; and the import, which is an instance, lists this alias there.
+-- The import is an instance that exports a under this name, as an alias.
+-- Its first entry that exports the name exports r there, with aliases resolved. No entry has r as its own.
 pub record ListsResource (c : Collection) (es : List Entry) (m : Merged) (p : ℕ) (n : Name) (r a : ResourceId) : Type 0 where
   pub entry : Entry
   pub at : slice_get m.imports p ≡ Some entry
@@ -35,7 +36,7 @@ pub record ListsResource (c : Collection) (es : List Entry) (m : Merged) (p : �
   pub end : resolved c first ≡ r
   pub free : (e : Entry) (i : InterfaceId) (it : Interface) → Contains (members by_names es entry.name) e → e.kind ≡ kind.Instance i → item_at c.interfaces i.0 ≡ Some it → own_name c it.uses it.exports r ≡ None
 
--- The class of an import is the first, in asked order, that binds a resource, and the import, which is an instance, lists this own resource under that name.
+-- The import is an instance of the first class of the entries that binds r, and exports b under this name as its own.
 pub record BindsResource (c : Collection) (es : List Entry) (m : Merged) (p : ℕ) (n : Name) (r b : ResourceId) : Type 0 where
   pub number : ℕ
   pub class : Name
@@ -49,7 +50,7 @@ pub record BindsResource (c : Collection) (es : List Entry) (m : Merged) (p : �
   pub listed : find_name (interface_exports m.types interface) n ≡ Some (kind.TypeItem (ty.Resource b))
   pub own : is_alias m.types b ≡ false
 
--- Where one class lists a resource under the name of a use, and another is the first that binds it, under the name there, what is listed is what is used.
+-- If one class exports a resource under the name of a use, and the used class is the first to bind it, they are one.
 abbrev pub UsedResourceLaw : Type 0
 UsedResourceLaw = (c : Collection) (es : List Entry) (m : Merged) → IsWellFormed m.types → IsMerge by_names c es m → HasOneIdEach c es m
     → (p q : ℕ) (n : Name) (u : UsedType) (r a b : ResourceId) (lists : ListsResource c es m p n r a) (binds : BindsResource c es m q (name_there n u) r b)

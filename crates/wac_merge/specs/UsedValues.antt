@@ -1,4 +1,4 @@
--- When a used value type is what is listed under its name in a finished merge.
+-- When a used value type is the one that is exported under its name.
 use Rattle.std.specs.Prelude.{ℕ, ◌≡◌, true, List, map, Some, slice_get, Contains}
 use Rattle.wac_primitives.specs.Name.{Name, find_name}
 use Rattle.wac_shapes.specs.declared.component.DefinedType.{DefinedType}
@@ -19,7 +19,8 @@ use Rattle.wac_uses.specs.United.{listed_by}
 use Rattle.wac_unions.specs.OneId.{HasOneIdEach}
 use Rattle.wac_merge.specs.Listed.{united_interfaces}
 
--- A member of the class of an import lists a definition under a name, all members that list the name list definitions, and the import, which is an instance, lists this one there.
+-- The import is an instance that exports the definition a under this name.
+-- An entry of its class exports d there, and each entry that exports the name exports a definition there.
 pub record ListsDefinition (c : Collection) (es : List Entry) (m : Merged) (p : ℕ) (n : Name) (d a : DefinedTypeId) : Type 0 where
   pub entry : Entry
   pub at : slice_get m.imports p ≡ Some entry
@@ -35,7 +36,8 @@ pub record ListsDefinition (c : Collection) (es : List Entry) (m : Merged) (p : 
   pub definition : listed_value c item ≡ Some d
   pub each : (k : ItemKind) → Contains (listed_by c (united_interfaces (map (λ x. x.kind) (members by_names es entry.name))) n) k → (e : DefinedTypeId) × (listed_value c k ≡ Some e)
 
--- Where one class lists a definition under the name of a use, and another the same one under the name there, what is listed is what is used, if both have one content in the merge.
+-- A class and the used class may export one definition under the names of a use.
+-- If the two merged definitions are equal, the use is of the exported type.
 abbrev pub UsedValueLaw : Type 0
 UsedValueLaw = (c : Collection) (es : List Entry) (m : Merged) → IsWellFormed c → IsMerge by_names c es m → HasOneIdEach c es m
     → (p q : ℕ) (n : Name) (u : UsedType) (d a b : DefinedTypeId) (x : DefinedType) (lists : ListsDefinition c es m p n d a) (there : ListsDefinition c es m q (name_there n u) d b)

@@ -1,4 +1,4 @@
-//! The collector of imports that are asked for.
+//! The aggregator of imports.
 ghost use Rattle.std.specs.Prelude.{Contains, ℕ, ◌≡◌, ◌<◌, ◌∷◌, ◌++◌, ◌⊎◌, ◌↔◌, [], length, slice_get, IfOk, IfErr, IfSome, OnOk, None, Some, true};
 ghost use Rattle.std.specs.Option.{MatchOption};
 ghost use Rattle.std.specs.Result.{IsErrAnd};
@@ -37,7 +37,7 @@ use wac_terms::fault::MergeFault;
 use wac_unions::bound::class_binds;
 use wac_unions::merged::Merged;
 
-/// The classes of entries, what they bind, and their merge.
+/// The classes of entries, what the classes bind, and the merge.
 #[derive(Drop)]
 struct Finished {
     classes: Classes,
@@ -45,14 +45,16 @@ struct Finished {
     merged: Merged,
 }
 
-/// Imports that are asked for, in order; once finished, with their classes and their merge.
+/// The entries of a merge, in order, and the result of the merge once it is finished.
+///
+/// A call that fails consumes the aggregator. Only a finished one has merged imports, types, names and resources.
 pub struct TypeAggregator {
     alloc: Global,
     entries: Vec<Entry>,
     finished: Option<Finished>,
 }
 
-/// What an aggregator holds is let go of here, and not anew by each program that drops one.
+// By hand: a derived `Drop` is proved again wherever one goes out of scope (docs/PROOFS.md, 'Drop').
 impl Drop for TypeAggregator {
     fn drop(self) {
         let TypeAggregator {
@@ -76,7 +78,7 @@ impl Model for TypeAggregator {
 }
 
 impl TypeAggregator {
-    /// Nothing is asked for.
+    /// Returns an aggregator without entries.
     pub fn new(alloc: Global) -> Self
         ensures { result ≡ unmerged [] }
     {
@@ -87,12 +89,15 @@ impl TypeAggregator {
         }
     }
 
-    /// Asks for an item of a collection under a name, behind what was asked for before. The collection is to be the same
-    /// in each call. A refusal, for want of memory, consumes the aggregator.
+    /// Appends an entry: an item of the collection, under a name. The collection must be the same in each call.
+    ///
+    /// # Errors
+    /// - [`AllocError`] if out of memory.
     pub fn aggregate(self, name: &str, types: &Types, kind: ItemKind) -> Result<Self, AllocError>
         requires { holds_type types.now (kind_type kind) ≡ true }
         ensures { IfOk result (λ a. a ≡ unmerged (self.entries ++ record { name = name.now; kind = kind } ∷ [])) }
     {
+        // `types` serves the contract alone.
         let _ = types;
         let TypeAggregator {
             alloc,
@@ -107,17 +112,22 @@ impl TypeAggregator {
         })
     }
 
-    /// Merges the entries, which all are of the collection.
+    /// Merges the entries, which must be items of `types`.
     ///
-    /// Answers one import for each class, under its canonical name, in the order in which they are written, with the
-    /// collection of their types, which holds each: the items of the entries' collection, which mean what they meant, and behind
-    /// them what is merged. Each import is a subtype of each entry of its class, and mentions no resource that an import behind
-    /// it binds. Value types have one id for each named type. An instance uses what the members of its class use, of the imports
-    /// before it.
+    /// Each class gives one import under its canonical name. Instances come first, then type items, then all others.
+    /// An import that others depend on comes before them.
+    /// The new collection begins with the items of `types`, so ids keep their meaning. Merged types come after.
     ///
-    /// Answers `Disagree` exactly where two entries of one class do not agree, with the first that does not and the first
-    /// that it disagrees with; else `UseEachOther` where classes rest on each other in a circle, with the one that is asked
-    /// first. Where memory ran out it answers `OutOfMemory`. A refusal consumes the aggregator.
+    /// - Each import is a subtype of each entry of its class, and mentions no resource that a later import binds.
+    /// - Each named type has one id.
+    /// - An instance has the uses that the entries of its class have of earlier imports.
+    ///
+    /// # Errors
+    /// - [`Disagree`](MergeFault::Disagree) if two entries of one class disagree: the earliest that disagrees with an
+    ///   earlier one, and the earliest that it disagrees with.
+    /// - [`UseEachOther`](MergeFault::UseEachOther) if classes depend on each other in a cycle: the first class of the
+    ///   entries that is on one.
+    /// - [`OutOfMemory`](MergeFault::OutOfMemory).
     pub fn finish(self, types: &Types) -> Result<Self, MergeFault>
         requires { AreHeld types.now self.entries }
         ensures finished { IfOk result (λ a. (a.entries ≡ self.entries) × (a.is_finished ≡ true)) }
@@ -155,15 +165,14 @@ impl TypeAggregator {
         })
     }
 
-    /// What was asked for, in order.
+    /// Returns the entries, in order.
     pub fn entries(&self) -> &[Entry]
         ensures { result.now ≡ self.now.entries }
     {
         self.entries.as_slice()
     }
 
-    /// The merged imports of a finished aggregator: the canonical name of each class with its merged item, in the order in
-    /// which they are written.
+    /// Returns the merged imports in the order in which they are written: each class's canonical name and merged item.
     pub fn imports(&self) -> &Named<ItemKind>
         requires { self.now.is_finished ≡ true }
         ensures { import_entries result.now ≡ self.now.merge.imports }
@@ -174,8 +183,7 @@ impl TypeAggregator {
         &finished.merged.imports
     }
 
-    /// The collection of the merged imports of a finished aggregator. Each id of the entries' collection means in it what it
-    /// meant.
+    /// Returns the collection of the merged types. It begins with that of the entries.
     pub fn types(&self) -> &Types
         requires { self.now.is_finished ≡ true }
         ensures { result.now ≡ self.now.merge.types }
@@ -186,8 +194,9 @@ impl TypeAggregator {
         &finished.merged.types
     }
 
-    /// Of a finished aggregator, the resource that the import of an interface's id binds under a name: the own one of the
-    /// merged interface, where the class that is imported under the id binds a resource under the name; else none.
+    /// Returns the resource that the import with this id binds under a name.
+    ///
+    /// It is the own resource of the merged interface, or `None` if the class binds no resource under the name.
     pub fn resource(&self, id: &str, name: &str) -> Option<ResourceId>
         requires { self.now.is_finished ≡ true }
         ensures { (q : AResource) → (result ≡ Some q) ↔ IsBoundAs by_names self.now.entries self.now.merge id.now name.now q }
@@ -198,9 +207,10 @@ impl TypeAggregator {
         self.own_resource(id, name)
     }
 
-    /// Of a finished aggregator, where a resource of the entries' collection is bound at the root: the position of the import of
-    /// the first class, in the order in which classes are asked for, that binds it, and the path of names in that import, which
-    /// is empty where the import is the resource; none where no class binds it.
+    /// Returns where a resource of the entries is bound: the position of an import, and the path of names inside it.
+    ///
+    /// The import is that of the first class that binds it, or `None` if no class does.
+    /// The path is empty if the import itself is the resource.
     pub fn root_binding(&self, resource: ResourceId) -> Option<(usize, &[String])>
         requires { self.now.is_finished ≡ true }
         ensures { MatchOption result (binding_class by_names self.now.merge.types self.now.entries resource ≡ None) (λ b. IsRootPlace by_names self.now.entries self.now.merge resource b.0 (path_view b.1.now)) }
@@ -216,7 +226,7 @@ impl TypeAggregator {
         }
     }
 
-    /// Of a finished aggregator, whether the class of a name binds a resource under another.
+    /// Returns whether the class of the name `id` binds a resource under a name.
     fn binds(&self, id: &str, name: &str) -> bool
         requires { self.now.is_finished ≡ true }
         ensures { (result ≡ true) ↔ BindsUnder by_names self.now.merge.types self.now.entries id.now name.now }
@@ -234,7 +244,7 @@ impl TypeAggregator {
         )
     }
 
-    /// Of a finished aggregator, the own resource of a name that the interface of an id's import lists.
+    /// Returns the own resource that the interface of the import with this id exports under a name.
     fn own_resource(&self, id: &str, name: &str) -> Option<ResourceId>
         requires { self.now.is_finished ≡ true }
         ensures { result ≡ bound_resource self.now.merge id.now name.now }
@@ -243,7 +253,7 @@ impl TypeAggregator {
         own_resource(self.types(), *kind, id, name)
     }
 
-    /// Of a finished aggregator, the canonical name of the class that has a name, and the name itself where no entry has it.
+    /// Returns the canonical name of the class of a name, or the name itself if no entry has it.
     pub fn canonical_import_name<'a>(&'a self, name: &'a str) -> &'a str
         requires { self.now.is_finished ≡ true }
         ensures { result.now ≡ imported_as by_names self.now.entries name.now }
@@ -258,7 +268,7 @@ impl TypeAggregator {
     }
 }
 
-/// The order in which the classes are written. Refuses entries that have no merge.
+/// Returns the order in which the classes are written, or why the entries cannot be merged.
 fn check(
     alloc: Global,
     types: &Types,
@@ -295,7 +305,7 @@ fn check(
     Ok(written_order(alloc, types, entries, classes, rests)?)
 }
 
-/// The fault that names a class by its canonical name.
+/// Returns the fault that names this class.
 fn circle(
     alloc: Global,
     entries: &[Entry],
@@ -311,7 +321,7 @@ fn circle(
     Ok(MergeFault::UseEachOther { import })
 }
 
-/// The resource that an instance binds under a name, where its interface has this id: its own of that name.
+/// Returns the own resource under a name of an instance, if its interface has this id.
 fn own_resource(types: &Types, kind: ItemKind, id: &str, name: &str) -> Option<ResourceId>
     ensures { result ≡ own_resource types.now id.now name.now kind }
 {
@@ -331,7 +341,7 @@ fn own_resource(types: &Types, kind: ItemKind, id: &str, name: &str) -> Option<R
     listed_resource(types, *interface.exports.get(name)?)
 }
 
-/// A resource that is listed, and is no alias.
+/// Returns the resource of a type item, if it is no alias.
 fn listed_resource(types: &Types, kind: ItemKind) -> Option<ResourceId>
     ensures { result ≡ listed_resource types.now kind }
 {

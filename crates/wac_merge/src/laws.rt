@@ -1,49 +1,48 @@
-//! Laws of classes, of faults and of the order in which classes are written, each given by a call.
+//! Laws of classes, faults and the order of imports. Each is brought by a call, for proofs only.
 ghost use Rattle.wac_entries.specs.Classes.{ClassLaws};
 ghost use Rattle.wac_terms.specs.Faults.{OneFault};
 ghost use Rattle.wac_merge.specs.OrderLaws.{ListedLaw, OrderLaw, RestsLaw, UsedLaw};
 ghost use Rattle.wac_merge.specs.UsedResources.{UsedResourceLaw};
 ghost use Rattle.wac_merge.specs.UsedValues.{UsedValueLaw};
 
-/// One class is an equivalence of names, and two entries are of one class exactly where a chain of links leads from one to the other.
+/// Being of one class is an equivalence of names. Entries are of one class if and only if a chain of links joins them.
 pub fn class_laws()
     ensures { ClassLaws }
 {}
 
-/// Entries have one fault at most.
+/// Entries have at most one fault.
 pub fn fault_law()
     ensures { OneFault }
 {}
 
-/// The order in which classes are written has each class, once where no class rests on itself through others, and there is no
-/// other.
+/// The order of classes is unique and has each class; each once, if no class depends on itself through others.
 pub fn order_law()
     ensures { OrderLaw }
 {}
 
-/// Where a class rests on another, that one stands before it in the order in which they are written.
+/// If a class depends on another one, that one comes first in the order of classes.
 pub fn rests_law()
     ensures { RestsLaw }
 {}
 
-/// Where a class uses another that is asked for, that one is imported before it.
+/// If a class uses another class of the entries, that class is imported first.
 pub fn used_law()
     ensures { UsedLaw }
 {}
 
-/// Each interface of a merge lists what those list that it unites, in order of first appearance: at the root, in instances
-/// inside, and in interfaces that are type items.
+/// Each interface of a merge exports the names of the interfaces that it unites, in order of first appearance.
+///
+/// This holds for imports, for instances inside them, and for interfaces as type items.
 pub fn listed_law()
     ensures { ListedLaw }
 {}
 
-/// Where two classes list one definition, and both have one content in the merge, a use of the one by the other is no other
-/// type than what is listed.
+/// If two classes export one definition and its merged forms are equal, a use of it between them is of that type.
 pub fn used_value_law()
     ensures { UsedValueLaw }
 {}
 
-/// Where a class uses a resource that the used class is the first to bind, the use is no other type than what is listed.
+/// If a class exports a resource that another one is the first to bind, a use of it from that one is of that type.
 pub fn used_resource_law()
     ensures { UsedResourceLaw }
 {}

@@ -1,11 +1,12 @@
-//! Imports that are asked for, and the classes in which they are merged.
+//! Merges the imports of a composition.
 //!
-//! `TypeAggregator::finish` answers the merged imports, each under its canonical name, and the collection of their types.
+//! `TypeAggregator` collects the imports, called entries, and merges them into classes. Each class is imported once,
+//! under its canonical name. Its item is a subtype of that of each of its entries.
 //!
-//! Entries of one name are of one class, and so are instances whose names have one track, and what a chain of such pairs
-//! links. A class is imported under its canonical name, that of the greatest version.
+//! Two entries belong to one class if they have one name, or if they are instances whose names have one track.
+//! So do entries that a chain of such pairs links. The canonical name is the one with the greatest version.
 //!
-//! | Asked for | Imported as |
+//! | Entries | Imports |
 //! |---|---|
 //! | instances `a:b/c@0.2.0` and `a:b/c@0.2.9` | `a:b/c@0.2.9` |
 //! | instances `a:b/c@0.2.0` and `a:b/c@0.3.0` | each under its own name |
@@ -13,9 +14,9 @@
 //!
 //! # Memory and time
 //!
-//! Each entry keeps its name. The classes take one more copy of each name, and keep a text for each class. Numbering
-//! reads each entry's name a few times, and with it the greatest name that its class has so far. A finished merge shares the
-//! items of the entries' collection, with what is merged behind them: a pointer and a count for each item.
+//! Each entry keeps its name. The classes keep one more copy of each name, and a key for each class.
+//! Finding the classes reads each name a few times, and with it the greatest name that its class has so far.
+//! A finished merge shares the items of the entries' collection: it takes a pointer and a count for each.
 #![tactic(auto)]
 
 mod aggregator;

@@ -1,4 +1,4 @@
--- That types became what was made for the named types that they are. Private functions alone cite this.
+-- Rewritten types in terms of what was made for each named type. Only contracts inside the merge cite this file.
 use Rattle.std.specs.Prelude.{ℕ, ◌≡◌, ◌⊎◌, List, map, Option, Some, None, slice_get}
 use Rattle.wac_shapes.specs.declared.component.DefinedType.{DefinedType}
 use Rattle.wac_shapes.specs.declared.component.DefinedType.TheVariants as def
@@ -18,17 +18,17 @@ use Rattle.wac_terms.specs.Values.{definition}
 use Rattle.wac_values.specs.NamedTypes.{named_type}
 use Rattle.wac_values.specs.declared.named.NamedTypes.{NamedTypes}
 
--- what was made is in a collection that begins with the first, each definition for one named type
+-- The merged collection has what was made, and each made definition belongs to one named type.
 pub record AreMade (c : Collection) (t : NamedTypes) (m : Collection) (made : Made) : Type 0 where
   pub there : AreThere m made
   pub apart : AreApart c (named_type t) made
 
--- the definition that a definition is another name of
+-- The definition that an alias refers to.
 abbrev pub other_name : DefinedType → Option DefinedTypeId
 other_name (def.Alias (val.Defined d)) = Some d
 other_name x = None
 
--- what stands for each value type where a definition is looked at without them
+-- The placeholder for each value type in an outline.
 abbrev pub any_value : ValueType
 any_value = val.Own (record { 0 = 0 })
 
@@ -36,7 +36,7 @@ abbrev pub any_maybe : Option ValueType → Option ValueType
 any_maybe None = None
 any_maybe (Some v) = Some any_value
 
--- a definition without the value types that it mentions: its sort, its names, and how many it mentions where
+-- The outline of a definition: its constructor, its names, and the number of its value types, but not these themselves.
 abbrev pub outline : DefinedType → DefinedType
 outline (def.Tuple vs) = def.Tuple (map (λ v. any_value) vs)
 outline (def.List v) = def.List any_value
@@ -51,22 +51,23 @@ outline (def.Alias v) = def.Alias any_value
 outline (def.Stream v) = def.Stream (any_maybe v)
 outline (def.Future v) = def.Future (any_maybe v)
 
--- so a function type
+-- The outline of a function type.
 abbrev pub func_outline : FuncType → FuncType
 func_outline f = record { params = map (λ e. (e.0, any_value)) f.params; result = any_maybe f.result; is_async = f.is_async }
 
--- A value type became one whose definition was made for the named type that its own is, at the end of the names that are another's, and has its outline; and so did what it is made of. A primitive became itself.
+-- The second value type is the first, rewritten with definitions made once for each named type.
+-- An alias is rewritten as the definition that it refers to, another definition as one with its outline, part by part.
 pub data IsMadeOf (c : Collection) (t : NamedTypes) (made : Made) : ValueType → ValueType → Type 0 where
   plain : (v w : ValueType) → definition v ≡ None → ((p : PrimitiveType) → v ≡ val.Primitive p → w ≡ v) → IsMadeOf c t made v w
   alias : (v w : ValueType) (d end : DefinedTypeId) (y : DefinedType) → definition v ≡ Some d → item_at c.defined d.0 ≡ Some y → other_name y ≡ Some end → IsMadeOf c t made (val.Defined end) w → IsMadeOf c t made v w
   anew : (v w : ValueType) (d e : DefinedTypeId) (y x : DefinedType) → definition v ≡ Some d → definition w ≡ Some e → item_at c.defined d.0 ≡ Some y → other_name y ≡ None → IsMadeFor made (named_type t d) x e → outline x ≡ outline y
       → ((i : ℕ) (a b : ValueType) → slice_get (defined_values y) i ≡ Some a → slice_get (defined_values x) i ≡ Some b → IsMadeOf c t made a b) → IsMadeOf c t made v w
 
--- so did value types, in order
+-- The second value types are the first, rewritten in this way, in order.
 abbrev pub AreMadeOf : Collection → NamedTypes → Made → List ValueType → List ValueType → Type 0
 AreMadeOf c t made vs ws = (i : ℕ) (a b : ValueType) → slice_get vs i ≡ Some a → slice_get ws i ≡ Some b → IsMadeOf c t made a b
 
--- so did what a function type mentions, and what it became has its outline and is itself, or was made of it once
+-- The second function type is the first, or was made from it once, with its outline and rewritten value types.
 pub record IsFuncMadeOf (c m : Collection) (t : NamedTypes) (made : Made) (f g : FuncTypeId) : Type 0 where
   pub before : FuncType
   pub after : FuncType
@@ -76,7 +77,7 @@ pub record IsFuncMadeOf (c m : Collection) (t : NamedTypes) (made : Made) (f g :
   pub values : AreMadeOf c t made (func_values before) (func_values after)
   pub once : (g ≡ f) ⊎ IsFuncMadeFor made f after g
 
--- so did what an item mentions, where it became no resource
+-- The value types and function types of an item are rewritten in this way. A resource and other items mention none.
 abbrev pub IsKindMadeOf : Collection → Collection → NamedTypes → Made → ItemKind → ItemKind → Type 0
 IsKindMadeOf c m t made k (kind.TypeItem (ty.Resource q)) = Unit {0}
 IsKindMadeOf c m t made (kind.Value v) (kind.Value w) = IsMadeOf c t made v w

@@ -1,4 +1,4 @@
--- Types while they are renamed, and what they became. Private functions alone cite this.
+-- The types that were rewritten so far. Only contracts inside the merge cite this file.
 use Rattle.std.specs.Prelude.{ℕ, ◌≡◌, List, Option, Some}
 use Rattle.std.specs.Option.{option_map}
 use Rattle.wac_collection.specs.Collection.{Collection}
@@ -20,11 +20,11 @@ use Rattle.wac_renaming.specs.Ways.{AreOutward}
 use Rattle.wac_terms.specs.Renaming.{AreEnds, IsRenamed}
 use Rattle.wac_subtyping.specs.Extended.{IsExtended}
 
--- what a resource at the end of its aliases becomes where types are renamed
+-- What a resource without alias becomes, where types are rewritten.
 abbrev pub becomes : Renaming → ResourceId → ResourceId
 becomes s = became s.types.now s.became.now.parts.now s.became.now.bindings.now s.became.now.fresh.now s.part
 
--- the collection begins with that of the types to be renamed, and holds what their resources become; the parts are as they should be
+-- Types can be rewritten in this part: the merged collection begins with theirs and holds what its resources become.
 pub record CanRename (m : Collection) (s : Renaming) : Type 0 where
   pub extended : IsExtended s.types.now m
   pub ends : AreEnds s.types.now m (becomes s)
@@ -33,7 +33,7 @@ pub record CanRename (m : Collection) (s : Renaming) : Type 0 where
   pub around : AreAround s.became.now.parts.now
   pub within : IsPart s.became.now.parts.now s.part
 
--- so it is in each part, and outside of all
+-- Types can be rewritten in each part and outside all parts.
 pub record CanRenameAll (m c : Collection) (b : Became) : Type 0 where
   pub extended : IsExtended c m
   pub ends : (part : Option ℕ) → IsPart b.parts.now part → AreEnds c m (became c b.parts.now b.bindings.now b.fresh.now part)
@@ -41,32 +41,32 @@ pub record CanRenameAll (m c : Collection) (b : Became) : Type 0 where
   pub outward : AreOutward b.parts.now b.bound.now b.outward.now
   pub around : AreAround b.parts.now
 
--- what a definition and a function type became, by the positions of what all became
+-- The rewritten definition or function type, by a list of the indices of all of them.
 abbrev pub defined_at : List (Option ℕ) → DefinedTypeId → Option DefinedTypeId
 defined_at ns d = option_map (λ n. record { 0 = n }) (number_at ns d.0)
 
 abbrev pub func_at : List (Option ℕ) → FuncTypeId → Option FuncTypeId
 func_at ns f = option_map (λ n. record { 0 = n }) (number_at ns f.0)
 
--- so in a memo
+-- The rewritten definition or function type of a memo.
 abbrev pub defined_in : Renamed → DefinedTypeId → Option DefinedTypeId
 defined_in memo d = defined_at memo.defined d
 
 abbrev pub func_in : Renamed → FuncTypeId → Option FuncTypeId
 func_in memo f = func_at memo.funcs f
 
--- what a value type became: a handle that of what its resource becomes, a definition what that became
+-- The rewritten value type: a handle is of what its resource becomes, a definition is looked up in the memo.
 abbrev pub value_in : Renaming → Renamed → ValueType → Option ValueType
 value_in s memo (val.Primitive p) = Some (val.Primitive p)
 value_in s memo (val.Own r) = Some (val.Own (becomes s (resolved s.types.now r)))
 value_in s memo (val.Borrow r) = Some (val.Borrow (becomes s (resolved s.types.now r)))
 value_in s memo (val.Defined d) = option_map val.Defined (defined_in memo d)
 
--- all that became something was renamed, and what was made is under its ids
+-- All recorded types are rewritten correctly, and what was made has the recorded ids.
 pub record AreRenamed (m : Collection) (s : Renaming) (memo : Renamed) : Type 0 where
   pub defined : (d e : DefinedTypeId) → defined_in memo d ≡ Some e → IsRenamed s.types.now m (becomes s) (ty.Value (val.Defined d)) (ty.Value (val.Defined e))
   pub funcs : (f g : FuncTypeId) → func_in memo f ≡ Some g → IsRenamed s.types.now m (becomes s) (ty.Func f) (ty.Func g)
   pub made : AreMade s.types.now s.became.now.named.now m memo.made
-  -- what became another has the id that was made for the named type that it is
+  -- Each rewritten definition has the id that was made for its named type.
   pub once : (d e : DefinedTypeId) → defined_in memo d ≡ Some e → IsMadeOf s.types.now s.became.now.named.now memo.made (val.Defined d) (val.Defined e)
   pub once_funcs : (f g : FuncTypeId) → func_in memo f ≡ Some g → IsFuncMadeOf s.types.now m s.became.now.named.now memo.made f g

@@ -1,4 +1,4 @@
--- The steps in which types are renamed. Private functions alone cite this.
+-- The steps in which types are rewritten. Only contracts inside the merge cite this file.
 use Rattle.std.specs.Prelude.{ℕ, ◌≡◌, ◌++◌, ◌⊎◌, true, cond, nat_eq, List, ◌∷◌, [], Option, Some, None, IsSome}
 use Rattle.std.specs.List.{AllByRecursion, AllZip}
 use Rattle.wac_primitives.specs.Name.{Name}
@@ -28,27 +28,27 @@ use Rattle.wac_renaming.specs.declared.renamer.Renaming.{Renaming}
 use Rattle.wac_tables.specs.declared.tasks.Task.{Task}
 use Rattle.wac_tables.specs.declared.tasks.Task.TheVariants.{Open, Close}
 
--- a value type became one of the second collection
+-- The second value type is the first, rewritten.
 abbrev pub IsRenamedValue : Collection → Collection → (ResourceId → ResourceId) → ValueType → ValueType → Type 0
 IsRenamedValue c m f v w = IsRenamed c m f (ty.Value v) (ty.Value w)
 
--- so it does in a renaming, where the collection is this and this was made
+-- The second value type is the first, rewritten in this collection with what was made.
 abbrev pub IsRenamedIn : Renaming → Collection → Made → ValueType → ValueType → Type 0
 IsRenamedIn s m made v w = IsRenamedValue s.types.now m (becomes s) v w × IsMadeOf s.types.now s.became.now.named.now made v w
 
--- a held value type became this
+-- The rewritten value type of one of the collection.
 abbrev pub IsBecome : Renaming → Renamed → ValueType → ValueType → Type 0
 IsBecome s memo v w = (holds_value s.types.now v ≡ true) × (value_in s memo v ≡ Some w)
 
--- a value type became itself
+-- Rewriting leaves a value type unchanged.
 abbrev pub Stays : Renaming → Renamed → ValueType → Type 0
 Stays s memo v = value_in s memo v ≡ Some v
 
--- each did
+-- Rewriting leaves each value type unchanged.
 abbrev pub AllStay : Renaming → Renamed → List ValueType → Type 0
 AllStay s memo vs = AllByRecursion (Stays s memo) vs
 
--- with one more definition, or function type, that became another
+-- The memo records one more rewritten definition, or one more rewritten function type.
 pub record HasDefinedToo (old : Renamed) (d e : DefinedTypeId) (new : Renamed) : Type 0 where
   pub defined : (k : DefinedTypeId) → defined_in new k ≡ cond (nat_eq d.0 k.0) (Some e) (defined_in old k)
   pub funcs : new.funcs ≡ old.funcs
@@ -59,26 +59,26 @@ pub record HasFuncToo (old : Renamed) (f g : FuncTypeId) (new : Renamed) : Type 
   pub defined : new.defined ≡ old.defined
   pub made : new.made ≡ old.made
 
--- with another memory for tasks
+-- The memo differs in its buffer for tasks only.
 pub record HasSame (old new : Renamed) : Type 0 where
   pub defined : new.defined ≡ old.defined
   pub funcs : new.funcs ≡ old.funcs
   pub made : new.made ≡ old.made
 
--- optional value types that go together
+-- Both are none, or both are value types that correspond.
 abbrev pub GoTogether : (ValueType → ValueType → Type 0) → Option ValueType → Option ValueType → Type 0
 GoTogether R None None = Unit {0}
 GoTogether R (Some v) (Some w) = R v w
 GoTogether R _ _ = ⊥
 
--- fields, and cases, of the same names, whose value types go together
+-- Fields or cases have the same names, and their value types correspond.
 abbrev pub FieldsGoTogether : (ValueType → ValueType → Type 0) → List (Name × ValueType) → List (Name × ValueType) → Type 0
 FieldsGoTogether R = AllZip (λ e f. (f.0 ≡ e.0) × R e.1 f.1)
 
 abbrev pub CasesGoTogether : (ValueType → ValueType → Type 0) → List (Name × Option ValueType) → List (Name × Option ValueType) → Type 0
 CasesGoTogether R = AllZip (λ e f. (f.0 ≡ e.0) × GoTogether R e.1 f.1)
 
--- definitions of one shape, whose value types go together
+-- Definitions have one constructor and the same names, and their value types correspond.
 pub data HaveOneShape (R : ValueType → ValueType → Type 0) (d e : DefinedType) : Type 0 where
   tuples : (vs ws : List ValueType) → d ≡ def.Tuple vs → e ≡ def.Tuple ws → AllZip R vs ws → HaveOneShape R d e
   lists : (v w : ValueType) → d ≡ def.List v → e ≡ def.List w → R v w → HaveOneShape R d e
@@ -93,18 +93,18 @@ pub data HaveOneShape (R : ValueType → ValueType → Type 0) (d e : DefinedTyp
   streams : (v w : Option ValueType) → d ≡ def.Stream v → e ≡ def.Stream w → GoTogether R v w → HaveOneShape R d e
   futures : (v w : Option ValueType) → d ≡ def.Future v → e ≡ def.Future w → GoTogether R v w → HaveOneShape R d e
 
--- function types of one shape, whose value types go together
+-- Function types have the same parameter names, and their value types correspond.
 pub record HaveOneFuncShape (R : ValueType → ValueType → Type 0) (x y : FuncType) : Type 0 where
   pub params : FieldsGoTogether R x.params y.params
   pub result : GoTogether R x.result y.result
   pub sort : y.is_async ≡ x.is_async
 
--- what became something still did, and what was made still is
+-- All that was rewritten and made before is still recorded.
 pub record IsMore (old new : Renamed) : Type 0 where
   pub defined : (d : DefinedTypeId) → IsSome (defined_in old d) → IsSome (defined_in new d)
   pub made : StayMade old.made new.made
 
--- a value type became something, where it is a definition
+-- A value type can be rewritten without a task: if it is a definition, its rewritten form is recorded.
 abbrev pub IsReady : Renamed → ValueType → Type 0
 IsReady memo (val.Primitive p) = Unit {0}
 IsReady memo (val.Own r) = Unit {0}
@@ -114,34 +114,34 @@ IsReady memo (val.Defined d) = IsSome (defined_in memo d)
 abbrev pub AreReady : Renamed → List ValueType → Type 0
 AreReady memo vs = AllByRecursion (IsReady memo) vs
 
--- the definition of a task became something
+-- The definition of a task was rewritten.
 abbrev pub IsDone : Renamed → Task → Type 0
 IsDone memo t = IsSome (defined_in memo (task_id t))
 
--- to be closed a definition needs its parts renamed
+-- A task that closes a definition needs its parts rewritten.
 abbrev pub MayBeDone : Collection → Renamed → Task → Type 0
 MayBeDone c memo (Open d) = Unit {0}
 MayBeDone c memo (Close d) = AreReady memo (parts_of c d)
 
--- a task was done: its definition became something, or its parts come first
+-- A task was performed: its definition was rewritten, or it was pushed again with its parts after it.
 pub data Did (c : Collection) (t : Task) (old new : Renamed) (left now : List Task) : Type 0 where
   renamed : IsMore old new → IsDone new t → now ≡ left → Did c t old new left now
   put_off : (d : DefinedTypeId) → t ≡ Open d → new ≡ old → now ≡ left ++ Close d ∷ openings (parts_of c d) → Did c t old new left now
 
--- a value type became something, or its definition waits
+-- A value type can be rewritten, or a task for its definition waits.
 abbrev pub IsAwaited : Renamed → List Task → ValueType → Type 0
 IsAwaited memo ts (val.Primitive p) = Unit {0}
 IsAwaited memo ts (val.Own r) = Unit {0}
 IsAwaited memo ts (val.Borrow r) = Unit {0}
 IsAwaited memo ts (val.Defined d) = IsSome (defined_in memo d) ⊎ HasTask d ts
 
--- the parts of what is to be closed became something, or wait above it
+-- The parts of each definition to close were rewritten, or their tasks come after it.
 abbrev pub AreCovered : Collection → Renamed → List Task → Type 0
 AreCovered c memo [] = Unit {0}
 AreCovered c memo (Open d ∷ ts) = AreCovered c memo ts
 AreCovered c memo (Close d ∷ ts) = AllByRecursion (IsAwaited memo ts) (parts_of c d) × AreCovered c memo ts
 
--- while tasks are done: what is wanted became something or waits
+-- The invariant of the loop over tasks: each wanted definition was rewritten or waits.
 pub record IsUnderWay (s : Renaming) (first : Collection) (wanted : List Task) (m : Collection) (memo : Renamed) (tasks : List Task) : Type 0 where
   pub extended : IsExtended first m
   pub right : AreRenamed m s memo

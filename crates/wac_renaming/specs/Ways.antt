@@ -1,20 +1,21 @@
--- The way out of a part, past those around it that bind nothing. Private functions alone cite this.
+-- The way out of a part, without the enclosing parts that bind nothing. Only contracts inside the merge cite this file.
 use Rattle.std.specs.Prelude.{ℕ, ◌≡◌, List, [], length, Option, Some, None, slice_get}
 use Rattle.wac_primitives.specs.Tree.{Leaf}
 use Rattle.wac_shapes.specs.declared.component.ResourceId.{ResourceId}
 use Rattle.wac_terms.specs.declared.parts.Part.{Part}
 
--- the next part on the way out of one in this part: this one, where it binds something or is an outermost one, else the next on the way out of it
+-- An enclosing part is the next on the way out if it binds something or is outermost.
+-- Otherwise the next is that on the way out of the enclosing part.
 pub data LeadsOut (ps : List Part) (bounds : List (List (ResourceId × Leaf))) : Option ℕ → Option ℕ → Type 0 where
   outermost : LeadsOut ps bounds None None
   binding : (p : ℕ) → ((x : Part) → slice_get ps p ≡ Some x → slice_get bounds p ≡ Some [] → x.outer ≡ None) → LeadsOut ps bounds (Some p) (Some p)
   beyond : (p : ℕ) (x : Part) (q : ℕ) → slice_get ps p ≡ Some x → slice_get bounds p ≡ Some [] → LeadsOut ps bounds x.outer (Some q) → LeadsOut ps bounds (Some p) (Some q)
 
--- the first parts have theirs
+-- The next part on the way out is known for the first parts.
 abbrev pub HaveWays : List Part → List (List (ResourceId × Leaf)) → List (Option ℕ) → Type 0
 HaveWays ps bounds ws = (p : ℕ) (x : Part) (w : Option ℕ) → slice_get ps p ≡ Some x → slice_get ws p ≡ Some w → LeadsOut ps bounds x.outer w
 
--- each part has its own
+-- The next part on the way out is known for each part.
 pub record AreOutward (ps : List Part) (bounds : List (List (ResourceId × Leaf))) (ws : List (Option ℕ)) : Type 0 where
   pub counted : length ws ≡ length ps
   pub ways : HaveWays ps bounds ws

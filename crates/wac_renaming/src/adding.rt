@@ -1,4 +1,4 @@
-//! New resources, behind what a collection holds.
+//! New resources, added to a merged collection.
 ghost use Rattle.std.specs.Prelude.{◌≡◌, ℕ, [], true, length, Some, IfOk, OnOk};
 ghost use Rattle.wac_collection.specs.Collection.{Collection, holds_type};
 ghost use Rattle.wac_shapes.specs.Kinds.{kind_type};
@@ -20,12 +20,12 @@ use wac_subtyping::laws::growth_keeps_trees;
 use wac_terms::fresh::Fresh;
 use wac_terms::parts::{Export, Union};
 
-/// Adds a resource under a name.
+/// Adds a resource of the given name.
 fn add(alloc: Global, merged: &mut Types, name: &str) -> Result<ResourceId, AllocError>
     ensures extended { IsExtended merged.old merged.new }
     ensures new { IfOk result (λ q. IsNew merged.old merged.new q name.now) }
 {
-    growth_keeps_trees(merged);
+    growth_keeps_trees(merged); // proof only
     let resource = Resource::new(alloc, name)?;
     match merged.add_resource(resource) {
         Ok(id) => Ok(id),
@@ -43,11 +43,11 @@ fn add_own(
     ensures extended { IsExtended merged.old merged.new }
     ensures own { IfOk result (λ own. AreOwn merged.old exports.now own merged.new) }
 {
-    exports.law();
+    exports.law(); // proof only
     let mut own = Named::new(alloc);
     for i in 0..exports.len() {
         let (name, export) = exports.entry_at(i);
-        merged.law();
+        merged.law(); // proof only
         if export.is_own {
             let resource = add(alloc, merged, name)?;
             match own.insert(alloc, name, resource) {
@@ -71,13 +71,14 @@ fn add_all_own(
 {
     let mut own = Vec::new(alloc);
     for u in 0..unions.len() {
-        merged.law();
+        merged.law(); // proof only
         own.push(add_own(alloc, merged, &unions[u].exports)?)?;
     }
     Ok(own)
 }
 
-/// Adds a resource for a class that is the first to bind one, where this item is that one and the class has none yet.
+/// Adds a resource for the class that is the first to bind the resource of `kind` and is that resource itself.
+/// It adds none if `kind` is no resource or the class already has a new one.
 fn add_whole(
     alloc: Global,
     merged: &mut Types,
@@ -100,14 +101,14 @@ fn add_whole(
     let Some((class, path)) = bindings.first(resource) else {
         return Ok(());
     };
-    merged.law();
+    merged.law(); // proof only
     if path.is_empty() && whole[class].is_none() {
         whole[class] = Some(add(alloc, merged, types[resource].name.as_str())?);
     }
     Ok(())
 }
 
-/// As many classes, none of which is a new resource.
+/// Returns a list of `None`, one for each of `count` classes.
 fn none_whole(alloc: Global, count: usize) -> Result<Vec<Option<ResourceId>>, AllocError>
     ensures counted { IfOk result (λ whole. length whole.items ≡ count) }
     ensures none { IfOk result (λ whole. (k : ℕ) → IsWhole whole.items k → ⊥) }
@@ -119,7 +120,7 @@ fn none_whole(alloc: Global, count: usize) -> Result<Vec<Option<ResourceId>>, Al
     Ok(whole)
 }
 
-/// Adds a resource for each class that is the first to bind one by being it.
+/// Adds a resource for each class that is a resource and is the first to bind it.
 fn add_all_whole(
     alloc: Global,
     merged: &mut Types,
@@ -149,7 +150,13 @@ fn add_all_whole(
     Ok(whole)
 }
 
-/// Adds new resources: one for each name under which a union lists an own resource, and one for each class that is a resource which it is the first to bind.
+/// Adds the new resources and returns them.
+///
+/// There is one for each name under which a union exports an own resource.
+/// There is one for each class that is a resource and is the first to bind it.
+///
+/// # Errors
+/// - [`AllocError`] if out of memory. The merged collection may then hold some of the new resources.
 pub fn add_fresh(
     alloc: Global,
     merged: &mut Types,
@@ -167,7 +174,7 @@ pub fn add_fresh(
     ensures fresh { IfOk result (λ f. AreFresh types.now unions.now bindings.now f merged.new) }
 {
     let own = add_all_own(alloc, merged, unions)?;
-    merged.law();
+    merged.law(); // proof only
     let whole = add_all_whole(alloc, merged, types, entries, classes, bindings)?;
     Ok(Fresh { own, whole })
 }

@@ -1,4 +1,4 @@
-//! What resources become in a merged collection.
+//! The resource of the merged collection that each resource becomes.
 ghost use Rattle.std.specs.Prelude.{◌≡◌, ℕ, IfOk, Some, length, slice_get};
 ghost use Rattle.wac_collection.specs.Collection.{HasInterface};
 ghost use Rattle.wac_collection.specs.Held.{resolved};
@@ -16,7 +16,10 @@ use wac_terms::fresh::Fresh;
 use wac_terms::parts::Part;
 use wac_values::named::NamedTypes;
 
-/// What the interface of each part binds.
+/// Returns what the interface of each part binds.
+///
+/// # Errors
+/// - [`AllocError`] if out of memory.
 pub fn part_bounds(alloc: Global, types: &Types, parts: &[Part]) -> Result<Vec<Bound>, AllocError>
     requires { (p : ℕ) (x : APart) → slice_get parts.now p ≡ Some x → HasInterface types.now x.interface }
     ensures bound { IfOk result (λ b. AreBoundParts types.now parts.now b.items) }
@@ -29,14 +32,14 @@ pub fn part_bounds(alloc: Global, types: &Types, parts: &[Part]) -> Result<Vec<B
     Ok(bounds)
 }
 
-/// What resources become in the parts of unions, and which definitions are to become one.
+/// What types are rewritten by: the parts, the bindings, the new resources and the named types.
 #[derive(Clone, Copy)]
 pub struct Became<'a> {
-    /// The parts.
+    /// The parts of all unions.
     pub parts: &'a [Part],
-    /// What the interface of each binds.
+    /// What the interface of each part binds.
     pub bound: &'a [Bound],
-    /// The next part on the way out of each.
+    /// For each part, the next enclosing part to search.
     pub outward: &'a [Option<usize>],
     /// What the classes bind.
     pub bindings: &'a Bindings,
@@ -47,7 +50,7 @@ pub struct Became<'a> {
 }
 
 impl<'a> Became<'a> {
-    /// What a resource that is no alias becomes outside of all parts.
+    /// Returns what a resource becomes outside all parts. The resource must not be an alias.
     fn outside(&self, resource: ResourceId) -> ResourceId
         ensures { result ≡ became_outside self.now.bindings.now self.now.fresh.now resource }
     {
@@ -57,7 +60,7 @@ impl<'a> Became<'a> {
         }
     }
 
-    /// What it becomes around the outermost parts of a class.
+    /// Returns what a resource becomes in a class, outside its parts. The resource must not be an alias.
     fn in_class(&self, class: usize, resource: ResourceId) -> ResourceId
         ensures { result ≡ became_in_class self.now.bindings.now self.now.fresh.now class resource }
     {
@@ -67,7 +70,10 @@ impl<'a> Became<'a> {
         }
     }
 
-    /// What a resource becomes in a part; outside of all where there is none.
+    /// Returns what a resource becomes in a part, or outside all parts if `part` is `None`.
+    ///
+    /// The innermost part that has it as its own resource decides, else the class, else the first class that binds it.
+    /// A resource that nothing binds stays itself.
     pub fn resource(&self, types: &Types, part: Option<usize>, resource: ResourceId) -> ResourceId
         requires bound { AreBoundParts types.now self.now.parts.now self.now.bound.now }
         requires outward { AreOutward self.now.parts.now self.now.bound.now self.now.outward.now }

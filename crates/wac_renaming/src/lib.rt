@@ -1,6 +1,8 @@
-//! New resources, and types of a collection whose resources become others.
+//! The resources of the merged types, and types rewritten over them.
 //!
-//! A layer of `wac_merge`, whose crate is the door.
+//! The merged collection begins with the given one. It gets a new resource for each name under which a union has an own
+//! resource, and for each class that is a resource. An own resource of an interface is one that it exports as neither
+//! an alias nor a used type. A type is rewritten with what each of its resources becomes where the type is used.
 #![tactic(auto)]
 
 pub mod adding;

@@ -1,4 +1,4 @@
-//! The way out of a part, past those around it that bind nothing.
+//! The way out of a part, without the enclosing parts that bind nothing.
 ghost use Rattle.std.specs.Prelude.{◌<◌, ◌≤◌, length, slice_get, IfOk, ◌≡◌, Some};
 ghost use Rattle.wac_renaming.specs.Ways.{AreOutward, HaveWays, LeadsOut};
 ghost use Rattle.wac_terms.specs.Unions.{AreAround};
@@ -8,8 +8,9 @@ use std::alloc::{AllocError, Global};
 use wac_entries::bound::Bound;
 use wac_terms::parts::Part;
 
-/// The next part on the way out of the one at a position, where it is known for those before it: the nearest around it that
-/// binds something, else the outermost.
+/// Returns the next part on the way out of a part: the nearest enclosing one that binds something, or the outermost.
+///
+/// `outward` has the result for each earlier part.
 fn way_out(
     parts: &[Part],
     bound: &[Bound],
@@ -32,7 +33,10 @@ fn way_out(
     }
 }
 
-/// For each part the next one on the way out of it.
+/// Returns the next part on the way out of each part; `None` for an outermost part.
+///
+/// # Errors
+/// - [`AllocError`] if out of memory.
 pub fn outward_in(
     alloc: Global,
     parts: &[Part],

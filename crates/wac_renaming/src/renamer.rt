@@ -1,7 +1,7 @@
-//! Types of a collection whose resources become others, in a collection that begins with it.
+//! Types rewritten over the resources of a merged collection.
 //!
-//! A definition whose parts are not renamed yet waits in a list of tasks, below its parts, so that no chain of definitions is
-//! too long. Each is opened once and renamed once.
+//! Definitions are rewritten without recursion, so the depth of a type is not limited by the stack.
+//! A definition waits in a list of tasks until its parts are rewritten. Each definition is rewritten once.
 ghost use Rattle.std.specs.Prelude.{◌≡◌, ◌↔◌, ◌++◌, ◌∷◌, [], true, None, IfOk, IfSome, IsTrue, OnOk};
 ghost use Rattle.std.specs.List.{AllByRecursion, AllZip};
 ghost use Rattle.wac_renaming.specs.MadeOf.{AreMade, IsFuncMadeOf, IsMadeOf, other_name};
@@ -35,21 +35,21 @@ use wac_subtyping::laws::trees_are_whole;
 use wac_tables::rounds::Numbers;
 use wac_tables::tasks::{Task, open_fields, open_optional, open_parts, open_value};
 
-/// Where types are renamed: the collection that they are of, what its resources become, and in which part.
+/// Where types are rewritten: their collection, what its resources become, and the part.
 #[derive(Clone, Copy)]
 pub struct Renaming<'a> {
-    /// For the memory.
+    /// The allocator.
     pub alloc: Global,
-    /// The collection.
+    /// The collection of the types.
     pub types: &'a Types,
     /// What its resources become.
     pub became: &'a Became<'a>,
-    /// The part; none outside of all.
+    /// The part; `None` outside all parts.
     pub part: Option<usize>,
 }
 
 impl<'a> Renaming<'a> {
-    /// What a resource becomes.
+    /// Returns what a resource becomes.
     pub fn resource(&self, id: ResourceId) -> ResourceId
         requires bound { AreBoundParts self.now.types.now self.now.became.now.parts.now self.now.became.now.bound.now }
         requires outward { AreOutward self.now.became.now.parts.now self.now.became.now.bound.now self.now.became.now.outward.now }
@@ -61,18 +61,18 @@ impl<'a> Renaming<'a> {
     }
 }
 
-/// What definitions and function types became in a part, and what was made of definitions in all.
+/// The types that were rewritten in one part, and the definitions and function types that were made in all parts.
 pub struct Renamed {
-    /// The position of what a definition became, by the position of that.
+    /// The index of each rewritten definition, by the index of the original.
     defined: Numbers,
-    /// That of what a function type became.
+    /// The index of each rewritten function type, by the index of the original.
     funcs: Numbers,
     made: Made,
-    /// Memory for the tasks of a type. None is left between calls.
+    /// A buffer for tasks, empty between calls.
     tasks: Vec<Task>,
 }
 
-/// What was made is let go of here, and not anew at each place where a `Renamed` goes out of scope.
+// By hand: a derived `Drop` is proved again wherever one goes out of scope (docs/PROOFS.md, 'Drop').
 impl Drop for Renamed {
     fn drop(self) {
         let Renamed {
@@ -84,7 +84,7 @@ impl Drop for Renamed {
     }
 }
 
-/// Puts a value under a name that is not there, behind the others.
+/// Appends a value under a name that is not there yet.
 fn put<V: Drop>(alloc: Global, named: &mut Named<V>, name: &str, value: V) -> Result<(), AllocError>
     requires { find_name named.old name.now ≡ None }
     ensures { OnOk result (named.new ≡ named.old ++ (name.now, value) ∷ []) }
@@ -96,7 +96,7 @@ fn put<V: Drop>(alloc: Global, named: &mut Named<V>, name: &str, value: V) -> Re
     }
 }
 
-/// Names in order, in memory of their own.
+/// Copies labels.
 fn copied(alloc: Global, labels: &Labels) -> Result<Labels, AllocError>
     ensures { IfOk result (λ l. l ≡ labels.now) }
 {
@@ -104,7 +104,7 @@ fn copied(alloc: Global, labels: &Labels) -> Result<Labels, AllocError>
     for i in 0..labels.len() {
         names.push(labels.name_at(i))?;
     }
-    labels.law();
+    labels.law(); // proof only
     match Labels::new(alloc, names.as_slice()) {
         Ok(copy) => Ok(copy),
         Err(ShapeError::NameTwice) => unreachable!(),
@@ -112,7 +112,7 @@ fn copied(alloc: Global, labels: &Labels) -> Result<Labels, AllocError>
     }
 }
 
-/// The definition that this is another name of, where it is one.
+/// Returns the definition that an alias refers to, if the given one is an alias of a definition.
 fn alias_end(definition: &DefinedType) -> Option<DefinedTypeId>
     ensures alias { IfSome result (λ end. definition.now ≡ def.Alias (val.Defined end)) }
     ensures named { result ≡ other_name definition.now }
@@ -127,7 +127,7 @@ fn alias_end(definition: &DefinedType) -> Option<DefinedTypeId>
 }
 
 impl Renamed {
-    /// Nothing became another yet.
+    /// Returns a memo without rewritten types.
     pub fn new(alloc: Global) -> Renamed
         ensures right { (m : Collection) (s : ARenaming) → AreRenamed m s result }
         ensures made { (c m : Collection) (t : ANamedTypes) → AreMade c t m result.made }
@@ -140,7 +140,7 @@ impl Renamed {
         }
     }
 
-    /// Forgets what became another, since another part comes next. What was made stays.
+    /// Forgets the rewritten types, before the next part. Definitions and function types that were made are kept.
     pub fn forget(&mut self)
         ensures right { (m : Collection) (s : ARenaming) → AreMade s.types.now s.became.now.named.now m self.old.made → AreRenamed m s self.new }
         ensures made { self.new.made ≡ self.old.made }
@@ -149,7 +149,7 @@ impl Renamed {
         self.funcs.clear();
     }
 
-    /// What a definition became.
+    /// Returns the rewritten definition of `id`.
     fn defined(&self, id: DefinedTypeId) -> Option<DefinedTypeId>
         ensures { result ≡ defined_in self.now id }
     {
@@ -157,7 +157,7 @@ impl Renamed {
         Some(DefinedTypeId(position))
     }
 
-    /// What a function type became.
+    /// Returns the rewritten function type of `id`.
     fn func_type(&self, id: FuncTypeId) -> Option<FuncTypeId>
         ensures { result ≡ func_in self.now id }
     {
@@ -165,21 +165,21 @@ impl Renamed {
         Some(FuncTypeId(position))
     }
 
-    /// A definition became another.
+    /// Records the rewritten definition of `id`.
     fn put_defined(&mut self, id: DefinedTypeId, became: DefinedTypeId) -> Result<(), AllocError>
         ensures { OnOk result (HasDefinedToo self.old id became self.new) }
     {
         self.defined.put(id.0, became.0)
     }
 
-    /// A function type became another.
+    /// Records the rewritten function type of `id`.
     fn put_func(&mut self, id: FuncTypeId, became: FuncTypeId) -> Result<(), AllocError>
         ensures { OnOk result (HasFuncToo self.old id became self.new) }
     {
         self.funcs.put(id.0, became.0)
     }
 
-    /// Takes the memory for tasks out. None is in it.
+    /// Takes the buffer for tasks, emptied.
     fn take_tasks(&mut self, alloc: Global) -> Vec<Task>
         ensures none { result.items ≡ [] }
         ensures same { HasSame self.old self.new }
@@ -189,20 +189,21 @@ impl Renamed {
         tasks
     }
 
-    /// Keeps memory for tasks.
+    /// Puts the buffer for tasks back.
     fn keep_tasks(&mut self, tasks: Vec<Task>)
         ensures { HasSame self.old self.new }
     {
         self.tasks = tasks;
     }
 
-    /// What a value type becomes, where its definition became something if it has one.
+    /// Returns a value type, rewritten. A definition must have been rewritten already.
     fn part(&self, merged: &Types, renaming: &Renaming<'_>, value: ValueType) -> ValueType
         requires held { holds_value renaming.now.types.now value ≡ true }
         requires ready { IsReady self.now value }
         requires known { CanRename merged.now renaming.now }
         ensures { IsBecome renaming.now self.now value result }
     {
+        // `merged` serves the contract alone.
         let _ = merged;
         match value {
             ValueType::Primitive(_) => value,
@@ -212,7 +213,7 @@ impl Renamed {
         }
     }
 
-    /// What an optional value type becomes.
+    /// Returns an optional value type, rewritten.
     fn optional(
         &self,
         merged: &Types,
@@ -230,7 +231,7 @@ impl Renamed {
         }
     }
 
-    /// What values become, in order.
+    /// Returns value types, rewritten, in order.
     fn parts(
         &self,
         merged: &Types,
@@ -249,7 +250,7 @@ impl Renamed {
         Ok(renamed)
     }
 
-    /// What fields or parameters become, under their names.
+    /// Returns fields or parameters with their types rewritten.
     fn fields(
         &self,
         merged: &Types,
@@ -261,7 +262,7 @@ impl Renamed {
         requires known { CanRename merged.now renaming.now }
         ensures { IfOk result (λ es. FieldsGoTogether (IsBecome renaming.now self.now) fields.now es) }
     {
-        fields.law();
+        fields.law(); // proof only
         let mut renamed = Named::with_capacity(renaming.alloc, fields.len())?;
         for i in 0..fields.len() {
             let (name, value) = fields.entry_at(i);
@@ -271,7 +272,7 @@ impl Renamed {
         Ok(renamed)
     }
 
-    /// What cases become, under their names.
+    /// Returns cases with their types rewritten.
     fn cases(
         &self,
         merged: &Types,
@@ -283,7 +284,7 @@ impl Renamed {
         requires known { CanRename merged.now renaming.now }
         ensures { IfOk result (λ es. CasesGoTogether (IsBecome renaming.now self.now) cases.now es) }
     {
-        cases.law();
+        cases.law(); // proof only
         let mut renamed = Named::with_capacity(renaming.alloc, cases.len())?;
         for i in 0..cases.len() {
             let (name, value) = cases.entry_at(i);
@@ -293,7 +294,7 @@ impl Renamed {
         Ok(renamed)
     }
 
-    /// What a tuple of these becomes.
+    /// Returns the tuple of these value types, rewritten.
     fn tuple(
         &self,
         merged: &Types,
@@ -309,7 +310,7 @@ impl Renamed {
         DefinedType::tuple(renaming.alloc, parts.as_slice())
     }
 
-    /// What a definition becomes whose parts are renamed.
+    /// Returns a definition, rewritten. Its parts must have been rewritten already.
     fn definition(
         &self,
         merged: &Types,
@@ -349,7 +350,7 @@ impl Renamed {
         Ok(renamed)
     }
 
-    /// What a function type becomes whose parts are renamed.
+    /// Returns a function type, rewritten. Its parts must have been rewritten already.
     fn function(
         &self,
         merged: &Types,
@@ -368,7 +369,7 @@ impl Renamed {
         })
     }
 
-    /// Whether a value type became itself.
+    /// Returns whether rewriting leaves a value type unchanged.
     fn stays(&self, merged: &Types, renaming: &Renaming<'_>, value: ValueType) -> bool
         requires held { holds_value renaming.now.types.now value ≡ true }
         requires ready { IsReady self.now value }
@@ -378,7 +379,7 @@ impl Renamed {
         self.part(merged, renaming, value) == value
     }
 
-    /// Whether an optional value type did.
+    /// Returns whether rewriting leaves an optional value type unchanged.
     fn optional_stays(
         &self,
         merged: &Types,
@@ -396,7 +397,7 @@ impl Renamed {
         }
     }
 
-    /// Whether values did.
+    /// Returns whether rewriting leaves each value type unchanged.
     fn parts_stay(&self, merged: &Types, renaming: &Renaming<'_>, values: &[ValueType]) -> bool
         requires held { AreHeldValues renaming.now.types.now values.now }
         requires ready { AreReady self.now values.now }
@@ -411,7 +412,7 @@ impl Renamed {
         true
     }
 
-    /// Whether those of fields or parameters did.
+    /// Returns whether rewriting leaves the types of fields or parameters unchanged.
     fn fields_stay(
         &self,
         merged: &Types,
@@ -431,7 +432,7 @@ impl Renamed {
         true
     }
 
-    /// Whether those of cases did.
+    /// Returns whether rewriting leaves the types of cases unchanged.
     fn cases_stay(
         &self,
         merged: &Types,
@@ -451,7 +452,7 @@ impl Renamed {
         true
     }
 
-    /// Whether each part of a definition did.
+    /// Returns whether rewriting leaves each part of a definition unchanged.
     fn definition_stays(
         &self,
         merged: &Types,
@@ -482,7 +483,7 @@ impl Renamed {
         }
     }
 
-    /// Whether each parameter of a function type and its result did.
+    /// Returns whether rewriting leaves the parameters and the result of a function type unchanged.
     fn func_stays(&self, merged: &Types, renaming: &Renaming<'_>, func: &FuncType) -> bool
         requires held { AreHeldValues renaming.now.types.now (func_values func.now) }
         requires ready { AreReady self.now (func_values func.now) }
@@ -493,7 +494,9 @@ impl Renamed {
             && self.fields_stay(merged, renaming, &func.params)
     }
 
-    /// Renames a definition whose parts are renamed.
+    /// Rewrites a definition whose parts were rewritten.
+    ///
+    /// An alias of a definition gets the rewritten form of that definition.
     fn close(
         &mut self,
         merged: &mut Types,
@@ -509,8 +512,8 @@ impl Renamed {
         ensures more { OnOk result (IsMore self.old self.new) }
         ensures done { OnOk result (IsReady self.new (val.Defined id)) }
     {
-        renaming.types.law();
-        trees_are_whole(renaming.types);
+        renaming.types.law(); // proof only
+        trees_are_whole(renaming.types); // proof only
         let definition = &renaming.types[id];
         if let Some(end) = alias_end(definition) {
             let became = self.defined(end).unwrap();
@@ -521,16 +524,16 @@ impl Renamed {
             let kept = self
                 .made
                 .keep(renaming.alloc, merged, named, definition, id)?;
-            trees_are_whole(merged);
+            trees_are_whole(merged); // proof only
             return self.put_defined(id, kept);
         }
         let definition = self.definition(merged, renaming, definition)?;
         let became = self.made.make(renaming.alloc, merged, named, definition)?;
-        trees_are_whole(merged);
+        trees_are_whole(merged); // proof only
         self.put_defined(id, became)
     }
 
-    /// Does a task: renames its definition, or puts it off behind its parts.
+    /// Performs a task: rewrites its definition, or pushes the definition again and its parts after it.
     fn perform(
         &mut self,
         merged: &mut Types,
@@ -558,7 +561,7 @@ impl Renamed {
         }
     }
 
-    /// Renames the definitions of tasks, and what they reach.
+    /// Rewrites the definitions of the tasks and all that these depend on.
     fn finish(
         &mut self,
         merged: &mut Types,
@@ -574,8 +577,8 @@ impl Renamed {
         ensures done { OnOk result (AllByRecursion (IsDone self.new) tasks.items) }
         ensures stay { OnOk result (StayMade self.old.made self.new.made) }
     {
-        renaming.types.law();
-        merged.law();
+        renaming.types.law(); // proof only
+        merged.law(); // proof only
         while let Some(task) = tasks.pop() {
             self.perform(merged, renaming, task, &mut tasks)?;
         }
@@ -583,7 +586,7 @@ impl Renamed {
         Ok(())
     }
 
-    /// Renames the definitions that a function type reaches.
+    /// Rewrites the definitions that a function type depends on.
     fn reach(
         &mut self,
         merged: &mut Types,
@@ -604,7 +607,10 @@ impl Renamed {
         self.finish(merged, renaming, tasks)
     }
 
-    /// What a value type becomes in a merged collection, behind what is there. A definition is renamed once, and without recursion.
+    /// Returns a value type, rewritten, and adds the definitions that it needs to the merged collection.
+    ///
+    /// # Errors
+    /// - [`AllocError`] if out of memory. The merged collection may then hold more types.
     pub fn value(
         &mut self,
         merged: &mut Types,
@@ -625,14 +631,17 @@ impl Renamed {
                 return Ok(ValueType::Defined(became));
             }
         }
-        merged.law();
+        merged.law(); // proof only
         let mut tasks = self.take_tasks(renaming.alloc);
         open_value(&mut tasks, value)?;
         self.finish(merged, renaming, tasks)?;
         Ok(self.part(merged, renaming, value))
     }
 
-    /// What a function type becomes there.
+    /// Returns a function type, rewritten, and adds what it needs to the merged collection.
+    ///
+    /// # Errors
+    /// - [`AllocError`] if out of memory. The merged collection may then hold more types.
     pub fn func(
         &mut self,
         merged: &mut Types,
@@ -651,19 +660,19 @@ impl Renamed {
         if let Some(became) = self.func_type(id) {
             return Ok(became);
         }
-        renaming.types.law();
-        trees_are_whole(renaming.types);
-        merged.law();
+        renaming.types.law(); // proof only
+        trees_are_whole(renaming.types); // proof only
+        merged.law(); // proof only
         let func = &renaming.types[id];
         self.reach(merged, renaming, func)?;
         if self.func_stays(merged, renaming, func) {
-            trees_are_whole(merged);
+            trees_are_whole(merged); // proof only
             self.put_func(id, id)?;
             return Ok(id);
         }
         let renamed = self.function(merged, renaming, func)?;
         let became = self.made.make_func(renaming.alloc, merged, id, renamed)?;
-        trees_are_whole(merged);
+        trees_are_whole(merged); // proof only
         self.put_func(id, became)?;
         Ok(became)
     }

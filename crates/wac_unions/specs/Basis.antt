@@ -1,4 +1,4 @@
--- What a merge is written from. Private functions alone cite this.
+-- What a merge starts from. Only contracts inside the merge cite this file.
 use Rattle.std.specs.Prelude.{ℕ, ◌≡◌, ◌↔◌, List}
 use Rattle.wac_shapes.specs.declared.component.DefinedTypeId.{DefinedTypeId}
 use Rattle.wac_collection.specs.Collection.{Collection}
@@ -13,7 +13,7 @@ use Rattle.wac_renaming.specs.declared.became.Became.{Became}
 use Rattle.wac_unions.specs.MergedClasses.{AreClassUnions}
 use Rattle.wac_unions.specs.declared.merged.Basis.{Basis}
 
--- the unions of the classes of entries, what their parts bind, the new resources, which a collection holds that begins with the entries', and which definitions are one named type
+-- The unions of the classes, what their parts bind, the new resources and the named types are those of the entries.
 pub record IsBasis (c m : Collection) (es : List Entry) (numbers positions : List ℕ) (bs : ClassBindings) (b : Basis) : Type 0 where
   pub unions : AreClassUnions c es b.unions.unions.items b.unions.parts.items
   pub listed : AreListedOnce c b.unions.parts.items
@@ -25,7 +25,7 @@ pub record IsBasis (c m : Collection) (es : List Entry) (numbers positions : Lis
   pub classed : AreClassed c es numbers positions b.named
   pub named : (d e : DefinedTypeId) → IsOneType b.named d e ↔ AreNamedAlike c b.unions.unions.items b.unions.parts.items es numbers positions d e
 
--- what resources become by it, where classes bind this
+-- The parts, bindings, new resources and named types are those of the basis.
 pub record IsBecame (b : Basis) (bs : ClassBindings) (became : Became) : Type 0 where
   pub parts : became.parts.now ≡ b.unions.parts.items
   pub bound : became.bound.now ≡ b.bound.items

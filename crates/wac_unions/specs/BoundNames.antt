@@ -1,4 +1,4 @@
--- How a class binds a resource under a name, as it is looked up. Private functions alone cite this.
+-- How it is looked up whether a class binds a resource under a name. Only contracts inside the merge cite this file.
 use Rattle.std.specs.Prelude.{ℕ, ◌≡◌, [], ◌∷◌, Some, Contains}
 use Rattle.wac_primitives.specs.Name.{Name}
 use Rattle.wac_primitives.specs.Tree.{named}
@@ -9,11 +9,11 @@ use Rattle.wac_shapes.specs.declared.component.ItemKind.TheVariants as kind
 use Rattle.wac_shapes.specs.declared.component.«Type».TheVariants as ty
 use Rattle.wac_entries.specs.Bindings.{ClassBindings, path_in}
 
--- the item is a resource that the class of this number binds under the name
+-- The item is a resource that the class with this number binds under the name.
 abbrev pub ItemBinds : ClassBindings → ℕ → Name → ItemKind → Type 0
 ItemBinds b k n x = (r : ResourceId) × (x ≡ kind.TypeItem (ty.Resource r)) × (path_in b k r ≡ Some (named n ∷ []))
 
--- the item is an instance that lists such a resource under that name
+-- The item is an instance that exports such a resource under the name.
 abbrev pub MemberBinds : Collection → ClassBindings → ℕ → Name → ItemKind → Type 0
 MemberBinds c b k n (kind.Instance i) = (x : ItemKind) × Contains (interface_exports c i) (n, x) × ItemBinds b k n x
 MemberBinds c b k n x = ⊥

@@ -1,4 +1,4 @@
--- One id for one named type, for one function type and for one plain interface.
+-- Each named type, function type and plain interface has one id in the merged collection.
 use Rattle.std.specs.Prelude.{ℕ, ◌≡◌, ◌↔◌, List, [], ◌∷◌, Option, Some, None, slice_get}
 use Rattle.wac_primitives.specs.Name.{Name, option_case}
 use Rattle.wac_shapes.specs.declared.component.DefinedType.{DefinedType}
@@ -32,7 +32,7 @@ use Rattle.wac_unions.specs.OneInterface.{AreOfOneInterface}
 use Rattle.wac_unions.specs.SharedUnions.{AreSharedUnions}
 use Rattle.wac_unions.specs.WritingSteps.{AreImportsMadeOf, AreUnionsMadeOf}
 
--- the value types that an item mentions
+-- The value types that an item mentions.
 abbrev pub kind_values : Collection → ItemKind → List ValueType
 kind_values c (kind.Value v) = v ∷ []
 kind_values c (kind.TypeItem (ty.Value v)) = v ∷ []
@@ -40,15 +40,16 @@ kind_values c (kind.Func f) = option_case (item_at c.funcs f.0) [] func_values
 kind_values c (kind.TypeItem (ty.Func f)) = option_case (item_at c.funcs f.0) [] func_values
 kind_values c k = []
 
--- the definition that a definition of a collection is another name of
+-- The definition that an alias in a collection refers to.
 abbrev pub another : Collection → DefinedTypeId → Option DefinedTypeId
 another c d = option_case (item_at c.defined d.0) None other_name
 
--- values that stand at one position
+-- Two value types are at the same position of two lists.
 abbrev pub AreBeside : List ValueType → List ValueType → ValueType → ValueType → Type 0
 AreBeside vs ws v w = (i : ℕ) × (slice_get vs i ≡ Some v) × (slice_get ws i ≡ Some w)
 
--- A mention of a value type, and what it became: in what stands under a name of a union, in the entry at the position of a class, at the end of the names that are another's, and in what a definition is made of.
+-- A mentioned value type and its merged form.
+-- The mention is in an export of a union, in the entry of a class, at the end of an alias, or in a definition.
 pub data Became (c m : Collection) (es imports : List Entry) (us : List Union) (ws : List InterfaceId) (positions order : List ℕ) : ValueType → ValueType → Type 0 where
   in_union : (v w : ValueType) (u i : ℕ) (x : Union) (y : InterfaceId) (it : Interface) (e : Name × Export) (k : Name × ItemKind) → slice_get us u ≡ Some x → slice_get ws u ≡ Some y → item_at m.interfaces y.0 ≡ Some it
       → slice_get x.exports i ≡ Some e → slice_get it.exports i ≡ Some k → AreBeside (kind_values c e.1.kind) (kind_values m k.1) v w → Became c m es imports us ws positions order v w
@@ -58,20 +59,20 @@ pub data Became (c m : Collection) (es imports : List Entry) (us : List Union) (
   in_definition : (v w : ValueType) (d e : DefinedTypeId) (y x : DefinedType) → Became c m es imports us ws positions order (val.Defined d) (val.Defined e) → another c d ≡ None → item_at c.defined d.0 ≡ Some y → item_at m.defined e.0 ≡ Some x
       → AreBeside (defined_values y) (defined_values x) v w → Became c m es imports us ws positions order v w
 
--- the function type of an item, and of a type item
+-- The function type of a function, or of a type item.
 abbrev pub func_of : ItemKind → Option FuncTypeId
 func_of (kind.Func f) = Some f
 func_of (kind.TypeItem (ty.Func f)) = Some f
 func_of k = None
 
--- A function type, and what it became: in what stands under a name of a union, and in the entry at the position of a class.
+-- A function type and its merged form. It is that of an export of a union or of the entry of a class.
 pub data FuncBecame (c m : Collection) (es imports : List Entry) (us : List Union) (ws : List InterfaceId) (positions order : List ℕ) : FuncTypeId → FuncTypeId → Type 0 where
   under_name : (f g : FuncTypeId) (u i : ℕ) (x : Union) (y : InterfaceId) (it : Interface) (e : Name × Export) (k : Name × ItemKind) → slice_get us u ≡ Some x → slice_get ws u ≡ Some y → item_at m.interfaces y.0 ≡ Some it
       → slice_get x.exports i ≡ Some e → slice_get it.exports i ≡ Some k → func_of e.1.kind ≡ Some f → func_of k.1 ≡ Some g → FuncBecame c m es imports us ws positions order f g
   of_entry : (f g : FuncTypeId) (p k q : ℕ) (e x : Entry) → slice_get order p ≡ Some k → slice_get positions k ≡ Some q → slice_get es q ≡ Some e → slice_get imports p ≡ Some x → func_of e.kind ≡ Some f → func_of x.kind ≡ Some g
       → FuncBecame c m es imports us ws positions order f g
 
--- the merged types are those that were made, each once for the named type that it is, and the merged interfaces are shared
+-- The merged types were made once for each named type, and unions share interfaces.
 pub record AreMadeOnce (c m : Collection) (es : List Entry) (us : List Union) (ps : List Part) (bs : ClassBindings) (f : Fresh) (t : NamedTypes) (positions order : List ℕ) (imports : List Entry) : Type 0 where
   pub made : Made
   pub are : AreMade c t m made
@@ -80,8 +81,10 @@ pub record AreMadeOnce (c m : Collection) (es : List Entry) (us : List Union) (p
   pub unions : AreUnionsMadeOf c m t made us written.ws
   pub imported : AreImportsMadeOf c m t made es positions order imports
 
--- The unions of what entries list, what classes bind, the new resources, and the interfaces and imports that all became in written order, before uses were added. What stands under one name of one union is one named type, and so are the entries of one class; no others are.
--- Two mentions with equal definitions in the merged collection have one id exactly where they are one named type, or stand under no name both. One function type that became the same twice has one id there, and one plain interface that is alone what classes are.
+-- Each named type, function type and plain interface has one id in the merged collection.
+-- Definitions are one named type if parts export them under one name of one union, or if they are entries of one class.
+-- The first fields are what the merge computes: unions, bindings, new resources, order and named types.
+-- Merged definitions that are equal have one id if and only if they belong to one named type, or neither has a name.
 pub record HasOneIdEach (c : Collection) (es : List Entry) (m : Merged) : Type 0 where
   pub us : List Union
   pub ps : List Part

@@ -1,4 +1,4 @@
--- One id for one plain interface.
+-- Each plain interface has one id in the merged collection.
 use Rattle.std.specs.Prelude.{ℕ, ◌≡◌, List, [], ◌∷◌, Some, slice_get}
 use Rattle.wac_primitives.specs.Name.{Name, find_name}
 use Rattle.wac_shapes.specs.declared.component.DefinedType.{DefinedType}
@@ -16,32 +16,32 @@ use Rattle.wac_collection.specs.Collection.{Collection, defined_values, func_val
 use Rattle.wac_entries.specs.Classes.{Entry, by_names, class_names, members}
 use Rattle.wac_terms.specs.Merge.{Merged, class_id, instance_id}
 
--- A value type of which no part is a handle of a resource: a primitive, or a definition of such.
+-- A value type that contains no handle.
 pub data HasNoHandle (c : Collection) : ValueType → Type 0 where
   primitive : (v : ValueType) (p : PrimitiveType) → v ≡ val.Primitive p → HasNoHandle c v
   defined : (v : ValueType) (d : DefinedTypeId) (y : DefinedType) → v ≡ val.Defined d → item_at c.defined d.0 ≡ Some y → ((i : ℕ) (w : ValueType) → slice_get (defined_values y) i ≡ Some w → HasNoHandle c w) → HasNoHandle c v
 
--- a function of such value types, or a type item of one
+-- A function whose value types contain no handle, or a value type without a handle as a type item.
 abbrev pub IsPlainItem : Collection → ItemKind → Type 0
 IsPlainItem c (kind.Func f) = (x : FuncType) → item_at c.funcs f.0 ≡ Some x → (i : ℕ) (v : ValueType) → slice_get (func_values x) i ≡ Some v → HasNoHandle c v
 IsPlainItem c (kind.TypeItem (ty.Value v)) = HasNoHandle c v
 IsPlainItem c k = ⊥
 
--- An interface that uses no other, and of which no resource stands inside or around: it lists functions and value types alone, of which no part is a handle.
+-- An interface without uses that exports only functions and value types without handles.
 pub record IsPlain (c : Collection) (i : InterfaceId) : Type 0 where
   pub interface : Interface
   pub there : item_at c.interfaces i.0 ≡ Some interface
   pub unused : interface.uses ≡ []
   pub items : (n : Name) (k : ItemKind) → find_name interface.exports n ≡ Some k → IsPlainItem c k
 
--- a class has one member, an instance of this interface, whose id it keeps
+-- The class has a single entry, an instance of this interface, and keeps its id.
 pub record IsAlone (c : Collection) (es : List Entry) (class : Name) (i : InterfaceId) : Type 0 where
   pub member : Entry
   pub only : members by_names es class ≡ member ∷ []
   pub instance : member.kind ≡ kind.Instance i
   pub own : class_id by_names c es class ≡ instance_id c (kind.Instance i)
 
--- where the classes are imported in an order, those that are one plain interface alone are imported as one
+-- Classes whose single entry is an instance of one plain interface are imported with one interface.
 abbrev pub AreOfOneInterface : Collection → List Entry → List ℕ → Merged → Type 0
 AreOfOneInterface c es order m = (p q k l : ℕ) (a b : Name) (x y : Entry) (i : InterfaceId)
     → slice_get order p ≡ Some k → slice_get (class_names by_names es) k ≡ Some a → slice_get m.imports p ≡ Some x

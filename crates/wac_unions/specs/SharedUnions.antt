@@ -1,4 +1,4 @@
--- Which unions share an interface of a merged collection. Private functions alone cite this.
+-- Which unions share an interface of the merged collection. Only contracts inside the merge cite this file.
 use Rattle.std.specs.Prelude.{ℕ, ◌+◌, ◌≡◌, ◌⊎◌, nat_eq, List, [], ◌∷◌, Option, Some, slice_get}
 use Rattle.std.specs.HashMap.{get}
 use Rattle.wac_primitives.specs.Name.{Name}
@@ -11,11 +11,11 @@ use Rattle.wac_terms.specs.declared.parts.Part.{Part}
 use Rattle.wac_terms.specs.declared.parts.Union.{Union}
 use Rattle.wac_unions.specs.declared.shared.Shared.{Shared}
 
--- what the first union that is an interface alone became
+-- The interface of the first union of a single interface.
 abbrev pub first_in : Shared → InterfaceId → Option InterfaceId
 first_in shared i = get (λ a b. nat_eq a.0 b.0) shared.first i
 
--- two interfaces of a collection are one, where they are equal
+-- Two interfaces have one id if they are equal.
 pub record IsOneWhereAlike (m : Collection) (v w : InterfaceId) : Type 0 where
   pub first : Interface
   pub second : Interface
@@ -23,14 +23,15 @@ pub record IsOneWhereAlike (m : Collection) (v w : InterfaceId) : Type 0 where
   pub second_at : item_at m.interfaces w.0 ≡ Some second
   pub one : first ≡ second → w ≡ v
 
--- A union that is alone each interface of which P holds became this: where the first of them lists the same, what that became; else an interface that was not there.
+-- A union got the interface w. P holds for its single interface, if it has one.
+-- If the first union of that single interface has an equal interface, w is shared with it; otherwise w is new.
 pub record Shares (P : InterfaceId → Type 0) (before after : Collection) (old new : InterfaceId → Option InterfaceId) (w : InterfaceId) : Type 0 where
   pub stay : (i v : InterfaceId) → old i ≡ Some v → new i ≡ Some v
   pub known : (i v : InterfaceId) → new i ≡ Some v → (old i ≡ Some v) ⊎ (P i × (v ≡ w))
   pub first : (i : InterfaceId) → P i → (v : InterfaceId) × (new i ≡ Some v) × IsOneWhereAlike after v w
   pub apart : (HasInterface before w → ⊥) ⊎ ((i : InterfaceId) × P i × (old i ≡ Some w))
 
--- the union of these parts is one interface alone, under its own id
+-- The union of these parts has a single interface and keeps its id.
 pub record IsAloneIn (c : Collection) (ps : List Part) (id : Option Name) (parts : List ℕ) (i : InterfaceId) : Type 0 where
   pub number : ℕ
   pub part : Part
@@ -39,7 +40,7 @@ pub record IsAloneIn (c : Collection) (ps : List Part) (id : Option Name) (parts
   pub of : part.interface ≡ i
   pub own : instance_id c (kind.Instance i) ≡ id
 
--- so is the union at a position
+-- The union at a position has a single interface and keeps its id.
 pub record IsAloneAt (c : Collection) (us : List Union) (ps : List Part) (ids : List (Option Name)) (u : ℕ) (i : InterfaceId) : Type 0 where
   pub union : Union
   pub id : Option Name
@@ -47,16 +48,17 @@ pub record IsAloneAt (c : Collection) (us : List Union) (ps : List Part) (ids : 
   pub named : slice_get ids u ≡ Some id
   pub alone : IsAloneIn c ps id union.parts.items i
 
--- Where unions became interfaces: by each interface that unions are alone, the first that one of them became; what another became is that one, where they are equal; and two that became one are alone one interface.
+-- Unions of one single interface share the interface of the first of them if theirs are equal.
+-- Unions that share an interface have one single interface.
 pub record AreShared (c m : Collection) (us : List Union) (ps : List Part) (ids : List (Option Name)) (first : InterfaceId → Option InterfaceId) (Became : ℕ → InterfaceId → Type 0) : Type 0 where
   pub known : (i v : InterfaceId) → first i ≡ Some v → (u : ℕ) × IsAloneAt c us ps ids u i × Became u v
   pub each : (u : ℕ) (i w : InterfaceId) → IsAloneAt c us ps ids u i → Became u w → (v : InterfaceId) × (first i ≡ Some v) × IsOneWhereAlike m v w
   pub apart : (u v : ℕ) (w : InterfaceId) → Became u w → Became v w → (u ≡ v) ⊎ ((i : InterfaceId) × IsAloneAt c us ps ids u i × IsAloneAt c us ps ids v i)
 
--- of unions that are written from the last on, this became of the one at a position
+-- The union at a position got this interface, where unions are written from the last to the first.
 abbrev pub IsWrittenLast : ℕ → List InterfaceId → ℕ → InterfaceId → Type 0
 IsWrittenLast count written u w = (j : ℕ) × (slice_get written j ≡ Some w) × (j + u + 1 ≡ count)
 
--- so in the end
+-- The interfaces of all unions are shared in this way.
 abbrev pub AreSharedUnions : Collection → Collection → List Union → List Part → List (Option Name) → List InterfaceId → Type 0
 AreSharedUnions c m us ps ids ws = (first : InterfaceId → Option InterfaceId) × AreShared c m us ps ids first (λ u w. slice_get ws u ≡ Some w)

@@ -15,7 +15,7 @@ use wac_entries::bindings::Bindings;
 use wac_entries::classes::Classes;
 use wac_entries::entry::Entry;
 
-/// Whether a path is one name alone.
+/// Returns whether a path is a single name, and this one.
 fn is_alone(path: &[String], name: &str) -> bool
     ensures { result ≡ same_path (path_view path.now) (named name.now ∷ []) }
 {
@@ -25,7 +25,7 @@ fn is_alone(path: &[String], name: &str) -> bool
     }
 }
 
-/// Whether an item is a resource that the class of a number binds under a name.
+/// Returns whether an item is a resource that the class with this number binds under a name.
 fn item_binds(bindings: &Bindings, number: usize, kind: ItemKind, name: &str) -> bool
     ensures { (result ≡ true) ↔ ItemBinds bindings.now number name.now kind }
 {
@@ -41,7 +41,7 @@ fn item_binds(bindings: &Bindings, number: usize, kind: ItemKind, name: &str) ->
     }
 }
 
-/// Whether an instance lists a resource under a name under which the class of a number binds it.
+/// Returns whether an item is an instance that exports such a resource under the name.
 fn member_binds(
     types: &Types,
     bindings: &Bindings,
@@ -56,14 +56,14 @@ fn member_binds(
         return false;
     };
     let exports = &types[id].exports;
-    exports.law();
+    exports.law(); // proof only
     match exports.get(name) {
         Some(item) => item_binds(bindings, number, *item, name),
         None => false,
     }
 }
 
-/// Whether the class of a name, which entries of a collection are of, binds a resource under another name.
+/// Returns whether the class of the name `class` binds a resource under `name`.
 pub fn class_binds(
     types: &Types,
     entries: &[Entry],

@@ -1,6 +1,7 @@
-//! The merge of entries that agree: the unions of their interfaces, written behind what there was, and the imports of their classes.
+//! The merge of entries that agree.
 //!
-//! Stands beside `wac_agreement`, below `wac_merge`, whose crate is the door.
+//! The collection is copied. The interfaces of unions, the new resources and the rewritten types are added to the copy.
+//! Each class is then imported once, with the item that its entries are merged into.
 #![tactic(auto)]
 
 pub mod bound;

@@ -1,4 +1,4 @@
-//! The merged imports of entries that have a merge, and the collection of their types.
+//! The merged imports of entries that agree, and the collection of their types.
 ghost use Rattle.std.specs.Prelude.{Contains, List, Some, length, map, slice_get, string_bytes, true, ℕ, ◌<◌, ◌≡◌, ◌↔◌, IfOk, OnOk};
 ghost use Rattle.std.specs.Option.{option_map};
 ghost use Rattle.wac_collection.specs.Bound.{by_place};
@@ -57,7 +57,9 @@ use wac_uses::Asked;
 use wac_uses::imports::{imports_with_uses, no_interfaces};
 use wac_values::named::{NamedTypes, named_types};
 
-/// Puts an interface among those of its class that are united: every instance, and the first of a type item.
+/// Adds the interface of an entry to those that its class unites.
+///
+/// These are the interfaces of all instances. Of interfaces as type items the first is enough.
 fn put_root(roots: &mut Vec<InterfaceId>, kind: ItemKind) -> Result<(), AllocError>
     ensures { OnOk result (roots.new.items ≡ with_root roots.old.items kind) }
 {
@@ -69,7 +71,7 @@ fn put_root(roots: &mut Vec<InterfaceId>, kind: ItemKind) -> Result<(), AllocErr
     Ok(())
 }
 
-/// The interfaces of each class that are united.
+/// Returns the interfaces that each class unites.
 fn class_roots(
     alloc: Global,
     entries: &[Entry],
@@ -86,7 +88,7 @@ fn class_roots(
     Ok(roots)
 }
 
-/// Whether an item is an instance whose interface has an id on a track.
+/// Returns whether an item is an instance whose interface id has this track.
 fn is_on_track(
     alloc: Global,
     types: &Types,
@@ -105,7 +107,7 @@ fn is_on_track(
     Ok(Track::new(alloc, text.as_str())? == *track)
 }
 
-/// Whether each class has a member that is an instance whose interface has an id on the class's track.
+/// Returns for each class whether an entry is an instance whose interface id has the track of the class.
 fn on_track(
     alloc: Global,
     types: &Types,
@@ -127,7 +129,7 @@ fn on_track(
     Ok(on)
 }
 
-/// The id of the interface of the first part of a union.
+/// Returns the id of the interface of a union's first part.
 fn first_id(
     alloc: Global,
     types: &Types,
@@ -147,7 +149,9 @@ fn first_id(
     }
 }
 
-/// The id of a union's interface: that of its class, or of its first part.
+/// Returns the id of a union's interface. `on` tells which classes have an entry with an id of their track.
+///
+/// The union of such a class has the canonical name as its id. Any other union has the id of its first part.
 fn union_id(
     alloc: Global,
     types: &Types,
@@ -170,7 +174,7 @@ fn union_id(
     Ok(Some(String::from_str(alloc, name)?))
 }
 
-/// The id of each union's interface.
+/// Returns the id of each union's interface.
 fn union_ids(
     alloc: Global,
     types: &Types,
@@ -192,14 +196,14 @@ fn union_ids(
     Ok(ids)
 }
 
-/// The interface of the union at a position.
+/// Returns the interface of the union at a position.
 fn interface_at(written: &[InterfaceId], position: usize) -> Option<InterfaceId>
     ensures { result ≡ slice_get written.now position }
 {
     written.get(position).copied()
 }
 
-/// What a class became.
+/// Returns the merged item of a class. `entry` has its canonical name.
 fn class_kind(
     merged: &mut Types,
     renamed: &mut Renamed,
@@ -227,7 +231,7 @@ fn class_kind(
     write_kind(merged, renamed, renaming, inner, entry.name(), entry.kind())
 }
 
-/// The imports in an order of their classes.
+/// Returns the merged import of each class, in this order.
 fn class_imports(
     asked: &Asked<'_>,
     merged: &mut Types,
@@ -249,7 +253,7 @@ fn class_imports(
     ensures once { IfOk result (λ is. AreImportsMadeOf asked.now.types.now merged.new became.now.named.now renamed.new.made asked.now.entries.now asked.now.classes.now.positions.items order.now (import_entries is)) }
     ensures stay { OnOk result (StayMade renamed.old.made renamed.new.made) }
 {
-    merged.law();
+    merged.law(); // proof only
     let entries = asked.entries;
     let positions = asked.classes.positions();
     let renaming = Renaming {
@@ -268,7 +272,7 @@ fn class_imports(
     Ok(imports)
 }
 
-/// The laws of a collection, and that its trees are whole.
+/// Brings the laws of a collection. For proofs only.
 fn laws(types: &Types)
     ensures well_formed { IsWellFormed types.now }
     ensures sound { IsSound types.now }
@@ -276,22 +280,22 @@ fn laws(types: &Types)
     ensures placed { IsDeepEnough (by_place types.now) types.now }
     ensures bound { IsDeepEnough (by_binding types.now) types.now }
 {
-    types.law();
-    types.uses_law();
-    trees_are_whole(types);
+    types.law(); // proof only
+    types.uses_law(); // proof only
+    trees_are_whole(types); // proof only
 }
 
-/// The law of interfaces: none lists a name twice.
+/// Brings the fact that no interface exports a name twice. For proofs only.
 fn listed_once(types: &Types, parts: &[Part])
     requires { (p : ℕ) (x : APart) → slice_get parts.now p ≡ Some x → HasInterface types.now x.interface }
     ensures { AreListedOnce types.now parts.now }
 {
     for i in 0..parts.len() {
-        types[parts[i].interface].exports.law();
+        types[parts[i].interface].exports.law(); // proof only
     }
 }
 
-/// The unions of the interfaces of each class.
+/// Returns the unions of the interfaces of each class.
 fn class_unions(
     alloc: Global,
     types: &Types,
@@ -305,11 +309,11 @@ fn class_unions(
 {
     let roots = class_roots(alloc, entries, classes)?;
     let unions = Unions::new(alloc, types, roots.as_slice())?;
-    listed_once(types, unions.parts.as_slice());
+    listed_once(types, unions.parts.as_slice()); // proof only
     Ok(unions)
 }
 
-/// Which definitions are one named type, by unions and the classes of entries.
+/// Returns which definitions are one named type, by the unions and by the classes.
 fn named_in(
     alloc: Global,
     types: &Types,
@@ -333,8 +337,7 @@ fn named_in(
     )
 }
 
-/// What a merge is written from: the unions of the classes, what their parts bind, the new resources, and which definitions are
-/// one named type.
+/// What a merge starts from: the unions, what their parts bind, the new resources and the named types.
 #[derive(Drop)]
 struct Basis {
     unions: Unions,
@@ -345,7 +348,7 @@ struct Basis {
 }
 
 impl Basis {
-    /// That of entries. Their new resources are added to a collection that begins with theirs.
+    /// Returns the basis of a merge of these entries. Adds the new resources to the merged collection.
     fn of(
         alloc: Global,
         merged: &mut Types,
@@ -376,7 +379,7 @@ impl Basis {
         })
     }
 
-    /// What resources become by it.
+    /// Returns what types are rewritten by.
     fn became<'a>(&'a self, bindings: &'a Bindings) -> Became<'a>
         ensures { IsBecame self.now bindings.now result }
     {
@@ -391,7 +394,7 @@ impl Basis {
     }
 }
 
-/// The imports in an order of their classes, behind the unions, which are written first.
+/// Writes the unions and returns the merged imports in this order of the classes. They have no uses yet.
 fn write_imports(
     asked: &Asked<'_>,
     merged: &mut Types,
@@ -411,9 +414,9 @@ fn write_imports(
     ensures once { IfOk result (λ is. AreMadeOnce asked.now.types.now merged.new asked.now.entries.now basis.now.unions.unions.items basis.now.unions.parts.items bindings.now basis.now.fresh basis.now.named asked.now.classes.now.positions.items order.now (import_entries is)) }
 {
     let (alloc, types) = (asked.alloc, asked.types);
-    types.law();
-    types.uses_law();
-    merged.law();
+    types.law(); // proof only
+    types.uses_law(); // proof only
+    merged.law(); // proof only
     let unions = &basis.unions;
     let became = basis.became(bindings);
     let ids = union_ids(alloc, types, asked.entries, asked.classes, unions)?;
@@ -433,7 +436,7 @@ fn write_imports(
 /// The merged imports, in the order in which they are written, and the collection of their types.
 #[derive(Drop)]
 pub struct Merged {
-    /// The collection: what the entries' collection holds, and behind it what is merged.
+    /// The collection. It begins with that of the entries.
     pub types: Types,
     /// The imports.
     pub imports: Named<ItemKind>,
@@ -448,7 +451,10 @@ impl Model for Merged {
 }
 
 impl Merged {
-    /// Entries of a collection that agree, in an order of their classes in which they are written.
+    /// Merges entries that agree. `order` has the numbers of their classes in the order in which they are written.
+    ///
+    /// # Errors
+    /// - [`AllocError`] if out of memory.
     pub fn new(
         alloc: Global,
         types: &Types,
@@ -478,18 +484,18 @@ impl Merged {
             entries,
             classes,
         };
-        laws(types);
+        laws(types); // proof only
         let mut made = types.clone()?;
         let basis = Basis::of(alloc, &mut made, types, entries, classes, bindings)?;
-        made.law();
+        made.law(); // proof only
         let bare = write_imports(&asked, &mut made, bindings, &basis, order)?;
-        made.law();
+        made.law(); // proof only
         let merge = Merged::using(&asked, made, &bare)?;
-        laws(&merge.types);
+        laws(&merge.types); // proof only
         Ok(merge)
     }
 
-    /// Imports that use none of each other, with what they use.
+    /// Returns the merge of these imports, with the uses that they have of each other.
     fn using(
         asked: &Asked<'_>,
         mut merged: Types,

@@ -1,5 +1,7 @@
-//! Interfaces of a merged collection that unions share. Unions that are one interface alone, under its own id, become one
-//! interface where they list the same.
+//! Unions that share an interface of the merged collection.
+//!
+//! A union of one part may keep the id of that part's interface, which is then its single interface.
+//! Unions with the same single interface share one merged interface, if theirs are equal.
 ghost use Rattle.std.specs.Prelude.{◌≡◌, [], None, Some, cond, nat_eq, true, IfOk, OnOk};
 ghost use Rattle.std.specs.List.{list_all};
 ghost use Rattle.wac_collection.specs.Collection.{HasInterface, holds_all, item_at, kind_types};
@@ -13,13 +15,13 @@ use std::collections::HashMap;
 use wac_collection::{AddTypeError, Interface, InterfaceId, Types};
 use wac_subtyping::laws::growth_keeps_trees;
 
-/// By an interface that unions are alone, what the first of them that was written became.
+/// The interface of the first union of each single interface, by the id of that single interface.
 #[derive(Drop)]
 pub struct Shared {
     first: HashMap<InterfaceId, InterfaceId>,
 }
 
-/// Adds an interface that uses no other.
+/// Adds an interface without uses.
 fn add_interface(merged: &mut Types, interface: Interface) -> Result<InterfaceId, AllocError>
     requires unused { interface.uses ≡ [] }
     requires held { holds_all merged.old (kind_types interface.exports) ≡ true }
@@ -28,7 +30,7 @@ fn add_interface(merged: &mut Types, interface: Interface) -> Result<InterfaceId
     ensures added { IfOk result (λ w. item_at merged.new.interfaces w.0 ≡ Some interface) }
     ensures fresh { IfOk result (λ w. HasInterface merged.old w → ⊥) }
 {
-    growth_keeps_trees(merged);
+    growth_keeps_trees(merged); // proof only
     match merged.add_interface(interface) {
         Ok(id) => Ok(id),
         Err(AddTypeError::OutOfMemory) => Err(AllocError),
@@ -37,7 +39,7 @@ fn add_interface(merged: &mut Types, interface: Interface) -> Result<InterfaceId
 }
 
 impl Shared {
-    /// No union was written yet.
+    /// Returns a record without unions.
     pub fn new(alloc: Global) -> Shared
         ensures { (i : AnId) → first_in result i ≡ None }
     {
@@ -46,14 +48,14 @@ impl Shared {
         }
     }
 
-    /// What the first union that is an interface alone became.
+    /// Returns the interface of the first union of this single interface.
     fn first(&self, id: InterfaceId) -> Option<InterfaceId>
         ensures { result ≡ first_in self.now id }
     {
         self.first.get(&id).copied()
     }
 
-    /// The first union that is an interface alone became another.
+    /// Records the interface of the first union of a single interface.
     fn put(&mut self, id: InterfaceId, became: InterfaceId) -> Result<(), AllocError>
         ensures { OnOk result ((i : AnId) → first_in self.new i ≡ cond (nat_eq id.0 i.0) (Some became) (first_in self.old i)) }
     {
@@ -63,8 +65,13 @@ impl Shared {
         }
     }
 
-    /// What a union becomes that lists this, and may be an interface alone: what the first such union became, where that lists
-    /// the same, or else an interface behind what is there.
+    /// Returns the id of a union's interface in the merged collection. `alone` is the single interface of the union, if
+    /// it has one.
+    ///
+    /// If the first union of `alone` has an equal interface, that one is shared. Otherwise the interface is added.
+    ///
+    /// # Errors
+    /// - [`AllocError`] if out of memory.
     pub fn write(
         &mut self,
         merged: &mut Types,

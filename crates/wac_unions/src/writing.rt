@@ -1,4 +1,4 @@
-//! Unions as interfaces of a merged collection.
+//! Unions, written as interfaces of the merged collection.
 ghost use Rattle.std.specs.Prelude.{◌<◌, ◌≡◌, ◌++◌, ◌∷◌, [], List, length, map, string_bytes, true, None, Some, IfOk, IfSome, OnOk, slice_get};
 ghost use Rattle.std.specs.Option.{option_map};
 ghost use Rattle.wac_collection.specs.Collection.{Collection, HasInterface, HasResource, holds_type};
@@ -29,18 +29,18 @@ use wac_subtyping::laws::growth_keeps_trees;
 use wac_terms::parts::Export;
 use wac_uniting::unions::Unions;
 
-/// A union to write as an interface, and what those behind it became.
+/// A union to write, with the interfaces of all later unions.
 #[derive(Clone, Copy)]
 struct NextUnion<'a> {
     /// All unions.
     unions: &'a Unions,
-    /// What those behind it became, from the last on.
+    /// The interfaces of the later unions, from the last union on.
     written: &'a [InterfaceId],
-    /// Its position.
+    /// The position of the union.
     union: usize,
 }
 
-/// Adds an alias of a resource, under a name.
+/// Adds an alias of a resource.
 fn add_alias(
     alloc: Global,
     merged: &mut Types,
@@ -51,7 +51,7 @@ fn add_alias(
     ensures extended { IsExtended merged.old merged.new }
     ensures alias { IfOk result (λ a. IsAliasOf merged.new name.now source a) }
 {
-    growth_keeps_trees(merged);
+    growth_keeps_trees(merged); // proof only
     let resource = Resource::alias(alloc, name, None, source)?;
     match merged.add_resource(resource) {
         Ok(id) => Ok(id),
@@ -60,7 +60,7 @@ fn add_alias(
     }
 }
 
-/// What the type of a type item becomes under a name, where the interface of what lies in it is given for an interface.
+/// Returns the type of a type item, rewritten. `inner` is the merged interface that replaces an interface.
 fn write_type(
     merged: &mut Types,
     renamed: &mut Renamed,
@@ -100,7 +100,10 @@ fn write_type(
     }
 }
 
-/// What an item becomes under a name, where the interface of what lies in it is given for an instance and for an interface.
+/// Returns an item, rewritten. `inner` is the merged interface that replaces an interface or that of an instance.
+///
+/// # Errors
+/// - [`AllocError`] if out of memory. The merged collection may then hold more types.
 pub fn write_kind(
     merged: &mut Types,
     renamed: &mut Renamed,
@@ -139,7 +142,7 @@ pub fn write_kind(
     }
 }
 
-/// The interface of the union at a position, of so many that are written from the last on; none where there is no position.
+/// Returns the interface of the union at a position, if there is one. There are `count` unions.
 fn written_inner(
     written: &[InterfaceId],
     count: usize,
@@ -152,7 +155,7 @@ fn written_inner(
     Some(written[count - 1 - position])
 }
 
-/// What stands under a name in a union becomes: the union's own resource, or what its first part lists.
+/// Returns the merged export of a union under a name: its own new resource, or the rewritten item of its first part.
 fn write_export(
     merged: &mut Types,
     renamed: &mut Renamed,
@@ -175,12 +178,12 @@ fn write_export(
         let own = renaming.became.fresh.own_in(next.union, name).unwrap();
         return Ok(ItemKind::TypeItem(Type::Resource(own)));
     }
-    renaming.types.law();
+    renaming.types.law(); // proof only
     let inner = written_inner(next.written, next.unions.unions.len(), export.inner);
     write_kind(merged, renamed, renaming, inner, name, export.kind)
 }
 
-/// Nothing was renamed yet in a part, where another was before it.
+/// Starts the part `next`: types that were rewritten in another part are forgotten.
 fn begin(renamed: &mut Renamed, part: &mut Option<usize>, next: usize)
     ensures part { part.new ≡ Some next }
     ensures made { renamed.new.made ≡ renamed.old.made }
@@ -192,7 +195,7 @@ fn begin(renamed: &mut Renamed, part: &mut Option<usize>, next: usize)
     }
 }
 
-/// Puts an item behind others, none of which has its name.
+/// Appends an item under a name that is not there yet.
 pub(crate) fn put_item(
     alloc: Global,
     items: &mut Named<ItemKind>,
@@ -209,7 +212,7 @@ pub(crate) fn put_item(
     }
 }
 
-/// What the exports of a union become.
+/// Returns the merged exports of a union.
 fn write_exports(
     merged: &mut Types,
     renamed: &mut Renamed,
@@ -224,9 +227,9 @@ fn write_exports(
     ensures once { IfOk result (λ ks. (x : AUnion) → slice_get next.now.unions.now.unions.items next.now.union ≡ Some x → AreItemsMadeOf renaming.now.types.now merged.new renaming.now.became.now.named.now renamed.new.made x.exports ks) }
     ensures stay { OnOk result (StayMade renamed.old.made renamed.new.made) }
 {
-    merged.law();
+    merged.law(); // proof only
     let exports = &next.unions.unions[next.union].exports;
-    exports.law();
+    exports.law(); // proof only
     let mut items = Named::with_capacity(renaming.alloc, exports.len())?;
     renamed.forget();
     let mut part = None;
@@ -240,7 +243,7 @@ fn write_exports(
     Ok(items)
 }
 
-/// An optional text, in memory of its own.
+/// Copies an optional text.
 fn copied(alloc: Global, text: &Option<String>) -> Result<Option<Text>, AllocError>
     ensures { IfOk result (λ t. t ≡ option_map string_bytes text.now) }
 {
@@ -250,7 +253,7 @@ fn copied(alloc: Global, text: &Option<String>) -> Result<Option<Text>, AllocErr
     }
 }
 
-/// The interface that a union is alone, where it has this id.
+/// Returns the single interface of a union, if it has one and the union keeps its id.
 fn alone(types: &Types, unions: &Unions, union: usize, id: &Option<Text>) -> Option<InterfaceId>
     requires unions { (roots : List (List AnId)) × AreUnions types.now roots unions.now.unions.items unions.now.parts.items }
     requires within { union < length unions.now.unions.items }
@@ -267,7 +270,7 @@ fn alone(types: &Types, unions: &Unions, union: usize, id: &Option<Text>) -> Opt
     Some(interface)
 }
 
-/// Writes a union as an interface, after those behind it.
+/// Adds the interface of a union. The interfaces of all later unions exist already.
 fn write_union(
     merged: &mut Types,
     renamed: &mut Renamed,
@@ -294,7 +297,12 @@ fn write_union(
     shared.write(merged, source, Interface { id, uses, exports })
 }
 
-/// Writes unions as interfaces behind what is there, each under the id that is given for it, from the last to the first.
+/// Adds the interface of each union, with the given id, and returns them in the order of the unions.
+///
+/// Nested unions come later in the list, so it is written from the last to the first.
+///
+/// # Errors
+/// - [`AllocError`] if out of memory. The merged collection may then hold more types.
 pub fn write_unions(
     merged: &mut Types,
     renamed: &mut Renamed,
@@ -315,7 +323,7 @@ pub fn write_unions(
     ensures once { IfOk result (λ ws. AreUnionsMadeOf renaming.now.types.now merged.new renaming.now.became.now.named.now renamed.new.made unions.now.unions.items ws.items) }
     ensures stay { OnOk result (StayMade renamed.old.made renamed.new.made) }
 {
-    merged.law();
+    merged.law(); // proof only
     let count = unions.unions.len();
     let mut seen = Shared::new(renaming.alloc);
     let mut written = Vec::new(renaming.alloc);

@@ -1,4 +1,4 @@
--- The view of what is grouped by name.
+-- The value of a grouping of exports by name.
 use Rattle.std.specs.Prelude.{ℕ, List, [], ◌∷◌, map}
 use Rattle.std.specs.Borrow.{Bor}
 use Rattle.wac_primitives.specs.Name.{Name}
@@ -6,11 +6,11 @@ use Rattle.wac_shapes.specs.declared.component.ItemKind.{ItemKind}
 use Rattle.wac_uniting.specs.declared.grouped.Listed.{Listed}
 use Rattle.wac_uniting.specs.declared.grouped.Listed.TheVariants as listed
 
--- what is listed under a name
+-- The exports under one name.
 abbrev pub listed_items : Listed → List (ℕ × ItemKind)
 listed_items (listed.One l) = l ∷ []
 listed_items (listed.Several ls) = ls.items
 
--- lists under names, each name as its bytes
+-- The exports under each name, each name as its bytes.
 abbrev pub groups_of : List (Bor (List ℕ) × Listed) → List (Name × List (ℕ × ItemKind))
 groups_of es = map (λ e. (e.0.now, listed_items e.1)) es

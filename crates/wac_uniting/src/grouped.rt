@@ -1,4 +1,4 @@
-//! What interfaces list, by name.
+//! The exports of the parts of a union, grouped by name.
 ghost use Rattle.std.specs.Prelude.{◌≡◌, ◌<◌, [], ◌∷◌, ◌++◌, length, Some, IfOk, OnOk, slice_get};
 ghost use Rattle.std.specs.List.{AllByRecursion};
 ghost use Rattle.wac_shapes.specs.Named.{NoNameTwice};
@@ -14,17 +14,17 @@ use std::slice;
 use wac_collection::{ItemKind, Named, Types};
 use wac_terms::parts::Part;
 
-/// What is listed under a name, and by which part: most often by one alone, which takes no memory of its own.
+/// The exports under one name, each with the position of its part. Most names have one export, which is stored inline.
 #[derive(Drop)]
 pub(crate) enum Listed {
-    /// One lists this.
+    /// One part exports this.
     One((usize, ItemKind)),
-    /// Several list these.
+    /// Several parts export these.
     Several(Vec<(usize, ItemKind)>),
 }
 
 impl Listed {
-    /// What is listed, in order.
+    /// Returns the exports in order.
     fn as_slice(&self) -> &[(usize, ItemKind)]
         ensures { result.now ≡ listed_items self.now }
     {
@@ -34,7 +34,7 @@ impl Listed {
         }
     }
 
-    /// Puts one more behind the others. Where that takes memory, spare memory is taken first.
+    /// Appends an export. The first list that is needed reuses a spare buffer.
     fn push(
         &mut self,
         alloc: Global,
@@ -56,7 +56,7 @@ impl Listed {
     }
 }
 
-/// An empty list, in spare memory where there is some.
+/// Returns an empty list, in a spare buffer if there is one.
 fn empty(
     alloc: Global,
     spare: &mut Vec<Vec<(usize, ItemKind)>>,
@@ -70,7 +70,7 @@ fn empty(
     Ok(list)
 }
 
-/// Takes the entries away. The memory of their lists is spare then, as far as there is room to keep it.
+/// Removes all entries and keeps the buffers of their lists. A buffer is dropped if it cannot be kept.
 fn take_back(
     alloc: Global,
     entries: &mut IndexMap<&str, Listed>,
@@ -83,15 +83,15 @@ fn take_back(
             let _ = spare.push(replace(listed, Vec::new(alloc)));
         }
     }
-    // In time by what goes, however much room there is.
+    // Unlike `clear`, this takes time by the entries that are removed, not by the capacity.
     entries.truncate(0);
 }
 
-/// What interfaces list under each name, in order of first appearance. The names are borrowed from the collection.
+/// The exports of the parts of a union by name, in order of first appearance. Names are borrowed from the collection.
 #[derive(Drop)]
 pub(crate) struct Grouped<'a> {
     entries: IndexMap<&'a str, Listed>,
-    /// Memory for lists.
+    /// Spare buffers for lists.
     spare: Vec<Vec<(usize, ItemKind)>>,
 }
 
@@ -110,7 +110,7 @@ impl<'a> Model for Grouped<'a> {
 }
 
 impl<'a> Grouped<'a> {
-    /// Nothing yet.
+    /// Returns a grouping without names.
     pub(crate) fn new(alloc: Global) -> Grouped<'a> {
         Grouped {
             entries: IndexMap::new(alloc),
@@ -118,14 +118,14 @@ impl<'a> Grouped<'a> {
         }
     }
 
-    /// Lets go of what is grouped, and keeps the memory.
+    /// Removes all names and keeps the buffers.
     fn clear(&mut self, alloc: Global)
         ensures { self.new ≡ [] }
     {
         take_back(alloc, &mut self.entries, &mut self.spare);
     }
 
-    /// What the parts of a union list, in place of what was grouped before, and in its memory.
+    /// Groups the exports of the parts of a union, in place of those of the union before. It reuses their buffers.
     pub(crate) fn group(
         &mut self,
         alloc: Global,
@@ -141,27 +141,27 @@ impl<'a> Grouped<'a> {
         for index in 0..members.len() {
             let part = members[index];
             let exports = &types[parts[part].interface].exports;
-            exports.law();
+            exports.law(); // proof only
             self.put_all(alloc, part, exports)?;
         }
         Ok(())
     }
 
-    /// The law of what is grouped: no name stands twice.
+    /// Brings the fact that no name appears twice. For proofs only.
     pub(crate) fn law(&self)
         ensures { NoNameTwice self.now }
     {
         let _ = &self.entries;
     }
 
-    /// How many names there are.
+    /// Returns the number of names.
     pub(crate) fn len(&self) -> usize
         ensures { result ≡ length self.now }
     {
         self.entries.len()
     }
 
-    /// The name at a position, and what is listed under it.
+    /// Returns the name at a position and the exports under it.
     pub(crate) fn entry_at(&self, index: usize) -> (&str, &[(usize, ItemKind)])
         requires { index < length self.now }
         ensures { slice_get self.now index ≡ Some (result.0.now, result.1.now) }
@@ -170,7 +170,7 @@ impl<'a> Grouped<'a> {
         (*name, listed.as_slice())
     }
 
-    /// Puts what a part lists under a name behind what others list there.
+    /// Appends an export of a part under its name.
     fn put(
         &mut self,
         alloc: Global,
@@ -180,7 +180,7 @@ impl<'a> Grouped<'a> {
     ) -> Result<(), AllocError>
         ensures { OnOk result (self.new ≡ with_listed self.old name.now (part, kind)) }
     {
-        // What others list there is put back, with one more behind it.
+        // `insert_full` has replaced the earlier exports of the name. They are put back, with the new one after them.
         let (index, others) = self.entries.insert_full(name, Listed::One((part, kind)))?;
         if let Some(others) = others {
             let listed = self.entries.get_index_mut(index).unwrap();
@@ -190,7 +190,7 @@ impl<'a> Grouped<'a> {
         Ok(())
     }
 
-    /// Puts all that a part lists.
+    /// Appends all exports of a part under their names.
     fn put_all(
         &mut self,
         alloc: Global,

@@ -1,4 +1,4 @@
-//! Interfaces united name by name.
+//! Unions of interfaces. The interfaces in a union are its parts.
 ghost use Rattle.std.specs.Prelude.{◌≡◌, ◌≢◌, ◌<◌, [], length, map, IfOk, OnOk};
 ghost use Rattle.std.specs.List.{AllByRecursion, list_any};
 ghost use Rattle.wac_collection.specs.Collection.{HasInterface, IsWellFormed};
@@ -12,19 +12,19 @@ use wac_collection::{InterfaceId, ItemKind, Named, ShapeError, Type, Types};
 use wac_entries::bound::own_resource;
 use wac_terms::parts::{Export, Part, Union};
 
-/// Unions, and the parts of all.
+/// Unions and the parts of all of them.
 #[derive(Drop)]
 pub struct Unions {
-    /// The unions: those of the roots, then those of what lies in others.
+    /// The unions: first those of the classes, then those nested in others.
     pub unions: Vec<Union>,
     /// The parts.
     pub parts: Vec<Part>,
 }
 
-/// The union of each list of interfaces, each of which is listed in a part, under the names of one union.
+/// The nested unions of one union, by their interfaces. Each interface comes with the part that exports it.
 type Known = IndexMap<Vec<(usize, InterfaceId)>, usize>;
 
-/// The instances among what is listed, with the parts that list them.
+/// Returns the interfaces of the instances among these exports, each with its part.
 fn instances(
     alloc: Global,
     listed: &[(usize, ItemKind)],
@@ -41,7 +41,10 @@ fn instances(
     Ok(instances)
 }
 
-/// The interfaces that are united under a name where these are listed, with the parts that list them.
+/// Returns the interfaces to unite under a name with these exports, each with its part.
+///
+/// If the first export is an instance, these are the interfaces of all instances. If it is an interface as a type item,
+/// it is that one alone.
 fn united(
     alloc: Global,
     listed: &[(usize, ItemKind)],
@@ -61,7 +64,7 @@ fn united(
     }
 }
 
-/// Whether a part lists a resource of its own under a name.
+/// Returns whether a part exports an own resource under a name.
 fn is_own(types: &Types, parts: &[Part], name: &str, listed: &[(usize, ItemKind)]) -> bool
     requires { AllByRecursion (IsHeldListing types.now parts.now) listed.now }
     ensures { result ≡ list_any (is_own_of types.now parts.now name.now) listed.now }
@@ -77,7 +80,11 @@ fn is_own(types: &Types, parts: &[Part], name: &str, listed: &[(usize, ItemKind)
 }
 
 impl Unions {
-    /// The unions of the interfaces of each root, and those that lie in them, without recursion.
+    /// Returns the union of each class, and all unions nested in these, without recursion. `roots` has the interfaces
+    /// of each class.
+    ///
+    /// # Errors
+    /// - [`AllocError`] if out of memory.
     pub fn new(
         alloc: Global,
         types: &Types,
@@ -86,7 +93,7 @@ impl Unions {
         requires { AllByRecursion (λ is. AllByRecursion (HasInterface types.now) is.items) roots.now }
         ensures { IfOk result (λ u. AreUnions types.now (map (λ is. is.items) roots.now) u.unions.items u.parts.items) }
     {
-        types.law();
+        types.law(); // proof only
         let mut unions = Unions {
             unions: Vec::new(alloc),
             parts: Vec::new(alloc),
@@ -103,7 +110,7 @@ impl Unions {
         Ok(unions)
     }
 
-    /// Puts a union of these parts behind the others.
+    /// Appends a union of these parts.
     fn push(&mut self, alloc: Global, parts: &[Part]) -> Result<(), AllocError>
         ensures { OnOk result (IsPushed self.old.unions.items self.old.parts.items parts.now self.new.unions.items self.new.parts.items) }
     {
@@ -119,7 +126,7 @@ impl Unions {
         Ok(())
     }
 
-    /// Puts the union of the interfaces of a root behind the others.
+    /// Appends the union of a class, of these interfaces.
     fn push_root(&mut self, alloc: Global, interfaces: &[InterfaceId]) -> Result<(), AllocError>
         ensures { OnOk result (IsPushed self.old.unions.items self.old.parts.items (map (root_part (length self.old.unions.items)) interfaces.now) self.new.unions.items self.new.parts.items) }
     {
@@ -135,7 +142,7 @@ impl Unions {
         self.push(alloc, parts.as_slice())
     }
 
-    /// Puts the union of these interfaces, each of which is listed in a part, behind the others.
+    /// Appends the union of these interfaces. Each comes with the part that exports it.
     fn push_inner(
         &mut self,
         alloc: Global,
@@ -156,7 +163,8 @@ impl Unions {
         self.push(alloc, parts.as_slice())
     }
 
-    /// The union of these interfaces, if there are any, in the one at a position. It is put behind the others where none is known.
+    /// Returns the position of the union of these interfaces, nested in the union at `position`.
+    /// It is appended if it is not known yet, and `None` if there are no interfaces.
     fn inner(
         &mut self,
         alloc: Global,
@@ -182,7 +190,7 @@ impl Unions {
         Ok(Some(union))
     }
 
-    /// What stands under a name in the union at a position. Puts the union of the interfaces under it behind the others, where none is known.
+    /// Returns what the union at `position` exports under a name. Appends the nested union if it is not known yet.
     fn export(
         &mut self,
         alloc: Global,
@@ -212,7 +220,7 @@ impl Unions {
         })
     }
 
-    /// What stands in the union at a position, name by name. Puts the unions in it behind the others.
+    /// Returns the exports of the union at `position`. Appends its nested unions.
     fn exports(
         &mut self,
         alloc: Global,
@@ -226,7 +234,7 @@ impl Unions {
         requires held { AllByRecursion (IsHeldGroup types.now self.old.parts.items) grouped.now }
         ensures { IfOk result (λ es. AreOpen types.now self.old.unions.items self.old.parts.items position grouped.now self.new.unions.items self.new.parts.items es) }
     {
-        grouped.law();
+        grouped.law(); // proof only
         let mut exports = Named::with_capacity(alloc, grouped.len())?;
         let mut known = IndexMap::new(alloc);
         for index in 0..grouped.len() {
@@ -241,7 +249,7 @@ impl Unions {
         Ok(exports)
     }
 
-    /// Joins what the parts of the union at a position list, in memory for what is grouped. Puts the unions in it behind the others.
+    /// Sets the exports of the union at `position` and appends its nested unions. `grouped` provides the buffers.
     fn join<'a>(
         &mut self,
         alloc: Global,

@@ -1,4 +1,4 @@
--- What the imports of a finished merge use of those before them.
+-- The uses that merged imports have of earlier ones.
 use Rattle.std.specs.Prelude.{ℕ, ◌≡◌, ◌<◌, ◌↔◌, Bool, true, false, is_some, List, [], ◌∷◌, ◌++◌, take, Option, Some, None, slice_get}
 use Rattle.wac_primitives.specs.Name.{Name, find_name, option_case}
 use Rattle.wac_shapes.specs.declared.component.Interface.{Interface}
@@ -12,17 +12,17 @@ use Rattle.wac_entries.specs.Classes.{Entry, NameRules, imported_as, members}
 use Rattle.wac_terms.specs.Merge.{Merged, import_under, listed_resource}
 use Rattle.wac_uses.specs.United.{instances_of, listed_by}
 
--- the interface of an instance, behind which others stand
+-- The interface of an instance, before other interfaces.
 abbrev pub with_instance : ItemKind → List InterfaceId → List InterfaceId
 with_instance (kind.Instance i) is = i ∷ is
 with_instance k is = is
 
--- the interfaces of the instances among entries
+-- The interfaces of the instances among entries.
 abbrev pub instances : List Entry → List InterfaceId
 instances [] = []
 instances (e ∷ es) = with_instance e.kind (instances es)
 
--- what interfaces use, in order
+-- The uses of these interfaces, in order.
 abbrev pub uses_of : Collection → List InterfaceId → List (Name × UsedType)
 uses_of c [] = []
 uses_of c (i ∷ is) = option_case (item_at c.interfaces i.0) [] (λ it. it.uses) ++ uses_of c is
@@ -31,19 +31,24 @@ abbrev pub instance_of : Option ItemKind → Option InterfaceId
 instance_of (Some (kind.Instance i)) = Some i
 instance_of o = None
 
--- the interface of the instance that the class of an interface is imported as, among these imports
+-- The interface of the import to which an interface was merged, if it is among these imports.
 abbrev pub imported_interface : NameRules → Collection → List Entry → List Entry → InterfaceId → Option InterfaceId
 imported_interface rules c es imports i = option_case (item_at c.interfaces i.0) None (λ it. option_case it.id None (λ id. instance_of (import_under imports (imported_as rules es id))))
 
--- a resource of its own stands under a name among these items
+-- An own resource is exported under a name.
 abbrev pub lists_resource : Collection → List (Name × ItemKind) → Name → Bool
 lists_resource m listed n = option_case (find_name listed n) false (λ k. is_some (listed_resource m k))
 
--- the same use, of another interface
+-- The use with another interface, under the same name.
 abbrev pub of_interface : InterfaceId → UsedType → UsedType
 of_interface i u = record { interface = i; name = u.name }
 
--- Why an import that lists these items does not keep a use under a name: the class of the used interface is not imported before it; a resource of its own has the name; that class has no id, or lists no type there; or what is listed under the name is another type.
+-- A use is left out of an interface with these exports for one of five reasons.
+-- - The used interface is not merged into an earlier import.
+-- - An own resource has the name.
+-- - That import has no id.
+-- - That import exports no type under the name there.
+-- - The interface exports something else under the name.
 pub data IsLeftOut (rules : NameRules) (c : Collection) (es : List Entry) (m : Collection) (imports : List Entry) (listed : List (Name × ItemKind)) (n : Name) (u : UsedType) : Type 0 where
   not_before : imported_interface rules c es imports u.interface ≡ None → IsLeftOut rules c es m imports listed n u
   hides : lists_resource m listed n ≡ true → IsLeftOut rules c es m imports listed n u
@@ -51,7 +56,8 @@ pub data IsLeftOut (rules : NameRules) (c : Collection) (es : List Entry) (m : C
   lists_none : (i : InterfaceId) → imported_interface rules c es imports u.interface ≡ Some i → is_there m (n, of_interface i u) ≡ false → IsLeftOut rules c es m imports listed n u
   differs : (i : InterfaceId) → imported_interface rules c es imports u.interface ≡ Some i → is_there m (n, of_interface i u) ≡ true → is_listed_as_used m listed (n, of_interface i u) ≡ false → IsLeftOut rules c es m imports listed n u
 
--- A use is kept as one of what the class of the used interface is imported as, under the name there: an interface with an id, which lists a type there, and what is listed under the name, where something is, is that type, and no resource of its own.
+-- A use is kept as one of the import to which the used interface was merged.
+-- That import has an id and exports a type. An export of the name is that type, and no own resource.
 pub record IsKept (rules : NameRules) (c : Collection) (es : List Entry) (m : Collection) (imports : List Entry) (listed : List (Name × ItemKind)) (n : Name) (u v : UsedType) : Type 0 where
   pub before : imported_interface rules c es imports u.interface ≡ Some v.interface
   pub named : v.name ≡ u.name
@@ -60,26 +66,28 @@ pub record IsKept (rules : NameRules) (c : Collection) (es : List Entry) (m : Co
   pub there : is_there m (n, v) ≡ true
   pub alike : is_listed_as_used m listed (n, v) ≡ true
 
--- the use at a position is kept as this under its name, and those of the name before it are left out
+-- The use at a position is kept, and all earlier ones of its name are left out.
 pub record IsFirstKept (rules : NameRules) (c : Collection) (es : List Entry) (m : Collection) (imports : List Entry) (listed : List (Name × ItemKind)) (us : List (Name × UsedType)) (k : ℕ) (n : Name) (v : UsedType) : Type 0 where
   pub use_there : UsedType
   pub at : slice_get us k ≡ Some (n, use_there)
   pub kept : IsKept rules c es m imports listed n use_there v
   pub first : (j : ℕ) (u : UsedType) → j < k → slice_get us j ≡ Some (n, u) → IsLeftOut rules c es m imports listed n u
 
--- Of uses these are kept: under each name the first that can be, in order of these.
+-- Of these uses the first of each name that is not left out is kept, in order.
 pub record AreKept (rules : NameRules) (c : Collection) (es : List Entry) (m : Collection) (imports : List Entry) (listed : List (Name × ItemKind)) (us kept : List (Name × UsedType)) : Type 0 where
   pub each : (n : Name) (v : UsedType) → ((p : ℕ) × (slice_get kept p ≡ Some (n, v))) ↔ ((k : ℕ) × IsFirstKept rules c es m imports listed us k n v)
   pub ordered : (p q k l : ℕ) (n o : Name) (v w : UsedType) → slice_get kept p ≡ Some (n, v) → slice_get kept q ≡ Some (o, w)
       → IsFirstKept rules c es m imports listed us k n v → IsFirstKept rules c es m imports listed us l o w → p < q → k < l
 
--- An interface stands in the import at a position, as an instance at some depth, and is made of these: that of the import of those of its class's members, one inside of the instances that these list under its name.
+-- An interface is that of the import at a position, or of an instance inside it, and it unites these interfaces.
+-- The import unites those of its class's entries, an instance inside those that these export under its name.
 pub data StandsIn (rules : NameRules) (c : Collection) (es : List Entry) (m : Merged) (p : ℕ) : InterfaceId → List InterfaceId → Type 0 where
   as_import : (e : Entry) (w : InterfaceId) → slice_get m.imports p ≡ Some e → e.kind ≡ kind.Instance w → StandsIn rules c es m p w (instances (members rules es e.name))
   inside : (w v : InterfaceId) (is : List InterfaceId) (it : Interface) (n : Name) → StandsIn rules c es m p w is → item_at m.types.interfaces w.0 ≡ Some it → find_name it.exports n ≡ Some (kind.Instance v)
       → StandsIn rules c es m p v (instances_of (listed_by c is n))
 
--- An import that is an instance, and each instance inside, uses what the interfaces that it is made of use, of the imports before that import.
+-- Each import that is an instance has the uses of the interfaces that it unites, redirected to earlier imports.
+-- So has each instance inside it.
 abbrev pub KeepsUses : NameRules → Collection → List Entry → Merged → Type 0
 KeepsUses rules c es m = (p : ℕ) (w : InterfaceId) (is : List InterfaceId) (it : Interface) → StandsIn rules c es m p w is → item_at m.types.interfaces w.0 ≡ Some it
     → AreKept rules c es m.types (take p m.imports) it.exports (uses_of c is) it.uses

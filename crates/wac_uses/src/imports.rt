@@ -1,4 +1,4 @@
-//! Imports of a merge with what they use.
+//! The merged imports with their uses.
 ghost use Rattle.std.specs.Prelude.{ℕ, ◌≡◌, List, [], Some, false, length, map, slice_get, true, IfOk};
 ghost use Rattle.std.specs.List.{list_any};
 ghost use Rattle.wac_shapes.specs.declared.component.InterfaceId.{InterfaceId as AnId};
@@ -16,7 +16,10 @@ use wac_collection::{InterfaceId, ItemKind, Named, ShapeError, Types};
 use wac_entries::classes::Classes;
 use wac_entries::entry::Entry;
 
-/// No interface for each class.
+/// Returns an empty list of interfaces for each of `count` classes.
+///
+/// # Errors
+/// - [`AllocError`] if out of memory.
 pub fn no_interfaces(alloc: Global, count: usize) -> Result<Vec<Vec<InterfaceId>>, AllocError>
     ensures counted { IfOk result (λ v. length v.items ≡ count) }
     ensures empty { IfOk result (λ v. (k : ℕ) (is : List AnId) → slice_get (map (λ is. is.items) v.items) k ≡ Some is → is ≡ []) }
@@ -28,7 +31,7 @@ pub fn no_interfaces(alloc: Global, count: usize) -> Result<Vec<Vec<InterfaceId>
     Ok(lists)
 }
 
-/// The interfaces of the instances of each class.
+/// Returns for each class the interfaces of its entries that are instances.
 fn class_users(
     alloc: Global,
     entries: &[Entry],
@@ -45,7 +48,7 @@ fn class_users(
     Ok(users)
 }
 
-/// Whether one of interfaces uses another.
+/// Returns whether one of these interfaces uses another one.
 fn use_others(types: &Types, users: &[InterfaceId]) -> bool
     requires users { AreInterfaces types.now users.now }
     ensures none { result ≡ false → uses_of types.now users.now ≡ [] }
@@ -59,7 +62,7 @@ fn use_others(types: &Types, users: &[InterfaceId]) -> bool
     false
 }
 
-/// Whether an instance is among items.
+/// Returns whether one of these items is an instance.
 fn lists_instance(listed: &Named<ItemKind>) -> bool
     ensures { result ≡ list_any (λ e. is_instance e.1) listed.now }
 {
@@ -72,7 +75,7 @@ fn lists_instance(listed: &Named<ItemKind>) -> bool
     false
 }
 
-/// An import with what it and the instances inside use of those before it.
+/// Returns an import with uses of earlier imports, in its interface and in those of instances inside it.
 fn with_uses(
     asked: &Asked<'_>,
     merged: &mut Types,
@@ -98,7 +101,12 @@ fn with_uses(
     Ok(ItemKind::Instance(id))
 }
 
-/// Imports that use none of each other, each of a class of entries, with what they and the instances inside use.
+/// Returns the imports `bare`, which have no uses, with the uses that their entries have of each other.
+///
+/// The uses are those of the interface of an instance and of the interfaces of instances inside it.
+///
+/// # Errors
+/// - [`AllocError`] if out of memory. The merged collection may then hold more interfaces.
 pub fn imports_with_uses(
     asked: &Asked<'_>,
     merged: &mut Types,
@@ -113,17 +121,17 @@ pub fn imports_with_uses(
     ensures using { IfOk result (λ is. AreUsing by_names asked.now.types.now asked.now.entries.now merged.new (import_entries bare.now) (import_entries is)) }
 {
     let users = class_users(asked.alloc, asked.entries, asked.classes)?;
-    bare.law();
-    merged.law();
+    bare.law(); // proof only
+    merged.law(); // proof only
     let mut imports = Named::with_capacity(asked.alloc, bare.len())?;
     for i in 0..bare.len() {
         let (name, kind) = bare.entry_at(i);
         let Some(number) = asked.classes.number(name) else {
             unreachable!()
         };
-        merged.law();
+        merged.law(); // proof only
         let kind = with_uses(asked, merged, &imports, users[number].as_slice(), *kind)?;
-        merged.law();
+        merged.law(); // proof only
         match imports.insert(asked.alloc, name, kind) {
             Ok(()) => {}
             Err(ShapeError::OutOfMemory) => return Err(AllocError),

@@ -1,6 +1,8 @@
-//! What the imports of a merge use of each other: a use of an interface becomes one of what its class is imported as.
+//! The uses between merged imports.
 //!
-//! A layer of `wac_merge`, whose crate is the door. Stands on `wac_terms`, below `wac_unions`.
+//! A use is a type that an interface takes from another one, as `use` in WIT does. A union of interfaces has no uses at
+//! first. Each use of a united interface then becomes a use of the import to which the used interface was merged. It is
+//! left out if that import does not come earlier, or if the type cannot be used from it under its name.
 #![tactic(auto)]
 
 pub mod imports;

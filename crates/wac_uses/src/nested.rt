@@ -1,4 +1,4 @@
-//! Interfaces inside an import, and the same with what they use.
+//! The uses of the interfaces inside an import.
 ghost use Rattle.std.specs.Prelude.{List, ◌≡◌, ◌<◌, ◌++◌, ◌∷◌, [], Some, false, true, length, map, slice_get, IfOk, OnOk};
 ghost use Rattle.wac_collection.specs.Collection.{HasInterface, holds_all, interface_exports, item_at, kind_types};
 ghost use Rattle.wac_shapes.specs.declared.component.Interface.{Interface as AnInterface};
@@ -20,7 +20,10 @@ use wac_collection::{
 };
 use wac_subtyping::laws::growth_keeps_trees;
 
-/// Puts the interface of an instance behind others.
+/// Appends the interface of an item that is an instance.
+///
+/// # Errors
+/// - [`AllocError`] if out of memory.
 pub fn put_user(users: &mut Vec<InterfaceId>, kind: ItemKind) -> Result<(), AllocError>
     ensures { OnOk result (users.new.items ≡ users.old.items ++ with_instance kind []) }
 {
@@ -30,7 +33,7 @@ pub fn put_user(users: &mut Vec<InterfaceId>, kind: ItemKind) -> Result<(), Allo
     Ok(())
 }
 
-/// Puts the interface of an instance into the list of its name, where these items have it.
+/// Appends the interface of an instance to the list of its name, if `listed` has that name.
 fn put_named(
     lists: &mut Vec<Vec<InterfaceId>>,
     listed: &Named<ItemKind>,
@@ -43,7 +46,7 @@ fn put_named(
     let ItemKind::Instance(id) = kind else {
         return Ok(());
     };
-    listed.law();
+    listed.law(); // proof only
     let Some((index, _)) = listed.get_full(name) else {
         return Ok(());
     };
@@ -51,7 +54,7 @@ fn put_named(
     Ok(())
 }
 
-/// Puts the interface of each instance among others into the list of its name, where these items have it.
+/// Appends the interface of each instance of `others` to the list of its name, if `listed` has that name.
 fn put_listed(
     lists: &mut Vec<Vec<InterfaceId>>,
     listed: &Named<ItemKind>,
@@ -60,7 +63,7 @@ fn put_listed(
     requires { length lists.old.items ≡ length listed.now }
     ensures { OnOk result (HaveMore listed.now others.now lists.old.items lists.new.items) }
 {
-    others.law();
+    others.law(); // proof only
     for i in 0..others.len() {
         let (name, kind) = others.entry_at(i);
         put_named(lists, listed, name, *kind)?;
@@ -68,7 +71,7 @@ fn put_listed(
     Ok(())
 }
 
-/// For each of these items, the interfaces of the instances that interfaces list under its name.
+/// Returns for each of these items the interfaces of the instances that `users` export under its name.
 fn listed_users(
     asked: &Asked<'_>,
     users: &[InterfaceId],
@@ -84,7 +87,7 @@ fn listed_users(
     Ok(lists)
 }
 
-/// These interfaces once more.
+/// Copies ids.
 fn copied_ids(alloc: Global, ids: &[InterfaceId]) -> Result<Vec<InterfaceId>, AllocError>
     ensures { IfOk result (λ v. v.items ≡ ids.now) }
 {
@@ -93,22 +96,22 @@ fn copied_ids(alloc: Global, ids: &[InterfaceId]) -> Result<Vec<InterfaceId>, Al
     Ok(copied)
 }
 
-/// Where the interface of an instance stands, by what it is and what it is made of.
+/// The positions of interfaces, each by its id and by the interfaces that it unites.
 type Known = IndexMap<(InterfaceId, Vec<InterfaceId>), usize>;
 
-/// Interfaces inside one, which is the first; each stands before those of the instances that it lists.
+/// The interfaces inside an import, that of the import first. Each precedes those of the instances that it exports.
 #[derive(Drop)]
 pub struct Inside {
     /// The interfaces.
     interfaces: Vec<InterfaceId>,
-    /// What each is made of.
+    /// The interfaces that each of them unites.
     users: Vec<Vec<InterfaceId>>,
-    /// Where the interface of each instance stands that it lists.
+    /// For each of them, the position of the interface of each instance that it exports.
     inner: Vec<Vec<usize>>,
 }
 
 impl Inside {
-    /// What is inside an interface that is made of these, without recursion.
+    /// Returns the interfaces inside interface `id`, which unites `users`. It does not recurse.
     fn new(
         asked: &Asked<'_>,
         merged: &Types,
@@ -120,8 +123,8 @@ impl Inside {
         ensures inside { IfOk result (λ x. AreInside asked.now.types.now merged.now id users.now x.interfaces.items (map (λ v. v.items) x.users.items) (map (λ v. v.items) x.inner.items)) }
         ensures all { IfOk result (λ x. length x.inner.items ≡ length x.interfaces.items) }
     {
-        merged.law();
-        asked.types.law();
+        merged.law(); // proof only
+        asked.types.law(); // proof only
         let mut inside = Inside {
             interfaces: Vec::new(asked.alloc),
             users: Vec::new(asked.alloc),
@@ -139,7 +142,7 @@ impl Inside {
         Ok(inside)
     }
 
-    /// Puts the interfaces of the instances behind the others that the one at a position lists.
+    /// Appends the interfaces of the instances that the interface at `position` exports.
     fn open(&mut self, asked: &Asked<'_>, merged: &Types, position: usize) -> Result<(), AllocError>
         requires within { position < length self.old.interfaces.items }
         requires counted { length self.old.users.items ≡ length self.old.interfaces.items }
@@ -148,7 +151,7 @@ impl Inside {
         ensures { OnOk result (IsOpened asked.now.types.now merged.now position self.old.interfaces.items (map (λ v. v.items) self.old.users.items) (map (λ v. v.items) self.old.inner.items) self.new.interfaces.items (map (λ v. v.items) self.new.users.items) (map (λ v. v.items) self.new.inner.items)) }
     {
         let listed = &merged[self.interfaces[position]].exports;
-        listed.law();
+        listed.law(); // proof only
         let lists = listed_users(asked, self.users[position].as_slice(), listed)?;
         let mut places = Vec::new(asked.alloc);
         let mut known = IndexMap::new(asked.alloc);
@@ -162,7 +165,8 @@ impl Inside {
         Ok(())
     }
 
-    /// Where the interface of an instance stands that is made of these, behind a position. It is put behind the others where no such place is known.
+    /// Returns a position after `position` of an instance's interface that unites `users`.
+    /// It is appended if it is not known yet. For any other item the position has no meaning.
     fn place(
         &mut self,
         alloc: Global,
@@ -192,7 +196,7 @@ impl Inside {
         Ok(place)
     }
 
-    /// The first interface with what it and those inside use of imports, from the innermost on.
+    /// Returns the first interface with its uses of `imports`. Inner interfaces get theirs before outer ones.
     fn using(
         &self,
         asked: &Asked<'_>,
@@ -206,25 +210,25 @@ impl Inside {
         ensures extended { IsExtended merged.old merged.new }
         ensures using { IfOk result (λ w. (root : AnId) (of : List AnId) → slice_get self.now.interfaces.items 0 ≡ Some root → slice_get (map (λ v. v.items) self.now.users.items) 0 ≡ Some of → IsUsing asked.now.types.now merged.new (uses_among by_names asked.now.types.now asked.now.entries.now merged.new (import_entries imports.now)) root w of) }
     {
-        merged.law();
+        merged.law(); // proof only
         let count = self.interfaces.len();
         let mut done = Vec::new(asked.alloc);
         done.extend_from_slice(self.interfaces.as_slice())?;
         for back in 0..count {
             let position = count - 1 - back;
-            merged.law();
+            merged.law(); // proof only
             let users = self.users[position].as_slice();
             let places = self.inner[position].as_slice();
             let id = self.interfaces[position];
             let id = using_at(asked, merged, imports, users, id, places, done.as_slice())?;
-            merged.law();
+            merged.law(); // proof only
             done[position] = id;
         }
         Ok(done[0])
     }
 }
 
-/// The interface that stands at the place of an item; its own where none does.
+/// Returns the interface that replaces that of an instance at `index`, or the same one if none does.
 fn placed_id(places: &[usize], done: &[InterfaceId], index: usize, id: InterfaceId) -> InterfaceId
     ensures { kind_of.Instance result ≡ placed places.now done.now index (kind_of.Instance id) }
 {
@@ -237,7 +241,7 @@ fn placed_id(places: &[usize], done: &[InterfaceId], index: usize, id: Interface
     *using
 }
 
-/// An item in which an instance became that at its place.
+/// Returns an item with the interface of an instance replaced.
 fn placed_item(places: &[usize], done: &[InterfaceId], index: usize, kind: ItemKind) -> ItemKind
     ensures { result ≡ placed places.now done.now index kind }
 {
@@ -247,7 +251,7 @@ fn placed_item(places: &[usize], done: &[InterfaceId], index: usize, kind: ItemK
     ItemKind::Instance(placed_id(places, done, index, id))
 }
 
-/// Whether an item stays what it is, where an instance becomes that at its place.
+/// Returns whether an item is unchanged if the interface of an instance is replaced.
 fn is_same(places: &[usize], done: &[InterfaceId], index: usize, kind: ItemKind) -> bool
     ensures { result ≡ true → placed places.now done.now index kind ≡ kind }
 {
@@ -257,7 +261,7 @@ fn is_same(places: &[usize], done: &[InterfaceId], index: usize, kind: ItemKind)
     placed_id(places, done, index, id).0 == id.0
 }
 
-/// Whether an instance among items becomes another.
+/// Returns whether one of the items changes if the interfaces of instances are replaced.
 fn is_changed(listed: &Named<ItemKind>, places: &[usize], done: &[InterfaceId]) -> bool
     ensures { result ≡ false → placed_from places.now done.now 0 listed.now ≡ listed.now }
 {
@@ -270,7 +274,7 @@ fn is_changed(listed: &Named<ItemKind>, places: &[usize], done: &[InterfaceId]) 
     false
 }
 
-/// Items in which each instance became that at its place.
+/// Returns items with the interfaces of instances replaced.
 fn placed_items(
     alloc: Global,
     listed: &Named<ItemKind>,
@@ -279,7 +283,7 @@ fn placed_items(
 ) -> Result<Named<ItemKind>, AllocError>
     ensures { IfOk result (λ items. items ≡ placed_from places.now done.now 0 listed.now) }
 {
-    listed.law();
+    listed.law(); // proof only
     let mut items = Named::with_capacity(alloc, listed.len())?;
     for j in 0..listed.len() {
         let (name, kind) = listed.entry_at(j);
@@ -293,7 +297,7 @@ fn placed_items(
     Ok(items)
 }
 
-/// What an interface with these items uses of imports, in place of what interfaces use.
+/// Returns the uses of `users`, redirected to `imports`, for an interface with the exports `listed`.
 fn uses_at(
     asked: &Asked<'_>,
     merged: &Types,
@@ -313,7 +317,7 @@ fn uses_at(
     kept_uses(asked, &place, users)
 }
 
-/// Adds an interface once more, with uses and items.
+/// Adds a copy of an interface with these uses and exports.
 fn add_using(
     alloc: Global,
     merged: &mut Types,
@@ -327,8 +331,8 @@ fn add_using(
     ensures extended { IsExtended merged.old merged.new }
     ensures added { IfOk result (λ w. IsWithUses merged.new id w exports uses) }
 {
-    merged.law();
-    growth_keeps_trees(merged);
+    merged.law(); // proof only
+    growth_keeps_trees(merged); // proof only
     let text = copied(alloc, &merged[id].id)?;
     match merged.add_interface(Interface {
         id: text,
@@ -341,7 +345,7 @@ fn add_using(
     }
 }
 
-/// An interface with what it uses of imports, where none of the instances that it lists became another.
+/// Returns an interface with its uses of `imports`, if none of its instances has changed.
 fn using_here(
     asked: &Asked<'_>,
     merged: &mut Types,
@@ -357,21 +361,21 @@ fn using_here(
     ensures extended { IsExtended merged.old merged.new }
     ensures added { IfOk result (λ w. IsWithUses merged.new id w (interface_exports merged.old id) (uses_among by_names asked.now.types.now asked.now.entries.now merged.new (import_entries imports.now) users.now (interface_exports merged.old id))) }
 {
-    merged.law();
-    merged.uses_law();
+    merged.law(); // proof only
+    merged.uses_law(); // proof only
     let listed = &merged[id].exports;
-    listed.law();
+    listed.law(); // proof only
     let uses = uses_at(asked, merged, imports, users, listed)?;
     if uses.len() == 0 {
         return Ok(id);
     }
     let exports = listed.copied(asked.alloc)?;
     let id = add_using(asked.alloc, merged, id, uses, exports)?;
-    merged.law();
+    merged.law(); // proof only
     Ok(id)
 }
 
-/// An interface with what it uses of imports, and with these items.
+/// Returns an interface with its uses of `imports` and with these exports.
 fn using_with(
     asked: &Asked<'_>,
     merged: &mut Types,
@@ -389,16 +393,16 @@ fn using_with(
     ensures extended { IsExtended merged.old merged.new }
     ensures added { IfOk result (λ w. IsWithUses merged.new id w exports (uses_among by_names asked.now.types.now asked.now.entries.now merged.new (import_entries imports.now) users.now exports)) }
 {
-    merged.law();
-    merged.uses_law();
-    exports.law();
+    merged.law(); // proof only
+    merged.uses_law(); // proof only
+    exports.law(); // proof only
     let uses = uses_at(asked, merged, imports, users, &exports)?;
     let id = add_using(asked.alloc, merged, id, uses, exports)?;
-    merged.law();
+    merged.law(); // proof only
     Ok(id)
 }
 
-/// An interface with what it and the instances that it lists use of imports, which these do already.
+/// Returns an interface with its uses of `imports`. The instances that it exports have theirs already, in `done`.
 fn using_at(
     asked: &Asked<'_>,
     merged: &mut Types,
@@ -417,20 +421,23 @@ fn using_at(
     ensures extended { IsExtended merged.old merged.new }
     ensures using { IfOk result (λ w. IsUsing asked.now.types.now merged.new (uses_among by_names asked.now.types.now asked.now.entries.now merged.new (import_entries imports.now)) id w users.now) }
 {
-    merged.law();
+    merged.law(); // proof only
     let listed = &merged[id].exports;
     if is_changed(listed, places, done) {
         let exports = placed_items(asked.alloc, listed, places, done)?;
         let id = using_with(asked, merged, imports, users, id, exports)?;
-        merged.law();
+        merged.law(); // proof only
         return Ok(id);
     }
     let id = using_here(asked, merged, imports, users, id)?;
-    merged.law();
+    merged.law(); // proof only
     Ok(id)
 }
 
-/// An interface that is made of these, with what it and the instances inside use of imports.
+/// Returns interface `id`, which unites `users`, with its uses of `imports`. The interfaces inside it get theirs too.
+///
+/// # Errors
+/// - [`AllocError`] if out of memory. The merged collection may then hold more interfaces.
 pub fn with_inner_uses(
     asked: &Asked<'_>,
     merged: &mut Types,

@@ -1,4 +1,4 @@
-//! Uses of interfaces as uses of what their classes are imported as.
+//! The uses of one interface, redirected to merged imports.
 ghost use Rattle.std.specs.Prelude.{◌≡◌, [], is_some, true, IfOk, OnOk};
 ghost use Rattle.wac_collection.specs.Aliases.{handle_resolved, type_resolved, value_resolved};
 ghost use Rattle.wac_collection.specs.Collection.{HasInterface, holds_all, used_types};
@@ -16,10 +16,10 @@ use wac_collection::{
 use wac_entries::classes::Classes;
 use wac_entries::entry::Entry;
 
-/// Entries that are asked for, of a collection.
+/// The entries of a merge, with their collection and their classes.
 #[derive(Clone, Copy)]
 pub struct Asked<'a> {
-    /// For the memory.
+    /// The allocator.
     pub alloc: Global,
     /// The collection.
     pub types: &'a Types,
@@ -29,18 +29,18 @@ pub struct Asked<'a> {
     pub classes: &'a Classes,
 }
 
-/// Where an interface is to use others: the collection that has them, the imports before it, and its items.
+/// An interface of the merged collection that is to get uses, and what it may use.
 #[derive(Clone, Copy)]
 pub struct Place<'a> {
-    /// The collection of the imports.
+    /// The merged collection.
     pub merged: &'a Types,
-    /// The imports before it.
+    /// The imports before the one that contains the interface.
     pub imports: &'a Named<ItemKind>,
-    /// Its items.
+    /// The exports of the interface.
     pub listed: &'a Named<ItemKind>,
 }
 
-/// The name under which a name is imported.
+/// Returns the canonical name of the class of a name, or the name itself if no entry has it.
 fn imported_name<'a>(entries: &'a [Entry], classes: &Classes, name: &'a str) -> &'a str
     requires { AreClasses by_names entries.now classes.now.numbers.items classes.now.positions.items classes.now.names }
     ensures { result.now ≡ imported_as by_names entries.now name.now }
@@ -51,7 +51,7 @@ fn imported_name<'a>(entries: &'a [Entry], classes: &Classes, name: &'a str) -> 
     }
 }
 
-/// The interface of the instance that the class of an interface is imported as, among imports.
+/// Returns the interface of the import to which an interface was merged, or `None` if it is not among `imports`.
 fn imported_interface(
     asked: &Asked<'_>,
     imports: &Named<ItemKind>,
@@ -74,7 +74,7 @@ fn imported_interface(
     Some(id)
 }
 
-/// Whether an item is a resource, and no alias of one.
+/// Returns whether an item is a resource that is no alias.
 fn is_own(merged: &Types, kind: ItemKind) -> bool
     ensures { result ≡ is_some (listed_resource merged.now kind) }
 {
@@ -84,7 +84,7 @@ fn is_own(merged: &Types, kind: ItemKind) -> bool
     !merged.contains(Type::Resource(resource)) || merged[resource].alias.is_none()
 }
 
-/// Whether a resource of its own stands under a name among items.
+/// Returns whether an own resource is exported under a name.
 fn lists_resource(merged: &Types, listed: &Named<ItemKind>, name: &str) -> bool
     ensures { result ≡ lists_resource merged.now listed.now name.now }
 {
@@ -94,7 +94,7 @@ fn lists_resource(merged: &Types, listed: &Named<ItemKind>, name: &str) -> bool
     }
 }
 
-/// A value type at the ends of its aliases.
+/// Returns a value type with aliases resolved.
 fn value_end(merged: &Types, value: ValueType) -> ValueType
     ensures { result ≡ handle_resolved merged.now (value_resolved merged.now value) }
 {
@@ -105,7 +105,7 @@ fn value_end(merged: &Types, value: ValueType) -> ValueType
     }
 }
 
-/// A type at the ends of its aliases.
+/// Returns a type with aliases resolved.
 fn type_end(merged: &Types, ty: Type) -> Type
     ensures { result ≡ type_resolved merged.now ty }
 {
@@ -116,7 +116,7 @@ fn type_end(merged: &Types, ty: Type) -> Type
     }
 }
 
-/// Whether an item is a type item of a type, at the ends of aliases.
+/// Returns whether an item is a type item of the given type, with aliases resolved.
 fn is_type(merged: &Types, kind: ItemKind, ty: Type) -> bool
     ensures { result ≡ same_type_item merged.now kind (kind_of.TypeItem ty) }
 {
@@ -126,7 +126,10 @@ fn is_type(merged: &Types, kind: ItemKind, ty: Type) -> bool
     }
 }
 
-/// Whether a type of an interface, which has a name there, may be used under a name.
+/// Returns whether an interface may use a type of interface `id` under a name. `there` is the name of the type in `id`,
+/// if it differs.
+///
+/// No own resource may have the name, and an export of the name must be that very type.
 fn may_use(place: &Place<'_>, name: &str, id: InterfaceId, there: &Option<Text>) -> bool
     ensures { result ≡ may_use place.now.merged.now place.now.listed.now (name.now, record { interface = id; name = there.now }) }
 {
@@ -153,7 +156,10 @@ fn may_use(place: &Place<'_>, name: &str, id: InterfaceId, there: &Option<Text>)
     }
 }
 
-/// An optional text, in memory of its own.
+/// Copies an optional text.
+///
+/// # Errors
+/// - [`AllocError`] if out of memory.
 pub fn copied(alloc: Global, text: &Option<Text>) -> Result<Option<Text>, AllocError>
     ensures { IfOk result (λ t. t ≡ text.now) }
 {
@@ -163,7 +169,7 @@ pub fn copied(alloc: Global, text: &Option<Text>) -> Result<Option<Text>, AllocE
     }
 }
 
-/// A use as it is kept, where it is.
+/// Returns a use redirected to a merged import, or `None` if it is left out.
 fn kept_use(
     asked: &Asked<'_>,
     place: &Place<'_>,
@@ -184,7 +190,7 @@ fn kept_use(
     Ok(Some(UsedType { interface, name }))
 }
 
-/// Puts a use behind others, where there is one and none of its name.
+/// Appends a use, if there is one and its name is not used yet.
 fn put_use(
     alloc: Global,
     uses: &mut Named<UsedType>,
@@ -202,7 +208,7 @@ fn put_use(
     }
 }
 
-/// Puts what an interface uses, as it is kept, behind other uses.
+/// Appends the uses of one interface, redirected to merged imports.
 fn put_uses(
     asked: &Asked<'_>,
     place: &Place<'_>,
@@ -221,7 +227,10 @@ fn put_uses(
     Ok(())
 }
 
-/// What interfaces use, as it is kept.
+/// Returns the uses of these interfaces, redirected to merged imports. Of several uses of one name the first is kept.
+///
+/// # Errors
+/// - [`AllocError`] if out of memory.
 pub fn kept_uses(
     asked: &Asked<'_>,
     place: &Place<'_>,
@@ -231,7 +240,7 @@ pub fn kept_uses(
     requires classes { HasClasses asked.now }
     ensures { IfOk result (λ us. us ≡ keep_from asked.now place.now [] (uses_of asked.now.types.now interfaces.now)) }
 {
-    asked.types.law();
+    asked.types.law(); // proof only
     let mut uses = Named::new(asked.alloc);
     for i in 0..interfaces.len() {
         let id = interfaces[i];

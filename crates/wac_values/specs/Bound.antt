@@ -1,10 +1,10 @@
--- What an answer says of the class that binds a value type.
+-- The value of a `ValueBinding`.
 use Rattle.std.specs.Prelude.{ℕ, List}
 use Rattle.std.specs.Option.{option_copied}
 use Rattle.wac_primitives.specs.Tree.{Place}
 use Rattle.wac_values.specs.declared.bindings.ValueBinding.{ValueBinding}
 use Rattle.wac_values.specs.Listings.{path_of}
 
--- the class, and the path of the name
+-- The class, and the path of the name in it.
 abbrev pub binding_view : ValueBinding → ℕ × List Place
 binding_view b = (b.class, path_of (option_copied b.name))

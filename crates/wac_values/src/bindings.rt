@@ -19,16 +19,16 @@ use wac_collection::{DefinedTypeId, InterfaceId, ItemKind, Named, Types};
 use wac_entries::classes::Classes;
 use wac_entries::entry::Entry;
 
-/// What binds a value type.
+/// The binding of a value type.
 #[derive(Clone, Copy)]
 pub struct ValueBinding<'a> {
     /// The number of the class.
     pub class: usize,
-    /// The name under which the class lists the type; none where the class is the type itself.
+    /// The name under which the class exports the type; `None` if the class itself is the type.
     pub name: Option<&'a str>,
 }
 
-/// Puts the value types that an interface lists, where it uses those in a set.
+/// Adds the value types that an interface exports. Those in `used` count as used from another interface.
 fn put_exports(
     table: &mut Table,
     alloc: Global,
@@ -49,7 +49,7 @@ fn put_exports(
     Ok(())
 }
 
-/// Puts the value types that an instance in a class lists.
+/// Adds the value types that an instance of a class exports.
 fn put_instance(
     table: &mut Table,
     alloc: Global,
@@ -60,13 +60,13 @@ fn put_instance(
     requires { holds_type types.now (kind_type (kind_of.Instance id)) ≡ true }
     ensures { OnOk result (Takes table.old (listed_by types.now class (kind_of.Instance id)) table.new) }
 {
-    types.law();
+    types.law(); // proof only
     let it = &types[id];
     let used = used_values(alloc, types, &it.uses)?;
     put_exports(table, alloc, types, class, &it.exports, &used)
 }
 
-/// Puts the value types that a member of a class lists.
+/// Adds the value types that an entry of a class exports, or the one that it is.
 fn put_member(
     table: &mut Table,
     alloc: Global,
@@ -86,12 +86,12 @@ fn put_member(
     }
 }
 
-/// What binds each value type.
+/// The binding of each value type.
 pub struct ValueBindings {
     table: Table,
 }
 
-/// The table is let go of here, and not anew at each place where it goes out of scope.
+// By hand: a derived `Drop` is proved again wherever one goes out of scope (docs/PROOFS.md, 'Drop').
 impl Drop for ValueBindings {
     fn drop(self) {
         let ValueBindings { table: _ } = self;
@@ -110,8 +110,9 @@ impl Model for ValueBindings {
 }
 
 impl ValueBindings {
-    /// What binds a value type, which is to be no alias: `resolve_value_type` follows aliases to the end. None where
-    /// no class lists it. Takes no memory.
+    /// Returns the binding of a value type, or `None` if no class exports it. It does not allocate.
+    ///
+    /// `value` must not be an alias: resolve it with `resolve_value_type` first.
     pub fn of(&self, value: DefinedTypeId) -> Option<ValueBinding<'_>>
         ensures { option_map binding_view result ≡ find_value self.now value }
     {
@@ -127,7 +128,11 @@ impl ValueBindings {
     }
 }
 
-/// What binds each value type, by the classes of these entries. Answers `AllocError` where memory ran out.
+/// Returns the binding of each value type: the first class that exports it without using it from another interface.
+/// If each class that exports it uses it, the first of them binds it.
+///
+/// # Errors
+/// - [`AllocError`] if out of memory.
 pub fn value_bindings(
     alloc: Global,
     types: &Types,

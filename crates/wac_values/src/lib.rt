@@ -1,6 +1,8 @@
-//! Where value types are bound: which class, and under which name.
+//! Value types of merged imports: which class binds each, and which definitions are one named type.
 //!
-//! A layer of `wac_merge`, whose crate is the door.
+//! A value type is identified by its definition, with aliases resolved. Primitive types and handles have no definition.
+//! A class binds a value type that its entries export, or that they are. Definitions that a merged interface exports
+//! under one name are one named type, and so are those that are entries of one class.
 #![tactic(auto)]
 
 pub mod bindings;

@@ -1,4 +1,4 @@
-//! Which value types are listed and used.
+//! The value types that items export, and those that an interface uses from others.
 ghost use Rattle.std.specs.Prelude.{◌≡◌, true, IfOk};
 ghost use Rattle.wac_collection.specs.Collection.{holds_all, holds_type, used_types};
 ghost use Rattle.wac_shapes.specs.declared.component.DefinedTypeId.{DefinedTypeId as AnId};
@@ -10,7 +10,8 @@ use indexmap::IndexSet;
 use std::alloc::{AllocError, Global};
 use wac_collection::{DefinedTypeId, ItemKind, Named, Type, Types, UsedType, ValueType};
 
-/// The value type that an item lists: that of a type item, its aliases followed to the end.
+/// Returns the definition of a type item's value type, with aliases resolved.
+/// It is `None` for any other item, and for a primitive type or handle.
 pub(crate) fn listed_value(types: &Types, kind: ItemKind) -> Option<DefinedTypeId>
     ensures { result ≡ listed_value types.now kind }
 {
@@ -23,7 +24,7 @@ pub(crate) fn listed_value(types: &Types, kind: ItemKind) -> Option<DefinedTypeI
     }
 }
 
-/// The value type that is used: what the interface that it is used from lists under its name there.
+/// Returns the value type that an entry of `uses` refers to: the export of that name in the used interface.
 fn used_value(types: &Types, name: &str, used: &UsedType) -> Option<DefinedTypeId>
     requires { holds_type types.now (ty.Interface used.now.interface) ≡ true }
     ensures { result ≡ used_value types.now (name.now, used.now) }
@@ -36,7 +37,7 @@ fn used_value(types: &Types, name: &str, used: &UsedType) -> Option<DefinedTypeI
     listed_value(types, *kind)
 }
 
-/// The value types that are used.
+/// Returns the set of value types that `uses` refers to.
 pub(crate) fn used_values(
     alloc: Global,
     types: &Types,

@@ -16,14 +16,16 @@ use wac_entries::classes::Classes;
 use wac_entries::entry::Entry;
 use wac_terms::parts::{Part, Union};
 
-/// Definitions that stand under names. Those that stand under one name are one named type.
+/// The named types of a merge, as a union-find over definitions.
+///
+/// A definition has a name if a part exports it or an entry is it. Definitions under one name are one named type.
 #[derive(Drop)]
 pub struct NamedTypes {
-    // For each an earlier one that is the same named type, or itself where it is the first.
+    // The parent of each definition that has a name: an earlier definition of its named type, or itself.
     earlier: HashMap<DefinedTypeId, DefinedTypeId>,
 }
 
-/// The lower of two.
+/// Returns the lower of two ids.
 fn lower(one: DefinedTypeId, other: DefinedTypeId) -> DefinedTypeId
     ensures { result ≡ lower one other }
 {
@@ -31,7 +33,7 @@ fn lower(one: DefinedTypeId, other: DefinedTypeId) -> DefinedTypeId
 }
 
 impl NamedTypes {
-    /// No definition stands under a name.
+    /// Returns named types that have no definition.
     pub fn new(alloc: Global) -> NamedTypes
         ensures { (d : Defined) → named_type result d ≡ None }
     {
@@ -40,14 +42,14 @@ impl NamedTypes {
         }
     }
 
-    /// The definition before this, where it stands under a name.
+    /// Returns the parent of a definition, if it has a name.
     fn link(&self, id: DefinedTypeId) -> Option<DefinedTypeId>
         ensures { result ≡ earlier_of self.now id }
     {
         self.earlier.get(&id).copied()
     }
 
-    /// The first definition that is one named type with this.
+    /// Returns the first definition of a definition's named type, or the definition itself if it has no name.
     fn first(&self, id: DefinedTypeId) -> DefinedTypeId
         ensures { result ≡ first_of self.now id }
     {
@@ -63,7 +65,7 @@ impl NamedTypes {
         }
     }
 
-    /// The named type that a definition is, told by the first definition that is it; none where it stands under no name.
+    /// Returns the first definition of a definition's named type, or `None` if the definition has no name.
     pub fn of(&self, id: DefinedTypeId) -> Option<DefinedTypeId>
         ensures { result ≡ named_type self.now id }
     {
@@ -73,7 +75,7 @@ impl NamedTypes {
         }
     }
 
-    /// A definition is one named type with an earlier one.
+    /// Sets the parent of a definition.
     fn put(&mut self, id: DefinedTypeId, earlier: DefinedTypeId) -> Result<(), AllocError>
         ensures { OnOk result (PutsBefore self.old id earlier self.new) }
     {
@@ -83,7 +85,7 @@ impl NamedTypes {
         }
     }
 
-    /// Two definitions are one named type. Where memory ran out, the table is of no use.
+    /// Makes two definitions one named type. After an error the named types must not be used.
     fn join(&mut self, one: DefinedTypeId, other: DefinedTypeId) -> Result<(), AllocError>
         ensures joined { OnOk result (AreJoined self.old one other self.new) }
         ensures one { OnOk result (IsOneType self.new one other) }
@@ -101,7 +103,7 @@ impl NamedTypes {
     }
 }
 
-/// The value type that stands under a name in a union, and where none does this one.
+/// Returns the value type under a name of a union, or `value` if there is none.
 fn standing(types: &Types, union: &Union, name: &str, value: DefinedTypeId) -> DefinedTypeId
     ensures first { (e : AnExport) (d : Defined) → find_name union.now.exports name.now ≡ Some e → listed_value types.now e.kind ≡ Some d → result ≡ d }
     ensures found { (result ≡ value) ⊎ ((e : AnExport) × (find_name union.now.exports name.now ≡ Some e) × (listed_value types.now e.kind ≡ Some result)) }
@@ -115,7 +117,7 @@ fn standing(types: &Types, union: &Union, name: &str, value: DefinedTypeId) -> D
     }
 }
 
-/// Joins what is listed under a name with what stands under it in a union.
+/// Joins an export of a part with the value type under its name in the union.
 fn join_listed(
     named: &mut NamedTypes,
     types: &Types,
@@ -135,7 +137,7 @@ fn join_listed(
     Ok(())
 }
 
-/// Joins what a part of a union lists under each name with what stands under it in the union.
+/// Joins each export of a part with the value type under its name in the union.
 fn join_part(
     named: &mut NamedTypes,
     types: &Types,
@@ -155,7 +157,7 @@ fn join_part(
     Ok(())
 }
 
-/// Joins what a part lists with what stands in its union.
+/// Joins the exports of a part with those of its union.
 fn join_in_union(
     named: &mut NamedTypes,
     types: &Types,
@@ -173,7 +175,7 @@ fn join_in_union(
     }
 }
 
-/// Joins the definitions that stand under one name of a union.
+/// Joins the definitions that parts export under one name of one union.
 fn join_parts(
     named: &mut NamedTypes,
     types: &Types,
@@ -191,7 +193,7 @@ fn join_parts(
     Ok(())
 }
 
-/// The value type that the class of an entry is, by the entry at its position.
+/// Returns the value type of an entry's class, read from the entry with the canonical name.
 fn class_value(
     types: &Types,
     entries: &[Entry],
@@ -207,7 +209,7 @@ fn class_value(
     listed_value(types, entry.kind())
 }
 
-/// Joins what an entry is with what its class is.
+/// Joins the value type of an entry with that of its class.
 fn join_entry(
     named: &mut NamedTypes,
     types: &Types,
@@ -226,7 +228,7 @@ fn join_entry(
     Ok(())
 }
 
-/// Joins the definitions that entries of one class are.
+/// Joins the value types of the entries of each class.
 fn join_entries(
     named: &mut NamedTypes,
     types: &Types,
@@ -245,7 +247,12 @@ fn join_entries(
     Ok(())
 }
 
-/// Which definitions are one named type: those that stand under one name of one union, those that are one class, and no others.
+/// Returns which definitions are one named type.
+///
+/// These are the definitions that parts of one union export under one name, and those that are entries of one class.
+///
+/// # Errors
+/// - [`AllocError`] if out of memory.
 pub fn named_types(
     alloc: Global,
     types: &Types,

@@ -1,4 +1,4 @@
-//! Where value types are listed: each by the first class.
+//! A table of the exports of value types. Each value type has the export that binds it.
 ghost use Rattle.std.specs.Prelude.{◌≡◌, [], IfOk, OnOk, string_bytes};
 ghost use Rattle.std.specs.Option.{option_copied, option_map};
 ghost use Rattle.wac_terms.specs.ValueBindings.{find_value};
@@ -9,18 +9,18 @@ use std::alloc::{AllocError, Global};
 use std::marker::Model;
 use wac_collection::DefinedTypeId;
 
-/// Where a value type is listed.
+/// An export of a value type.
 #[derive(Drop)]
 pub(crate) struct Listing {
-    /// Whether it is used there from another interface.
+    /// Whether the interface uses the type from another one.
     pub(crate) is_used: bool,
     /// The number of the class.
     pub(crate) class: usize,
-    /// The name; none where the class is the type itself.
+    /// The name; `None` if the class itself is the type.
     pub(crate) name: Option<String>,
 }
 
-/// Whether what is listed there, used or not, in a class, comes before a listing: what is not used first, and then by class.
+/// Returns whether an export precedes a listing: exports that are not used come first, then lower classes.
 fn comes_before(is_used: bool, class: usize, listing: &Listing) -> bool
     ensures { result ≡ comes_before (found is_used class []) (listing_view listing.now) }
 {
@@ -31,7 +31,7 @@ fn comes_before(is_used: bool, class: usize, listing: &Listing) -> bool
     }
 }
 
-/// A name in memory of its own, where there is one.
+/// Copies a name, if there is one.
 fn owned_name(alloc: Global, name: Option<&str>) -> Result<Option<String>, AllocError>
     ensures { IfOk result (λ owned. option_map string_bytes owned ≡ option_copied name.entry) }
 {
@@ -41,7 +41,7 @@ fn owned_name(alloc: Global, name: Option<&str>) -> Result<Option<String>, Alloc
     }
 }
 
-/// Where value types are listed.
+/// The export of each value type that precedes all its others.
 #[derive(Drop)]
 pub(crate) struct Table {
     listings: IndexMap<DefinedTypeId, Listing>,
@@ -58,7 +58,7 @@ impl Model for Table {
 }
 
 impl Table {
-    /// Nothing is listed.
+    /// Returns a table without value types.
     pub(crate) fn new(alloc: Global) -> Table
         ensures { result ≡ [] }
     {
@@ -67,14 +67,14 @@ impl Table {
         }
     }
 
-    /// Where a value type is listed.
+    /// Returns the export of a value type.
     pub(crate) fn get(&self, value: DefinedTypeId) -> Option<&Listing>
         ensures { option_map (λ l. listing_view l.now) result ≡ find_value self.now value }
     {
         self.listings.get(&value)
     }
 
-    /// Whether what is known of a value type stays where it is listed there, used or not, in a class.
+    /// Returns whether the table already has an export of the value type which the given one does not precede.
     fn stays(&self, value: DefinedTypeId, is_used: bool, class: usize) -> bool
         ensures { result ≡ stays (find_value self.now value) (found is_used class []) }
     {
@@ -84,7 +84,7 @@ impl Table {
         }
     }
 
-    /// Puts where a value type is listed, where that comes before what is known.
+    /// Adds an export of a value type, if it precedes the one in the table.
     pub(crate) fn put(
         &mut self,
         alloc: Global,
