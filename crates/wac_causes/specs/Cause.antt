@@ -1,4 +1,4 @@
--- Why `encode` is refused.
+-- The causes of an error of `encode`, and which of them is reported.
 use Rattle.std.specs.Prelude.{ℕ, ◌≡◌, ◌<◌, ◌≤◌, ◌⊎◌, [], Option, Some, None, IsSomeAnd, IsTrue, slice_get, string_bytes}
 use Rattle.wac_primitives.specs.Name.{Name}
 use Rattle.wac_keys.specs.Key.{Key}
@@ -25,7 +25,7 @@ use Rattle.wac_causes.specs.TypeFaults.{IsTypeFault, IsEntryFault, wanted_entrie
 use Rattle.wac_causes.specs.OuterNames.{IsOuterFault}
 use Rattle.wac_validation.specs.FirstFault.{Fault, fault_view}
 
--- an import of an instantiation is not satisfied, and an import node has its name
+-- An unsatisfied import of an instantiation has the name of an import node.
 pub record IsConflict (g : Graph) (import instantiation : NodeId) (position : ℕ) (name : Name) : Type 0 where
   pub node : GraphNode
   pub kind : ItemKind
@@ -35,11 +35,11 @@ pub record IsConflict (g : Graph) (import instantiation : NodeId) (position : �
   pub unset : IsUnsatisfied g instantiation position
   pub imported : IsImportOf g name import
 
--- there is no conflict
+-- No unsatisfied import has the name of an import node.
 abbrev pub HasNoConflict : Graph → Type 0
 HasNoConflict g = (import instantiation : NodeId) (position : ℕ) (name : Name) → IsConflict g import instantiation position name → ⊥
 
--- the conflict of the lowest instantiation that has one, there of the first import, with the key of the instantiation's package
+-- The conflict is that of the lowest instantiation with one, and the first in world order; the key is its package's.
 pub record IsFirstConflict (g : Graph) (import instantiation : NodeId) (key : Key) (name : Name) : Type 0 where
   pub position : ℕ
   pub conflict : IsConflict g import instantiation position name
@@ -47,11 +47,12 @@ pub record IsFirstConflict (g : Graph) (import instantiation : NodeId) (key : Ke
   pub lowest : (other n : NodeId) (i : ℕ) (text : Name) → IsConflict g other n i text → instantiation.0 ≤ n.0
   pub first : (other : NodeId) (i : ℕ) (text : Name) → IsConflict g other instantiation i text → position ≤ i
 
--- what is asked for can be merged: no entry disagrees with another of its class, and no imports use each other
+-- The graph's imports can be merged: those of one class agree, and none depend on each other in a cycle.
 abbrev pub HasMerge : Graph → Type 0
 HasMerge g = HasNoDisagreement by_names g.types (to_merge (asked_entries g)) × HasNoCircle by_names g.types (to_merge (asked_entries g))
 
--- the first entry that disagrees with an earlier one of its class, the first that it disagrees with, and the names of the exports that lead to where they do
+-- The import at `second` is the first that disagrees with an earlier one of its class, and `first` is the first of
+-- those.
 pub record IsMergeConflict (g : Graph) (first second : ℕ) (export : Name) : Type 0 where
   pub disagree : Disagrees by_names g.types (to_merge (asked_entries g)) first second export
   pub earlier : Entry
@@ -59,19 +60,20 @@ pub record IsMergeConflict (g : Graph) (first second : ℕ) (export : Name) : Ty
   pub at_first : slice_get (asked_entries g) first ≡ Some earlier
   pub at_second : slice_get (asked_entries g) second ≡ Some later
 
--- the node asks as an instantiation, and as an import
+-- The import is an implicit one: the node is an instantiation.
 pub record AsksImplicitly (g : Graph) (n : NodeId) : Type 0 where
   pub node : GraphNode
   pub there : node_at g n ≡ Some node
   pub instantiated : node.kind ≡ graph.instantiation
 
+-- The import is an explicit one: the node is an import.
 pub record AsksExplicitly (g : Graph) (n : NodeId) : Type 0 where
   pub node : GraphNode
   pub name : Name
   pub there : node_at g n ≡ Some node
   pub imported : node.kind ≡ graph.import name
 
--- the later entry is asked for by an instantiation: its name, and the nodes that ask for both
+-- A merge conflict whose later import is implicit: its name, and the nodes of both imports.
 pub record IsImplicitMerge (g : Graph) (import : Name) (first second : NodeId) (p q : ℕ) (export : Name) : Type 0 where
   pub conflict : IsMergeConflict g p q export
   pub asked : AsksImplicitly g second
@@ -79,7 +81,7 @@ pub record IsImplicitMerge (g : Graph) (import : Name) (first second : NodeId) (
   pub by_first : first.0 ≡ (conflict.earlier).node
   pub by_second : second.0 ≡ (conflict.later).node
 
--- it is an import node: its name, and the nodes
+-- A merge conflict whose later import is explicit: its name, and the nodes of both imports.
 pub record IsExplicitMerge (g : Graph) (import : Name) (node other : NodeId) : Type 0 where
   pub first : ℕ
   pub second : ℕ
@@ -90,11 +92,11 @@ pub record IsExplicitMerge (g : Graph) (import : Name) (node other : NodeId) : T
   pub by_node : node.0 ≡ (conflict.later).node
   pub by_other : other.0 ≡ (conflict.earlier).node
 
--- imports that use each other in a circle: the canonical name of the one that is asked for first
+-- Imports depend on each other in a cycle; the name is the canonical one of the first import on a cycle.
 abbrev pub IsImportCircle : Graph → Name → Type 0
 IsImportCircle g import = UseEachOther by_names g.types (to_merge (asked_entries g)) import
 
--- what a refusal can name
+-- A cause that an error reports.
 pub data Cause : Type 0 where
   cycle : NodeId → Cause
   conflict : NodeId → NodeId → Key → Name → Cause
@@ -105,7 +107,7 @@ pub data Cause : Type 0 where
   not_yet : Cause
   invalid : Fault → Cause
 
--- the kinds of causes
+-- The kinds of causes.
 pub data CauseKind : Type 0 where
   a_cycle : CauseKind
   a_conflict : CauseKind
@@ -115,6 +117,7 @@ pub data CauseKind : Type 0 where
   unwritten : CauseKind
   an_invalid_name : CauseKind
 
+-- The kind of a cause.
 abbrev pub kind_of_cause : Cause → CauseKind
 kind_of_cause (cycle node) = a_cycle
 kind_of_cause (conflict import instantiation key name) = a_conflict
@@ -125,7 +128,7 @@ kind_of_cause (unwritable node fault) = a_type_fault
 kind_of_cause not_yet = unwritten
 kind_of_cause (invalid fault) = an_invalid_name
 
--- their order
+-- The order in which kinds of causes are reported.
 abbrev pub rank : CauseKind → ℕ
 rank a_cycle = 0
 rank a_conflict = 1
@@ -135,7 +138,7 @@ rank a_type_fault = 4
 rank unwritten = 5
 rank an_invalid_name = 6
 
--- a cause of this kind is there
+-- The graph has a cause of this kind, under these options.
 abbrev pub Occurs : Graph → EncodeOptions → CauseKind → Type 0
 Occurs g o a_cycle = (n : NodeId) × IsOnCycle g.edges n
 Occurs g o a_conflict = (import : NodeId) × (instantiation : NodeId) × (position : ℕ) × (name : Name) × IsConflict g import instantiation position name
@@ -145,11 +148,11 @@ Occurs g o a_type_fault = (position : ℕ) × (entry : Entry) × (fault : WriteF
 Occurs g o unwritten = IsNotYet g o
 Occurs g o an_invalid_name = IsTrue o.validate × ((fault : Fault) × IsOuterFault g o fault)
 
--- a cause of this kind is there, and none of a kind below it
+-- The graph has a cause of this kind and of no kind before it.
 abbrev pub IsFirstKind : Graph → EncodeOptions → CauseKind → Type 0
 IsFirstKind g o kind = Occurs g o kind × ((below : CauseKind) → rank below < rank kind → Occurs g o below → ⊥)
 
--- of the causes of its kind this is the one that is named: the lowest node on a cycle, the first conflict, the first entry that disagrees ..
+-- Of the causes of its kind, this one is reported: that of the lowest node or the first import.
 abbrev pub IsNamed : Graph → EncodeOptions → Cause → Type 0
 IsNamed g o (cycle node) = IsLowestOnCycle g.edges node
 IsNamed g o (conflict import instantiation key name) = IsFirstConflict g import instantiation key name
@@ -160,16 +163,16 @@ IsNamed g o (unwritable node fault) = IsTypeFault g node fault
 IsNamed g o not_yet = Unit {0}
 IsNamed g o (invalid fault) = IsOuterFault g o fault
 
--- the cause stands: its kind is the first that is there, and of that kind it is the one that is named
+-- The cause is the one to report: its kind is the first that occurs, and it is the first of its kind.
 abbrev pub Stands : Graph → EncodeOptions → Cause → Type 0
 Stands g o cause = IsFirstKind g o (kind_of_cause cause) × IsNamed g o cause
 
--- the cause that a fault is where imports are asked for implicitly; one that is no disagreement names an entry twice, which never stands
+-- The cause of a merge error with an implicit import; errors other than a disagreement never occur here.
 abbrev pub implicit_cause : Name → NodeId → NodeId → MergeFault → Option Cause
 implicit_cause import first second (merge.Disagree p q export) = Some (implicit_merge import first second p q (string_bytes export))
 implicit_cause import first second fault = Some (implicit_merge import first second 0 0 [])
 
--- the cause that a refusal names; sizes and memory name none
+-- The cause that an error reports; `TooLarge` and `OutOfMemory` report none.
 abbrev pub cause_of : EncodeError → Option Cause
 cause_of (error.GraphContainsCycle node) = Some (cycle node)
 cause_of (error.ImplicitImportConflict import instantiation key name) = Some (conflict import instantiation key (string_bytes name))
@@ -182,7 +185,8 @@ cause_of error.OutOfMemory = None
 cause_of error.NotYet = Some not_yet
 cause_of (error.ValidationFailure fault) = Some (invalid (fault_view fault))
 
--- The error answers for the cause: it names the cause, or memory ran out. Names are looked at when all is written, so for a fault of
--- these alone it may also say that a size does not fit.
+-- The error reports the cause, or memory ran out.
+--
+-- Names are validated last, so an invalid name may also be preceded by `TooLarge`.
 abbrev pub AnswersFor : Cause → EncodeError → Type 0
 AnswersFor cause e = (cause_of e ≡ Some cause) ⊎ ((e ≡ error.OutOfMemory) ⊎ ((kind_of_cause cause ≡ an_invalid_name) × (e ≡ error.TooLarge)))

@@ -1,4 +1,4 @@
--- What a fault of the section writers, and a refusal of outer names, is to `encode`.
+-- The errors of writing sections and of validating names, as errors of encoding.
 use Rattle.wac_binary.specs.declared.fault.BinaryFault.{BinaryFault}
 use Rattle.wac_binary.specs.declared.fault.BinaryFault.TheVariants as fault
 use Rattle.wac_validation.specs.declared.fault.ValidationError.{ValidationError}
@@ -6,10 +6,12 @@ use Rattle.wac_validation.specs.declared.fault.ValidationError.TheVariants as va
 use Rattle.wac_causes.specs.declared.errors.EncodeError.{EncodeError}
 use Rattle.wac_causes.specs.declared.errors.EncodeError.TheVariants as error
 
+-- The error of encoding for an error of writing.
 abbrev pub encode_error : BinaryFault → EncodeError
 encode_error fault.TooLarge = error.TooLarge
 encode_error fault.OutOfMemory = error.OutOfMemory
 
+-- The error of encoding for an error of validation.
 abbrev pub validation_failure : ValidationError → EncodeError
 validation_failure (validation.Fault f) = error.ValidationFailure f
 validation_failure validation.OutOfMemory = error.OutOfMemory

@@ -1,4 +1,4 @@
--- What is not written yet.
+-- What encoding does not support yet.
 use Rattle.std.specs.Prelude.{ℕ, ◌≡◌, false, Some, slice_get}
 use Rattle.wac_entries.specs.Classes.{Entry}
 use Rattle.wac_nodes.specs.declared.options.EncodeOptions.{EncodeOptions}
@@ -8,19 +8,19 @@ use Rattle.wac_nodes.specs.Graph.{Graph, GraphNode, node_at}
 use Rattle.wac_nodes.specs.OuterImports.{outer_entries}
 use Rattle.wac_meaning.specs.Importable.{IsImportableKind, IsDefinableKind}
 
--- all that is asked for has an item that is imported so far
+-- All imports of the graph can be imported.
 abbrev pub AllImportable : Graph → Type 0
 AllImportable g = (p : ℕ) (e : Entry) → slice_get (outer_entries g) p ≡ Some e → IsImportableKind g.types e.kind
 
--- the type of each definition is one that is defined so far
+-- The types of all definitions can be defined.
 abbrev pub AllDefinable : Graph → Type 0
 AllDefinable g = (n : NodeId) (node : GraphNode) → node_at g n ≡ Some node → node.kind ≡ graph.definition → IsDefinableKind g.types node.item_kind
 
--- what stands in the graph or is asked by the options and is not written yet
+-- The graph or the options need something that is not supported yet.
 pub data IsNotYet (g : Graph) (o : EncodeOptions) : Type 0 where
-  -- not all that is asked for has an item that is imported so far
+  -- An import is not supported.
   unwritten : (AllImportable g → ⊥) → IsNotYet g o
-  -- the type of a definition is not one that is defined so far
+  -- The type of a definition is not supported.
   undefined_type : (AllDefinable g → ⊥) → IsNotYet g o
-  -- components are to be imported
+  -- Packages are to be imported.
   undefined_components : o.define_components ≡ false → IsNotYet g o

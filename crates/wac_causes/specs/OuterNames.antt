@@ -1,4 +1,4 @@
--- The outer names of what a graph composes, and the first fault of these.
+-- The names of the imports and exports of the composed component, and their first fault.
 use Rattle.std.specs.Prelude.{◌≡◌, List, [], ◌∷◌, ◌++◌, map}
 use Rattle.std.specs.List.{flat_map}
 use Rattle.wac_primitives.specs.Name.{Name, option_case}
@@ -13,33 +13,34 @@ use Rattle.wac_nodes.specs.OuterImports.{AreOuterImports}
 use Rattle.wac_meaning.specs.Means.{is_written, package_imports, further_exports}
 use Rattle.wac_validation.specs.FirstFault.{Fault, IsFirstFault}
 
--- the first name of a definition, under which its item is exported
+-- The first export name of a definition.
 abbrev pub first_name_of : Graph → NodeId → List Name
 first_name_of g n = option_case (node_at g n) [] (λ node. option_case node.first_name [] (λ name. name ∷ []))
 
--- the names of the exports where nodes are written in this order: the first names of definitions, then the others in the graph's order
+-- The names of the exports: definitions' first names in written order, then the others in the graph's order.
 abbrev pub written_exports : Graph → List NodeId → List Name
 written_exports g order = flat_map (first_name_of g) order ++ map (λ e. e.0) (further_exports g)
 
--- These are the names of the imports and of the exports of what the graph composes, in written order.
+-- The names are those of the component's imports and exports, in written order.
 pub record AreOuterNames (g : Graph) (o : EncodeOptions) (imports exports : List Name) : Type 0 where
-  -- the nodes that are no imports, in the order in which they are written
+  -- The written nodes in order: each is the lowest one whose edge sources are all written or imports.
   pub order : List NodeId
   pub in_order : Writes g.edges (is_written g) order
-  -- the canonical names of the classes of what is asked for, in written order; behind them those of the packages that are not defined
+  -- The imports are the merged classes under their canonical names, followed by the packages that are not defined.
   pub classes : List (Name × Tree)
   pub outer : AreOuterImports g classes
   pub imported : imports ≡ map (λ e. e.0) (classes ++ package_imports g o order)
   pub exported : exports ≡ written_exports g order
 
--- the names that items import and export, in order
+-- The names of the items' imports, in order.
 abbrev pub import_names : List Item → List Name
 import_names items = map (λ e. e.0) (meaning items).imports
 
+-- The names of the items' exports, in order.
 abbrev pub export_names : List Item → List Name
 export_names items = map (λ e. e.name) (meaning items).exports
 
--- the first fault of the outer names
+-- The first fault of the names of the component's imports and exports.
 pub record IsOuterFault (g : Graph) (o : EncodeOptions) (f : Fault) : Type 0 where
   pub imports : List Name
   pub exports : List Name

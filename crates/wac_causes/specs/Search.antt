@@ -1,4 +1,4 @@
--- How causes are found; cited by private functions alone, nothing public rests on it.
+-- Intermediate results of the search for causes. Only private functions use these definitions.
 use Rattle.std.specs.Prelude.{ℕ, ◌≡◌, ◌≤◌, ◌<◌, Bool, false, List, Some, slice_get, ◌⊎◌}
 use Rattle.wac_primitives.specs.Name.{Name, find_name}
 use Rattle.wac_shapes.specs.declared.component.ItemKind.{ItemKind}
@@ -10,7 +10,7 @@ use Rattle.wac_nodes.specs.Graph.{Graph}
 use Rattle.wac_causes.specs.Cause.{IsConflict, Cause, invalid, kind_of_cause, an_invalid_name, rank, Stands, cause_of}
 use Rattle.wac_validation.specs.FirstFault.{Fault}
 
--- the import at position i is not satisfied, and this node has its name
+-- The import at position i is unsatisfied, and this node imports its name.
 pub record Clashes (satisfied : ℕ → Bool) (imports : List (Name × ItemKind)) (nodes : List (Name × NodeId)) (i : ℕ) (node : NodeId) : Type 0 where
   pub name : Name
   pub kind : ItemKind
@@ -18,20 +18,20 @@ pub record Clashes (satisfied : ℕ → Bool) (imports : List (Name × ItemKind)
   pub unset : satisfied i ≡ false
   pub imported : find_name nodes name ≡ Some node
 
--- the conflict at this position is the instantiation's first
+-- The conflict at this position is the first of the instantiation.
 pub record IsFirstOf (g : Graph) (instantiation : NodeId) (position : ℕ) (import : NodeId) : Type 0 where
   pub name : Name
   pub here : IsConflict g import instantiation position name
   pub first : (other : NodeId) (i : ℕ) (text : Name) → IsConflict g other instantiation i text → position ≤ i
 
--- no lower instantiation has a conflict
+-- No lower instantiation has a conflict.
 abbrev pub IsLowest : Graph → ℕ → Type 0
 IsLowest g n = (import m : NodeId) (i : ℕ) (name : Name) → IsConflict g import m i name → n ≤ m.0
 
--- memory ran out, or the cause that the refusal names stands, and is found before anything is written
+-- Memory ran out, or the error reports the cause to report, which is not an invalid name.
 abbrev pub IsRefused : Graph → EncodeOptions → EncodeError → Type 0
 IsRefused g o e = (e ≡ OutOfMemory) ⊎ ((cause : Cause) × (cause_of e ≡ Some cause) × (rank (kind_of_cause cause) < rank an_invalid_name) × Stands g o cause)
 
--- memory ran out, or the refusal names the one fault of names that is such
+-- Memory ran out, or the error reports the only name fault with the property.
 abbrev pub NamesFault : (Fault → Type 0) → EncodeError → Type 0
 NamesFault P e = (e ≡ OutOfMemory) ⊎ ((f : Fault) × (cause_of e ≡ Some (invalid f)) × P f × ((other : Fault) → P other → other ≡ f))

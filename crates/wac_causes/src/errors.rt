@@ -1,4 +1,4 @@
-//! Why a graph is not encoded.
+//! The error of encoding a graph.
 ghost use Rattle.std.specs.Prelude.{◌≡◌};
 
 use std::alloc::{AllocError, AllocFailed};
@@ -10,66 +10,91 @@ use wac_terms::fault::MergeFault;
 use wac_types::PackageKey;
 use wac_validation::{ValidationError, ValidationFault};
 
-/// Why `encode` is refused.
+/// The error of `encode`.
+///
+/// If several causes apply, the first in this order is returned:
+///
+/// 1. [`GraphContainsCycle`](EncodeError::GraphContainsCycle)
+/// 2. [`ImplicitImportConflict`](EncodeError::ImplicitImportConflict)
+/// 3. [`ImportTypeMergeConflict`](EncodeError::ImportTypeMergeConflict) or
+///    [`ExplicitImportMergeConflict`](EncodeError::ExplicitImportMergeConflict)
+/// 4. [`ImportsUseEachOther`](EncodeError::ImportsUseEachOther)
+/// 5. [`TypeNotWritable`](EncodeError::TypeNotWritable)
+/// 6. [`NotYet`](EncodeError::NotYet)
+/// 7. [`TooLarge`](EncodeError::TooLarge)
+/// 8. [`ValidationFailure`](EncodeError::ValidationFailure)
+///
+/// [`OutOfMemory`](EncodeError::OutOfMemory) may be returned in place of any of them.
 #[derive(Debug, Drop, Error)]
 pub enum EncodeError {
-    /// Edges form a cycle; the lowest node on one.
+    /// The graph contains a cycle. The node is the lowest one on a cycle.
     #[error("the graph contains a cycle and cannot be encoded")]
     GraphContainsCycle {
         node: NodeId,
     },
-    /// An import of an instantiation is not satisfied, and an import node has its name.
+    /// An implicit import has the same name as an import node. The lowest instantiation with such an import is reported.
     #[error("an instantiation of package `{package}` implicitly imports an item named `{name}`, but it conflicts with an explicit import of the same name")]
     ImplicitImportConflict {
+        /// The import node.
         import: NodeId,
+        /// The instantiation with the implicit import.
         instantiation: NodeId,
+        /// The package that is instantiated.
         package: PackageKey,
+        /// The name that both imports have.
         name: String,
     },
-    /// An import that an instantiation asks for does not agree with an earlier one of its class: its name, the node that asks
-    /// for the earlier, the instantiation, and where they do not agree.
+    /// An implicit import cannot be merged with an earlier import of its class.
     #[error("failed to merge the type definition for implicit import `{import}` due to conflicting types")]
     ImportTypeMergeConflict {
+        /// The name of the implicit import.
         import: String,
+        /// The node of the first import that it disagrees with.
         first: NodeId,
+        /// The instantiation with the implicit import.
         second: NodeId,
+        /// The positions of the two imports, and the export in which they disagree.
         source: MergeFault,
     },
-    /// An import node does not agree with an earlier import of its class: its name, the node, and the node that asks for the
-    /// earlier.
+    /// An import node cannot be merged with an earlier import of its class.
     #[error("failed to merge the type definition for explicit import `{import}` due to conflicting types")]
     ExplicitImportMergeConflict {
+        /// The name of the import.
         import: String,
+        /// The import node.
         node: NodeId,
+        /// The node of the first import that it disagrees with.
         other: NodeId,
     },
-    /// Imports rest on each other in a circle: the name of the one that is asked for first.
+    /// Imports depend on each other in a cycle.
     #[error("import `{import}` rests on itself through other imports")]
     ImportsUseEachOther {
+        /// The canonical name of the first import on a cycle.
         import: String,
     },
-    /// A type that a node asks for cannot be written, whatever stands around it: the lowest such node, and the lowest fault of the
-    /// first such item that it asks for.
+    /// A type that a node needs has no encoding.
     #[error("the type of node {node} cannot be written")]
     TypeNotWritable {
+        /// The lowest such node.
         node: NodeId,
+        /// The lowest fault of the first such type that the node needs.
         #[source]
         fault: WriteFault,
     },
     /// An index, a count or a size does not fit 32 bits.
     #[error("an index or a size does not fit 32 bits")]
     TooLarge,
-    /// There was no memory.
+    /// Out of memory.
     #[error("out of memory")]
     OutOfMemory,
-    /// What is asked for has an item that is not imported so far, a definition is of a type that is not defined so far, or the options ask
-    /// for imported components. Imported so far are functions and type items of value types and function types that are made of no
-    /// resource, instances of such, to any depth, components that import and export such, the types of both, and core modules; defined so
-    /// far are value types and function types that are made of no resource, and interfaces and worlds of such items that have an id and
-    /// use no interface, where instances that a world lists use none either.
+    /// An import or a definition is not supported yet, or packages are to be imported.
+    ///
+    /// Supported are value types and function types without handles, and functions of these types.
+    /// So are instances, components and interfaces of such items, their types, and core modules as imports.
+    /// A defined interface or world must have an id and use no interface. The instances in a defined world must use none.
     #[error("the graph holds something that is not written yet")]
     NotYet,
-    /// Validation is asked for, and the outer names may not stand together: their first fault.
+    /// Validation was requested, and a name of an import or export is invalid or clashes with another.
     #[error("encoding produced a component that failed validation")]
     ValidationFailure {
         source: ValidationFault,

@@ -1,6 +1,4 @@
-//! Why a graph is not encoded: the refusals, the causes that they name and the order of these, and the options.
-//!
-//! A layer of `wac_graph`, whose crate is the door.
+//! The errors of encoding a graph, and the causes that they report: when each occurs, and which comes first.
 #![tactic(auto)]
 
 mod errors;

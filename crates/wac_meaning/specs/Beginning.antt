@@ -1,4 +1,4 @@
--- Items that begin a component with its imports, and where the imports stand.
+-- Items that begin a component with its imports, and the indexes of the imports.
 use Rattle.std.specs.Prelude.{ℕ, ◌≡◌, ◌<◌, List, [], ◌∷◌, length, Some, slice_get}
 use Rattle.wac_primitives.specs.Name.{Name}
 use Rattle.wac_shapes.specs.declared.component.InterfaceId.{InterfaceId}
@@ -18,17 +18,17 @@ use Rattle.wac_nodes.specs.Graph.{Graph, GraphNode}
 use Rattle.wac_nodes.specs.OuterImports.{IsImportPlace}
 use Rattle.wac_meaning.specs.Means.{sort_of_kind}
 
--- where the imports stand: of each, by its position, the sort and the index
+-- The sort and index of each import, by the import's position.
 abbrev pub Places : Type 0
 Places = List (Sort × ℕ)
 
--- the import into which a name fell stands at this index of this sort
+-- The import of the name's class has this sort and index.
 pub record IsPlacedAt (g : Graph) (places : Places) (name : Name) (t : Sort) (i : ℕ) : Type 0 where
   pub p : ℕ
   pub fell : IsImportPlace g name p
   pub placed : slice_get places p ≡ Some (t, i)
 
--- The items import these, each at its place, and there is nothing else yet but types and aliases.
+-- The items import exactly these, at these places, and otherwise contain only types and aliases.
 pub record Begins (imports : List (Name × Tree)) (places : Places) (items : List Item) : Type 0 where
   pub meant : HasMeaning items
   pub imports_are : (meaning items).imports ≡ imports
@@ -38,25 +38,25 @@ pub record Begins (imports : List (Name × Tree)) (places : Places) (items : Lis
   pub customs : (meaning items).customs ≡ []
   pub count : length places ≡ length imports
   pub stand : (p : ℕ) (t : Sort) (i : ℕ) → slice_get places p ≡ Some (t, i) → (i < indexes (space t) items) × (stands_for (meaning items) t i ≡ import_at p)
-  -- an instance is of the type that is imported
+  -- The type of an imported instance is the imported one.
   pub typed : (p i : ℕ) (e : Name × Tree) → slice_get places p ≡ Some (sort.Instance, i) → slice_get imports p ≡ Some e → e.1 ≡ instance_item (bound_at (meaning items).scope.instances i).type
 
--- an item of one kind exports, under names one inside the other, an item of another
+-- An item has an item of another type inside: the names lead to it, through exports of instances.
 pub data HasInside (c : Collection) : ItemKind → List Name → ItemKind → Type 0 where
   itself : (k : ItemKind) → HasInside c k [] k
   inside : (i : InterfaceId) (p : ℕ) (name : Name) (j k : ItemKind) (names : List Name)
       → slice_get (interface_exports c i) p ≡ Some (name, j) → HasInside c j names k → HasInside c (Instance i) (name ∷ names) k
 
--- what an item exports under names, one inside the other
+-- The tree of the item that the names lead to, through exports of instances.
 abbrev pub item_inside : Tree → List Name → Tree
 item_inside t [] = t
 item_inside t (n ∷ ns) = item_inside (items_in (bound_instance t) n) ns
 
--- an item has, of each sort, what an item of this kind has
+-- Inside the tree, the names lead to items of the same sorts as inside an item of this type.
 abbrev pub Covers : Collection → ItemKind → Tree → Type 0
 Covers c k t = (names : List Name) (j : ItemKind) → HasInside c k names j → IsOfSort (sort_of_kind j) (item_inside t names)
 
--- an import node stands at the index of the import into which its name fell, and the import has what the node has
+-- The import node has the index of its class's import, whose tree has every item that the node's type has.
 pub record IsPlacedNode (g : Graph) (imports : List (Name × Tree)) (places : Places) (index : NodeId → ℕ) (n : NodeId) (node : GraphNode) (p : ℕ) : Type 0 where
   pub placed : slice_get places p ≡ Some (sort_of_kind node.item_kind, index n)
   pub entry : Name × Tree

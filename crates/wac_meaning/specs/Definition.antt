@@ -1,4 +1,6 @@
--- The trees of definitions: what an interface or a world uses and does not list is imported, cut to its type items.
+-- The trees of type definitions.
+--
+-- An interface that a definition uses, but neither imports nor exports, becomes an import with its types only.
 use Rattle.std.specs.Prelude.{ℕ, zero, suc, Bool, not, ◌==◌, if◌then◌else◌, List, [], ◌∷◌, ◌++◌, length, map, filter, None}
 use Rattle.std.specs.List.{list_any, flat_map}
 use Rattle.wac_primitives.specs.Name.{Name, same_name, option_case, first_some}
@@ -15,43 +17,45 @@ use Rattle.wac_shapes.specs.declared.component.UsedType.{UsedType}
 use Rattle.wac_shapes.specs.declared.component.World.{World}
 use Rattle.wac_nodes.specs.Entries.{under_id}
 
--- a type item stays, no other item does
+-- Keeps a type and drops any other item.
 abbrev pub type_item : Tree → Tree
 type_item fresh = fresh
 type_item (type_equal t) = type_equal t
 type_item _ = absent
 
--- an instance cut to its type items
+-- The instance with its exported types only.
 abbrev pub cut : Tree → Tree
 cut (instance_item (instance items)) = instance_item (instance (λ n. type_item (items n)))
 cut t = t
 
--- what an interface uses
+-- The types that an interface uses.
 abbrev pub uses_of : Collection → InterfaceId → List (Name × UsedType)
 uses_of c i = option_case (item_at c.interfaces i.0) [] (λ it. it.uses)
 
--- the interfaces that are reached over these uses, each after those that it uses itself, so many uses deep
+-- The interfaces that the uses lead to, each after those that it uses itself, down to the given depth.
 abbrev pub reached_to : ℕ → Collection → List (Name × UsedType) → List InterfaceId
 reached_to zero c uses = []
 reached_to (suc k) c uses = flat_map (λ u. reached_to k c (uses_of c u.1.interface) ++ u.1.interface ∷ []) uses
 
--- no chain of uses is longer than there are interfaces
+-- All interfaces that the uses lead to; a chain of uses is no longer than the number of interfaces.
 abbrev pub reached : Collection → List (Name × UsedType) → List InterfaceId
 reached c uses = reached_to (length c.interfaces) c uses
 
--- these interfaces as instances under their ids
+-- The interfaces as instances under their ids.
 abbrev pub as_imports : Collection → List InterfaceId → List (Name × ItemKind)
 as_imports c is = flat_map (under_id c) is
 
--- the items of a side of a component type, each under what is bound there
+-- The items of one side of a component type, as trees under the bindings.
 abbrev pub listed : Collection → Bindings → Side → List (Name × ItemKind) → List (Name × Tree)
 listed c m side es = map (λ e. (e.0, held_item c m side (named e.0 ∷ []) e.1)) es
 
--- instances that are imported cut
+-- The imports as trees, instances with their exported types only.
 abbrev pub cut_imports : Collection → Bindings → List (Name × ItemKind) → List (Name × Tree)
 cut_imports c m es = map (λ e. (e.0, cut e.1)) (listed c m imported es)
 
--- an interface: a component type that imports, cut and under its id, each interface reached over uses, and exports the interface under its id
+-- A defined interface: a component type that exports its instance under its id (WIT.md, "Package Format").
+--
+-- It imports each interface that it uses under that interface's id, with its types only.
 abbrev pub interface_definition : Collection → InterfaceId → Tree
 interface_definition c i = component (items_under (cut_imports c m used)) (items_under (listed c m exported (under_id c i)))
   where
@@ -61,7 +65,7 @@ interface_definition c i = component (items_under (cut_imports c m used)) (items
     m : Bindings
     m = first_bound c [] imported used
 
--- the interfaces that are listed under their ids
+-- The interfaces of the instances that have the interface's id as their name.
 abbrev pub listed_interfaces : Collection → List (Name × ItemKind) → List InterfaceId
 listed_interfaces c es = flat_map of_item es
   where
@@ -69,7 +73,7 @@ listed_interfaces c es = flat_map of_item es
     of_item (n, kind.Instance i) = if list_any (λ e. same_name n e.0) (under_id c i) then i ∷ [] else []
     of_item _ = []
 
--- what listed instances use
+-- The types that the instances use.
 abbrev pub uses_of_listed : Collection → List (Name × ItemKind) → List (Name × UsedType)
 uses_of_listed c es = flat_map of_item es
   where
@@ -77,18 +81,22 @@ uses_of_listed c es = flat_map of_item es
     of_item (n, kind.Instance i) = uses_of c i
     of_item _ = []
 
+-- The interface is one of these.
 abbrev pub is_among : List InterfaceId → InterfaceId → Bool
 is_among is i = list_any (λ j. j.0 == i.0) is
 
--- The interfaces that a world's component imports without listing them: those that the world and its imports use and that no
--- import lists, and those that its exports use and that no item lists; with what is reached from these, where no import lists it.
+-- The interfaces that a world's component type imports in addition to the world's imports.
+--
+-- - Those that the world and its imports use.
+-- - Those that its exports use and that it does not export.
+-- - All that these use in turn. None of them is an import of the world under its id.
 abbrev pub unlisted : Collection → World → List InterfaceId
 unlisted c w = filter (λ i. not (is_among (listed_interfaces c w.imports) i)) (reached c (w.uses ++ uses_of_listed c w.imports ++ unbound))
   where
     unbound : List (Name × UsedType)
     unbound = filter (λ u. not (is_among (listed_interfaces c (w.imports ++ w.exports)) u.1.interface)) (uses_of_listed c w.exports)
 
--- a world's component, in which interfaces that it uses and does not list are cut imports
+-- The component type of a world, with the additional imports.
 abbrev pub completed_world : Collection → World → Tree
 completed_world c w = component (items_under (listed c by_imports imported w.imports ++ cut_imports c by_imports extra)) (items_under (listed c by_all exported w.exports))
   where
@@ -101,11 +109,11 @@ completed_world c w = component (items_under (listed c by_imports imported w.imp
     by_all : Bindings
     by_all r = first_some (by_imports r) (first_bound c w.uses exported w.exports r)
 
--- a world: a component type that exports the world's component under the world's id
+-- A defined world: a component type that exports the world's component type under its id (WIT.md, "Package Format").
 abbrev pub world_definition : Collection → World → Tree
 world_definition c w = component (λ _. absent) (items_under (option_case w.id [] (λ id. (id, component_item (completed_world c w)) ∷ [])))
 
--- the tree of a definition; any other type's is its own
+-- The tree of a defined type; only interfaces and worlds differ from their own trees.
 unfoldable pub definition_tree : Collection → AnyType → Tree
 definition_tree c (ty.Interface i) = interface_definition c i
 definition_tree c (ty.World w) = option_case (item_at c.worlds w.0) absent (world_definition c)

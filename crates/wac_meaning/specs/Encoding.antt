@@ -1,4 +1,4 @@
--- What a node adds to the items that are written so far: the components by package, and the index of each node.
+-- The state while a graph is written: the items, the component of each package, and the index of each node.
 use Rattle.std.specs.Prelude.{ℕ, ◌≡◌, ◌<◌, false, length, IsSome, List, [], ◌∷◌, ◌++◌, Some, slice_get, slice_index_or, ◌⊎◌}
 use Rattle.std.specs.List.{list_any}
 use Rattle.wac_binary.specs.declared.sorts.Sort.TheVariants as sort
@@ -9,7 +9,7 @@ use Rattle.wac_nodes.specs.declared.packages.PackageId.{PackageId}
 use Rattle.wac_nodes.specs.Graph.{Graph, node_at}
 use Rattle.wac_meaning.specs.Means.{same_package}
 
--- the package's component has this index; it was added if it was not there
+-- The package's component has index c; it is appended if the package has none yet.
 abbrev pub HasComponent : List ℕ → PackageId → ℕ → List (PackageId × ℕ) → List (PackageId × ℕ) → List Item → List Item → Type 0
 HasComponent bytes id c components components' items items' =
     ((k : ℕ) × (slice_get components k ≡ Some (id, c)) × (components' ≡ components) × (items' ≡ items))
@@ -18,16 +18,16 @@ HasComponent bytes id c components components' items items' =
     × (components' ≡ components ++ (id, c) ∷ [])
     × (items' ≡ items ++ nested bytes ∷ []))
 
--- what is written so far: the items, the components by package, and the index of each node
+-- The state: the items, the component index of each package, and the index of each node.
 pub record Progress : Type 0 where
   pub items : List Item
   pub components : List (PackageId × ℕ)
   pub indexes : List ℕ
 
--- the index of a node
+-- The index of a node.
 abbrev pub index_in : List ℕ → NodeId → ℕ
 index_in indexes n = slice_index_or indexes n.0 0
 
--- there is room for the index of each node
+-- There is an entry for each node's index.
 abbrev pub HasRoom : Graph → List ℕ → Type 0
 HasRoom g indexes = (n : NodeId) → IsSome (node_at g n) → n.0 < length indexes

@@ -1,4 +1,4 @@
--- Which items are imported so far, and which types are defined.
+-- Which items can be imported, and which types defined, at present: those without resources.
 use Rattle.std.specs.Prelude.{ℕ, zero, suc, ◌≡◌, [], Some, IsSome, slice_get}
 use Rattle.wac_primitives.specs.Name.{Name}
 use Rattle.wac_shapes.specs.declared.component.Interface.{Interface}
@@ -13,7 +13,7 @@ use Rattle.wac_collection.specs.Collection.{Collection, interface_exports, world
 use Rattle.wac_subtyping.specs.Subtype.{kind_tree}
 use Rattle.wac_meaning.specs.Definition.{uses_of}
 
--- no resource stands in a value type, or in what a function takes and gives
+-- It is a value type or function type that contains no handle.
 abbrev pub HasNoHandle : {L : Type 0} → TypeTree L → Type 0
 HasNoHandle absent = Unit {0}
 HasNoHandle (primitive p) = Unit {0}
@@ -31,8 +31,9 @@ HasNoHandle (future_of t) = HasNoHandle t
 HasNoHandle (function is_async names params result) = ((i : ℕ) → HasNoHandle (params i)) × HasNoHandle result
 HasNoHandle _ = ⊥
 
--- where there is an item, it is plain: a function, or a type item of a value type or a function type, without a resource in it, or an instance of plain
--- items, or a type item of such or of a component of such, to any depth
+-- An item, if there is one, is plain. A plain item contains no resource or handle.
+--
+-- It is a function, a value type, a function type, an instance of plain items, or the type of an instance or component.
 abbrev pub IsPlainWhereThere : {L : Type 0} → TypeTree L → Type 0
 IsPlainWhereThere absent = Unit {0}
 IsPlainWhereThere (function_item t) = HasNoHandle t
@@ -43,33 +44,33 @@ IsPlainWhereThere (type_equal t) = HasNoHandle t
 IsPlainWhereThere (instance_item (instance items)) = (n : Name) → IsPlainWhereThere (items n)
 IsPlainWhereThere _ = ⊥
 
--- a plain item is there
+-- The item exists and is plain.
 abbrev pub IsPlainItem : {L : Type 0} → TypeTree L → Type 0
 IsPlainItem absent = ⊥
 IsPlainItem t = IsPlainWhereThere t
 
--- a component whose imports and exports are plain, each where it is there
+-- The component imports and exports plain items only.
 abbrev pub HasPlainSides : {L : Type 0} → TypeTree L → Type 0
 HasPlainSides (component imports exports) = ((n : Name) → IsPlainWhereThere (imports n)) × ((n : Name) → IsPlainWhereThere (exports n))
 HasPlainSides _ = ⊥
 
--- an item that is imported so far: a plain one, a component of such, or a core module
+-- The item can be imported: a plain item, a component with plain imports and exports, or a core module.
 abbrev pub IsImportable : {L : Type 0} → TypeTree L → Type 0
 IsImportable (component_item t) = HasPlainSides t
 IsImportable (module_item (module_of imports exports)) = Unit {0}
 IsImportable t = IsPlainItem t
 
--- and so of a kind of item; a resource goes by its name, so that it is seen also where nothing binds it
+-- The item of the collection can be imported; a resource that no scope binds has a tree too, so it is seen here.
 abbrev pub IsImportableKind : Collection → ItemKind → Type 0
 IsImportableKind c k = IsImportable (kind_tree c k)
 
--- a type that is defined so far: a value type or a function type, without a resource in it
+-- The type can be defined: a value type or function type that contains no resource.
 abbrev pub IsDefinable : {L : Type 0} → TypeTree L → Type 0
 IsDefinable (type_equal absent) = ⊥
 IsDefinable (type_equal t) = HasNoHandle t
 IsDefinable _ = ⊥
 
--- an item as it is held is plain, also behind another of its name, where interfaces and worlds are in one another to this depth
+-- The item is plain down to this depth of nested interfaces and worlds; items after another of their name count too.
 abbrev pub IsPlainTo : ℕ → Collection → ItemKind → Type 0
 IsPlainTo zero c (kind.Instance i) = ⊥
 IsPlainTo zero c (kind.TypeItem (ty.Interface i)) = ⊥
@@ -79,7 +80,7 @@ IsPlainTo (suc d) c (kind.TypeItem (ty.Interface i)) = (k : ℕ) (e : Name × It
 IsPlainTo (suc d) c (kind.TypeItem (ty.World w)) = ((k : ℕ) (e : Name × ItemKind) → slice_get (world_imports c w) k ≡ Some e → IsPlainTo d c e.1) × ((k : ℕ) (e : Name × ItemKind) → slice_get (world_exports c w) k ≡ Some e → IsPlainTo d c e.1)
 IsPlainTo d c k = IsPlainItem (kind_tree c k)
 
--- an interface that is defined so far: it has an id, it uses nothing, and each of its items is plain, to some depth
+-- The interface can be defined: it has an id, uses nothing, and exports plain items only.
 pub record IsDefinableInterface (c : Collection) (i : InterfaceId) : Type 0 where
   pub interface : Interface
   pub found : item_at c.interfaces i.0 ≡ Some interface
@@ -87,15 +88,16 @@ pub record IsDefinableInterface (c : Collection) (i : InterfaceId) : Type 0 wher
   pub uses : interface.uses ≡ []
   pub plain : (k : ℕ) (e : Name × ItemKind) → slice_get interface.exports k ≡ Some e → (d : ℕ) × IsPlainTo d c e.1
 
--- an item of a world that is defined so far: it is plain, to some depth, and an instance is of an interface that uses nothing
+-- The item is not an instance, or its interface uses nothing.
 abbrev pub UsesNothing : Collection → ItemKind → Type 0
 UsesNothing c (kind.Instance i) = uses_of c i ≡ []
 UsesNothing c k = Unit {0}
 
+-- An item that a defined world may import or export.
 abbrev pub IsDefinableItem : Collection → ItemKind → Type 0
 IsDefinableItem c k = UsesNothing c k × (d : ℕ) × IsPlainTo d c k
 
--- a world that is defined so far: it has an id, it uses nothing, and each of its items is such
+-- The world can be defined: it has an id, uses nothing, and its imports and exports may be those of a defined world.
 pub record IsDefinableWorld (c : Collection) (w : WorldId) : Type 0 where
   pub world : World
   pub found : item_at c.worlds w.0 ≡ Some world
@@ -104,7 +106,7 @@ pub record IsDefinableWorld (c : Collection) (w : WorldId) : Type 0 where
   pub imports : (k : ℕ) (e : Name × ItemKind) → slice_get world.imports k ≡ Some e → IsDefinableItem c e.1
   pub exports : (k : ℕ) (e : Name × ItemKind) → slice_get world.exports k ≡ Some e → IsDefinableItem c e.1
 
--- and so of a kind of item; of an interface or a world by what the collection holds, since its tree has neither its id nor its uses
+-- The type can be defined; interfaces and worlds are judged by the collection, because trees have no ids and uses.
 abbrev pub IsDefinableKind : Collection → ItemKind → Type 0
 IsDefinableKind c (kind.TypeItem (ty.Interface i)) = IsDefinableInterface c i
 IsDefinableKind c (kind.TypeItem (ty.World w)) = IsDefinableWorld c w

@@ -1,4 +1,4 @@
--- Which import lists a type that is defined.
+-- Definitions of types that an import already exports.
 use Rattle.std.specs.Prelude.{ℕ, ◌≡◌, List, [], ◌∷◌, Option, Some, None}
 use Rattle.wac_primitives.specs.Name.{Name, option_case}
 use Rattle.wac_collection.specs.Aliases.{value_resolved}
@@ -15,22 +15,22 @@ use Rattle.wac_nodes.specs.Graph.{Graph}
 use Rattle.wac_nodes.specs.OuterImports.{outer_entries, IsImportPlace}
 use Rattle.wac_meaning.specs.Definition.{definition_tree}
 
--- the first name under which an instance lists a definition, aliases followed to the end; another item lists none
+-- The first name under which an instance exports the type, aliases resolved. Other items export no types.
 abbrev pub name_listed : Collection → ItemKind → DefinedTypeId → Option Name
 name_listed c (kind.Instance i) d = value_name c (interface_exports c i) d
 name_listed c k d = None
 
--- the first entry that lists it: its name, and the name of what it lists
+-- The first import that exports the type: the import's name, and the name of the type in it.
 abbrev pub first_listing : Collection → List Entry → DefinedTypeId → Option (Name × Name)
 first_listing c [] d = None
 first_listing c (e ∷ es) d = option_case (name_listed c e.kind d) (first_listing c es d) (λ n. Some (e.name, n))
 
--- which of the imports that a graph asks for lists a type first: a value type is told by its definition, and another type is listed by none
+-- The first import of the graph that exports the type. Only defined value types are looked up.
 abbrev pub listing_of : Graph → AnyType → Option (Name × Name)
 listing_of g (ty.Value v) = option_case (definition (value_resolved g.types v)) None (first_listing g.types (outer_entries g))
 listing_of g t = None
 
--- what a definition is: where an import lists the type, the export of that import; else the type itself
+-- What a definition refers to: the type that the import exports, if there is one, and else a new type.
 abbrev pub IsDefined : Graph → AnyType → Option (Name × Name) → Thing → Type 0
 IsDefined g t None x = x ≡ written (definition_tree g.types t)
 IsDefined g t (Some (entry, name)) x = (p : ℕ) × IsImportPlace g entry p × (x ≡ projection (import_at p) name)

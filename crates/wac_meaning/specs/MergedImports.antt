@@ -1,4 +1,4 @@
--- The imports of a merge of all that a graph asks for, and where a name's import is found among them.
+-- The merged imports of a graph, and the place of each name's import.
 use Rattle.std.specs.Prelude.{ℕ, suc, ◌≡◌, List, [], ◌∷◌, Some, slice_get}
 use Rattle.wac_primitives.specs.Name.{Name}
 use Rattle.wac_shapes.specs.Named.{NoNameTwice}
@@ -17,28 +17,28 @@ use Rattle.wac_nodes.specs.OuterImports.{outer_entries}
 use Rattle.wac_meaning.specs.Means.{sort_of_kind}
 use Rattle.wac_meaning.specs.Beginning.{Places}
 
--- the item of an import of a merge at its position
+-- The tree of the merged import at a position.
 abbrev pub merged_item : Merged → ℕ → Entry → Tree
 merged_item m p e = held_item m.types (root_bindings by_names m.types m.imports (λ i. i)) imported (position p ∷ []) e.kind
 
--- imports of a merge, the first at this position, each under its name with its item
+-- The imports with their trees, the first one at this position.
 abbrev pub imports_from : Merged → ℕ → List Entry → List (Name × Tree)
 imports_from m p [] = []
 imports_from m p (e ∷ es) = (e.name, merged_item m p e) ∷ imports_from m (suc p) es
 
--- all of them
+-- All merged imports with their trees.
 abbrev pub merged_imports : Merged → List (Name × Tree)
 merged_imports m = imports_from m 0 m.imports
 
--- each import stands at an index of its sort
+-- The place of each import has the import's sort.
 abbrev pub AreOfSorts : Merged → Places → Type 0
 AreOfSorts m places = (p : ℕ) (e : Entry) (place : Sort × ℕ) → slice_get m.imports p ≡ Some e → slice_get places p ≡ Some place → place.0 ≡ sort_of_kind e.kind
 
--- no interface that is held exports a name twice
+-- No interface of the collection exports a name twice.
 abbrev pub ExportsOnce : Collection → Type 0
 ExportsOnce c = (i : InterfaceId) (it : Interface) → item_at c.interfaces i.0 ≡ Some it → NoNameTwice it.exports
 
--- this is a merge of all that the graph asks for, of types that are held
+-- The merge is one of all imports of the graph, over well-formed collections.
 pub record IsMergeOf (g : Graph) (m : Merged) : Type 0 where
   pub merge : IsMerge by_names g.types (outer_entries g) m
   pub ordered : IsWellFormed g.types
@@ -47,7 +47,7 @@ pub record IsMergeOf (g : Graph) (m : Merged) : Type 0 where
   pub merged_once : ExportsOnce m.types
   pub held : AreHeld m.types m.imports
 
--- the import under the canonical name of a name stands at this index of this sort
+-- The import under the name's canonical name has this sort and index.
 pub record IsFoundAt (g : Graph) (m : Merged) (places : Places) (name : Name) (t : Sort) (i : ℕ) : Type 0 where
   pub p : ℕ
   pub entry : Entry

@@ -1,4 +1,4 @@
--- What a node adds to the items that are written so far, where these begin with imports.
+-- What a node adds to items that begin with imports.
 use Rattle.std.specs.Prelude.{ℕ, suc, ◌≡◌, IfSome, List, [], ◌∷◌, ◌++◌, Option, Some, None, slice_get, slice_set}
 use Rattle.std.specs.List.{AllByRecursion}
 use Rattle.wac_primitives.specs.Name.{Name}
@@ -21,37 +21,38 @@ use Rattle.wac_meaning.specs.Means.{package_bytes, sort_of_kind}
 use Rattle.wac_meaning.specs.Beginning.{Places, IsPlacedAt}
 use Rattle.wac_meaning.specs.Encoding.{HasComponent, Progress, index_in}
 
--- an argument: the import's name, with the sort and the index of the node that was set; or, where none was, of the import into which the name fell
+-- An argument item: the index of the node that was set, or of the import of the class of the argument's name.
 pub data IsArgumentItem (g : Graph) (places : Places) (index : NodeId → ℕ) (n : NodeId) (i : ℕ) (name : Name) (a : Name × Sort × ℕ) : Type 0 where
   of_node : (source : NodeId) (node : GraphNode) → a.0 ≡ name → IsArgumentOf g n i source → node_at g source ≡ Some node → a.1 ≡ sort_of_kind node.item_kind → a.2 ≡ index source
       → IsArgumentItem g places index n i name a
   of_import : a.0 ≡ name → IsUnsatisfied g n i → IsPlacedAt g places name a.1 a.2 → IsArgumentItem g places index n i name a
 
+-- There is one argument item for each import of the world, in world order.
 abbrev pub AreArgumentItems : Graph → Places → (NodeId → ℕ) → NodeId → ℕ → List (Name × ItemKind) → List (Name × Sort × ℕ) → Type 0
 AreArgumentItems g places index n i [] [] = Unit {0}
 AreArgumentItems g places index n i (e ∷ imports) (a ∷ arguments) = IsArgumentItem g places index n i e.0 a × AreArgumentItems g places index n (suc i) imports arguments
 AreArgumentItems g places index n i _ _ = ⊥
 
--- a type, a core type, or an alias of a type
+-- The item is a type, a core type or an alias of a type.
 abbrev pub IsTypeAlone : Item → Type 0
 IsTypeAlone (core_type m) = Unit {0}
 IsTypeAlone (type_item t) = Unit {0}
 IsTypeAlone (alias_item a) = alias_sort a ≡ sort.«Type»
 IsTypeAlone _ = ⊥
 
--- Types alone are written behind what stood. Where that had a meaning, all has one, and type index k stands for this.
+-- Only types and aliases of types are appended; type index k then refers to this, and the items stay well-formed.
 pub record WritesType (thing : Thing) (items items' : List Item) (k : ℕ) : Type 0 where
   pub types : List Item
   pub alone : AllByRecursion IsTypeAlone types
   pub added : items' ≡ items ++ types
   pub meant : HasMeaning items → HasMeaning items' × (stands_for (meaning items') sort.«Type» k ≡ thing)
 
--- what the type index of a definition stands for, behind these items: where an import lists the type, the export of the instance at that import's place
+-- What a definition's type index refers to: a new type, or the type that an import's instance exports.
 abbrev pub IsDefinedBehind : Graph → Places → List Item → AnyType → Option (Name × Name) → Thing → Type 0
 IsDefinedBehind g places items t None x = x ≡ written (definition_tree g.types t)
 IsDefinedBehind g places items t (Some (entry, name)) x = (i : ℕ) × IsPlacedAt g places entry sort.Instance i × (x ≡ projected (stands_for (meaning items) sort.Instance i) name)
 
--- node n is written, and stands at index i
+-- Node n is written after these items and gets index i.
 pub data WritesNode (g : Graph) (places : Places) (n : NodeId) (node : GraphNode) (index : NodeId → ℕ) (components components' : List (PackageId × ℕ)) (items items' : List Item) (i : ℕ) : Type 0 where
   writes_instantiation : (id : PackageId) (c : ℕ) (mid : List Item) (arguments : List (Name × Sort × ℕ))
       → node.kind ≡ graph.instantiation → node.owner ≡ Some id → HasComponent (package_bytes g id) id c components components' items mid
@@ -70,12 +71,12 @@ pub data WritesNode (g : Graph) (places : Places) (n : NodeId) (node : GraphNode
       → items' ≡ mid ++ export_item name sort.«Type» k ∷ [] → i ≡ indexes (space sort.«Type») mid
       → WritesNode g places n node index components components' items items' i
 
--- a node is written
+-- The node is written, and its index recorded.
 abbrev pub Wrote : Graph → Places → NodeId → Progress → Progress → Type 0
 Wrote g places n p q =
     IfSome (node_at g n) (λ node. (i : ℕ) × WritesNode g places n node (index_in p.indexes) p.components q.components p.items q.items i × (q.indexes ≡ slice_set p.indexes n.0 i))
 
--- these nodes are written, in this order
+-- The nodes are written in this order.
 abbrev pub WroteAll : Graph → Places → List NodeId → Progress → Progress → Type 0
 WroteAll g places [] p q = q ≡ p
 WroteAll g places (n ∷ ns) p q = (mid : Progress) × Wrote g places n p mid × WroteAll g places ns mid q

@@ -1,4 +1,4 @@
--- The imports that a graph asks for: what no argument satisfies, and the import nodes.
+-- The imports of a graph: implicit (unsatisfied arguments) and explicit (import nodes).
 use Rattle.std.specs.Prelude.{ℕ, suc, Bool, false, ◌&&◌, ◌==◌, if◌then◌else◌, List, [], ◌∷◌, ◌++◌, Option, Some, None}
 use Rattle.std.specs.List.{flat_map, list_any}
 use Rattle.std.specs.FinMap as finite
@@ -10,30 +10,33 @@ use Rattle.wac_edges.specs.declared.edges.Label.TheVariants.{Argument}
 use Rattle.wac_edges.specs.declared.edges.Edge.{Edge}
 use Rattle.wac_nodes.specs.Graph.{Graph, GraphNode, Kind, import, instantiation, node_at, imports_of}
 
--- an asked import: its name and kind, and the node that asks for it
+-- An import of the graph: its name, its type, and the node that needs it.
 pub record Entry : Type 0 where
   pub name : Name
   pub kind : ItemKind
   pub node : ℕ
 
+-- The label is that of the argument at position i.
 abbrev pub is_argument_label : ℕ → Label → Bool
 is_argument_label i (Argument j) = i == j
 is_argument_label i _ = false
 
+-- The edge is an argument of node n at position i.
 abbrev pub is_argument : ℕ → ℕ → Edge → Bool
 is_argument n i e = (e.target.0 == n) && is_argument_label i e.label
 
--- does an argument satisfy the import of node n at position i
+-- An argument satisfies the import of node n at position i.
 abbrev pub is_satisfied : Graph → ℕ → ℕ → Bool
 is_satisfied g n i = list_any (is_argument n i) (set.items g.edges)
 
--- the imports from position i on that no argument satisfies, in world order
+-- The unsatisfied imports from position i on, in world order.
 abbrev pub unsatisfied : Graph → ℕ → ℕ → List (Name × ItemKind) → List Entry
 unsatisfied g n i [] = []
 unsatisfied g n i (e ∷ imports) =
     if is_satisfied g n i then unsatisfied g n (suc i) imports
     else record { name = e.0; kind = e.1; node = n } ∷ unsatisfied g n (suc i) imports
 
+-- The implicit imports of a node: those of an instantiation without an argument.
 abbrev pub asked_by : Graph → ℕ → Option GraphNode → List Entry
 asked_by g n None = []
 asked_by g n (Some node) = of_kind node.kind
@@ -42,6 +45,7 @@ asked_by g n (Some node) = of_kind node.kind
     of_kind instantiation = unsatisfied g n 0 (imports_of g node)
     of_kind _ = []
 
+-- The explicit import of a node: that of an import node.
 abbrev pub imported_by : ℕ → Option GraphNode → List Entry
 imported_by n None = []
 imported_by n (Some node) = of_kind node.kind
@@ -50,6 +54,6 @@ imported_by n (Some node) = of_kind node.kind
     of_kind (import name) = record { name = name; kind = node.item_kind; node = n } ∷ []
     of_kind _ = []
 
--- the asked list: instantiations by number, each in world order, then import nodes by number
+-- The imports of the graph: implicit ones by node number and world order, then explicit ones by node number.
 abbrev pub asked : Graph → List Entry
 asked g = flat_map (λ n. asked_by g n (node_at g (record { 0 = n }))) (finite.keys g.nodes) ++ flat_map (λ n. imported_by n (node_at g (record { 0 = n }))) (finite.keys g.nodes)

@@ -1,4 +1,4 @@
--- What a new definition brings into a graph: its node, and the edges between it and the definitions that it goes with.
+-- A type definition of a graph: its node and its dependency edges.
 use Rattle.std.specs.Prelude.{◌≡◌, ◌↔◌, ◌⊎◌, true, None, Some}
 use Rattle.std.specs.FinSet as set
 use Rattle.wac_primitives.specs.Name.{Name}
@@ -13,34 +13,35 @@ use Rattle.wac_edges.specs.declared.node.NodeId.{NodeId}
 use Rattle.wac_edges.specs.Order.{Edges}
 use Rattle.wac_nodes.specs.Graph.{Graph, GraphNode, definition, IsDefinitionOf}
 
--- a definition of the type, exported by the name
+-- The node that defines the type and is exported under the name.
 abbrev pub definition_node : Name → AnyType → GraphNode
 definition_node name t = record { kind = definition; item_kind = TypeItem t; owner = None; name = None; export_name = Some name; first_name = Some name }
 
--- no node defines the type
+-- No node defines the type.
 abbrev pub IsUndefined : Graph → AnyType → Type 0
 IsUndefined g t = (n : NodeId) → IsDefinitionOf g (TypeItem t) n → ⊥
 
+-- The type is a resource.
 abbrev pub IsResource : AnyType → Type 0
 IsResource (ty.Resource _) = Unit {0}
 IsResource _ = ⊥
 
--- a value type that has a definition of its own in the collection: no primitive and no handle
+-- The type is a defined value type of the collection: not primitive, and not a handle as such.
 abbrev pub IsDefinedValue : AnyType → Type 0
 IsDefinedValue (ty.Value (val.Defined _)) = Unit {0}
 IsDefinedValue _ = ⊥
 
--- from a definition to one that mentions it
+-- The edge from a definition to one that depends on it.
 abbrev pub dependency_edge : NodeId → NodeId → Edge
 dependency_edge source target = record { source = source; target = target; label = Dependency }
 
--- the edges that a definition of the type brings, as this node
+-- An edge that a new definition of the type adds.
 pub data IsDependency (g : Graph) (t : AnyType) (n : NodeId) (e : Edge) : Type 0 where
-  -- from the definition of each defined value type that it reaches
+  -- From the definition of each defined value type that the new type reaches.
   reached : (m : NodeId) (u : AnyType) → IsDefinitionOf g (TypeItem u) m → IsDefinedValue u → Reaches g.types t u → e ≡ dependency_edge m n → IsDependency g t n e
-  -- to the definition of each type that reaches it, where it is a defined value type itself
+  -- To the definition of each type that reaches the new type, if the new type is a defined value type.
   reaching : (m : NodeId) (u : AnyType) → IsDefinitionOf g (TypeItem u) m → IsDefinedValue t → Reaches g.types u t → e ≡ dependency_edge n m → IsDependency g t n e
 
--- the graph's edges, and those that the definition brings
+-- The edges are those of the graph and those that the new definition adds.
 abbrev pub WithDependencies : Graph → AnyType → NodeId → Edges → Type 0
 WithDependencies g t n edges = (e : Edge) → (set.contains edges e ≡ true) ↔ (IsDependency g t n e ⊎ (set.contains g.edges e ≡ true))

@@ -1,4 +1,4 @@
--- All that a graph asks for: with each import the interfaces that it uses, each instance once under a name.
+-- The imports that are merged: the graph's imports, each after the interfaces that it uses.
 use Rattle.std.specs.Prelude.{ℕ, zero, suc, Bool, false, not, ◌&&◌, ◌==◌, List, [], ◌∷◌, ◌++◌, length, map, filter}
 use Rattle.std.specs.List.{flat_map}
 use Rattle.wac_primitives.specs.Name.{Name, same_name, option_case}
@@ -10,41 +10,42 @@ use Rattle.wac_entries.specs.Classes as merge
 use Rattle.wac_nodes.specs.Graph.{Graph}
 use Rattle.wac_nodes.specs.Asked.{Entry, asked}
 
--- the instance of an interface under its id
+-- The instance of an interface under the interface's id.
 abbrev pub under_id : Collection → InterfaceId → List (Name × ItemKind)
 under_id c i = option_case (item_at c.interfaces i.0) [] (λ it. option_case it.id [] (λ id. (id, kind.Instance i) ∷ []))
 
--- the interfaces that an interface uses, each after those that it uses itself, so many uses deep
+-- The interfaces that an interface uses, each after those that it uses itself, down to the given depth.
 abbrev pub used_to : ℕ → Collection → InterfaceId → List (Name × ItemKind)
 used_to zero c i = []
 used_to (suc k) c i = option_case (item_at c.interfaces i.0) [] (λ it. flat_map (λ u. used_to k c (u.1.interface) ++ under_id c (u.1.interface)) it.uses)
 
--- what an item uses; no chain of uses is longer than there are interfaces
+-- The interfaces that an item uses; a chain of uses is no longer than the number of interfaces.
 abbrev pub used_by : Collection → ItemKind → List (Name × ItemKind)
 used_by c (kind.Instance i) = used_to (length c.interfaces) c i
 used_by c k = []
 
--- what is asked for with an entry: what it uses, before it
+-- An import after the interfaces that it uses.
 abbrev pub with_used : Collection → Entry → List Entry
 with_used c e = map (λ u. record { name = u.0; kind = u.1; node = e.node }) (used_by c e.kind) ++ e ∷ []
 
--- the same instance under the same name
+-- Both items are instances of one interface.
 abbrev pub same_instance : ItemKind → ItemKind → Bool
 same_instance (kind.Instance i) (kind.Instance j) = i.0 == j.0
 same_instance _ _ = false
 
+-- The two imports have one name and are instances of one interface.
 abbrev pub asks_again : Entry → Entry → Bool
 asks_again e x = same_name e.name x.name && same_instance e.kind x.kind
 
--- an instance is asked for once under a name, by the first node that asks for it
+-- The imports without repeated instances: the first of equal name and interface remains.
 abbrev pub once : List Entry → List Entry
 once [] = []
 once (e ∷ es) = e ∷ filter (λ x. not (asks_again e x)) (once es)
 
--- all that is asked for, used interfaces before what uses them
+-- All imports of the graph that are merged, used interfaces before their users.
 abbrev pub asked_entries : Graph → List Entry
 asked_entries g = once (flat_map (with_used g.types) (asked g))
 
--- entries as merging takes them
+-- The imports without their nodes, as they are merged.
 abbrev pub to_merge : List Entry → List merge.Entry
 to_merge es = map (λ e. record { name = e.name; kind = e.kind }) es

@@ -1,4 +1,4 @@
--- Names of imports and exports: which texts may be one, and why others may not.
+-- Valid names of imports and exports ("Import and Export Definitions" of Explainer.md).
 use Rattle.std.specs.Prelude.{◌≡◌, ◌≢◌, ◌⊎◌}
 use Rattle.wac_primitives.specs.Name.{Name}
 use Rattle.wac_names.specs.Kind.{Kind, IsExportable}
@@ -7,22 +7,22 @@ use Rattle.wac_names.specs.Faults.{HasFault}
 use Rattle.wac_names.specs.declared.fault.NameFault.{NameFault}
 use Rattle.wac_names.specs.declared.fault.NameFault.TheVariants.{NotExportable, OutOfMemory}
 
--- any component name may be imported
+-- An import name is any component name.
 abbrev pub IsImportName : Name → Type 0
 IsImportName text = (k : Kind) × HasKind text k
 
--- a component name may be exported, but for those of hashes, urls and dependencies
+-- An export name is any component name except a hash, url or dependency name.
 abbrev pub IsExportName : Name → Type 0
 IsExportName text = (k : Kind) × HasKind text k × IsExportable k
 
--- why a text may not be exported
+-- The reason why a text is not an export name.
 pub data HasExportFault (text : Name) (f : NameFault) : Type 0 where
-  -- it is no component name
+  -- It is not a component name.
   unnamed : HasFault text f → HasExportFault text f
-  -- it is that of a hash, a url or a dependency
+  -- It is a hash, url or dependency name.
   unexportable : (k : Kind) → HasKind text k → (IsExportable k → ⊥) → f ≡ NotExportable → HasExportFault text f
 
--- Each text may be exported or has exactly one reason why not, never both; and that is never want of memory.
+-- A text is an export name or has exactly one fault, never both, and the fault is not that memory ran out.
 pub record IsExportDecided (text : Name) : Type 0 where
   pub some : IsExportName text ⊎ ((f : NameFault) × HasExportFault text f)
   pub one_fault : (f g : NameFault) → HasExportFault text f → HasExportFault text g → f ≡ g

@@ -1,4 +1,4 @@
--- What stored nodes mean.
+-- The value of stored nodes.
 use Rattle.std.specs.Prelude.{◌≡◌, ℕ, Bool, false, List, Option, Some, None, String, Box, map, string_bytes}
 use Rattle.std.specs.Global.{Global}
 use Rattle.std.specs.Option.{option_map}
@@ -17,27 +17,29 @@ use Rattle.wac_nodes.specs.declared.node.NodeKind.TheVariants as code
 use Rattle.wac_nodes.specs.Graph as graph
 use Rattle.wac_nodes.specs.Graph.{GraphNode, Kind}
 
+-- The kind of a stored node.
 abbrev pub kind_of : NodeKind → Kind
 kind_of code.Definition = graph.definition
 kind_of (code.Import name) = graph.import (string_bytes name)
 kind_of (code.Instantiation _) = graph.instantiation
 kind_of code.Alias = graph.alias
 
--- a node's name, where it has names
+-- The node's own name.
 abbrev pub name_in : Option (Box NodeNames Global) → Option Name
 name_in None = None
 name_in (Some names) = option_map string_bytes names.value.name
 
--- the name by which it was exported last
+-- The latest export name.
 abbrev pub export_name_in : Option (Box NodeNames Global) → Option Name
 export_name_in None = None
 export_name_in (Some names) = option_map string_bytes names.value.export_name
 
--- that by which a definition was exported first
+-- The first export name of a definition.
 abbrev pub first_name_in : Option (Box NodeNames Global) → Option Name
 first_name_in None = None
 first_name_in (Some names) = option_map string_bytes names.value.first_name
 
+-- The value of a stored node.
 abbrev pub node_of : Node → GraphNode
 node_of n = record {
   kind = kind_of n.kind;
@@ -48,29 +50,31 @@ node_of n = record {
   first_name = first_name_in n.names;
 }
 
--- a node without names
+-- A node without names.
 abbrev pub unnamed : Kind → Option PackageId → ItemKind → GraphNode
 unnamed kind owner item = record { kind = kind; item_kind = item; owner = owner; name = None; export_name = None; first_name = None }
 
--- the nodes under their numbers
+-- The stored nodes by number.
 abbrev pub nodes_of : List (Option Node) → finite.FinMap nat_cmp GraphNode
 nodes_of slots = finite.from_entries (map (λ e. (e.0, node_of e.1)) (entries_from 0 slots))
 
--- the nodes under their names, as bytes
+-- The entries with their names as bytes.
 abbrev pub names_of : List (String Global × NodeId) → List (Name × NodeId)
 names_of entries = map (λ e. (string_bytes e.0, e.1)) entries
 
--- the satisfied positions of an instantiation
+-- The position is among the satisfied ones of an instantiation.
 abbrev pub satisfied : NodeKind → ℕ → Bool
 satisfied (code.Instantiation s) i = positions.contains nat_cmp s i
 satisfied code.Definition i = false
 satisfied (code.Import _) i = false
 satisfied code.Alias i = false
 
+-- The position is among the satisfied ones of the node, if there is one.
 abbrev pub satisfied_at : Option Node → ℕ → Bool
 satisfied_at None i = false
 satisfied_at (Some n) i = satisfied n.kind i
 
+-- The slot has an instantiation.
 abbrev pub IsInstantiationAt : Option Node → Type 0
 IsInstantiationAt None = ⊥
 IsInstantiationAt (Some n) = kind_of n.kind ≡ graph.instantiation

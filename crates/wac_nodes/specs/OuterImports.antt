@@ -1,4 +1,4 @@
--- The imports of what a graph composes: the classes of what it asks for, in written order, each with its merged item.
+-- The imports of the composed component: one for each class of the graph's imports, in written order.
 use Rattle.std.specs.Prelude.{ℕ, ◌≡◌, List, length, Some, slice_get}
 use Rattle.wac_primitives.specs.Name.{Name}
 use Rattle.wac_primitives.specs.Tree.{Tree}
@@ -10,22 +10,22 @@ use Rattle.wac_terms.specs.Union.{merged}
 use Rattle.wac_nodes.specs.Graph.{Graph}
 use Rattle.wac_nodes.specs.Entries.{asked_entries, to_merge}
 
--- all that a graph asks for, as merging takes it
+-- The graph's imports with the interfaces that they use, as they are merged.
 abbrev pub outer_entries : Graph → List Entry
 outer_entries g = to_merge (asked_entries g)
 
--- the order in which the classes of what a graph asks for are written
+-- The order in which the classes of the graph's imports are written.
 abbrev pub IsOuterOrder : Graph → List ℕ → Type 0
 IsOuterOrder g order = IsWrittenOrder by_names g.types (outer_entries g) order
 
--- the name and the item of a class as the import at a position of this order
+-- The name and type of the class that is imported at a position of the order.
 abbrev pub outer_import : Graph → List ℕ → ℕ → Name → Name × Tree
 outer_import g order p class = (
   canonical by_names (outer_entries g) class,
   merged by_names g.types (outer_entries g) (root_bindings by_names g.types (outer_entries g) (position_in order)) p class,
 )
 
--- The imports are the classes of what is asked for, in written order, each under its canonical name with its merged item.
+-- The imports are the classes in written order, each under its canonical name with its merged type.
 pub record AreOuterImports (g : Graph) (imports : List (Name × Tree)) : Type 0 where
   pub order : List ℕ
   pub written : IsOuterOrder g order
@@ -33,7 +33,7 @@ pub record AreOuterImports (g : Graph) (imports : List (Name × Tree)) : Type 0 
   pub each : (p k : ℕ) (class : Name) (e : Name × Tree) → slice_get order p ≡ Some k → slice_get (class_names by_names (outer_entries g)) k ≡ Some class → slice_get imports p ≡ Some e
       → e ≡ outer_import g order p class
 
--- the import into which a name fell stands at this position: that of the name's class
+-- The position of the import that a name belongs to: that of the name's class.
 pub record IsImportPlace (g : Graph) (name : Name) (p : ℕ) : Type 0 where
   pub order : List ℕ
   pub written : IsOuterOrder g order

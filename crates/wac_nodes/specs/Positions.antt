@@ -3,7 +3,7 @@ use Rattle.std.specs.Prelude.{ℕ, ◌≡◌, ◌<◌, ◌≤◌, true, false}
 use Rattle.std.specs.BTreeSet.{BTreeSet, contains}
 use Rattle.std.specs.Ordering.{nat_cmp}
 
--- the position is not in the set, and each before it from one on is
+-- The position is the first in the range that is not in the set.
 pub record IsGap (s : BTreeSet ℕ) (from end i : ℕ) : Type 0 where
   pub above : from ≤ i
   pub below : i < end

@@ -1,4 +1,4 @@
--- The law of graphs: what is true of every graph that a caller can have.
+-- The invariant of graphs: what holds of every graph that a caller can have.
 use Rattle.std.specs.Prelude.{ℕ, ◌≡◌, true, Some, None, IsSome, IsSomeAnd, slice_get}
 use Rattle.std.specs.FinSet as set
 use Rattle.wac_primitives.specs.Name.{Name}
@@ -17,7 +17,7 @@ use Rattle.wac_edges.specs.declared.node.NodeId.{NodeId}
 use Rattle.wac_nodes.specs.declared.packages.PackageId.{PackageId}
 use Rattle.wac_nodes.specs.Graph.{Graph, GraphNode, definition, instantiation, alias, node_at, package_at, exports_of, imports_of, IsAliasOf, IsArgumentOf, IsImportOf, IsDefinitionOf, IsRegistered, export_at}
 
--- the node is an instance of a registered package
+-- The node is an instance of a registered package.
 pub record IsInstance (g : Graph) (node : GraphNode) : Type 0 where
   pub id : PackageId
   pub parts : PackageParts
@@ -25,7 +25,7 @@ pub record IsInstance (g : Graph) (node : GraphNode) : Type 0 where
   pub registered : package_at g id ≡ Some parts
   pub typed : node.item_kind ≡ Instance parts.instance_type
 
--- the node is the alias of an export of an instance, and carries the instance's package
+-- The node is the alias of an instance's export and has the instance's package.
 pub record IsAlias (g : Graph) (n : NodeId) (node : GraphNode) : Type 0 where
   pub instance : NodeId
   pub source : GraphNode
@@ -36,47 +36,51 @@ pub record IsAlias (g : Graph) (n : NodeId) (node : GraphNode) : Type 0 where
   pub exported : slice_get (exports_of g source) position ≡ Some (name, node.item_kind)
   pub owned : node.owner ≡ source.owner
 
--- the node is of a type, and has a first name
+-- The node defines a type and has a first export name.
 pub record IsTypeUnderName (node : GraphNode) : Type 0 where
   pub defined : AnyType
   pub name : Name
   pub typed : node.item_kind ≡ TypeItem defined
   pub named : node.first_name ≡ Some name
 
--- the nodes that an edge may join: an instance and an alias of its export at this position, an item and an instantiation whose
--- import at this position it is a subtype of, a definition and another. So no edge leads into an import
+-- The nodes fit the edge's label; no label fits an edge into an import.
+--
+-- - Alias: an instance, and an alias with the type of its export at this position.
+-- - Argument: an item that is a subtype of the instantiation's import at this position.
+-- - Dependency: two definitions.
 abbrev pub Joins : Graph → Label → GraphNode → GraphNode → Type 0
 Joins g (Alias i) source target = (target.kind ≡ alias) × IsSomeAnd (slice_get (exports_of g source) i) (λ e. target.item_kind ≡ e.1)
 Joins g (Argument i) source target = (target.kind ≡ instantiation) × IsSomeAnd (slice_get (imports_of g target) i) (λ e. IsSubtype g.types source.item_kind g.types e.1)
 Joins g Dependency source target = (source.kind ≡ definition) × (target.kind ≡ definition)
 
+-- The invariant.
 pub record IsSound (g : Graph) : Type 0 where
-  -- an edge leads from a node to a node, and joins them as its label says
+  -- Both ends of an edge are nodes that fit its label.
   pub ends : (e : Edge) → set.contains g.edges e ≡ true → IsSome (node_at g e.source) × IsSome (node_at g e.target)
   pub joins : (e : Edge) (source target : GraphNode) → set.contains g.edges e ≡ true → node_at g e.source ≡ Some source → node_at g e.target ≡ Some target → Joins g e.label source target
-  -- what is exported is there, and each node's item and each package is held by the graph's collection
+  -- Exported nodes exist, and the types of nodes and packages are of the collection.
   pub exported : (i : ℕ) (name : Name) (n : NodeId) → slice_get g.exports i ≡ Some (name, n) → IsSome (node_at g n)
   pub held : (n : NodeId) (node : GraphNode) → node_at g n ≡ Some node → holds_type g.types (kind_type node.item_kind) ≡ true
   pub packages : (id : PackageId) (p : PackageParts) → package_at g id ≡ Some p → HoldsPackage g.types p
-  -- an instantiation's package is registered, and an alias's source is there
+  -- The package of an instantiation is registered, and the source of an alias exists.
   pub instances : (n : NodeId) (node : GraphNode) → node_at g n ≡ Some node → node.kind ≡ instantiation → IsInstance g node
   pub aliases : (n : NodeId) (node : GraphNode) → node_at g n ≡ Some node → node.kind ≡ alias → IsAlias g n node
-  -- an import of an instantiation has one argument at most
+  -- An import of an instantiation has at most one argument.
   pub one_argument : (consumer : NodeId) (position : ℕ) (n other : NodeId) → IsArgumentOf g consumer position n → IsArgumentOf g consumer position other → n ≡ other
-  -- an export of an instance has one alias at most, and a node is the alias of one export at most
+  -- An export of an instance has at most one alias, and an alias has one source.
   pub one_alias : (instance : NodeId) (position : ℕ) (n other : NodeId) → IsAliasOf g instance position n → IsAliasOf g instance position other → n ≡ other
   pub one_source : (n instance other : NodeId) (i j : ℕ) → IsAliasOf g instance i n → IsAliasOf g other j n → (instance ≡ other) × (i ≡ j)
-  -- a name is imported by one node at most, and a type is defined by one
+  -- A name has at most one import node, and a type at most one definition.
   pub one_import : (name : Name) (n other : NodeId) → IsImportOf g name n → IsImportOf g name other → n ≡ other
   pub one_definition : (kind : ItemKind) (n other : NodeId) → IsDefinitionOf g kind n → IsDefinitionOf g kind other → n ≡ other
-  -- a name is exported once at most
+  -- A name is exported at most once.
   pub one_export : (name : Name) (i j : ℕ) (n other : NodeId) → slice_get g.exports i ≡ Some (name, n) → slice_get g.exports j ≡ Some (name, other) → i ≡ j
-  -- only a definition has a first name, and it is exported by it
+  -- Only a definition has a first export name, and it is exported under it.
   pub first_names : (n : NodeId) (node : GraphNode) (name : Name) → node_at g n ≡ Some node → node.first_name ≡ Some name → (node.kind ≡ definition) × (export_at g name ≡ Some n)
-  -- each definition is of a type and has one
+  -- A definition has a type and a first export name.
   pub definitions : (n : NodeId) (node : GraphNode) → node_at g n ≡ Some node → node.kind ≡ definition → IsTypeUnderName node
-  -- a key is that of one registered package at most
+  -- A key belongs to at most one registered package.
   pub one_package : (key : Key) (id other : PackageId) → IsRegistered g key id → IsRegistered g key other → id ≡ other
-  -- a vacant slot is there and holds no package, and is vacant once
+  -- A free slot exists, has no package, and is noted once.
   pub vacant : (i s : ℕ) → slice_get g.vacant i ≡ Some s → IsSomeAnd (slice_get g.slots s) (λ slot. slot.«package» ≡ None)
   pub vacant_once : (i j s : ℕ) → slice_get g.vacant i ≡ Some s → slice_get g.vacant j ≡ Some s → i ≡ j

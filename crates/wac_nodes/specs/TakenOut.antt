@@ -1,18 +1,18 @@
--- Exports without those of some nodes.
+-- The exports of a graph without those of some nodes.
 use Rattle.std.specs.Prelude.{ℕ, zero, suc, Bool, List, length, Option, Some, None, slice_get, if◌then◌else◌, swap_remove}
 use Rattle.wac_primitives.specs.Name.{Name}
 use Rattle.wac_edges.specs.declared.node.NodeId.{NodeId}
 
--- without the entry at a position, where it is of such a node: the last entry takes its place
+-- Without the entry at the position, if its node goes: the last entry takes its place.
 abbrev pub taken_at : (NodeId → Bool) → ℕ → Option (Name × NodeId) → List (Name × NodeId) → List (Name × NodeId)
 taken_at gone k None es = es
 taken_at gone k (Some e) es = if gone e.1 then swap_remove es k e else es
 
--- so for each of the first k positions, from the last to the first
+-- Without the entries of such nodes among the first k, removed from the last to the first.
 abbrev pub taken_below : (NodeId → Bool) → ℕ → List (Name × NodeId) → List (Name × NodeId)
 taken_below gone zero es = es
 taken_below gone (suc k) es = taken_below gone k (taken_at gone k (slice_get es k) es)
 
--- the exports without those of such nodes
+-- The exports without the entries of such nodes.
 abbrev pub without : (NodeId → Bool) → List (Name × NodeId) → List (Name × NodeId)
 without gone es = taken_below gone (length es) es

@@ -1,4 +1,4 @@
-//! Why a call on a graph is refused.
+//! The errors of calls on a graph.
 ghost use Rattle.std.specs.Prelude.{◌≡◌};
 
 use std::alloc::{AllocError, AllocFailed};
@@ -7,13 +7,13 @@ use wac_edges::node::NodeId;
 use wac_names::NameFault;
 use wac_types::{PackageKey, TypeFault};
 
-/// Why `register_package` is refused.
+/// The error of `register_package`.
 #[derive(Debug, Drop, Error)]
 pub enum RegisterPackageError {
-    /// A package of this key is registered.
+    /// A package with this key is already registered.
     #[error("package `{key}` has already been registered in the graph")]
     PackageAlreadyRegistered { key: PackageKey },
-    /// There was no memory.
+    /// Out of memory.
     #[error("out of memory")]
     OutOfMemory,
 }
@@ -38,16 +38,16 @@ impl<T: Drop> From<AllocFailed<T>> for RegisterPackageError {
     }
 }
 
-/// Why `import` is refused.
+/// The error of `import`.
 #[derive(Debug, Drop, Error)]
 pub enum ImportError {
-    /// The graph has an import of this name already, this node.
+    /// The node already imports this name.
     #[error("import name `{name}` already exists in the graph")]
     ImportAlreadyExists { name: String, node: NodeId },
-    /// The name is no component name.
+    /// The name is not a component name.
     #[error("import name `{name}` is not valid")]
     InvalidImportName { name: String, source: NameFault },
-    /// There was no memory.
+    /// Out of memory.
     #[error("out of memory")]
     OutOfMemory,
 }
@@ -72,22 +72,22 @@ impl<T: Drop> From<AllocFailed<T>> for ImportError {
     }
 }
 
-/// Why `define_type` is refused.
+/// The error of `define_type`.
 #[derive(Debug, Drop, Error)]
 pub enum DefineTypeError {
-    /// A node of the graph defines the type.
+    /// A node of the graph already defines the type.
     #[error("the provided type has already been defined in the graph")]
     TypeAlreadyDefined,
     /// The type is a resource.
     #[error("a resource type cannot be defined in the graph")]
     CannotDefineResource,
-    /// The graph has an export of this name already.
+    /// The graph already exports this name.
     #[error("type name `{name}` conflicts with an existing export of the same name")]
     ExportConflict { name: String },
-    /// The name is no component name.
+    /// The name is not a component name.
     #[error("type name `{name}` is not valid")]
     InvalidExternName { name: String, source: NameFault },
-    /// There was no memory.
+    /// Out of memory.
     #[error("out of memory")]
     OutOfMemory,
 }
@@ -112,16 +112,16 @@ impl<T: Drop> From<AllocFailed<T>> for DefineTypeError {
     }
 }
 
-/// Why `alias_instance_export` is refused.
+/// The error of `alias_instance_export`.
 #[derive(Debug, Drop, Error)]
 pub enum AliasError {
-    /// The source node is not an instance; what it is.
+    /// The source node is not an instance, but an item of this kind.
     #[error("expected source node to be an instance, but the node is a {kind}")]
     NodeIsNotAnInstance { node: NodeId, kind: &'static str },
-    /// The instance has no export of this name.
+    /// The instance has no export with this name.
     #[error("instance does not have an export named `{export}`")]
     InstanceMissingExport { node: NodeId, export: String },
-    /// There was no memory.
+    /// Out of memory.
     #[error("out of memory")]
     OutOfMemory,
 }
@@ -136,16 +136,16 @@ impl From<AllocError> for AliasError {
     }
 }
 
-/// Why `export` is refused.
+/// The error of `export`.
 #[derive(Debug, Drop, Error)]
 pub enum ExportError {
-    /// The graph has an export of this name already, of this node.
+    /// The graph already exports this node under the name.
     #[error("an export with the name `{name}` already exists")]
     ExportAlreadyExists { name: String, node: NodeId },
-    /// The name is no component name, or that of a hash, a url or a dependency.
+    /// The name is not a component name, or it is a hash, url or dependency name.
     #[error("export name `{name}` is not valid")]
     InvalidExportName { name: String, source: NameFault },
-    /// There was no memory.
+    /// Out of memory.
     #[error("out of memory")]
     OutOfMemory,
 }
@@ -170,15 +170,15 @@ impl<T: Drop> From<AllocFailed<T>> for ExportError {
     }
 }
 
-/// Why `unexport` is refused.
+/// The error of `unexport`.
 #[derive(Debug, Drop, Error)]
 pub enum UnexportError {
-    /// The node is a type definition.
+    /// The node is a type definition, which must stay exported.
     #[error("cannot unexport a type definition")]
     MustExportDefinition,
 }
 
-/// Why `set_instantiation_argument` is refused.
+/// The error of `set_instantiation_argument` and `unset_instantiation_argument`.
 #[derive(Debug, Drop, Error)]
 pub enum InstantiationArgumentError {
     /// The node is not an instantiation.
@@ -186,26 +186,26 @@ pub enum InstantiationArgumentError {
     NodeIsNotAnInstantiation {
         node: NodeId,
     },
-    /// The world of the instantiation's package has no import of this name.
+    /// The world of the instantiated package has no import with this name.
     #[error("argument name `{name}` is not an import of package `{package}`")]
     InvalidArgumentName {
         node: NodeId,
         name: String,
         package: String,
     },
-    /// Another node satisfies this import.
+    /// Another node is already the argument for this import.
     #[error("argument `{name}` has already been passed to the instantiation")]
     ArgumentAlreadyPassed {
         node: NodeId,
         name: String,
     },
-    /// The argument's type is no subtype of the import's.
+    /// The argument's type is not a subtype of the import's.
     #[error("mismatched instantiation argument `{name}`")]
     ArgumentTypeMismatch {
         name: String,
         source: TypeFault,
     },
-    /// There was no memory.
+    /// Out of memory.
     #[error("out of memory")]
     OutOfMemory,
 }

@@ -1,4 +1,4 @@
-//! Laws over the steps of graphs, given to the caller of a call that does nothing else.
+//! Laws of sequences of calls on a graph, for callers that make several.
 ghost use Rattle.std.specs.Prelude.{◌≡◌, Some, Ok, Result as AResult, length};
 ghost use Rattle.wac_primitives.specs.Name.{Name as AName};
 ghost use Rattle.wac_collection.specs.Collection.{with_resource, with_func, with_defined, with_interface, with_world, with_module};
@@ -31,12 +31,13 @@ ghost use Rattle.wac_nodes.specs.Sound.{IsSound};
 ghost use Rattle.wac_nodes.specs.Steps.{Adds, Registers, Defines, Imports, import_node, Instantiates, instance_node, Aliases, SetsArgument, UnsetsArgument};
 ghost use Rattle.wac_nodes.specs.Stays.{Stays, IsAliasBy, IsArgumentBy, GivesAgain};
 
-/// What was in a graph is in it still after each call that adds types, packages, definitions, imports, instances, aliases or arguments,
-/// and the node, the alias or the argument that the call adds is there.
+/// Proves that calls which only add leave everything that the graph contains.
+///
+/// After such a call, the node, alias or argument that it added is in the graph.
 pub fn stays_law()
     ensures itself { (g : Graph) → Stays g g }
     ensures through { (a b c : Graph) → Stays a b → Stays b c → Stays a c }
-    // types
+    // Adding types.
     ensures resource { (old new : Graph) (x : Resource) (r : AResult ResourceId AddTypeError) → Adds old r new (λ id types. (id.0 ≡ length old.types.resources) × (types ≡ with_resource old.types x)) → Stays old new }
     ensures func { (old new : Graph) (x : FuncType) (r : AResult FuncTypeId AddTypeError) → Adds old r new (λ id types. (id.0 ≡ length old.types.funcs) × (types ≡ with_func old.types x)) → Stays old new }
     ensures defined { (old new : Graph) (x : DefinedType) (r : AResult DefinedTypeId AddTypeError) → Adds old r new (λ id types. (id.0 ≡ length old.types.defined) × (types ≡ with_defined old.types x)) → Stays old new }
@@ -44,7 +45,7 @@ pub fn stays_law()
     ensures world { (old new : Graph) (x : World) (r : AResult WorldId AddTypeError) → Adds old r new (λ id types. (id.0 ≡ length old.types.worlds) × (types ≡ with_world old.types x)) → Stays old new }
     ensures module_type { (old new : Graph) (x : ModuleType) (r : AResult ModuleTypeId AddTypeError) → Adds old r new (λ id types. (id.0 ≡ length old.types.modules) × (types ≡ with_module old.types x)) → Stays old new }
     ensures made { (old new : Graph) (world : WorldId) (r : AResult PackageParts AddTypeError) → Adds old r new (λ p types. types ≡ with_instance_of old.types world) → Stays old new }
-    // packages and nodes
+    // Adding packages, nodes and arguments.
     ensures registered { (old new : Graph) (p : PackageParts) (r : AResult PackageId RegisterPackageError) → Registers old p r new → Stays old new }
     ensures registered_there { (old new : Graph) (p : PackageParts) (id : PackageId) → Registers old p (Ok id) new → package_at new id ≡ Some p }
     ensures definition { (old new : Graph) (name : AName) (ty : AnyType) (n : NodeId) → Defines old name ty (Ok n) new → (node_at new n ≡ Some (definition_node name ty)) × Stays old new }
@@ -54,8 +55,11 @@ pub fn stays_law()
     ensures given { (old new : Graph) (consumer : NodeId) (node : GraphNode) (name : AName) (argument : NodeId) (given : GraphNode) → node_at old consumer ≡ Some node → node_at old argument ≡ Some given → SetsArgument old consumer name argument (Ok tt) new → IsArgumentBy new consumer name argument × Stays old new }
 {}
 
-/// What is asked for once more gives what stands: the second alias of an export is the first one, and an argument that is set again
-/// changes nothing; neither is refused, but for want of memory. An argument that is set anew and then unset leaves the graph as it was.
+/// Proves what a repeated call does.
+///
+/// - The second alias of an export is the first one.
+/// - An argument that is set again changes nothing.
+/// - An argument that is newly set and then unset leaves the graph as it was.
 pub fn again_law()
     ensures alias { (old mid new : Graph) (instance : NodeId) (source : GraphNode) (name : AName) (first : NodeId) (r : AResult NodeId AliasError) → IsSound mid → node_at old instance ≡ Some source → Aliases old instance name (Ok first) mid → Aliases mid instance name r new → GivesAgain mid first alias_error.OutOfMemory r new }
     ensures argument { (old mid new : Graph) (consumer : NodeId) (node : GraphNode) (name : AName) (argument : NodeId) (given : GraphNode) (r : AResult (Unit {0}) InstantiationArgumentError) → node_at old consumer ≡ Some node → node_at old argument ≡ Some given → SetsArgument old consumer name argument (Ok tt) mid → SetsArgument mid consumer name argument r new → GivesAgain mid tt argument_error.OutOfMemory r new }

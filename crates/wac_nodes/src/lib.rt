@@ -1,7 +1,7 @@
-//! What graphs are made of: nodes, slots of packages, the refusals of calls, which texts may be names; and the value of a
-//! graph, in `specs/`: what it holds, how calls change it, the law that it keeps, what it asks for.
+//! Nodes, package slots and the errors of calls on a graph, and the statement of what a graph is.
 //!
-//! A layer of `wac_graph`, whose crate is the door.
+//! The definitions in `specs/` say what a graph contains (`Graph`) and what each call changes in it (`Steps`).
+//! They also say what always holds of a graph (`Sound`) and which imports it has (`Asked`, `Entries`).
 #![tactic(auto)]
 
 mod errors;

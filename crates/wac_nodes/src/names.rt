@@ -1,4 +1,4 @@
-//! Which texts may be names of imports and exports.
+//! Which texts are valid names of imports and exports.
 ghost use Rattle.std.specs.Prelude.{◌≡◌, ◌≢◌, OnErr, IfOk, MatchOption};
 ghost use Rattle.wac_names.specs.Faults.{HasFault};
 ghost use Rattle.wac_nodes.specs.ExternName.{IsImportName, IsExportName, HasExportFault, IsExportDecided};
@@ -7,14 +7,14 @@ ghost use Rattle.wac_primitives.specs.Name.{Name};
 use std::alloc::{AllocError, Global};
 use wac_names::{ComponentName, NameFault};
 
-/// Each text may be exported or has exactly one reason why not, and never both.
+/// Proves that a text is a valid export name or has exactly one fault, never both.
 pub fn one_export_answer()
     ensures { (text : Name) → IsExportDecided text }
 {
     wac_names::one_answer();
 }
 
-/// Why a text may not be imported, if it may not.
+/// Returns why a text is not a valid import name, or `None` if it is valid.
 pub fn import_fault(alloc: Global, name: &str) -> Result<Option<NameFault>, AllocError>
     ensures { IfOk result (λ fault. MatchOption fault (IsImportName name.now) (HasFault name.now)) }
 {
@@ -24,7 +24,7 @@ pub fn import_fault(alloc: Global, name: &str) -> Result<Option<NameFault>, Allo
     }
 }
 
-/// Why a text may not be exported, if it may not.
+/// Returns why a text is not a valid export name, or `None` if it is valid.
 pub fn export_fault(alloc: Global, name: &str) -> Result<Option<NameFault>, AllocError>
     ensures { IfOk result (λ fault. MatchOption fault (IsExportName name.now) (HasExportFault name.now)) }
 {
@@ -40,7 +40,7 @@ pub fn export_fault(alloc: Global, name: &str) -> Result<Option<NameFault>, Allo
     }
 }
 
-/// A fault of a text; want of memory is an error of its own.
+/// Returns the fault, or `AllocError` if the fault is that memory ran out.
 fn but_memory(fault: NameFault) -> Result<NameFault, AllocError>
     ensures same { IfOk result (λ f. f ≡ fault) }
     ensures real { IfOk result (λ f. f ≢ NameFault.OutOfMemory) }

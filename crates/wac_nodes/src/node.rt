@@ -1,4 +1,4 @@
-//! Nodes of a graph.
+//! The nodes of a graph.
 ghost use Rattle.std.specs.Prelude.{◌≡◌, IfOk, OnErr, OnOk, Some, None, string_bytes};
 ghost use Rattle.std.specs.Option.{option_map};
 ghost use Rattle.wac_nodes.specs.Graph.{import_name};
@@ -11,21 +11,20 @@ use std::alloc::{AllocError, Global};
 use std::collections::BTreeSet;
 use wac_types::{ItemKind, Type};
 
-/// What a node is.
+/// The kind of a node.
 #[derive(Debug, Drop)]
 pub enum NodeKind {
     /// A type definition.
     Definition,
-    /// An import of this name.
+    /// An import with this name.
     Import(String),
-    /// An instantiation of a package; the positions of its world's imports that an argument satisfies.
+    /// An instantiation of a package, with the positions of its imports that have an argument.
     Instantiation(BTreeSet<usize>),
     /// An alias of an instance's export.
     Alias,
 }
 
-/// The clone is of the same kind, with the same name or the same positions, in memory of its own. Answers `AllocError` where
-/// memory ran out.
+/// Fails with `AllocError` if memory runs out.
 impl Clone for NodeKind {
     ghost is_clone = { IsKindClone };
 
@@ -42,17 +41,17 @@ impl Clone for NodeKind {
 /// A node of a graph.
 #[derive(Debug)]
 pub struct Node {
-    /// What it is.
+    /// The kind of the node.
     pub kind: NodeKind,
-    /// The package that it is an instance of, or that its alias's source carries.
+    /// The instantiated package. An alias has the package of its source.
     pub package: Option<PackageId>,
-    /// What it stands for.
+    /// The item that the node provides.
     pub item_kind: ItemKind,
-    // Its names. Most nodes have none, and no room for any.
+    // Boxed, because most nodes have no name.
     names: Option<Box<NodeNames>>,
 }
 
-/// A node is let go of here, and not anew at each place where one goes out of scope.
+// By hand: a derived `Drop` is proved again wherever one goes out of scope (docs/PROOFS.md, 'Drop').
 impl Drop for Node {
     fn drop(self) {
         let Node {
@@ -64,7 +63,7 @@ impl Drop for Node {
     }
 }
 
-/// The clone says of the node what this one does, in memory of its own. Answers `AllocError` where memory ran out.
+/// Fails with `AllocError` if memory runs out.
 impl Clone for Node {
     ghost is_clone = { IsNodeClone };
 
@@ -86,15 +85,15 @@ impl Clone for Node {
 /// The names of a node.
 #[derive(Debug, Drop)]
 struct NodeNames {
-    // Its own.
+    // The name given by `set_node_name`.
     name: Option<String>,
-    // The one by which it was exported last.
+    // The latest export name.
     export_name: Option<String>,
-    // The one by which a definition was exported first; none of another kind of node.
+    // The first export name of a definition. `None` for other nodes.
     first_name: Option<String>,
 }
 
-/// The clone has the same names, in memory of their own. Answers `AllocError` where memory ran out.
+/// Fails with `AllocError` if memory runs out.
 impl Clone for NodeNames {
     ghost is_clone = { AreNamesClone };
 
@@ -110,7 +109,7 @@ impl Clone for NodeNames {
     }
 }
 
-/// The text, if there is one, in memory of its own.
+/// Clones the text, if any.
 fn cloned(text: &Option<String>) -> Result<Option<String>, AllocError>
     ensures { IfOk result (λ t. option_map string_bytes t ≡ option_map string_bytes text.now) }
 {
@@ -120,7 +119,7 @@ fn cloned(text: &Option<String>) -> Result<Option<String>, AllocError>
     }
 }
 
-/// The text where it is, if there is one.
+/// Borrows the text, if any.
 fn as_text(text: &Option<String>) -> Option<&str>
     ensures { option_map (λ s. s.now) result ≡ option_map string_bytes text.now }
 {
@@ -131,7 +130,7 @@ fn as_text(text: &Option<String>) -> Option<&str>
 }
 
 impl Node {
-    /// A node of this kind, package and item, without a name.
+    /// Creates a node without names.
     pub fn new(kind: NodeKind, package: Option<PackageId>, item_kind: ItemKind) -> Node
         ensures kind { result.kind ≡ kind }
         ensures node { node_of result ≡ unnamed (kind_of kind) «package» item_kind }
@@ -144,7 +143,7 @@ impl Node {
         }
     }
 
-    /// A definition of the type, exported by the name. Answers `AllocError` where memory ran out.
+    /// Creates a definition of the type that is exported under the name. Fails with `AllocError` if memory runs out.
     pub fn definition(alloc: Global, name: &str, ty: Type) -> Result<Node, AllocError>
         ensures { IfOk result (λ n. node_of n ≡ definition_node name.now ty) }
     {
@@ -163,28 +162,28 @@ impl Node {
         })
     }
 
-    /// What the node is.
+    /// The kind of the node.
     pub fn kind(&self) -> &NodeKind
         ensures { result.now ≡ self.now.kind }
     {
         &self.kind
     }
 
-    /// The package that the node is an instance of, or that its alias's source carries.
+    /// The instantiated package, if any. An alias has the package of its source.
     pub fn package(&self) -> Option<PackageId>
         ensures { result ≡ self.now.«package» }
     {
         self.package
     }
 
-    /// What the node stands for: a function, an instance ..
+    /// The item that the node provides, with its type.
     pub fn item_kind(&self) -> ItemKind
         ensures { result ≡ self.now.item_kind }
     {
         self.item_kind
     }
 
-    /// The name of an import; none of another kind of node.
+    /// The name of an import node. `None` for other nodes.
     pub fn import_name(&self) -> Option<&str>
         ensures { option_map (λ s. s.now) result ≡ import_name (kind_of self.now.kind) }
     {
@@ -194,7 +193,7 @@ impl Node {
         }
     }
 
-    /// The node's name, if it has one.
+    /// The name given by `set_node_name`, if any.
     pub fn name(&self) -> Option<&str>
         ensures { option_map (λ s. s.now) result ≡ (node_of self.now).name }
     {
@@ -204,7 +203,7 @@ impl Node {
         }
     }
 
-    /// The name by which the node was exported last, if it is exported.
+    /// The latest export name, if the node is exported.
     pub fn export_name(&self) -> Option<&str>
         ensures { option_map (λ s. s.now) result ≡ (node_of self.now).export_name }
     {
@@ -214,7 +213,7 @@ impl Node {
         }
     }
 
-    /// The name by which a definition was exported first; none of another kind of node.
+    /// The first export name of a definition. `None` for other nodes.
     pub fn first_name(&self) -> Option<&str>
         ensures { option_map (λ s. s.now) result ≡ (node_of self.now).first_name }
     {
@@ -224,7 +223,7 @@ impl Node {
         }
     }
 
-    /// Names the node, in place of any name that it has. Answers `AllocError` where memory ran out; then nothing has changed.
+    /// Sets the node's name. On `AllocError` the node is unchanged.
     pub fn set_name(&mut self, alloc: Global, name: &str) -> Result<(), AllocError>
         ensures kind { self.new.kind ≡ self.old.kind }
         ensures named { OnOk result (node_of self.new ≡ record (node_of self.old) { name = Some name.now }) }
@@ -245,7 +244,7 @@ impl Node {
         Ok(())
     }
 
-    /// Notes the name by which the node is exported last. Answers `AllocError` where memory ran out; then nothing has changed.
+    /// Sets the latest export name. On `AllocError` the node is unchanged.
     pub fn set_export_name(&mut self, alloc: Global, name: &str) -> Result<(), AllocError>
         ensures kind { self.new.kind ≡ self.old.kind }
         ensures named { OnOk result (node_of self.new ≡ record (node_of self.old) { export_name = Some name.now }) }
@@ -266,7 +265,7 @@ impl Node {
         Ok(())
     }
 
-    /// The node is not exported any more. Takes no memory.
+    /// Clears the latest export name.
     pub fn clear_export_name(&mut self)
         ensures kind { self.new.kind ≡ self.old.kind }
         ensures cleared { node_of self.new ≡ record (node_of self.old) { export_name = None } }

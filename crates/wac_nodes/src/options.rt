@@ -1,6 +1,6 @@
-//! How a graph is encoded.
+//! The options of encoding.
 
-/// What is named in the component as its processor.
+/// The tool that a component names as its processor, in the `producers` custom section.
 #[derive(Clone, Copy, Debug, PartialEq, Eq)]
 pub struct Processor<'a> {
     /// The processor's name.
@@ -9,14 +9,14 @@ pub struct Processor<'a> {
     pub version: &'a str,
 }
 
-/// How a graph is encoded.
+/// The options of encoding. By default components are defined, names are validated, and no processor is named.
 #[derive(Clone, Copy, Debug, PartialEq, Eq)]
 pub struct EncodeOptions<'a> {
-    /// Whether packages are defined in the component, rather than imported.
+    /// Whether the bytes of packages are included. If not, each package is imported as a component.
     pub define_components: bool,
-    /// Whether the outer names are validated.
+    /// Whether the names of the component's imports and exports are validated.
     pub validate: bool,
-    /// The processor to be named, if any.
+    /// The processor to name in the `producers` section, if any.
     pub processor: Option<Processor<'a>>,
 }
 

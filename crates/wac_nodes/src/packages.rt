@@ -1,5 +1,6 @@
-//! Packages of a graph: slots that hold them, under ids that are never valid again once their package is gone, and keys
-//! to look one up by.
+//! The packages of a graph: slots with generations, and borrowed keys to look a package up.
+//!
+//! The id of an unregistered package is never valid again.
 ghost use Rattle.std.specs.Prelude.{◌≡◌};
 ghost use Rattle.std.specs.Cmp.{on_equiv, on_per, partial_equiv_from_equiv};
 ghost use Rattle.std.specs.Option.{option_map};
@@ -14,24 +15,25 @@ use std::alloc::AllocError;
 use std::hash::{Hash, Hasher};
 use wac_types::{Package, PackageKey};
 
-/// A registered package: its slot and the slot's generation, compared in this order.
+/// The id of a registered package: a slot and the slot's generation, compared in this order.
 #[derive(Clone, Copy, Debug, PartialEq, Eq, PartialOrd, Ord, Hash)]
 pub struct PackageId {
-    /// The slot's number.
+    /// The number of the slot.
     pub slot: usize,
-    /// The slot's generation.
+    /// The generation of the slot.
     pub generation: usize,
 }
 
-/// A place for a package, with how many packages it held before.
+/// A slot for a package. Its generation is the number of packages that it held before.
 pub struct Slot {
-    /// The package, if it holds one.
+    /// The package in the slot, if any.
     pub package: Option<Package>,
-    /// How many packages it held before. It stands beside the end of the package, which is read with it.
+    /// The number of packages that the slot held before.
+    /// Placed after the package, because both are read together.
     pub generation: usize,
 }
 
-/// A slot is let go of here, and not anew at each place where one goes out of scope.
+// By hand: a derived `Drop` is proved again wherever one goes out of scope (docs/PROOFS.md, 'Drop').
 impl Drop for Slot {
     fn drop(self) {
         let Slot {
@@ -41,7 +43,7 @@ impl Drop for Slot {
     }
 }
 
-/// The clone is the same slot, with the package in memory of its own. Answers `AllocError` where memory ran out.
+/// Fails with `AllocError` if memory runs out.
 impl Clone for Slot {
     ghost is_clone = { λ a b. b ≡ a };
 
@@ -57,7 +59,7 @@ impl Clone for Slot {
     }
 }
 
-/// A package's name and version where they are, to look its key up by.
+/// A borrowed name and version, to look a package up without allocating its key.
 #[derive(Clone, Copy)]
 pub struct BorrowedPackageKey<'a> {
     name: &'a str,
@@ -65,7 +67,7 @@ pub struct BorrowedPackageKey<'a> {
 }
 
 impl<'a> BorrowedPackageKey<'a> {
-    /// The key of a package of this name and version.
+    /// The key of the package with this name and version.
     pub fn from_name_and_version(
         name: &'a str,
         version: Option<&'a Version>,
@@ -90,7 +92,7 @@ impl<'a> Eq for BorrowedPackageKey<'a> {
     ghost laws = { on_equiv borrowed_key same_key_equiv };
 }
 
-/// As [`PackageKey`] is hashed.
+/// Hashes as [`PackageKey`] does.
 impl<'a> Hash for BorrowedPackageKey<'a> {
     ghost hash_input = { λ k. key_writes (borrowed_key k) };
 

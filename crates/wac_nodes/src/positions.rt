@@ -7,8 +7,9 @@ ghost use Rattle.wac_nodes.specs.Positions.{IsGap};
 
 use std::collections::BTreeSet;
 
-/// The first position from one on and below an end that is not in the set. Where the set has each position below the end
-/// and no other, none of them is looked for.
+/// Returns the first position in `from..end` that is not in the set.
+///
+/// Takes constant time if the set is exactly `0..end`.
 pub fn first_gap(positions: &BTreeSet<usize>, from: usize, end: usize) -> Option<usize>
     ensures some { IfSome result (IsGap positions.now from end) }
     ensures none { IfNone result ((i : ℕ) → from ≤ i → i < end → contains nat_cmp positions.now i ≡ true) }
@@ -24,7 +25,7 @@ pub fn first_gap(positions: &BTreeSet<usize>, from: usize, end: usize) -> Option
     None
 }
 
-/// Whether the set has each position below an end and no other.
+/// Whether the set is exactly `0..end`.
 fn has_all_below(positions: &BTreeSet<usize>, end: usize) -> bool
     ensures { OnTrue result ((i : ℕ) → i < end → contains nat_cmp positions.now i ≡ true) }
 {
