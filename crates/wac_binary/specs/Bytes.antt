@@ -1,4 +1,4 @@
--- The bytes of a list of items.
+-- The bytes of items and of whole components (Binary.md).
 use Rattle.std.specs.Prelude.{ℕ, ◌+◌, ◌*◌, List, [], ◌∷◌, ◌++◌, length, Option, Some, None, Bool, true, false, ◌&&◌, if◌then◌else◌, eqb}
 use Rattle.std.specs.List.{flat_map}
 use Rattle.wac_primitives.specs.declared.component.PrimitiveType.{PrimitiveType}
@@ -22,11 +22,11 @@ use Rattle.wac_binary.specs.declared.sorts.Description.TheVariants as e
 use Rattle.wac_binary.specs.Items.{ValueDef, primitive_def, record_def, variant_def, list_def, fixed_list_def, tuple_def, flags_def, enum_def, option_def, result_def, own_def, borrow_def, stream_def, future_def, Alias, export_alias, outer_alias, TypeDef, value_def, func_def, component_def, instance_def, ModuleDecl, module_import, module_func, module_export, Decls, end, next, Decl, core_type_decl, type_decl, alias_decl, import_decl, export_decl, Item, custom, core_type, nested, instantiate, alias_item, type_item, import_item, export_item}
 use Rattle.wac_binary.specs.Leb.{unsigned, signed}
 
--- a text: how many bytes it has, then they
+-- A text: its length in bytes, then its bytes.
 abbrev pub text : List ℕ → List ℕ
 text t = unsigned (length t) ++ t
 
--- the number of them, then each
+-- A vector: the number of its elements, then each element (`vec`).
 abbrev pub vector : {A : Type 0} → (A → List ℕ) → List A → List ℕ
 vector f xs = unsigned (length xs) ++ flat_map f xs
 
@@ -46,7 +46,7 @@ primitive p.Char = 0x74
 primitive p.String = 0x73
 primitive p.ErrorContext = 0x64
 
--- a value type in use: a primitive's byte, or a type index as a signed number
+-- A value type in use: the byte of a primitive type, or a type index as a signed number (`valtype`).
 abbrev pub value : ComponentValType → List ℕ
 value (Primitive t) = primitive t ∷ []
 value (Index i) = signed i
@@ -55,11 +55,11 @@ abbrev pub optional : Option ComponentValType → List ℕ
 optional None = 0 ∷ []
 optional (Some t) = 1 ∷ value t
 
--- a field of a record, or a parameter
+-- A field of a record, or a parameter (`labelvaltype`).
 abbrev pub field : Name × ComponentValType → List ℕ
 field f = text f.0 ++ value f.1
 
--- a case of a variant
+-- A case of a variant (`case`).
 abbrev pub case : Name × Option ComponentValType → List ℕ
 case c = text c.0 ++ optional c.1 ++ 0 ∷ []
 
@@ -79,7 +79,7 @@ value_def_bytes (borrow_def i) = 0x68 ∷ unsigned i
 value_def_bytes (stream_def t) = 0x66 ∷ optional t
 value_def_bytes (future_def t) = 0x65 ∷ optional t
 
--- a function's result, or that it has none
+-- The result of a function, or that it has none (`resultlist`).
 abbrev pub outcome : Option ComponentValType → List ℕ
 outcome None = 1 ∷ 0 ∷ []
 outcome (Some t) = 0 ∷ value t
@@ -107,7 +107,7 @@ abbrev pub alias_bytes : Alias → List ℕ
 alias_bytes (export_alias t i name) = sort t ++ 0 ∷ (unsigned i ++ text name)
 alias_bytes (outer_alias t count i) = sort t ++ 2 ∷ (unsigned count ++ unsigned i)
 
--- core value types
+-- Core types.
 
 abbrev pub core_ref : CoreRefType → ℕ
 core_ref r.FuncRef = 0x70
@@ -127,7 +127,7 @@ core_val v = core_value v ∷ []
 abbrev pub bit : Bool → ℕ
 bit b = if b then 1 else 0
 
--- whether there is one
+-- 1 if there is a number, else 0.
 abbrev pub there : Option ℕ → ℕ
 there None = 0
 there (Some n) = 1
@@ -136,7 +136,7 @@ abbrev pub number : Option ℕ → List ℕ
 number None = []
 number (Some n) = unsigned n
 
--- limits: flags, the minimum, the maximum and the page size's logarithm where there is one
+-- Limits: the flags, the minimum, then the maximum and the logarithm of the page size if they are given.
 abbrev pub limits : (shared is64 : Bool) → (minimum : ℕ) → (maximum page : Option ℕ) → List ℕ
 limits shared is64 minimum maximum page = (there maximum + 2 * bit shared + 4 * bit is64 + 8 * there page) ∷ (unsigned minimum ++ number maximum ++ number page)
 
@@ -149,7 +149,7 @@ memory_bytes x = limits x.shared x.memory64 x.minimum x.maximum x.page_size_log2
 abbrev pub global_bytes : GlobalType → List ℕ
 global_bytes x = core_value x.val_type ∷ (bit x.mutable + 2 * bit x.shared) ∷ []
 
--- what an import or export of a core module is
+-- The type of an import or export of a core module.
 abbrev pub entity : EntityType → List ℕ
 entity (t.Function i) = 0 ∷ unsigned i
 entity (t.Table x) = 1 ∷ table_bytes x
@@ -162,11 +162,11 @@ module_decl_bytes (module_import m n x) = 0 ∷ (text m ++ text n ++ entity x)
 module_decl_bytes (module_func ps rs) = 1 ∷ 0x60 ∷ (vector core_val ps ++ vector core_val rs)
 module_decl_bytes (module_export n x) = 3 ∷ (text n ++ entity x)
 
--- a core module type
+-- A core module type (`core:moduletype`).
 abbrev pub module_bytes : List ModuleDecl → List ℕ
 module_bytes ds = 0x50 ∷ vector module_decl_bytes ds
 
--- how many declarations there are
+-- The number of declarations.
 abbrev pub count : Decls → ℕ
 count end = 0
 count (next d ds) = 1 + count ds
@@ -189,11 +189,11 @@ abbrev mutual
   decls_bytes end = []
   decls_bytes (next d ds) = decl_bytes d ++ decls_bytes ds
 
--- an argument of an instantiation
+-- An argument of an instantiation (`instantiatearg`).
 abbrev pub argument : Name × Sort × ℕ → List ℕ
 argument a = text a.0 ++ sort a.1 ++ unsigned a.2
 
--- an item, without its section
+-- The bytes of an item, without the head of its section.
 abbrev pub item_bytes : Item → List ℕ
 item_bytes (custom name bytes) = text name ++ bytes
 item_bytes (core_type m) = module_bytes m
@@ -204,7 +204,7 @@ item_bytes (type_item t) = type_bytes t
 item_bytes (import_item n d) = 0 ∷ (text n ++ described d)
 item_bytes (export_item n t i) = 0 ∷ (text n ++ sort t ++ unsigned i ++ 0 ∷ [])
 
--- the id of the section in which it stands
+-- The id of the section that contains an item.
 abbrev pub section_id : Item → ℕ
 section_id (custom name bytes) = 0
 section_id (core_type m) = 3
@@ -215,28 +215,28 @@ section_id (type_item t) = 7
 section_id (import_item n d) = 10
 section_id (export_item n t i) = 11
 
--- whether a section of this id holds several things, after their number
+-- Whether a section of this id contains a vector of items.
 abbrev pub is_shared : ℕ → Bool
 is_shared id = if eqb id 0 then false else if eqb id 4 then false else true
 
--- a section: its id, how many things it holds, and their bytes
+-- A section: its id, the number of its items, and their bytes.
 pub record Section : Type 0 where
   pub id : ℕ
   pub count : ℕ
   pub things : List ℕ
 
--- the section of one item
+-- The section of a single item.
 abbrev pub alone : Item → Section
 alone i = record { id = section_id i; count = 1; things = item_bytes i }
 
--- whether an item goes into the section before it
+-- Whether an item is added to the section before it.
 abbrev pub joins : Section → Item → Bool
 joins s i = is_shared s.id && eqb s.id (section_id i)
 
 abbrev pub joined : Section → Item → Section
 joined s i = record { id = s.id; count = s.count + 1; things = s.things ++ item_bytes i }
 
--- the sections of an open one and the items after it: neighbours of one id share one
+-- The sections of an open section and further items: neighbours of one id share a section.
 abbrev pub sections_from : Section → List Item → List Section
 sections_from s [] = s ∷ []
 sections_from s (i ∷ is) = if joins s i then sections_from (joined s i) is else s ∷ sections_from (alone i) is
@@ -245,7 +245,7 @@ abbrev pub sections : List Item → List Section
 sections [] = []
 sections (i ∷ is) = sections_from (alone i) is
 
--- what stands in a section after its size
+-- The contents of a section, which follow its size.
 abbrev pub contents : Section → List ℕ
 contents s = (if is_shared s.id then unsigned s.count else []) ++ s.things
 
@@ -255,6 +255,6 @@ section_bytes s = s.id ∷ (unsigned (length (contents s)) ++ contents s)
 abbrev pub preamble : List ℕ
 preamble = 0x00 ∷ 0x61 ∷ 0x73 ∷ 0x6d ∷ 0x0d ∷ 0x00 ∷ 0x01 ∷ 0x00 ∷ []
 
--- the bytes of a component with these items
+-- The bytes of a component: the preamble, then its sections (`component`).
 unfoldable pub bytes_of : List Item → List ℕ
 bytes_of items = preamble ++ flat_map section_bytes (sections items)

@@ -1,4 +1,4 @@
--- Items as trees of numbers, by which a proof tells them apart.
+-- Codes of items and declarations: trees of numbers by which proofs compare them.
 use Rattle.std.specs.Prelude.{◌≡◌, ℕ, List, Option}
 use Rattle.std.proofs.Common.{ap, refl}
 use Rattle.std.specs.Coded.{Coded, coded_ℕ, coded_bool, coded_list, coded_option, coded×, code_by}
@@ -36,7 +36,7 @@ fields_code = coded_list (coded× text_code val_code)
 abbrev cases_code : Coded (List (Name × Option ComponentValType))
 cases_code = coded_list (coded× text_code option_code)
 
--- a tuple of three, as pairs
+-- A triple is coded as nested pairs.
 abbrev arguments_code : Coded (List (Name × Sort × ℕ))
 arguments_code = coded_list (code_by (List ℕ × (Sort × ℕ)) (coded× text_code (coded× sort_form.the_row.coded coded_ℕ)) (λ x. (x.0, (x.1, x.2))) (λ x. (x.0, x.1.0, x.1.1)) (λ _. refl))
 

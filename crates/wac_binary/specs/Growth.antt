@@ -1,4 +1,4 @@
--- When scopes have only grown, and which declarations cannot tell.
+-- Growth of scopes, and the types and declarations that it does not change.
 use Rattle.std.specs.Prelude.{◌≡◌, ℕ, suc, ◌<◌, ◌≤◌, List, [], ◌∷◌, ◌++◌, length}
 use Rattle.wac_primitives.specs.Tree.{Tree}
 use Rattle.wac_binary.specs.declared.sorts.Sort.{Sort}
@@ -6,7 +6,7 @@ use Rattle.wac_binary.specs.declared.sorts.Sort.TheVariants as s
 use Rattle.wac_binary.specs.Items.{export_alias, outer_alias, TypeDef, value_def, func_def, component_def, instance_def, Decls, end, next, Decl, core_type_decl, type_decl, alias_decl, import_decl, export_decl}
 use Rattle.wac_binary.specs.Unfold.{Scope, Bound, empty, scope_at, with_decl}
 
--- the indexes of the new scope begin with those of the old one, and no core module or component is lost
+-- The new scope keeps the indexes of the old scope and may add further ones.
 pub record Grows (old new : Scope) : Type 0 where
   pub core_types : List Tree
   pub types : List Tree
@@ -17,27 +17,27 @@ pub record Grows (old new : Scope) : Type 0 where
   pub modules_stay : old.modules ≤ new.modules
   pub components_stay : old.components ≤ new.components
 
--- each of these scopes has grown; there may be more of them further out
+-- Each scope of the first list grows to its counterpart in the second, which may have further enclosing scopes.
 abbrev pub AllGrow : List Scope → List Scope → Type 0
 AllGrow [] ds = Unit
 AllGrow (c ∷ cs) [] = ⊥
 AllGrow (c ∷ cs) (d ∷ ds) = Grows c d × AllGrow cs ds
 
--- an index of this sort is there in a scope, where a scope says what the sort's indexes stand for
+-- Index i of this sort exists in the scope, which is asked of types and instances only.
 abbrev pub IsThere : Sort → ℕ → Scope → Type 0
 IsThere s.Type i c = i < length c.types
 IsThere s.Instance i c = i < length c.instances
 IsThere _ i c = Unit
 
 abbrev mutual
-  -- each outer alias in a type names an index that is there
+  -- Each outer alias in a type refers to an index that exists.
   pub TypeReaches : TypeDef → Scope → List Scope → Type 0
   TypeReaches (value_def t) c out = Unit
   TypeReaches (func_def is_async params result) c out = Unit
   TypeReaches (component_def ds) c out = Reach ds empty (c ∷ out)
   TypeReaches (instance_def ds) c out = Reach ds empty (c ∷ out)
 
-  -- each outer alias in declarations names an index that is there
+  -- Each outer alias in declarations refers to an index that exists.
   pub Reach : Decls → Scope → List Scope → Type 0
   Reach end c out = Unit
   Reach (next d ds) c out = Reaches d c out × Reach ds (with_decl d c out) out
@@ -51,14 +51,14 @@ abbrev mutual
   Reaches (export_decl n d) c out = Unit
 
 abbrev mutual
-  -- a type names nothing further out than so many scopes, of which its own surroundings are the first
+  -- A type refers to the n innermost scopes only, of which the first is the scope that contains it.
   pub TypeStaysWithin : TypeDef → ℕ → Type 0
   TypeStaysWithin (value_def t) n = 0 < n
   TypeStaysWithin (func_def is_async params result) n = 0 < n
   TypeStaysWithin (component_def ds) n = StayWithin ds (suc n)
   TypeStaysWithin (instance_def ds) n = StayWithin ds (suc n)
 
-  -- declarations name nothing further out than so many scopes, of which theirs is the first
+  -- Declarations refer to the n innermost scopes only, of which the first is their own.
   pub StayWithin : Decls → ℕ → Type 0
   StayWithin end n = Unit
   StayWithin (next d ds) n = StaysWithin d n × StayWithin ds n

@@ -1,5 +1,5 @@
--- Which items and declarations have a meaning: each index that they use is there and is what its use wants, each alias is of the sort
--- of what it names, and no name is declared twice.
+-- Items and declarations that have a meaning: each index exists and refers to what its use needs, each alias has the
+-- sort of its target, and no name is declared twice.
 use Rattle.std.specs.Prelude.{ℕ, ◌≡◌, ◌<◌, T, false, List, [], ◌∷◌, length, map, Option, Some, None}
 use Rattle.std.specs.List.{AllByRecursion, list_any}
 use Rattle.wac_primitives.specs.Core.{CoreItem, no_item}
@@ -17,7 +17,7 @@ use Rattle.wac_binary.specs.Items.{ValueDef, primitive_def, record_def, variant_
 use Rattle.wac_binary.specs.Unfold.{Module, no_module, with_module_decl, Scope, empty, is_of_sort, type_at, bound_at, scope_at, with_decl}
 use Rattle.wac_binary.specs.Meaning.{Thing, nothing, Root, start, may_export, root_scope, stands_for, read}
 
--- a value type
+-- A tree of a value type.
 abbrev pub IsValue : Tree → Type 0
 IsValue (primitive p) = Unit
 IsValue (own l) = Unit
@@ -55,7 +55,7 @@ abbrev pub IsModule : Tree → Type 0
 IsModule (module_of imports exports) = Unit
 IsModule _ = ⊥
 
--- what a type index can stand for
+-- A tree of a type that a type index can refer to.
 abbrev pub IsType : Tree → Type 0
 IsType (resource l) = Unit
 IsType (function is_async names params result) = Unit
@@ -63,22 +63,22 @@ IsType (instance exports) = Unit
 IsType (component imports exports) = Unit
 IsType t = IsValue t
 
--- an item of this sort
+-- A tree of an item of this sort.
 abbrev pub IsOfSort : Sort → Tree → Type 0
 IsOfSort t x = T (is_of_sort t x)
 
--- no item stands here yet
+-- No item has been declared under the name.
 abbrev pub IsFree : Tree → Type 0
 IsFree absent = Unit
 IsFree _ = ⊥
 
--- core module types
+-- Core module types.
 
 abbrev pub IsFreeInModule : CoreItem → Type 0
 IsFreeInModule no_item = Unit
 IsFreeInModule _ = ⊥
 
--- the function type that a core item uses is there
+-- The function type of a core function or tag exists.
 abbrev pub EntityHasMeaning : Module → EntityType → Type 0
 EntityHasMeaning m (t.Function i) = i < length m.funcs
 EntityHasMeaning m (t.Tag i) = i < length m.funcs
@@ -93,9 +93,9 @@ abbrev pub ModuleHasMeaning : Module → List ModuleDecl → Type 0
 ModuleHasMeaning m [] = Unit
 ModuleHasMeaning m (d ∷ ds) = ModuleDeclHasMeaning m d × ModuleHasMeaning (with_module_decl m d) ds
 
--- types, in a scope and those around it, the innermost first
+-- Types, in a scope and its enclosing scopes, the innermost first.
 
--- a value type in use is there
+-- A value type in use exists.
 abbrev pub ValHasMeaning : Scope → ComponentValType → Type 0
 ValHasMeaning c (Primitive p) = Unit
 ValHasMeaning c (Index i) = IsValue (type_at c.types i)
@@ -120,7 +120,7 @@ ValueHasMeaning (borrow_def i) c = IsResource (type_at c.types i)
 ValueHasMeaning (stream_def v) c = OptionHasMeaning c v
 ValueHasMeaning (future_def v) c = OptionHasMeaning c v
 
--- the type that a description names is there, and is one of what it describes
+-- The type index of a description refers to a type of the described sort.
 abbrev pub DescriptionHasMeaning : Scope → Description → Type 0
 DescriptionHasMeaning c (e.CoreModule i) = IsModule (type_at c.core_types i)
 DescriptionHasMeaning c (e.Func i) = IsFunction (type_at c.types i)
@@ -129,14 +129,14 @@ DescriptionHasMeaning c e.Fresh = Unit
 DescriptionHasMeaning c (e.Component i) = IsComponent (type_at c.types i)
 DescriptionHasMeaning c (e.Instance i) = IsInstance (type_at c.types i)
 
--- an outer alias names a type, a core module or a component that is there; past the last scope nothing is
+-- An outer alias refers to a type, a core module or a component that exists in that scope.
 abbrev pub OuterHasMeaning : Sort → ℕ → Scope → Type 0
 OuterHasMeaning s.CoreModule i c = i < c.modules
 OuterHasMeaning s.Type i c = IsType (type_at c.types i)
 OuterHasMeaning s.Component i c = i < c.components
 OuterHasMeaning _ i c = ⊥
 
--- an instance type imports nothing
+-- No declaration is an import, as in each instance type.
 abbrev pub ImportNothing : Decls → Type 0
 ImportNothing end = Unit
 ImportNothing (next (import_decl n d) ds) = ⊥
@@ -161,18 +161,18 @@ abbrev mutual
   DeclHasMeaning (import_decl n d) c out = IsFree (c.imports n) × DescriptionHasMeaning c d
   DeclHasMeaning (export_decl n d) c out = IsFree (c.exports n) × DescriptionHasMeaning c d
 
--- items of the root
+-- Items of the root.
 
--- an index that is there stands for something
+-- An index that exists refers to something.
 abbrev pub IsSomething : Thing → Type 0
 IsSomething nothing = ⊥
 IsSomething _ = Unit
 
--- an instance of this type has the export of this sort, where it is known what it exports
+-- An instance of this type has an export of this sort and name, as far as its exports are known.
 abbrev pub HasExport : Sort → Tree → Name → Type 0
 HasExport t i n = T (may_export t i n)
 
--- none of these is the name
+-- The name is not in the list.
 abbrev pub IsNew : Name → List Name → Type 0
 IsNew n names = list_any (same_name n) names ≡ false
 
@@ -187,11 +187,11 @@ ItemHasMeaning r (type_item t) = TypeHasMeaning t r.scope []
 ItemHasMeaning r (import_item n d) = IsNew n (map (λ e. e.0) r.imports) × DescriptionHasMeaning r.scope d
 ItemHasMeaning r (export_item n t i) = IsNew n (map (λ e. e.name) r.exports) × IsSomething (stands_for r t i)
 
--- these items have a meaning, read after the others
+-- Each item has a meaning after the items before it.
 abbrev pub AllHaveMeaning : Root → List Item → Type 0
 AllHaveMeaning r [] = Unit
 AllHaveMeaning r (x ∷ xs) = ItemHasMeaning r x × AllHaveMeaning (read r x) xs
 
--- the items of a component have a meaning
+-- The items of a component have a meaning.
 abbrev pub HasMeaning : List Item → Type 0
 HasMeaning items = AllHaveMeaning start items

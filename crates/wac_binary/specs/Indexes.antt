@@ -1,4 +1,4 @@
--- Which indexes items and declarations add.
+-- The index spaces, and the indexes that items and declarations add.
 use Rattle.std.specs.Prelude.{ℕ, ◌+◌, List, [], ◌∷◌, Option, Some, None, eqb, if◌then◌else◌}
 use Rattle.wac_binary.specs.declared.sorts.Sort.{Sort}
 use Rattle.wac_binary.specs.declared.sorts.Sort.TheVariants as s
@@ -6,7 +6,7 @@ use Rattle.wac_binary.specs.declared.sorts.Description.{Description}
 use Rattle.wac_binary.specs.declared.sorts.Description.TheVariants as e
 use Rattle.wac_binary.specs.Items.{ModuleDecl, module_import, module_func, module_export, Alias, export_alias, outer_alias, Decl, core_type_decl, type_decl, alias_decl, import_decl, export_decl, Item, custom, core_type, nested, instantiate, alias_item, type_item, import_item, export_item}
 
--- the index spaces by number: one for each sort, and one for core types
+-- The number of the index space of a sort.
 abbrev pub space : Sort → ℕ
 space s.CoreModule = 0
 space s.Func = 1
@@ -15,10 +15,11 @@ space s.Type = 3
 space s.Component = 4
 space s.Instance = 5
 
+-- The number of the index space of core types.
 abbrev pub core_types : ℕ
 core_types = 6
 
--- the sort of what a description describes
+-- The sort of the described import or export.
 abbrev pub described_sort : Description → Sort
 described_sort (e.CoreModule i) = s.CoreModule
 described_sort (e.Func i) = s.Func
@@ -31,7 +32,7 @@ abbrev pub alias_sort : Alias → Sort
 alias_sort (export_alias t i name) = t
 alias_sort (outer_alias t count i) = t
 
--- the sort of the index that an item adds, where it adds one; a core type's index has none
+-- The sort of the index that an item adds, if it adds one; core types have no sort.
 abbrev pub sort_added : Item → Option Sort
 sort_added (custom name bytes) = None
 sort_added (core_type m) = None
@@ -42,7 +43,7 @@ sort_added (type_item t) = Some s.Type
 sort_added (import_item name d) = Some (described_sort d)
 sort_added (export_item name t i) = Some t
 
--- the space in which an item adds an index
+-- The index space that an item adds to, if it adds an index.
 abbrev pub adds : Item → Option ℕ
 adds (custom name bytes) = None
 adds (core_type m) = Some core_types
@@ -57,12 +58,12 @@ abbrev pub is_in : ℕ → Option ℕ → ℕ
 is_in k None = 0
 is_in k (Some j) = if eqb j k then 1 else 0
 
--- how many indexes of space k the items add
+-- The number of indexes that the items add to space k.
 abbrev pub indexes : ℕ → List Item → ℕ
 indexes k [] = 0
 indexes k (x ∷ xs) = is_in k (adds x) + indexes k xs
 
--- the space in which a declaration adds an index
+-- The index space that a declaration adds to.
 abbrev pub decl_adds : Decl → ℕ
 decl_adds (core_type_decl m) = core_types
 decl_adds (type_decl t) = space s.Type
@@ -70,12 +71,12 @@ decl_adds (alias_decl x) = space (alias_sort x)
 decl_adds (import_decl n d) = space (described_sort d)
 decl_adds (export_decl n d) = space (described_sort d)
 
--- how many indexes of space k the declarations add
+-- The number of indexes that the declarations add to space k.
 abbrev pub declared : ℕ → List Decl → ℕ
 declared k [] = 0
 declared k (d ∷ ds) = (if eqb (decl_adds d) k then 1 else 0) + declared k ds
 
--- how many function types the declarations of a core module type add
+-- The number of function types among the declarations of a core module type.
 abbrev pub function_types : List ModuleDecl → ℕ
 function_types [] = 0
 function_types (module_func ps rs ∷ ds) = 1 + function_types ds

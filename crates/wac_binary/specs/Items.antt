@@ -1,4 +1,4 @@
--- The items of a component, and the declarations inside its types.
+-- The items of a component, and the declarations of its types (Binary.md).
 use Rattle.std.specs.Prelude.{ℕ, Bool, List, [], ◌∷◌, Option}
 use Rattle.wac_primitives.specs.declared.component.PrimitiveType.{PrimitiveType}
 use Rattle.wac_primitives.specs.declared.core_types.CoreType.{CoreType}
@@ -8,7 +8,7 @@ use Rattle.wac_binary.specs.declared.core_types.EntityType.{EntityType}
 use Rattle.wac_binary.specs.declared.sorts.Sort.{Sort}
 use Rattle.wac_binary.specs.declared.sorts.Description.{Description}
 
--- a value type that a type item defines
+-- The definition of a value type (`defvaltype`).
 pub data ValueDef : Type 0 where
   primitive_def : PrimitiveType → ValueDef
   record_def : List (Name × ComponentValType) → ValueDef
@@ -25,31 +25,31 @@ pub data ValueDef : Type 0 where
   stream_def : Option ComponentValType → ValueDef
   future_def : Option ComponentValType → ValueDef
 
--- an alias of an instance's export, or of what an index stands for so many scopes further out
+-- An alias of an instance's export, or of an index of an enclosing scope (`alias`).
 pub data Alias : Type 0 where
   export_alias : Sort → (instance : ℕ) → Name → Alias
   outer_alias : Sort → (count index : ℕ) → Alias
 
--- a declaration in a core module type
+-- A declaration of a core module type (`core:moduledecl`).
 pub data ModuleDecl : Type 0 where
   module_import : («module» name : Name) → EntityType → ModuleDecl
   module_func : (params results : List CoreType) → ModuleDecl
   module_export : (name : Name) → EntityType → ModuleDecl
 
 mutual
-  -- a type item
+  -- The definition of a type (`deftype`).
   pub data TypeDef : Type 0 where
     value_def : ValueDef → TypeDef
     func_def : (is_async : Bool) → (params : List (Name × ComponentValType)) → (outcome : Option ComponentValType) → TypeDef
     component_def : Decls → TypeDef
     instance_def : Decls → TypeDef
 
-  -- declarations in order
+  -- Declarations in order.
   pub data Decls : Type 0 where
     end : Decls
     next : Decl → Decls → Decls
 
-  -- a declaration in a component type or an instance type
+  -- A declaration of a component type or an instance type (`componentdecl`, `instancedecl`).
   pub data Decl : Type 0 where
     core_type_decl : List ModuleDecl → Decl
     type_decl : TypeDef → Decl
@@ -57,7 +57,7 @@ mutual
     import_decl : Name → Description → Decl
     export_decl : Name → Description → Decl
 
--- an item of a component
+-- An item of a component: a custom section, or one element of another section.
 pub data Item : Type 0 where
   custom : (name bytes : List ℕ) → Item
   core_type : List ModuleDecl → Item
@@ -68,7 +68,7 @@ pub data Item : Type 0 where
   import_item : Name → Description → Item
   export_item : Name → Sort → (index : ℕ) → Item
 
--- declarations as a list
+-- The declarations of a list.
 abbrev pub decls : List Decl → Decls
 decls [] = end
 decls (d ∷ ds) = next d (decls ds)

@@ -1,4 +1,4 @@
--- What the items of a component stand for: its imports, components, instantiations, exports and custom sections.
+-- The meaning of a component's items: its imports, nested components, instantiations, exports and custom sections.
 use Rattle.std.specs.Prelude.{ℕ, zero, suc, List, [], ◌∷◌, ◌++◌, if◌then◌else◌, length, map, Bool, true, false}
 use Rattle.wac_primitives.specs.Name.{Name}
 use Rattle.wac_primitives.specs.Tree.{imported, position, Tree, absent, items_in}
@@ -8,33 +8,33 @@ use Rattle.wac_binary.specs.Items.{export_alias, outer_alias, Item, custom, core
 use Rattle.wac_binary.specs.Indexes.{described_sort}
 use Rattle.wac_binary.specs.Unfold.{Scope, Bound, empty, unbound, is_of_sort, type_at, bound_at, described_item, counted_up, with_bound, with_alias, with_outer, module_tree, tree_of}
 
--- what an index stands for
+-- What an index refers to.
 pub data Thing : Type 0 where
   nothing : Thing
-  -- the import of this position
+  -- The import at this position.
   import_at : ℕ → Thing
-  -- the export of this name of an instance
+  -- The export of an instance with this name.
   projection : Thing → Name → Thing
-  -- the instantiation of this position
+  -- The instantiation at this position.
   instance_at : ℕ → Thing
-  -- the component of this position
+  -- The nested component at this position.
   component_at : ℕ → Thing
-  -- a type written here
+  -- A type that is defined here, with its tree.
   written : Tree → Thing
 
--- an instantiation, with what its indexes stand for
+-- An instantiation, with what its indexes refer to.
 pub record Instantiation : Type 0 where
   pub component : Thing
   pub arguments : List (Name × Thing)
 
--- an export, with what its index stands for, and its tree where it has one
+-- An export, with what its index refers to, and its tree if it has one.
 pub record Export : Type 0 where
   pub name : Name
   pub sort : Sort
   pub thing : Thing
   pub tree : Tree
 
--- what has been read of the root so far
+-- The meaning of the items that have been read.
 pub record Root : Type 0 where
   pub scope : Scope
   pub modules : List Thing
@@ -57,7 +57,7 @@ thing_at [] i = nothing
 thing_at (t ∷ ts) zero = t
 thing_at (t ∷ ts) (suc i) = thing_at ts i
 
--- what the indexes of a sort stand for
+-- What the indexes of a sort refer to.
 abbrev pub things : Root → Sort → List Thing
 things r s.CoreModule = r.modules
 things r s.Func = r.functions
@@ -66,7 +66,7 @@ things r s.Type = r.types
 things r s.Component = r.components
 things r s.Instance = r.instances
 
--- what an index of a sort stands for
+-- What an index of a sort refers to.
 abbrev pub stands_for : Root → Sort → ℕ → Thing
 stands_for r t i = thing_at (things r t) i
 
@@ -78,43 +78,43 @@ with_thing r s.Type x = record r { types = r.types ++ x ∷ [] }
 with_thing r s.Component x = record r { components = r.components ++ x ∷ [] }
 with_thing r s.Instance x = record r { instances = r.instances ++ x ∷ [] }
 
--- the export of this name of what an index stands for
+-- The export with this name of what an index refers to.
 abbrev pub projected : Thing → Name → Thing
 projected nothing n = nothing
 projected x n = projection x n
 
--- may an instance of this type have an export of this sort under the name; what an instantiation exports is not known here
+-- Whether an instance of this type can have an export of this sort and name; an instantiation can have any.
 abbrev pub may_export : Sort → Tree → Name → Bool
 may_export t absent n = true
 may_export t i n = is_of_sort t (items_in i n)
 
--- what an alias of an instance's export stands for: the export, but nothing where the instance is known to have none of this sort
+-- What an alias of an instance's export refers to: nothing if the instance has no such export of this sort.
 abbrev pub aliased_thing : Bound → Sort → Thing → Name → Thing
 aliased_thing b t x n = if may_export t b.type n then projected x n else nothing
 
--- the scope after an export: its new index stands for the same thing
+-- The scope after an export, whose new index refers to the same definition.
 abbrev pub with_exported : Scope → Sort → ℕ → Scope
 with_exported c s.Type i = record c { types = c.types ++ type_at c.types i ∷ [] }
 with_exported c s.Instance i = record c { instances = c.instances ++ bound_at c.instances i ∷ [] }
 with_exported c t i = counted_up c t
 
--- the tree of what an export's index stands for, where it has one
+-- The tree of an exported index, if it has one.
 abbrev pub exported_tree : Scope → Sort → ℕ → Tree
 exported_tree c s.Type i = type_at c.types i
 exported_tree c s.Instance i = (bound_at c.instances i).type
 exported_tree c _ i = absent
 
--- the scope so many scopes out of the root, which has none around it
+-- The scope that is k scopes out of the root, which has no enclosing scopes.
 abbrev pub root_scope : Root → ℕ → Scope
 root_scope r zero = r.scope
 root_scope r (suc k) = empty
 
--- what an index so many scopes out of the root stands for
+-- What an index refers to in the scope that is k scopes out of the root.
 abbrev pub outer_thing : Root → Sort → ℕ → ℕ → Thing
 outer_thing r t zero i = stands_for r t i
 outer_thing r t (suc k) i = nothing
 
--- what the index that an item adds stands for
+-- What the index that an item adds refers to.
 abbrev pub thing_added : Root → Item → Thing
 thing_added r (custom n bs) = nothing
 thing_added r (core_type m) = nothing
@@ -126,7 +126,7 @@ thing_added r (type_item t) = written (tree_of t r.scope [])
 thing_added r (import_item n d) = import_at (length r.imports)
 thing_added r (export_item n t i) = stands_for r t i
 
--- what has been read after one more item
+-- The meaning after one more item.
 abbrev pub read : Root → Item → Root
 read r (custom n bs) = record r { customs = r.customs ++ (n, bs) ∷ [] }
 read r (core_type m) = record r { scope = record r.scope { core_types = r.scope.core_types ++ module_tree m ∷ [] } }
@@ -151,7 +151,7 @@ abbrev pub read_all : Root → List Item → Root
 read_all r [] = r
 read_all r (x ∷ xs) = read_all (read r x) xs
 
--- what the items mean
+-- The meaning of a list of items.
 abbrev pub meaning : List Item → Root
 meaning items = read_all start items
 

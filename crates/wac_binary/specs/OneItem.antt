@@ -1,4 +1,4 @@
--- No bytes are those of two type items or declarations, whatever follows them.
+-- The bytes of a type item or a declaration determine it, whatever follows them.
 use Rattle.std.proofs.Common.{◌≡◌, ℕ, ◌<◌, ◌≤◌, List, ◌∷◌, ◌++◌, refl, ap, sym, ◌∙◌, arith, append_assoc, Bool, true, false}
 use Rattle.std.specs.Prelude.{Option, Some, None, if◌then◌else◌}
 use Rattle.wac_primitives.specs.declared.component.PrimitiveType.{PrimitiveType}
@@ -85,7 +85,7 @@ one_alias_at (outer_alias t i n) (export_alias u j m) x y h =
 pub one_alias : OneReading alias_bytes
 one_alias = record { one = one_alias_at }
 
--- the first byte of a value type is above those of the other types
+-- The first byte of a value type's definition is above the first bytes of other types.
 pub record Starts (bytes : List ℕ) : Type 0 where
   pub first : ℕ
   pub rest : List ℕ

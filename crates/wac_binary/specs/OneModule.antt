@@ -1,4 +1,4 @@
--- No bytes are those of two core module types, whatever follows them.
+-- The bytes of a core module type determine it, whatever follows them.
 use Rattle.std.proofs.Common.{◌≡◌, ℕ, ◌≤◌, List, ◌++◌, refl, ap, sym, ◌∙◌, arith, append_assoc, Bool, true, false}
 use Rattle.std.specs.Prelude.{Option, Some, None}
 use Rattle.wac_primitives.specs.declared.core_types.CoreRefType.{CoreRefType}
@@ -54,7 +54,7 @@ there_low : (o : Option ℕ) → there o ≤ 1
 there_low None = omega arith
 there_low (Some n) = omega arith
 
--- where both have a number or neither has one
+-- Two optional numbers, both given or both missing.
 one_number : (a b : Option ℕ) (x y : List ℕ) → there a ≡ there b → number a ++ x ≡ number b ++ y → (a ≡ b) × (x ≡ y)
 one_number None None x y e h = (refl, h)
 one_number (Some m) (Some n) x y e h = let w = one_unsigned.one m n x y h in (ap Some w.0, w.1)

@@ -1,4 +1,4 @@
--- No bytes are those of two things, whatever follows them.
+-- Encodings whose bytes determine what they encode, whatever follows them.
 use Rattle.std.proofs.Common.{◌≡◌, ℕ, ◌≤◌, List, [], ◌∷◌, ◌++◌, length, refl, ap, sym, ◌∙◌, arith, append_assoc}
 use Rattle.std.specs.List.{flat_map}
 use Rattle.wac_primitives.specs.declared.component.PrimitiveType.{PrimitiveType}
@@ -9,7 +9,7 @@ use Rattle.wac_binary.specs.Leb.{unsigned, signed}
 use Rattle.wac_binary.specs.Bytes.{text, vector, primitive, value}
 use Rattle.wac_binary.specs.LebLaws.{leb_one, leb_first}
 
--- whatever follows, the thing is determined and so is what follows
+-- The bytes determine what is encoded and what follows.
 pub record OneReading {A : Type 0} (f : A → List ℕ) : Type 0 where
   pub one : (a b : A) (x y : List ℕ) → f a ++ x ≡ f b ++ y → (a ≡ b) × (x ≡ y)
 
@@ -19,7 +19,7 @@ one_unsigned = record { one = leb_one 128 (omega arith) (omega arith) }
 pub one_signed : OneReading signed
 one_signed = record { one = leb_one 64 (omega arith) (omega arith) }
 
--- lists of one length
+-- Equal lists have equal first parts if these are of one length.
 pub same_length : (a b x y : List ℕ) → length a ≡ length b → a ++ x ≡ b ++ y → (a ≡ b) × (x ≡ y)
 same_length [] [] x y l e = (refl, e)
 same_length [] (c ∷ b) x y l e = absurd (omega arith)
@@ -62,7 +62,7 @@ one_text = record {
       same_length a b x y r.0 r.1;
 }
 
--- the primitives: their bytes differ, and lie from 64 to 127
+-- Different primitive types have different bytes.
 pub code_inj : (s t : PrimitiveType) → primitive s ≡ primitive t → s ≡ t
 code_inj p.Bool p.Bool e = refl
 code_inj p.S8 p.S8 e = refl

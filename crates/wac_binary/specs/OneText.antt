@@ -1,4 +1,4 @@
--- No bytes are the text of two lists of items.
+-- The bytes of a component determine its items.
 use Rattle.std.proofs.Common.{◌≡◌, ℕ, List, [], ◌∷◌, ◌++◌, length, refl, ap, sym, ◌∙◌, subst, arith, append_assoc, append-nil, length-append, Bool, true, false}
 use Rattle.std.specs.Prelude.{if◌then◌else◌, ◌&&◌, eqb}
 use Rattle.std.specs.List.{flat_map, AllByRecursion}
@@ -31,7 +31,7 @@ one_end = record {
 regroup : (a b c d x : List ℕ) → (((a ++ b) ++ c) ++ d) ++ x ≡ (a ++ (b ++ (c ++ d))) ++ x
 regroup a b c d x = grind (arith, append_assoc)
 
--- items of one section that holds several things
+-- Items of one section that can contain several.
 one_item : (a b : Item) (x y : List ℕ) → section_id a ≡ section_id b → is_shared (section_id a) ≡ true → item_bytes a ++ x ≡ item_bytes b ++ y → (a ≡ b) × (x ≡ y)
 one_item (core_type s) (core_type t) x y i k h = let r = one_module.one s t x y h in (ap core_type r.0, r.1)
 one_item (instantiate c s) (instantiate g t) x y i k h = let r = (one_pair one_unsigned (one_vector one_argument)).one (c, s) (g, t) x y (heads _ _ _ _ h).1 in (λ j. instantiate (r.0 j).0 (r.0 j).1, r.1)
@@ -45,7 +45,7 @@ one_item (custom n s) b x y i k h = absurd (cc)
 one_item (nested s) b x y i k h = absurd (cc)
 one_item _ _ x y i k h = absurd (omega arith)
 
--- the items that a section is made of
+-- The items of a section.
 pub record Made (s : Section) : Type 0 where
   pub items : List Item
   pub ids : AllByRecursion (λ x. section_id x ≡ s.id) items
@@ -63,7 +63,7 @@ one_items id (u ∷ us) (v ∷ vs) k a b l h =
     let q = one_items id us vs k a.1 b.1 (omega arith) r.1 in
     λ i. r.0 i ∷ q i
 
--- an item that has a section of its own
+-- Items that have a section of their own.
 one_single : (u v : Item) → section_id u ≡ section_id v → is_shared (section_id u) ≡ false → item_bytes u ≡ item_bytes v → u ≡ v
 one_single (custom n s) (custom m t) i k h = let r = one_text.one n m s t h in λ j. custom (r.0 j) (r.1 j)
 one_single (nested s) (nested t) i k h = ap nested h
@@ -84,7 +84,7 @@ single_items id us [] k a b l m h = absurd (omega arith)
 single_items id (u ∷ w ∷ us) vs k a b l m h = absurd (omega arith)
 single_items id us (v ∷ w ∷ vs) k a b l m h = absurd (omega arith)
 
--- what is in the sections is determined by their contents
+-- The contents of a section determine its items.
 in_contents : (s t : Section) (a : Made s) (b : Made t) → s.id ≡ t.id → contents s ≡ contents t → a.items ≡ b.items
 in_contents s t a b i h = by (is_shared s.id) refl
   where
@@ -109,7 +109,7 @@ one_section s t a b x y h =
     let q = same_length (contents s) (contents t) x y r.0 r.1 in
     (in_contents s t a b e.0 q.0, q.1)
 
--- the items in sections
+-- The items of a list of sections.
 items_in : (ss : List Section) → AllByRecursion Made ss → List Item
 items_in [] a = []
 items_in (s ∷ ss) a = a.0.items ++ items_in ss a.1
@@ -127,7 +127,7 @@ one_sections (s ∷ ss) (t ∷ ts) a b h =
 made_alone : (x : Item) → Made (alone x)
 made_alone x = record { items = x ∷ []; ids = (refl, tt); count_is = refl; things_are = sym (append-nil (item_bytes x)); one_alone = λ _. refl }
 
--- sections with the items in them
+-- A list of sections with their items.
 record Filled (items : List Item) (ss : List Section) : Type 0 where
   all : AllByRecursion Made ss
   is : items_in ss all ≡ items
@@ -172,7 +172,7 @@ unfolding items_in made_alone
 filled [] = record { all = tt; is = refl }
 filled (x ∷ xs) = filled_from (alone x) xs (made_alone x)
 
--- No bytes are the text of two lists of items.
+-- Different lists of items have different bytes.
 pub one_reading : (xs ys : List Item) → bytes_of xs ≡ bytes_of ys → xs ≡ ys
 unfolding bytes_of
 one_reading xs ys h =

@@ -1,4 +1,4 @@
--- No bytes are those of two type items, whatever follows them.
+-- The bytes of a value type's definition determine it, whatever follows them.
 use Rattle.std.proofs.Common.{◌≡◌, ℕ, ◌≤◌, List, [], ◌∷◌, ◌++◌, refl, ap, sym, ◌∙◌, arith, append_assoc}
 use Rattle.std.specs.Prelude.{Option, Some, None}
 use Rattle.wac_primitives.specs.declared.component.PrimitiveType.{PrimitiveType}
@@ -34,7 +34,7 @@ one_case = record {
       r.one a b x y (ap (λ t. t ++ x) (sym (append_assoc (text a.0) (optional a.1) (0 ∷ []))) ∙ e ∙ ap (λ t. t ++ y) (append_assoc (text b.0) (optional b.1) (0 ∷ [])));
 }
 
--- the bytes of primitives aren't those of constructors
+-- The byte of a primitive type differs from those of the type constructors.
 apart : {X : Type 0} (s : PrimitiveType) (n : ℕ) → 0x65 ≤ n → n ≤ 0x72 → primitive s ≡ n → X
 apart p.ErrorContext n l h e = absurd (omega arith)
 apart _ n l h e = absurd (omega arith)

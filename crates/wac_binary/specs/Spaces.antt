@@ -1,9 +1,9 @@
--- The index spaces of the code by their numbers.
+-- The numbers of the index spaces.
 use Rattle.std.specs.Prelude.{ℕ}
 use Rattle.wac_binary.specs.declared.sorts.IndexSpace.{IndexSpace}
 use Rattle.wac_binary.specs.declared.sorts.IndexSpace.TheVariants as i
 
--- the number of an index space
+-- The number of an index space.
 abbrev pub number : IndexSpace → ℕ
 number i.CoreModules = 0
 number i.Funcs = 1

@@ -1,4 +1,4 @@
--- What the type and instance indexes of a scope stand for, and the tree of each type.
+-- Scopes: what their type and instance indexes refer to, and the tree of each type.
 use Rattle.std.specs.Prelude.{ℕ, zero, suc, Bool, true, false, List, [], ◌∷◌, ◌++◌, if◌then◌else◌, length, map, Option, Some, None}
 use Rattle.wac_primitives.specs.Name.{Name, same_name}
 use Rattle.wac_primitives.specs.Tree.{Side, imported, exported, Place, named, Tree, absent, resource, primitive, record_of, variant_of, list_of, fixed_list_of, tuple_of, flags_of, enum_of, option_of, result_of, stream_of, future_of, function, instance, component, module_of, fresh, type_equal, function_item, instance_item, component_item, module_item, value_item, seen_from, taken_from, items_in, own_of, borrow_of}
@@ -14,13 +14,13 @@ use Rattle.wac_binary.specs.declared.sorts.Description.{Description}
 use Rattle.wac_binary.specs.declared.sorts.Description.TheVariants as e
 use Rattle.wac_binary.specs.Items.{ValueDef, primitive_def, record_def, variant_def, list_def, fixed_list_def, tuple_def, flags_def, enum_def, option_def, result_def, own_def, borrow_def, stream_def, future_def, export_alias, outer_alias, TypeDef, value_def, func_def, component_def, instance_def, ModuleDecl, module_import, module_func, module_export, Decls, end, next, Decl, core_type_decl, type_decl, alias_decl, import_decl, export_decl}
 
--- an instance that an index stands for: its type, and where it is bound
+-- An instance: its type, and the side and path at which it is bound.
 pub record Bound : Type 0 where
   pub type : Tree
   pub side : Side
   pub path : List Place
 
--- what has been declared of a core module: its function types, its imports by module and name, its exports by name
+-- A core module type: its function types, its imports by module and name, its exports by name.
 pub record Module : Type 0 where
   pub funcs : List (List CoreType × List CoreType)
   pub imports : Name → Name → CoreItem
@@ -29,7 +29,7 @@ pub record Module : Type 0 where
 abbrev pub no_module : Module
 no_module = record { funcs = []; imports = λ _ _. no_item; exports = λ _. no_item }
 
--- what the function type with an index makes of its parameters and results
+-- The core function or tag with the function type at index i.
 abbrev pub func_at : List (List CoreType × List CoreType) → ℕ → (List CoreType → List CoreType → CoreItem) → CoreItem
 func_at [] i make = no_item
 func_at (f ∷ fs) zero make = make f.0 f.1
@@ -42,7 +42,7 @@ core_item m (t.Memory x) = core_memory x.memory64 x.shared x.minimum x.maximum x
 core_item m (t.Global x) = core_global x.val_type x.mutable x.shared
 core_item m (t.Tag i) = func_at m.funcs i core_tag
 
--- what is declared after one more declaration
+-- A core module type with one more declaration.
 abbrev pub with_module_decl : Module → ModuleDecl → Module
 with_module_decl m (module_import «module» name x) = record m { imports = λ o n. if same_name o «module» then (if same_name n name then core_item m x else m.imports o n) else m.imports o n }
 with_module_decl m (module_func ps rs) = record m { funcs = m.funcs ++ (ps, rs) ∷ [] }
@@ -52,11 +52,11 @@ abbrev pub module_after : Module → List ModuleDecl → Module
 module_after m [] = m
 module_after m (d ∷ ds) = module_after (with_module_decl m d) ds
 
--- the tree of a core module type
+-- The tree of a core module type.
 abbrev pub module_tree : List ModuleDecl → Tree
 module_tree ds = let m = module_after no_module ds in module_of m.imports m.exports
 
--- what the type and instance indexes of a scope stand for, how many core modules and components it has, and its imports and exports
+-- A scope: its core types, types and instances, the number of its core modules and components, its imports and exports.
 pub record Scope : Type 0 where
   pub core_types : List Tree
   pub types : List Tree
@@ -69,7 +69,7 @@ pub record Scope : Type 0 where
 abbrev pub empty : Scope
 empty = record { core_types = []; types = []; instances = []; modules = 0; components = 0; imports = λ _. absent; exports = λ _. absent }
 
--- an instance that is bound nowhere here: it has no tree
+-- An instance that is bound nowhere in the scope; its tree is absent.
 abbrev pub unbound : Bound
 unbound = record { type = absent; side = imported; path = [] }
 
@@ -99,13 +99,13 @@ abbrev pub option_val : Scope → Option ComponentValType → Tree
 option_val c None = absent
 option_val c (Some v) = val c v
 
--- the type that a type item is, where it is bound on this side under this path; no other item gives one
+-- The type of a type item that is bound on this side at this path; other items have none.
 abbrev pub bound_type : Side → List Place → Tree → Tree
 bound_type side path fresh = resource (record { out = 0; side = side; path = path })
 bound_type side path (type_equal t) = t
 bound_type side path _ = absent
 
--- is it an item of this sort
+-- Whether a tree is an item of this sort.
 abbrev pub is_of_sort : Sort → Tree → Bool
 is_of_sort s.CoreModule (module_item t) = true
 is_of_sort s.Func (function_item t) = true
@@ -116,12 +116,12 @@ is_of_sort s.Component (component_item t) = true
 is_of_sort s.Instance (instance_item t) = true
 is_of_sort _ _ = false
 
--- the type of an instance item; no other item gives one
+-- The type of an instance item; other items have none.
 abbrev pub bound_instance : Tree → Tree
 bound_instance (instance_item t) = t
 bound_instance _ = absent
 
--- the item that a description says
+-- The item of a description.
 abbrev pub described_item : Scope → Description → Tree
 described_item c (e.CoreModule i) = module_item (type_at c.core_types i)
 described_item c (e.Func i) = function_item (type_at c.types i)
@@ -130,13 +130,13 @@ described_item c e.Fresh = fresh
 described_item c (e.Component i) = component_item (type_at c.types i)
 described_item c (e.Instance i) = instance_item (type_at c.types i)
 
--- one more index of a sort; what types and instances stand for is said where they are added, and of functions and values no count is kept
+-- A scope with one more core module or component; functions and values are not counted.
 abbrev pub counted_up : Scope → Sort → Scope
 counted_up c s.CoreModule = record c { modules = suc c.modules }
 counted_up c s.Component = record c { components = suc c.components }
 counted_up c _ = c
 
--- the index that an item bound on this side under this path adds
+-- A scope with one more index, of an item that is bound on this side at this path.
 abbrev pub with_bound : Scope → Side → List Place → Tree → Scope
 with_bound c side path fresh = record c { types = c.types ++ bound_type side path fresh ∷ [] }
 with_bound c side path (type_equal t) = record c { types = c.types ++ t ∷ [] }
@@ -145,36 +145,36 @@ with_bound c side path (module_item t) = counted_up c s.CoreModule
 with_bound c side path (component_item t) = counted_up c s.Component
 with_bound c side path _ = c
 
--- an instance's export, where the instance is bound
+-- The export with this name of a bound instance.
 abbrev pub exported_item : Bound → Name → Tree
 exported_item b n = taken_from b.side b.path (items_in b.type n)
 
--- the type that is an instance's export, where that is a type item
+-- The type that an instance exports under this name, if the export is a type.
 abbrev pub aliased_type : Bound → Name → Tree
 aliased_type b n = bound_type b.side (b.path ++ named n ∷ []) (exported_item b n)
 
--- the instance that is an instance's export, where that is an instance item
+-- The instance that an instance exports under this name, if the export is an instance.
 abbrev pub aliased_instance : Bound → Name → Bound
 aliased_instance b n = record { type = bound_instance (exported_item b n); side = b.side; path = b.path ++ named n ∷ [] }
 
--- the index that an alias of an instance's export adds
+-- A scope with one more index, of an alias of an instance's export.
 abbrev pub with_alias : Scope → Sort → Bound → Name → Scope
 with_alias c s.Type b n = record c { types = c.types ++ aliased_type b n ∷ [] }
 with_alias c s.Instance b n = record c { instances = c.instances ++ aliased_instance b n ∷ [] }
 with_alias c t b n = counted_up c t
 
--- an instance so many scopes out: only that of this very scope is bound here
+-- An instance of the scope k scopes out; it is bound in this scope only if that is this scope.
 abbrev pub outer_bound : ℕ → Bound → Bound
 outer_bound zero b = b
 outer_bound (suc k) b = unbound
 
--- the index that an alias of index i of the scope `o`, which is k scopes out, adds
+-- A scope with one more index, of an alias of index i of scope o, which is k scopes out.
 abbrev pub with_outer : Scope → Sort → ℕ → Scope → ℕ → Scope
 with_outer c s.Type k o i = record c { types = c.types ++ seen_from k (type_at o.types i) ∷ [] }
 with_outer c s.Instance k o i = record c { instances = c.instances ++ outer_bound k (bound_at o.instances i) ∷ [] }
 with_outer c t k o i = counted_up c t
 
--- the tree of a value type's definition
+-- The tree of a value type's definition.
 abbrev pub value_tree : ValueDef → Scope → Tree
 value_tree (primitive_def p) c = primitive p
 value_tree (record_def fields) c = record_of (map (λ f. f.0) fields) (λ i. type_at (map (λ f. val c f.1) fields) i)
@@ -192,19 +192,19 @@ value_tree (stream_def v) c = stream_of (option_val c v)
 value_tree (future_def v) c = future_of (option_val c v)
 
 abbrev mutual
-  -- the tree of a type's definition, in this scope and those around it, the innermost first
+  -- The tree of a type's definition, in a scope and its enclosing scopes, the innermost first.
   pub tree_of : TypeDef → Scope → List Scope → Tree
   tree_of (value_def t) c out = value_tree t c
   tree_of (func_def is_async params result) c out = function is_async (map (λ f. f.0) params) (λ i. type_at (map (λ f. val c f.1) params) i) (option_val c result)
   tree_of (component_def ds) c out = let w = after ds empty (c ∷ out) in component w.imports w.exports
   tree_of (instance_def ds) c out = let w = after ds empty (c ∷ out) in instance w.exports
 
-  -- the scope after these declarations
+  -- The scope after declarations.
   pub after : Decls → Scope → List Scope → Scope
   after end c out = c
   after (next d ds) c out = after ds (with_decl d c out) out
 
-  -- the scope after one declaration
+  -- The scope after one declaration.
   pub with_decl : Decl → Scope → List Scope → Scope
   with_decl (core_type_decl m) c out = record c { core_types = c.core_types ++ module_tree m ∷ [] }
   with_decl (type_decl t) c out = record c { types = c.types ++ tree_of t c out ∷ [] }

@@ -1,4 +1,4 @@
--- What the borrowed types of the code mean.
+-- The values of the borrowed types that the writers take.
 use Rattle.std.specs.Prelude.{ℕ, List, map}
 use Rattle.std.specs.Borrow.{Bor}
 use Rattle.wac_primitives.specs.Name.{Name}
@@ -8,19 +8,19 @@ use Rattle.wac_binary.specs.declared.types.DefinedType.{DefinedType}
 use Rattle.wac_binary.specs.declared.types.DefinedType.TheVariants as d
 use Rattle.wac_binary.specs.Items.{ValueDef, primitive_def, record_def, variant_def, list_def, fixed_list_def, tuple_def, flags_def, enum_def, option_def, result_def, own_def, borrow_def, stream_def, future_def, TypeDef, func_def}
 
--- names with what stands under them
+-- Names, each with what it names.
 abbrev pub named : {A : Type 0} → List (Bor (List ℕ) × A) → List (Name × A)
 named = map (λ f. (f.0.now, f.1))
 
--- names alone
+-- Names.
 abbrev pub texts_of : List (Bor (List ℕ)) → List Name
 texts_of = map (λ t. t.now)
 
--- the arguments of an instantiation: name, sort and index
+-- The arguments of an instantiation: name, sort and index.
 abbrev pub arguments_of : List (Bor (List ℕ) × Sort × ℕ) → List (Name × Sort × ℕ)
 arguments_of = map (λ a. (a.0.now, a.1, a.2))
 
--- indexes with their sorts and names
+-- Named indexes: sort, index and name.
 abbrev pub names_of : List (Sort × ℕ × Bor (List ℕ)) → List (Sort × ℕ × Name)
 names_of = map (λ e. (e.0, e.1, e.2.now))
 

@@ -1,38 +1,38 @@
-//! What a core module imports or exports.
+//! Types of what a core module imports and exports.
 
 use wac_primitives::{CoreRefType, CoreType};
 
-/// A table.
+/// The type of a table.
 #[derive(Clone, Copy, Debug)]
 pub struct TableType {
     /// The type of its elements.
     pub element_type: CoreRefType,
     /// Whether its indexes have 64 bits.
     pub table64: bool,
-    /// How many elements it has at least.
+    /// The minimum number of elements.
     pub minimum: u64,
-    /// How many elements it has at most, where that is bounded.
+    /// The maximum number of elements, if there is one.
     pub maximum: Option<u64>,
     /// Whether it is shared between threads.
     pub shared: bool,
 }
 
-/// A memory.
+/// The type of a memory.
 #[derive(Clone, Copy, Debug)]
 pub struct MemoryType {
-    /// How many pages it has at least.
+    /// The minimum number of pages.
     pub minimum: u64,
-    /// How many pages it has at most, where that is bounded.
+    /// The maximum number of pages, if there is one.
     pub maximum: Option<u64>,
     /// Whether its addresses have 64 bits.
     pub memory64: bool,
     /// Whether it is shared between threads.
     pub shared: bool,
-    /// The logarithm of the size of a page, where it is not the usual one.
+    /// The binary logarithm of the page size, if it is not the default of 64 KiB.
     pub page_size_log2: Option<u32>,
 }
 
-/// A global.
+/// The type of a global.
 #[derive(Clone, Copy, Debug)]
 pub struct GlobalType {
     /// The type of its value.
@@ -43,7 +43,7 @@ pub struct GlobalType {
     pub shared: bool,
 }
 
-/// What an import or export of a core module is.
+/// The type of an import or export of a core module.
 #[derive(Clone, Copy, Debug)]
 pub enum EntityType {
     /// A function of the function type with this index in the module type.

@@ -1,4 +1,4 @@
-//! Why an item could not be written.
+//! The error of the writers.
 
 ghost use Rattle.std.specs.Prelude.{◌≡◌};
 ghost use Rattle.wac_binary.specs.declared.fault.BinaryFault.TheVariants.{OutOfMemory};
@@ -6,13 +6,13 @@ ghost use Rattle.wac_binary.specs.declared.fault.BinaryFault.TheVariants.{OutOfM
 use std::alloc::{AllocError, AllocFailed};
 use thiserror::Error;
 
-/// Why an item could not be written.
+/// Why a writer adds nothing.
 #[derive(Clone, Copy, Debug, PartialEq, Eq, Error)]
 pub enum BinaryFault {
-    /// An index, a count or a size does not fit 32 bits.
+    /// A count, a size or an index does not fit in 32 bits.
     #[error("TooLarge")]
     TooLarge,
-    /// Memory was refused.
+    /// Out of memory.
     #[error("OutOfMemory")]
     OutOfMemory,
 }

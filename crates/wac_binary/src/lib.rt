@@ -1,6 +1,10 @@
-//! The binary format of components: the items, their bytes and what they mean, as definitions and laws.
+//! The binary format of components (Binary.md) as definitions and laws, and the types that the writers take.
 //!
-//! The writers stand above, in `wac_builder`.
+//! - The items of a component, the declarations of its types, and the bytes of both.
+//! - The index spaces that they fill, and which items fit in 32 bits.
+//! - Their meaning: imports, instantiations, exports, and the tree of each type.
+//!
+//! Nothing is written here. `ComponentBuilder`, `ComponentType`, `InstanceType` and `ModuleType` are the writers.
 #![tactic(auto)]
 
 pub mod core_types;

@@ -1,10 +1,10 @@
-//! What an index counts, and what an import or an exported declaration is.
+//! Sorts, index spaces, and the descriptions of imports and exports.
 
 ghost use Rattle.std.specs.Prelude.{◌≡◌, ◌<◌};
 ghost use Rattle.wac_binary.specs.Indexes.{space as space_of, described_sort as sort_of};
 ghost use Rattle.wac_binary.specs.Spaces.{number as number_of};
 
-/// What an index counts.
+/// A sort of definitions. Each sort has an index space.
 #[derive(Clone, Copy, Debug, PartialEq, Eq)]
 pub enum Sort {
     /// Core modules.
@@ -21,16 +21,16 @@ pub enum Sort {
     Instance,
 }
 
-/// What an import of a component is, or an import or export in a component type or an instance type.
+/// The description of an import, or of an export in a component type or an instance type (`externdesc`).
 #[derive(Clone, Copy, Debug)]
 pub enum Description {
     /// A core module of the core type with this index.
     CoreModule(u32),
     /// A function of the type with this index.
     Func(u32),
-    /// A type that equals the type with this index.
+    /// A type that is equal to the type with this index.
     Equal(u32),
-    /// A resource type of its own.
+    /// A new resource type.
     Fresh,
     /// A component of the type with this index.
     Component(u32),
@@ -41,23 +41,23 @@ pub enum Description {
 /// The index spaces of a scope: one for each sort, and one for core types.
 #[derive(Clone, Copy, Debug)]
 pub enum IndexSpace {
-    /// That of core modules.
+    /// Core modules.
     CoreModules,
-    /// That of functions.
+    /// Functions.
     Funcs,
-    /// That of values.
+    /// Values.
     Values,
-    /// That of types.
+    /// Types.
     Types,
-    /// That of components.
+    /// Components.
     Components,
-    /// That of instances.
+    /// Instances.
     Instances,
-    /// That of core types.
+    /// Core types.
     CoreTypes,
 }
 
-/// At which place the count of an index space stands.
+/// Returns the position of an index space among the seven.
 pub fn number(s: IndexSpace) -> usize
     ensures is { result ≡ number_of s }
     ensures small { result < 7 }
@@ -73,7 +73,7 @@ pub fn number(s: IndexSpace) -> usize
     }
 }
 
-/// The index space of a sort.
+/// Returns the index space of a sort.
 pub fn space(s: Sort) -> IndexSpace
     ensures { number_of result ≡ space_of s }
 {
@@ -87,7 +87,7 @@ pub fn space(s: Sort) -> IndexSpace
     }
 }
 
-/// The sort of what a description describes.
+/// Returns the sort of the described import or export.
 pub fn described_sort(d: Description) -> Sort
     ensures { result ≡ sort_of d }
 {

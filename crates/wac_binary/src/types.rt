@@ -1,8 +1,8 @@
-//! Types as a writer is given them, with their lists and names where they are.
+//! Types as the writers take them. Lists and names are borrowed.
 
 use wac_primitives::PrimitiveType;
 
-/// A value type in use.
+/// A value type in use (`valtype`).
 #[derive(Clone, Copy, Debug, PartialEq, Eq)]
 pub enum ComponentValType {
     /// A primitive type.
@@ -18,44 +18,44 @@ pub struct FuncType<'a> {
     pub is_async: bool,
     /// The names and types of the parameters.
     pub params: &'a [(&'a str, ComponentValType)],
-    /// The type of the result, where there is one.
+    /// The type of the result, if there is one.
     pub result: Option<ComponentValType>,
 }
 
-/// A value type that a type item defines.
+/// The definition of a value type (`defvaltype`).
 #[derive(Clone, Copy, Debug)]
 pub enum DefinedType<'a> {
-    /// A primitive type under an index of its own.
+    /// A primitive type with a type index of its own.
     Primitive(PrimitiveType),
     /// A record, with the names and types of its fields.
     Record(&'a [(&'a str, ComponentValType)]),
-    /// A variant, with the names of its cases and the types of those that hold something.
+    /// A variant, with the name of each case and the type of its payload, if it has one.
     Variant(&'a [(&'a str, Option<ComponentValType>)]),
     /// A list, with the type of its elements.
     List(ComponentValType),
     /// A list of a fixed length, with the type of its elements.
     FixedSizeList(ComponentValType, u32),
-    /// A tuple, with the types of its parts.
+    /// A tuple, with the types of its elements.
     Tuple(&'a [ComponentValType]),
     /// Flags, with their names.
     Flags(&'a [&'a str]),
     /// An enum, with the names of its cases.
     Enum(&'a [&'a str]),
-    /// A value that may be missing.
+    /// An option, with the type of its payload.
     Option(ComponentValType),
-    /// A success or an error, with the type of each that holds something.
+    /// A result, with the types of its payloads.
     Result {
-        /// What a success holds.
+        /// The payload of a success, if it has one.
         ok: Option<ComponentValType>,
-        /// What an error holds.
+        /// The payload of an error, if it has one.
         err: Option<ComponentValType>,
     },
     /// An owned handle to the resource type with this index.
     Own(u32),
     /// A borrowed handle to the resource type with this index.
     Borrow(u32),
-    /// A stream, with the type of its elements where they hold something.
+    /// A stream, with the type of its elements, if they have one.
     Stream(Option<ComponentValType>),
-    /// A future, with the type of its value where it holds something.
+    /// A future, with the type of its value, if it has one.
     Future(Option<ComponentValType>),
 }

@@ -1,4 +1,4 @@
--- The items whose bytes are what a builder has written.
+-- The list of items with given bytes, of which there is at most one.
 use Rattle.std.specs.Prelude.{◌≡◌, ℕ, ◌<◌, List, ◌++◌, Option, slice_index}
 use Rattle.std.specs.List.{flat_map}
 use Rattle.std.specs.Coded.{Coded-set, coded_list, coded_ℕ}
@@ -13,11 +13,11 @@ use Rattle.wac_sections.specs.OpenSection.{section_of, begun}
 use Rattle.wac_binary.specs.OneText.{one_reading}
 use Rattle.wac_sections.specs.declared.section.Open.{Open}
 
--- what has been written, with the open section
+-- All bytes of a component that is being written, with its open section.
 abbrev pub whole : List ℕ → Option Open → List ℕ → List ℕ
 whole bytes open_one things = begun bytes ++ flat_map section_bytes (one (section_of open_one things))
 
--- the list of items, of which there is one, whose bytes these are
+-- The list of items with these bytes.
 pub record Written (bytes : List ℕ) (open_one : Option Open) (things : List ℕ) : Type 0 where
   pub list : List Item
   pub text : bytes_of list ≡ whole bytes open_one things
@@ -39,7 +39,7 @@ pub text_is : {bytes : List ℕ} {open_one : Option Open} {things : List ℕ} (w
 unfolding items
 text_is w = w.text
 
--- what a builder of these items keeps
+-- The finished sections, the open section and the indexes of these items, which fit 32-bit sizes.
 pub record State (xs : List Item) (bytes things counts : List ℕ) (open_one : Option Open) : Type 0 where
   pub bytes_are : begun bytes ≡ preamble ++ flat_map section_bytes (closed xs)
   pub open_is : section_of open_one things ≡ open_section xs

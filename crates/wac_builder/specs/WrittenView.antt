@@ -1,4 +1,4 @@
--- What a builder keeps.
+-- The value and the invariant of `ComponentBuilder`.
 use Rattle.std.specs.Prelude.{List}
 use Rattle.wac_binary.specs.Items.{Item}
 use Rattle.wac_builder.specs.Written.{items, State}

@@ -1,4 +1,4 @@
-//! A component, item by item.
+//! The writer of components.
 
 ghost use Rattle.std.specs.Prelude.{◌≡◌, List, ◌++◌, ◌∷◌, [], OnOk, OnErr, IfOk, IfErr, Some};
 ghost use Rattle.wac_binary.specs.Items.{Item as OfItem, decls, value_def, component_def, instance_def, core_type, custom, nested, instantiate, alias_item, export_alias, outer_alias, type_item, import_item, export_item};
@@ -24,23 +24,33 @@ use wac_declarations::module_type::ModuleType;
 use wac_sections::item::{AloneRef, ItemRef, alone_size, section_id};
 use wac_sections::section::{Open, begin, has_room, put_alone, put_open, put_shared};
 
-/// Writes a component, item by item. Contracts see it as the list of its items.
+/// A component that is being written. Contracts see it as the list of its items.
 ///
-/// A writer takes any index: what it stands for is a matter of the items. Each writer adds one item at the end and
-/// answers the index that the item adds to the space of its sort. It answers `TooLarge` exactly where the items with
-/// the new one no longer fit 32 bits, and `OutOfMemory` where memory is refused; then it has added nothing.
+/// Each adding call appends an item, and returns the index that this adds to the index space of its sort.
+/// Whether the indexes in an item exist is not checked.
+///
+/// # Errors
+/// - [`TooLarge`](BinaryFault::TooLarge) if the component would not fit 32-bit sizes.
+/// - [`OutOfMemory`](BinaryFault::OutOfMemory).
+///
+/// On an error the component is unchanged.
 #[derive(Debug)]
 pub struct ComponentBuilder {
     alloc: Global,
+    /// The preamble and the finished sections.
     bytes: Vec<u8>,
+    /// The items of the open section.
     things: Vec<u8>,
+    /// A spare buffer for the first item of the next section.
     next: Vec<u8>,
     open_section: Option<Open>,
+    /// The number of indexes in each index space.
     counts: [u64; 7],
+    // The only list of items with these bytes (docs/PROOFS.md, 'Lists of values').
     ghost written: { Written bytes.items open_section things.items } by { Written_prop bytes.items open_section things.items },
 }
 
-/// What is written is let go of here, and not anew at each place where a builder goes out of scope.
+// By hand: a derived `Drop` is proved again wherever one goes out of scope (docs/PROOFS.md, 'Drop').
 impl Drop for ComponentBuilder {
     fn drop(self) {
         let ComponentBuilder {
@@ -72,7 +82,7 @@ impl Model for ComponentBuilder {
 }
 
 impl ComponentBuilder {
-    /// A component without items.
+    /// Creates a component without items.
     pub fn new(alloc: Global) -> ComponentBuilder
         ensures { result ≡ [] }
     {
@@ -86,14 +96,14 @@ impl ComponentBuilder {
         }
     }
 
-    /// That what is written fits.
+    /// States that the component fits 32-bit sizes. Proof only (docs/PROOFS.md, 'Laws').
     pub fn fit_law(&self)
         ensures { Fits self.now }
     {
         let _ = &self.bytes;
     }
 
-    /// Adds an item at the end, and answers the index that it adds to this space.
+    /// Appends an item, which adds an index to `space`, and returns that index.
     #[inline(always)]
     fn append(&mut self, item: &ItemRef<'_>, space: IndexSpace) -> Result<u32, BinaryFault>
         requires { adds (item_of item.now) ≡ Some (number_of space) }
@@ -122,7 +132,7 @@ impl ComponentBuilder {
         Ok(index as u32)
     }
 
-    /// Adds a whole component, as it is, and answers its component index.
+    /// Adds a nested component and returns its component index. Its bytes are not checked.
     pub fn component(&mut self, bytes: &[u8]) -> Result<u32, BinaryFault>
         ensures index { IfOk result (λ i. i ≡ indexes (space s.Component) self.old) }
         ensures appended { OnOk result (self.new ≡ self.old ++ nested bytes.now ∷ []) }
@@ -147,7 +157,7 @@ impl ComponentBuilder {
         Ok(index as u32)
     }
 
-    /// Adds a custom section with this name.
+    /// Adds a custom section.
     pub fn custom(&mut self, name: &str, bytes: &[u8]) -> Result<(), BinaryFault>
         ensures appended { OnOk result (self.new ≡ self.old ++ custom name.now bytes.now ∷ []) }
         ensures fits { OnOk result (Fits self.new) }
@@ -163,8 +173,9 @@ impl ComponentBuilder {
         Ok(())
     }
 
-    /// Adds an instance of the component with this index, with arguments by name, sort and index, and answers its
-    /// instance index.
+    /// Instantiates the component with this index and returns the instance index.
+    ///
+    /// An argument is a name, a sort, and an index of that sort.
     pub fn instantiate(
         &mut self,
         component: u32,
@@ -185,8 +196,7 @@ impl ComponentBuilder {
         )
     }
 
-    /// Adds an alias of the export of this sort and name of the instance with this index, and answers its index of
-    /// that sort.
+    /// Adds an alias of an export of the instance with this index, and returns its index of this sort.
     pub fn alias_export(
         &mut self,
         sort: Sort,
@@ -203,8 +213,9 @@ impl ComponentBuilder {
         self.append(&ItemRef::Alias(alias), space(sort))
     }
 
-    /// Adds an alias of what has this index of this sort in the scope so many scopes out (0 is the component
-    /// itself), and answers its index of that sort.
+    /// Adds an alias of an index of the scope that is `count` scopes out, and returns its index of this sort.
+    ///
+    /// The component itself is 0 scopes out.
     pub fn alias_outer(&mut self, sort: Sort, count: u32, index: u32) -> Result<u32, BinaryFault>
         ensures index { IfOk result (λ i. i ≡ indexes (space sort) self.old) }
         ensures appended { OnOk result (self.new ≡ self.old ++ alias_item (outer_alias sort count index) ∷ []) }
@@ -216,7 +227,7 @@ impl ComponentBuilder {
         self.append(&ItemRef::Alias(alias), space(sort))
     }
 
-    /// Adds a value type, and answers its type index.
+    /// Adds a value type and returns its type index.
     pub fn defined_type(&mut self, t: &DefinedType<'_>) -> Result<u32, BinaryFault>
         ensures index { IfOk result (λ i. i ≡ indexes (space s.Type) self.old) }
         ensures appended { OnOk result (self.new ≡ self.old ++ type_item (value_def (defined_of t.now)) ∷ []) }
@@ -227,7 +238,7 @@ impl ComponentBuilder {
         self.append(&ItemRef::Type(TypeRef::Defined(t)), IndexSpace::Types)
     }
 
-    /// Adds a function type, and answers its type index.
+    /// Adds a function type and returns its type index.
     pub fn func_type(&mut self, f: &FuncType<'_>) -> Result<u32, BinaryFault>
         ensures index { IfOk result (λ i. i ≡ indexes (space s.Type) self.old) }
         ensures appended { OnOk result (self.new ≡ self.old ++ type_item (func_of f.now) ∷ []) }
@@ -238,7 +249,7 @@ impl ComponentBuilder {
         self.append(&ItemRef::Type(TypeRef::Func(f)), IndexSpace::Types)
     }
 
-    /// Adds a component type with these declarations, and answers its type index.
+    /// Adds a component type and returns its type index.
     pub fn component_type(&mut self, t: &ComponentType) -> Result<u32, BinaryFault>
         ensures index { IfOk result (λ i. i ≡ indexes (space s.Type) self.old) }
         ensures appended { OnOk result (self.new ≡ self.old ++ type_item (component_def (decls t.now)) ∷ []) }
@@ -250,7 +261,7 @@ impl ComponentBuilder {
         self.append(&ItemRef::Type(t), IndexSpace::Types)
     }
 
-    /// Adds an instance type with these declarations, and answers its type index.
+    /// Adds an instance type and returns its type index.
     pub fn instance_type(&mut self, t: &InstanceType) -> Result<u32, BinaryFault>
         ensures index { IfOk result (λ i. i ≡ indexes (space s.Type) self.old) }
         ensures appended { OnOk result (self.new ≡ self.old ++ type_item (instance_def (decls t.now)) ∷ []) }
@@ -262,7 +273,7 @@ impl ComponentBuilder {
         self.append(&ItemRef::Type(t), IndexSpace::Types)
     }
 
-    /// Adds a core module type, and answers its index among the core types.
+    /// Adds a core module type and returns its core type index.
     pub fn core_module_type(&mut self, t: &ModuleType) -> Result<u32, BinaryFault>
         ensures index { IfOk result (λ i. i ≡ indexes core_types self.old) }
         ensures appended { OnOk result (self.new ≡ self.old ++ core_type t.now ∷ []) }
@@ -273,7 +284,7 @@ impl ComponentBuilder {
         self.append(&ItemRef::CoreModule(t), IndexSpace::CoreTypes)
     }
 
-    /// Adds an import of this name, and answers its index of the sort that is described.
+    /// Adds an import and returns its index of the described sort.
     pub fn import(&mut self, name: &str, d: Description) -> Result<u32, BinaryFault>
         ensures index { IfOk result (λ i. i ≡ indexes (space (described_sort d)) self.old) }
         ensures appended { OnOk result (self.new ≡ self.old ++ import_item name.now d ∷ []) }
@@ -284,7 +295,7 @@ impl ComponentBuilder {
         self.append(&ItemRef::Import(name, d), space(described_sort(d)))
     }
 
-    /// Adds an export, under this name, of what has this index of this sort, and answers the new index of that sort.
+    /// Exports this index of this sort and returns the new index of that sort.
     pub fn export(&mut self, name: &str, sort: Sort, index: u32) -> Result<u32, BinaryFault>
         ensures index { IfOk result (λ i. i ≡ indexes (space sort) self.old) }
         ensures appended { OnOk result (self.new ≡ self.old ++ export_item name.now sort index ∷ []) }
@@ -295,7 +306,10 @@ impl ComponentBuilder {
         self.append(&ItemRef::Export { name, sort, index }, space(sort))
     }
 
-    /// The bytes of the component. Refused only where memory is: `OutOfMemory`.
+    /// Returns the bytes of the component.
+    ///
+    /// # Errors
+    /// [`OutOfMemory`](BinaryFault::OutOfMemory).
     pub fn finish(&self) -> Result<Vec<u8>, BinaryFault>
         ensures bytes { IfOk result (λ v. v.items ≡ bytes_of self.now) }
         ensures fits { Fits self.now }
@@ -308,7 +322,10 @@ impl ComponentBuilder {
         Ok(out)
     }
 
-    /// The bytes of the component, handed over. Refused only where memory is: `OutOfMemory`.
+    /// Returns the bytes of the component and consumes it.
+    ///
+    /// # Errors
+    /// [`OutOfMemory`](BinaryFault::OutOfMemory).
     pub fn into_bytes(self) -> Result<Vec<u8>, BinaryFault>
         ensures bytes { IfOk result (λ v. v.items ≡ bytes_of self) }
         ensures fits { Fits self }

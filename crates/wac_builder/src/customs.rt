@@ -1,4 +1,4 @@
-//! The contents of the custom sections that have a meaning: the names of indexes, and the processor.
+//! The contents of the custom sections `component-name` and `producers`.
 
 ghost use Rattle.std.specs.Prelude.{◌≡◌, ◌++◌, length, OnOk, IfOk, IfErr};
 ghost use Rattle.std.specs.List.{flat_map};
@@ -11,9 +11,13 @@ use wac_binary::fault::BinaryFault;
 use wac_binary::sorts::{Sort, number, space};
 use wac_bytes::put::{put_sort, put_text, put_unsigned};
 
-/// The content of a custom section `component-name`: for each sort with a name, in the order type, function,
-/// instance, component, core module, value, its indexes with their names, which must rise. Refused only where memory
-/// is: `OutOfMemory`.
+/// Returns the contents of a custom section `component-name`.
+///
+/// It has a subsection for each sort with names: type, function, instance, component, core module, value.
+/// The indexes of each sort must be strictly increasing.
+///
+/// # Errors
+/// [`OutOfMemory`](BinaryFault::OutOfMemory).
 #[tactic(auto, unfolding(wac_binary::specs::Customs::names_bytes))]
 pub fn component_names(alloc: Global, names: &[(Sort, u32, &str)]) -> Result<Vec<u8>, BinaryFault>
     requires rising { AreRising (names_of names.now) }
@@ -31,8 +35,10 @@ pub fn component_names(alloc: Global, names: &[(Sort, u32, &str)]) -> Result<Vec
     Ok(out)
 }
 
-/// The content of a custom section `producers` that names a processor and its version. Refused only where memory is:
-/// `OutOfMemory`.
+/// Returns the contents of a custom section `producers` that names a processor and its version.
+///
+/// # Errors
+/// [`OutOfMemory`](BinaryFault::OutOfMemory).
 pub fn producers(alloc: Global, name: &str, version: &str) -> Result<Vec<u8>, BinaryFault>
     ensures content { IfOk result (λ v. v.items ≡ producers_bytes name.now version.now) }
     ensures memory { IfErr result (λ e. e ≡ OutOfMemory) }
@@ -46,7 +52,7 @@ pub fn producers(alloc: Global, name: &str, version: &str) -> Result<Vec<u8>, Bi
     Ok(out)
 }
 
-/// How many of these names are of this sort.
+/// Returns the number of names of a sort.
 fn count_of(sort: Sort, names: &[(Sort, u32, &str)]) -> u64
     ensures { result ≡ length (of_sort sort (names_of names.now)) }
 {
@@ -59,7 +65,7 @@ fn count_of(sort: Sort, names: &[(Sort, u32, &str)]) -> u64
     count
 }
 
-/// Puts the names of this sort at the end of a buffer.
+/// Appends the names of a sort, each after its index.
 fn put_namings(out: &mut Vec<u8>, sort: Sort, names: &[(Sort, u32, &str)]) -> Result<(), AllocError>
     ensures written { OnOk result (out.new.items ≡ out.old.items ++ flat_map naming (of_sort sort (names_of names.now))) }
 {
@@ -72,7 +78,7 @@ fn put_namings(out: &mut Vec<u8>, sort: Sort, names: &[(Sort, u32, &str)]) -> Re
     Ok(())
 }
 
-/// Puts the subsection of this sort at the end of a buffer, by means of another buffer.
+/// Appends the subsection of a sort, if it has names. `body` is a spare buffer.
 fn put_subsection(
     out: &mut Vec<u8>,
     body: &mut Vec<u8>,

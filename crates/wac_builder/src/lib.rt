@@ -1,4 +1,4 @@
-//! The writers of the binary format of components: one for each item.
+//! The writer of components, with a call for each item of the binary format, and the contents of custom sections.
 #![tactic(auto)]
 
 mod builder;

@@ -1,4 +1,4 @@
-//! The bytes of the parts of items, put at the end of a buffer.
+//! Appends the parts of items to a buffer: numbers, texts, value types, sorts, descriptions, aliases, arguments.
 #![tactic(auto)]
 
 pub mod put;

@@ -1,4 +1,6 @@
-//! The bytes of the parts of items, each put at the end of a buffer.
+//! Appends the parts of items to a buffer.
+//!
+//! A call fails only if out of memory. The buffer may have grown then, but keeps what it had.
 
 ghost use Rattle.std.specs.Prelude.{◌≡◌, List, ℕ, ◌+◌, ◌<◌, ◌≤◌, ◌++◌, ◌∷◌, OnOk, vec_len, vec_capacity};
 ghost use Rattle.wac_binary.specs.Leb.{leb, unsigned};
@@ -11,6 +13,7 @@ use wac_binary::sorts::{Description, Sort};
 use wac_binary::types::ComponentValType;
 use wac_primitives::PrimitiveType;
 
+/// Appends a number in LEB128 whose last byte is below the limit.
 #[tactic(auto, using(wac_binary::specs::LebLaws::leb_more, wac_binary::specs::LebLaws::leb_last, std::proofs::lemmas::Grind::common_steps))]
 fn put_leb(out: &mut Vec<u8>, limit: u64, n: u64) -> Result<(), AllocError>
     requires some { 0 < limit }
@@ -27,7 +30,7 @@ fn put_leb(out: &mut Vec<u8>, limit: u64, n: u64) -> Result<(), AllocError>
     Ok(())
 }
 
-/// Appends an unsigned number, as shortest LEB128.
+/// Appends an unsigned number in LEB128, in its shortest form.
 #[inline(always)]
 #[tactic(auto, using(wac_binary::specs::LebLaws::leb_last, std::proofs::lemmas::Grind::common_steps))]
 pub fn put_unsigned(out: &mut Vec<u8>, n: u64) -> Result<(), AllocError>
@@ -41,7 +44,7 @@ pub fn put_unsigned(out: &mut Vec<u8>, n: u64) -> Result<(), AllocError>
     put_leb(out, 128, n)
 }
 
-/// Appends a text behind its length.
+/// Appends a text: its length, then its bytes.
 #[inline(always)]
 pub fn put_text(out: &mut Vec<u8>, t: &str) -> Result<(), AllocError>
     ensures written { OnOk result (out.new.items ≡ out.old.items ++ text t.now) }
@@ -52,7 +55,7 @@ pub fn put_text(out: &mut Vec<u8>, t: &str) -> Result<(), AllocError>
     Ok(())
 }
 
-/// The code of a primitive type.
+/// Returns the byte of a primitive type.
 fn primitive_byte(t: PrimitiveType) -> u8
     ensures { result ≡ primitive t }
 {
@@ -74,7 +77,7 @@ fn primitive_byte(t: PrimitiveType) -> u8
     }
 }
 
-/// Appends a value type: a primitive by its code, or an index as a signed number.
+/// Appends a value type in use: the byte of a primitive type, or a type index as a signed number.
 pub fn put_value(out: &mut Vec<u8>, t: ComponentValType) -> Result<(), AllocError>
     ensures written { OnOk result (out.new.items ≡ out.old.items ++ value t) }
     ensures grows { (more : List ℕ) × (out.new.items ≡ out.old.items ++ more) }
@@ -117,7 +120,7 @@ pub fn put_indexed(out: &mut Vec<u8>, byte: u8, index: u32) -> Result<(), AllocE
     put_unsigned(out, u64::from(index))
 }
 
-/// Appends an unsigned number where there is room for any.
+/// Appends an unsigned number. There must be spare capacity for any.
 #[inline(always)]
 #[tactic(auto, using(wac_binary::specs::LebLaws::leb_more, wac_binary::specs::LebLaws::leb_last, crate::proofs::Short::unsigned_length, std::proofs::lemmas::Grind::common_steps))]
 fn put_unsigned_reserved(out: &mut Vec<u8>, n: u64)
@@ -134,7 +137,7 @@ fn put_unsigned_reserved(out: &mut Vec<u8>, n: u64)
     out.push_reserved(rest as u8);
 }
 
-/// Appends a byte and an index where there is room for any.
+/// Appends a byte and an index. There must be spare capacity for any.
 #[inline(always)]
 fn put_indexed_reserved(out: &mut Vec<u8>, byte: u8, index: u32)
     requires { vec_len out.old + 11 ≤ vec_capacity out.old }
@@ -144,7 +147,7 @@ fn put_indexed_reserved(out: &mut Vec<u8>, byte: u8, index: u32)
     put_unsigned_reserved(out, u64::from(index));
 }
 
-/// Appends what an import, or an exported declaration, is, where there is room for any.
+/// Appends the description of an import or export. There must be spare capacity for any.
 #[inline(always)]
 fn put_described_reserved(out: &mut Vec<u8>, d: Description)
     requires { vec_len out.old + 12 ≤ vec_capacity out.old }
@@ -169,10 +172,10 @@ fn put_described_reserved(out: &mut Vec<u8>, d: Description)
     }
 }
 
-/// How many bytes stand around a name at most: one before its length, ten of that, and twelve of what stands under it.
+/// The most bytes around a name: one before its length, ten for its length, twelve for the description.
 const AROUND_NAME: usize = 23;
 
-/// A name, behind the byte that says that it is one, and what stands under it. Room for the whole is made at once.
+/// Appends the name and the description of an import or export. Room for both is reserved at once.
 #[inline(always)]
 pub fn put_named(out: &mut Vec<u8>, name: &str, d: Description) -> Result<(), AllocError>
     ensures written { OnOk result (out.new.items ≡ out.old.items ++ 0 ∷ (text name.now ++ described d)) }
@@ -201,7 +204,7 @@ pub fn put_alias_export(
     put_text(out, name)
 }
 
-/// Appends an alias of an index of an enclosing scope.
+/// Appends an outer alias.
 pub fn put_alias_outer(out: &mut Vec<u8>, s: Sort, count: u32, index: u32) -> Result<(), AllocError>
     ensures written { OnOk result (out.new.items ≡ out.old.items ++ alias_bytes (outer_alias s count index)) }
     ensures grows { (more : List ℕ) × (out.new.items ≡ out.old.items ++ more) }
@@ -211,7 +214,7 @@ pub fn put_alias_outer(out: &mut Vec<u8>, s: Sort, count: u32, index: u32) -> Re
     put_unsigned(out, u64::from(index))
 }
 
-/// A name, a sort and an index.
+/// Appends a name, a sort and an index.
 pub fn put_argument(out: &mut Vec<u8>, name: &str, s: Sort, index: u32) -> Result<(), AllocError>
     ensures written { OnOk result (out.new.items ≡ out.old.items ++ argument (name.now, s, index)) }
     ensures grows { (more : List ℕ) × (out.new.items ≡ out.old.items ++ more) }

@@ -1,4 +1,4 @@
--- The bytes that a buffer holds: those of its first part, which are kept last first, then the others.
+-- The bytes of a buffer: those of `front`, which are in reverse order, then those of `back`.
 use Rattle.std.specs.Prelude.{ℕ, List, ◌++◌, reverse}
 use Rattle.wac_declarations.specs.declared.buffer.Buffer.TheInside.{Inside}
 

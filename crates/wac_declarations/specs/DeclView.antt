@@ -1,4 +1,4 @@
--- The declaration that is about to be written.
+-- The values of the declarations, types and aliases that are to be written.
 use Rattle.std.specs.Prelude.{ℕ}
 use Rattle.wac_binary.specs.Items.{Alias, export_alias, outer_alias, TypeDef, value_def, component_def, instance_def, Decls, decls, Decl, core_type_decl, type_decl, alias_decl, import_decl, export_decl}
 use Rattle.wac_binary.specs.Views.{func_of, defined_of}
@@ -15,7 +15,7 @@ abbrev pub alias_of : AliasRef → Alias
 alias_of (a.Export t i name) = export_alias t i name.now
 alias_of (a.Outer t k i) = outer_alias t k i
 
--- a type of these declarations
+-- A type with these declarations.
 abbrev pub scope_def : Scope → Decls → TypeDef
 scope_def o.Component ds = component_def ds
 scope_def o.Instance ds = instance_def ds
@@ -32,7 +32,7 @@ decl_of (h.Alias x) = alias_decl (alias_of x)
 decl_of (h.Import name d) = import_decl name.now d
 decl_of (h.Export name d) = export_decl name.now d
 
--- the byte before them
+-- The first byte of such a type.
 abbrev pub scope_byte : Scope → ℕ
 scope_byte o.Component = 0x41
 scope_byte o.Instance = 0x42

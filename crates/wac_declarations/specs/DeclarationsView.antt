@@ -1,4 +1,4 @@
--- What declarations keep.
+-- The value and the invariant of `Declarations`.
 use Rattle.std.specs.Prelude.{List}
 use Rattle.wac_binary.specs.Items.{Decl}
 use Rattle.wac_declarations.specs.WrittenDecls.{declarations, DeclState}

@@ -1,4 +1,4 @@
--- What a core module type keeps.
+-- The value and the invariant of `ModuleType`.
 use Rattle.std.specs.Prelude.{List}
 use Rattle.wac_binary.specs.Items.{ModuleDecl}
 use Rattle.wac_declarations.specs.WrittenModule.{declarations, ModuleState}

@@ -1,4 +1,4 @@
--- The declaration of a core module type that is about to be written.
+-- The value of a core module type's declaration that is to be written.
 use Rattle.wac_binary.specs.Items.{ModuleDecl, module_import, module_func, module_export}
 use Rattle.wac_declarations.specs.declared.core_decl.ModuleDeclRef.{ModuleDeclRef}
 use Rattle.wac_declarations.specs.declared.core_decl.ModuleDeclRef.TheVariants as h

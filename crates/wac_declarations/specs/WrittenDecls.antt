@@ -1,4 +1,4 @@
--- The declarations whose bytes are what an instance type has written.
+-- The list of declarations with given bytes, of which there is at most one.
 use Rattle.std.specs.Prelude.{◌≡◌, ℕ, List, [], ◌∷◌, ◌++◌, length, ◌<◌, slice_index}
 use Rattle.std.specs.List.{flat_map}
 use Rattle.std.specs.Coded.{Coded-set, coded_list, coded_ℕ}
@@ -50,7 +50,7 @@ pub type_is : {bytes : List ℕ} {count : ℕ} (w : WrittenDecls bytes count) �
 unfolding declarations
 type_is w = w.text
 
--- what an instance type of these declarations keeps
+-- The bytes, the number and the indexes of these declarations, which fit 32-bit sizes.
 pub record DeclState (ds : List Decl) (bytes : List ℕ) (count : ℕ) (counts : List ℕ) : Type 0 where
   pub count_is : count ≡ length ds
   pub bytes_are : bytes ≡ flat_map decl_bytes ds

@@ -1,4 +1,4 @@
--- The declarations whose bytes are what a core module type has written.
+-- The list of a core module type's declarations with given bytes, of which there is at most one.
 use Rattle.std.specs.Prelude.{◌≡◌, ℕ, List, [], ◌∷◌, ◌++◌, length}
 use Rattle.std.specs.List.{flat_map}
 use Rattle.std.specs.Coded.{Coded-set, coded_list, coded_ℕ}
@@ -36,7 +36,7 @@ pub module_is : {bytes : List ℕ} {count : ℕ} (w : WrittenModule bytes count)
 unfolding declarations
 module_is w = w.text
 
--- what a core module type of these declarations keeps
+-- The bytes, the number and the function types of these declarations, which fit 32-bit sizes.
 pub record ModuleState (ds : List ModuleDecl) (bytes : List ℕ) (count types : ℕ) : Type 0 where
   pub count_is : count ≡ length ds
   pub bytes_are : bytes ≡ flat_map module_decl_bytes ds

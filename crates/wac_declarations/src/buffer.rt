@@ -10,10 +10,12 @@ use std::alloc::{AllocError, Global};
 use std::marker::Model;
 
 /// Bytes that grow at both ends. Contracts see them as a list.
+///
+/// A call fails only if out of memory, and then leaves them unchanged.
 #[derive(Debug, Drop)]
 pub struct Buffer {
     alloc: Global,
-    /// The bytes of the first part, the last one first, so that it grows at its end.
+    /// The bytes before those of `back`, in reverse order: they grow at the end of a vector.
     front: Vec<u8>,
     back: Vec<u8>,
 }
@@ -32,7 +34,7 @@ impl Model for Buffer {
 }
 
 impl Buffer {
-    /// No bytes.
+    /// Creates an empty buffer.
     pub fn new(alloc: Global) -> Buffer
         ensures { result ≡ [] }
     {
@@ -43,7 +45,7 @@ impl Buffer {
         }
     }
 
-    /// How many there are.
+    /// Returns the number of bytes.
     pub fn len(&self) -> u128
         ensures is { result ≡ length self.now }
         ensures small { result < 2 ^ 65 }
@@ -51,7 +53,7 @@ impl Buffer {
         self.front.len() as u128 + self.back.len() as u128
     }
 
-    /// Puts a declaration at the end, or leaves the bytes as they were.
+    /// Appends a declaration.
     pub fn append(&mut self, d: &DeclRef<'_>) -> Result<(), AllocError>
         ensures written { OnOk result (self.new ≡ self.old ++ decl_bytes (decl_of d.now)) }
         ensures refused { OnErr result (self.new ≡ self.old) }
@@ -59,7 +61,8 @@ impl Buffer {
         append_decl(&mut self.back, d)
     }
 
-    /// Puts the bytes around a type of so many declarations, and its head, before these, or leaves these as they were.
+    /// Prepends the declarations in `around` and the head of a type declaration.
+    /// The bytes so far become the `count` declarations of that type.
     pub fn wrap(&mut self, around: &Buffer, scope: Scope, count: u64) -> Result<(), AllocError>
         ensures written { OnOk result (self.new ≡ (around.now ++ 1 ∷ scope_byte scope ∷ unsigned count) ++ self.old) }
         ensures refused { OnErr result (self.new ≡ self.old) }
@@ -70,7 +73,7 @@ impl Buffer {
         self.prepend(before)
     }
 
-    /// Puts bytes before these, or leaves these as they were.
+    /// Prepends bytes.
     fn prepend(&mut self, mut before: Vec<u8>) -> Result<(), AllocError>
         ensures written { OnOk result (self.new ≡ before.items ++ self.old) }
         ensures refused { OnErr result (self.new ≡ self.old) }
@@ -79,7 +82,7 @@ impl Buffer {
         self.front.extend_from_slice(&before)
     }
 
-    /// Puts the bytes at the end of a buffer.
+    /// Appends the bytes to a vector, which may have grown after an error.
     pub fn put(&self, out: &mut Vec<u8>) -> Result<(), AllocError>
         ensures written { OnOk result (out.new.items ≡ out.old.items ++ self.now) }
         ensures grows { (more : List ℕ) × (out.new.items ≡ out.old.items ++ more) }
@@ -92,7 +95,7 @@ impl Buffer {
     }
 }
 
-/// Puts a declaration at the end of a buffer, or leaves the buffer as it was.
+/// Appends a declaration, or leaves the bytes unchanged.
 fn append_decl(out: &mut Vec<u8>, d: &DeclRef<'_>) -> Result<(), AllocError>
     ensures written { OnOk result (out.new.items ≡ out.old.items ++ decl_bytes (decl_of d.now)) }
     ensures refused { OnErr result (out.new.items ≡ out.old.items) }

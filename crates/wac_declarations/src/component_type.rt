@@ -1,4 +1,4 @@
-//! A component type that is being written, declaration by declaration.
+//! The writer of component types.
 
 ghost use Rattle.std.specs.Prelude.{◌≡◌, ◌++◌, ◌∷◌, [], OnOk, OnErr, IfOk};
 ghost use Rattle.wac_binary.specs.Items.{value_def, component_def, instance_def, decls, core_type_decl, type_decl, alias_decl, export_alias, outer_alias, import_decl, export_decl};
@@ -19,16 +19,20 @@ use wac_binary::types::{DefinedType, FuncType};
 
 /// A component type that is being written. Contracts see it as the list of its declarations.
 ///
-/// A writer takes any index: what it stands for is a matter of the declarations. Each writer adds one declaration at
-/// the end and answers the index that it adds to the space of its sort, in the scope of the component type. It
-/// answers `TooLarge` exactly where the declarations with the new one no longer fit 32 bits, and `OutOfMemory` where
-/// memory is refused; then it has added nothing.
+/// Each declaring call appends a declaration, and returns the index that this adds to the index space of its sort.
+/// Whether the indexes in a declaration exist is not checked.
+///
+/// # Errors
+/// - [`TooLarge`](BinaryFault::TooLarge) if the declarations would not fit 32-bit sizes.
+/// - [`OutOfMemory`](BinaryFault::OutOfMemory).
+///
+/// On an error the declarations are unchanged.
 #[derive(Debug)]
 pub struct ComponentType {
     declarations: Declarations,
 }
 
-/// What is written is let go of here, and not anew at each place where a builder goes out of scope.
+// By hand: a derived `Drop` is proved again wherever one goes out of scope (docs/PROOFS.md, 'Drop').
 impl Drop for ComponentType {
     fn drop(self) {
         let ComponentType { declarations: _ } = self;
@@ -49,7 +53,7 @@ impl Model for ComponentType {
 }
 
 impl ComponentType {
-    /// A component type without declarations.
+    /// Creates a component type without declarations.
     pub fn new(alloc: Global) -> ComponentType
         ensures { result ≡ [] }
     {
@@ -58,7 +62,7 @@ impl ComponentType {
         }
     }
 
-    /// Declares a core module type, and answers its index among the core types.
+    /// Declares a core module type and returns its core type index.
     pub fn core_module_type(&mut self, t: &ModuleType) -> Result<u32, BinaryFault>
         ensures index { IfOk result (λ i. i ≡ declared core_types self.old) }
         ensures appended { OnOk result (self.new ≡ self.old ++ core_type_decl t.now ∷ []) }
@@ -70,7 +74,7 @@ impl ComponentType {
             .append(&DeclRef::CoreModule(t), IndexSpace::CoreTypes)
     }
 
-    /// Declares a value type, and answers its type index.
+    /// Declares a value type and returns its type index.
     pub fn defined_type(&mut self, t: &DefinedType<'_>) -> Result<u32, BinaryFault>
         ensures index { IfOk result (λ i. i ≡ declared (space s.Type) self.old) }
         ensures appended { OnOk result (self.new ≡ self.old ++ type_decl (value_def (defined_of t.now)) ∷ []) }
@@ -82,7 +86,7 @@ impl ComponentType {
             .append(&DeclRef::Type(TypeRef::Defined(t)), IndexSpace::Types)
     }
 
-    /// Declares a function type, and answers its type index.
+    /// Declares a function type and returns its type index.
     pub fn func_type(&mut self, f: &FuncType<'_>) -> Result<u32, BinaryFault>
         ensures index { IfOk result (λ i. i ≡ declared (space s.Type) self.old) }
         ensures appended { OnOk result (self.new ≡ self.old ++ type_decl (func_of f.now) ∷ []) }
@@ -94,7 +98,7 @@ impl ComponentType {
             .append(&DeclRef::Type(TypeRef::Func(f)), IndexSpace::Types)
     }
 
-    /// Declares a component type with these declarations, and answers its type index.
+    /// Declares a component type and returns its type index.
     pub fn component_type(&mut self, t: &ComponentType) -> Result<u32, BinaryFault>
         ensures index { IfOk result (λ i. i ≡ declared (space s.Type) self.old) }
         ensures appended { OnOk result (self.new ≡ self.old ++ type_decl (component_def (decls t.now)) ∷ []) }
@@ -107,7 +111,7 @@ impl ComponentType {
             .append(&DeclRef::Type(t), IndexSpace::Types)
     }
 
-    /// Declares an instance type with these declarations, and answers its type index.
+    /// Declares an instance type and returns its type index.
     pub fn instance_type(&mut self, t: &InstanceType) -> Result<u32, BinaryFault>
         ensures index { IfOk result (λ i. i ≡ declared (space s.Type) self.old) }
         ensures appended { OnOk result (self.new ≡ self.old ++ type_decl (instance_def (decls t.now)) ∷ []) }
@@ -120,9 +124,10 @@ impl ComponentType {
             .append(&DeclRef::Type(t), IndexSpace::Types)
     }
 
-    /// Declares an instance type with these declarations, which are handed over, and answers its type index. The longer of the two
-    /// lists of bytes stays where it is, so types nested ever deeper are not copied at each level. What is handed over is let go
-    /// of where it is refused.
+    /// Declares an instance type, which is consumed, and returns its type index.
+    ///
+    /// The longer of the two buffers stays in place, so that nested types are not copied at each level.
+    /// On an error `t` is dropped.
     pub fn take_instance_type(&mut self, t: InstanceType) -> Result<u32, BinaryFault>
         ensures index { IfOk result (λ i. i ≡ declared (space s.Type) self.old) }
         ensures appended { OnOk result (self.new ≡ self.old ++ type_decl (instance_def (decls t)) ∷ []) }
@@ -134,9 +139,10 @@ impl ComponentType {
             .take(t.into_declarations(), Scope::Instance)
     }
 
-    /// Declares a component type with these declarations, which are handed over, and answers its type index. The longer of the two
-    /// lists of bytes stays where it is, so types nested ever deeper are not copied at each level. What is handed over is let go
-    /// of where it is refused.
+    /// Declares a component type, which is consumed, and returns its type index.
+    ///
+    /// The longer of the two buffers stays in place, so that nested types are not copied at each level.
+    /// On an error `t` is dropped.
     pub fn take_component_type(&mut self, t: ComponentType) -> Result<u32, BinaryFault>
         ensures index { IfOk result (λ i. i ≡ declared (space s.Type) self.old) }
         ensures appended { OnOk result (self.new ≡ self.old ++ type_decl (component_def (decls t)) ∷ []) }
@@ -148,8 +154,7 @@ impl ComponentType {
             .take(t.into_declarations(), Scope::Component)
     }
 
-    /// Declares an alias of the export of this sort and name of the instance with this index, and answers its index
-    /// of that sort.
+    /// Declares an alias of an export of the instance with this index, and returns its index of this sort.
     pub fn alias_export(
         &mut self,
         sort: Sort,
@@ -167,8 +172,9 @@ impl ComponentType {
             .append(&DeclRef::Alias(alias), space(sort))
     }
 
-    /// Declares an alias of what has this index of this sort in the scope so many scopes out (0 is this one), and
-    /// answers its index of that sort.
+    /// Declares an alias of an index of the scope that is `count` scopes out, and returns its index of this sort.
+    ///
+    /// The scope of the component type itself is 0 scopes out.
     pub fn alias_outer(&mut self, sort: Sort, count: u32, index: u32) -> Result<u32, BinaryFault>
         ensures index { IfOk result (λ i. i ≡ declared (space sort) self.old) }
         ensures appended { OnOk result (self.new ≡ self.old ++ alias_decl (outer_alias sort count index) ∷ []) }
@@ -181,7 +187,7 @@ impl ComponentType {
             .append(&DeclRef::Alias(alias), space(sort))
     }
 
-    /// Declares an import of this name, and answers its index of the sort that is described.
+    /// Declares an import and returns its index of the described sort.
     pub fn import(&mut self, name: &str, d: Description) -> Result<u32, BinaryFault>
         ensures index { IfOk result (λ i. i ≡ declared (space (described_sort d)) self.old) }
         ensures appended { OnOk result (self.new ≡ self.old ++ import_decl name.now d ∷ []) }
@@ -193,7 +199,7 @@ impl ComponentType {
             .append(&DeclRef::Import(name, d), space(described_sort(d)))
     }
 
-    /// Declares an export of this name, and answers its index of the sort that is described.
+    /// Declares an export and returns its index of the described sort.
     pub fn export(&mut self, name: &str, d: Description) -> Result<u32, BinaryFault>
         ensures index { IfOk result (λ i. i ≡ declared (space (described_sort d)) self.old) }
         ensures appended { OnOk result (self.new ≡ self.old ++ export_decl name.now d ∷ []) }
@@ -205,7 +211,7 @@ impl ComponentType {
             .append(&DeclRef::Export(name, d), space(described_sort(d)))
     }
 
-    /// That what is declared fits.
+    /// States that the declarations fit 32-bit sizes. Proof only (docs/PROOFS.md, 'Laws').
     pub fn fit_law(&self)
         ensures { DeclarationsFit self.now }
     {
@@ -219,7 +225,7 @@ impl ComponentType {
         &self.declarations
     }
 
-    /// The declarations, handed over.
+    /// Returns the declarations and consumes the type.
     pub(crate) fn into_declarations(self) -> Declarations
         ensures { result ≡ self }
     {

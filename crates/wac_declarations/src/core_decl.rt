@@ -1,4 +1,4 @@
-//! The bytes of core module types, each put at the end of a buffer.
+//! Appends the declarations of core module types to a buffer.
 
 ghost use Rattle.std.specs.Prelude.{◌≡◌, List, ℕ, ◌+◌, ◌*◌, ◌++◌, OnOk};
 ghost use Rattle.wac_binary.specs.Bytes.{vector, core_ref, core_value, core_val, bit, there, number, table_bytes, memory_bytes, global_bytes, entity, module_decl_bytes};
@@ -9,7 +9,7 @@ use wac_binary::core_types::{EntityType, GlobalType, MemoryType, TableType};
 use wac_bytes::put::{put_indexed, put_text, put_unsigned};
 use wac_primitives::{CoreRefType, CoreType};
 
-/// A declaration of a core module type that is about to be written, with its parts where they are.
+/// A declaration of a core module type that is to be written. Its parts are borrowed.
 #[derive(Clone, Copy)]
 pub enum ModuleDeclRef<'a> {
     Func {
@@ -70,7 +70,7 @@ fn put_number(out: &mut Vec<u8>, n: Option<u64>) -> Result<(), AllocError>
     }
 }
 
-/// The byte of flags of limits: 1 a maximum, 2 shared, 4 sixty-four bit, 8 a page size.
+/// Returns the flags of limits: 1 for a maximum, 2 for shared, 4 for 64-bit, 8 for a page size.
 fn limit_flags(shared: bool, is64: bool, maximum: Option<u64>, page: Option<u32>) -> u8
     ensures { result ≡ there maximum + 2 * bit shared + 4 * bit is64 + 8 * there page }
 {
@@ -140,7 +140,7 @@ fn put_entity(out: &mut Vec<u8>, item: &EntityType) -> Result<(), AllocError>
     }
 }
 
-/// Appends a declaration of a core module type.
+/// Appends a declaration of a core module type, and fails only if out of memory.
 pub fn put_module_decl(out: &mut Vec<u8>, d: &ModuleDeclRef<'_>) -> Result<(), AllocError>
     ensures written { OnOk result (out.new.items ≡ out.old.items ++ module_decl_bytes (module_decl_of d.now)) }
     ensures grows { (more : List ℕ) × (out.new.items ≡ out.old.items ++ more) }

@@ -1,4 +1,4 @@
-//! How many bytes the declarations of core module types have, counted before they are written.
+//! Sizes in bytes of the declarations of core module types, known before anything is written.
 
 ghost use Rattle.std.specs.Prelude.{◌≡◌, ◌≤◌, ◌^◌, length};
 ghost use Rattle.wac_binary.specs.Bytes.{vector, core_val, number, table_bytes, memory_bytes, entity, module_decl_bytes};
@@ -72,7 +72,7 @@ fn entity_size(item: &EntityType) -> u128
     }
 }
 
-/// How many bytes a declaration of a core module type has.
+/// Returns the size of a declaration of a core module type.
 pub fn module_decl_size(d: &ModuleDeclRef<'_>) -> u128
     ensures is { result ≡ length (module_decl_bytes (module_decl_of d.now)) }
     ensures small { result ≤ 2 ^ 69 }

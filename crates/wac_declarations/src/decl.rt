@@ -1,4 +1,6 @@
-//! A declaration that is about to be written, and the types and aliases that stand in one.
+//! Declarations that are to be written, and the types and aliases in them. Their parts are borrowed.
+//!
+//! A call fails only if out of memory. The buffer may have grown then, but keeps what it had.
 
 ghost use Rattle.std.specs.Prelude.{◌≡◌, List, ℕ, ◌++◌, ◌∷◌, OnOk};
 ghost use Rattle.wac_binary.specs.Leb.{unsigned};
@@ -13,16 +15,16 @@ use wac_binary::sorts::{Description, Sort};
 use wac_binary::types::{DefinedType, FuncType};
 use wac_bytes::put::{put_alias_export, put_alias_outer, put_named, put_unsigned};
 
-/// An alias that is about to be written.
+/// An alias that is to be written.
 #[derive(Clone, Copy)]
 pub enum AliasRef<'a> {
-    /// Of an instance's export: its sort, the instance, the name.
+    /// An alias of an instance's export: its sort, the instance, the name.
     Export(Sort, u32, &'a str),
-    /// Of an index of a scope around: its sort, how many scopes out, the index.
+    /// An outer alias: its sort, the number of scopes out, the index there.
     Outer(Sort, u32, u32),
 }
 
-/// A type that is about to be written.
+/// A type that is to be written.
 #[derive(Clone, Copy)]
 pub enum TypeRef<'a> {
     Defined(&'a DefinedType<'a>),
@@ -30,14 +32,14 @@ pub enum TypeRef<'a> {
     Scope(Scope, &'a Declarations),
 }
 
-/// A type that is a list of declarations.
+/// The two kinds of types that consist of declarations.
 #[derive(Clone, Copy)]
 pub enum Scope {
     Component,
     Instance,
 }
 
-/// A declaration that is about to be written, with its parts where they are.
+/// A declaration that is to be written.
 #[derive(Clone, Copy)]
 pub enum DeclRef<'a> {
     CoreModule(&'a ModuleType),
@@ -47,7 +49,7 @@ pub enum DeclRef<'a> {
     Export(&'a str, Description),
 }
 
-/// Puts the bytes of an alias at the end of a buffer.
+/// Appends an alias.
 pub fn put_alias(out: &mut Vec<u8>, a: AliasRef<'_>) -> Result<(), AllocError>
     ensures written { OnOk result (out.new.items ≡ out.old.items ++ alias_bytes (alias_of a.entry)) }
     ensures grows { (more : List ℕ) × (out.new.items ≡ out.old.items ++ more) }
@@ -58,7 +60,7 @@ pub fn put_alias(out: &mut Vec<u8>, a: AliasRef<'_>) -> Result<(), AllocError>
     }
 }
 
-/// Puts the bytes of a type at the end of a buffer.
+/// Appends a type.
 #[tactic(auto, using(crate::proofs::DeclLaws::scope_bytes))]
 pub fn put_type(out: &mut Vec<u8>, t: TypeRef<'_>) -> Result<(), AllocError>
     ensures written { OnOk result (out.new.items ≡ out.old.items ++ type_bytes (type_of t.entry)) }
@@ -74,7 +76,7 @@ pub fn put_type(out: &mut Vec<u8>, t: TypeRef<'_>) -> Result<(), AllocError>
     }
 }
 
-/// Puts the bytes of a declaration at the end of a buffer.
+/// Appends a declaration.
 pub fn put_decl(out: &mut Vec<u8>, d: &DeclRef<'_>) -> Result<(), AllocError>
     ensures written { OnOk result (out.new.items ≡ out.old.items ++ decl_bytes (decl_of d.now)) }
     ensures grows { (more : List ℕ) × (out.new.items ≡ out.old.items ++ more) }
@@ -112,7 +114,7 @@ fn scope_byte(scope: Scope) -> u8
     }
 }
 
-/// Puts what stands before the declarations of a type that is declared at the end of a buffer.
+/// Appends the head of a declaration of a type with `count` declarations.
 pub fn put_scope(out: &mut Vec<u8>, scope: Scope, count: u64) -> Result<(), AllocError>
     ensures written { OnOk result (out.new.items ≡ out.old.items ++ 1 ∷ byte_of scope ∷ unsigned count) }
 {

@@ -1,4 +1,4 @@
-//! Declarations of a component type or an instance type, one by one.
+//! The declarations of a component type or an instance type.
 
 ghost use Rattle.std.specs.Prelude.{◌≡◌, List, ℕ, ◌+◌, ◌<◌, ◌≤◌, ◌^◌, ◌++◌, ◌∷◌, [], length, OnOk, OnErr, IfOk, IsTrue, ◌↔◌};
 ghost use Rattle.wac_binary.specs.Leb.{unsigned};
@@ -22,11 +22,21 @@ use wac_binary::sorts::{IndexSpace, number};
 use wac_bytes::put::put_unsigned;
 
 /// The declarations of a component type or an instance type. Contracts see them as a list.
+///
+/// A call that declares something appends a declaration and returns its index.
+///
+/// # Errors
+/// - [`TooLarge`](BinaryFault::TooLarge) if the declarations would not fit 32-bit sizes.
+/// - [`OutOfMemory`](BinaryFault::OutOfMemory).
+///
+/// On an error the declarations are unchanged.
 #[derive(Debug, Drop)]
 pub struct Declarations {
     bytes: Buffer,
     count: u64,
+    /// The number of indexes in each index space.
     counts: [u64; 7],
+    // The only list of declarations with these bytes (docs/PROOFS.md, 'Lists of values').
     ghost written: { WrittenDecls bytes count } by { WrittenDecls_prop bytes count },
 }
 
@@ -48,7 +58,7 @@ impl Model for Declarations {
 }
 
 impl Declarations {
-    /// No declarations.
+    /// Creates an empty list of declarations.
     pub fn new(alloc: Global) -> Declarations
         ensures { result ≡ [] }
     {
@@ -59,14 +69,14 @@ impl Declarations {
         }
     }
 
-    /// That what is declared fits.
+    /// States that the declarations fit 32-bit sizes. Proof only (docs/PROOFS.md, 'Laws').
     pub fn fit_law(&self)
         ensures { DeclarationsFit self.now }
     {
         let _ = &self.bytes;
     }
 
-    /// Whether one more declaration fits, which adds an index to this space.
+    /// Returns whether one more declaration fits 32-bit sizes. It adds an index to `space`.
     pub fn has_room(&self, d: &DeclRef<'_>, space: IndexSpace) -> bool
         requires { decl_adds (decl_of d.now) ≡ number_of space }
         ensures { IsTrue result ↔ DeclarationsFit (self.now ++ decl_of d.now ∷ []) }
@@ -75,7 +85,7 @@ impl Declarations {
         fits(index, self.count, self.bytes.len(), decl_size(d))
     }
 
-    /// Adds a declaration at the end, and answers the index that it adds to this space.
+    /// Appends a declaration, which adds an index to `space`, and returns that index.
     pub fn append(&mut self, d: &DeclRef<'_>, space: IndexSpace) -> Result<u32, BinaryFault>
         requires { decl_adds (decl_of d.now) ≡ number_of space }
         ensures index { IfOk result (λ i. i ≡ declared (number_of space) self.old) }
@@ -95,7 +105,7 @@ impl Declarations {
         Ok(index as u32)
     }
 
-    /// How long the number of declarations and their bytes are.
+    /// Returns the size in bytes of the declarations, with their number.
     pub fn size(&self) -> u128
         ensures is { result ≡ length (unsigned (count_of (decls self.now)) ++ decls_bytes (decls self.now)) }
         ensures small { result ≤ 2 ^ 34 }
@@ -103,7 +113,7 @@ impl Declarations {
         u128::from(unsigned_size(self.count)) + self.bytes.len()
     }
 
-    /// Puts the number of declarations, and their bytes, at the end of a buffer.
+    /// Appends the number of declarations and their bytes to a buffer, which may have grown after an error.
     pub fn put(&self, out: &mut Vec<u8>) -> Result<(), AllocError>
         ensures written { OnOk result (out.new.items ≡ out.old.items ++ (unsigned (count_of (decls self.now)) ++ decls_bytes (decls self.now))) }
         ensures grows { (more : List ℕ) × (out.new.items ≡ out.old.items ++ more) }
@@ -112,8 +122,9 @@ impl Declarations {
         self.bytes.put(out)
     }
 
-    /// Adds a type of these declarations, which are handed over, at the end, and answers its type index. The longer of the two
-    /// lists of bytes stays where it is.
+    /// Declares a type with the declarations `inner` and returns its type index.
+    ///
+    /// The longer of the two buffers stays in place. On an error `inner` is dropped.
     pub fn take(&mut self, inner: Declarations, scope: Scope) -> Result<u32, BinaryFault>
         ensures index { IfOk result (λ i. i ≡ declared (space s.Type) self.old) }
         ensures appended { OnOk result (self.new ≡ self.old ++ type_decl (scope_def scope (decls inner)) ∷ []) }
@@ -128,8 +139,7 @@ impl Declarations {
         self.append(&DeclRef::Type(t), IndexSpace::Types)
     }
 
-    /// Adds a type of these declarations at the end by writing what stands before it in front of them, and answers its type
-    /// index.
+    /// Declares a type with the declarations `inner` by prepending the other declarations to its buffer.
     fn surround(&mut self, inner: Declarations, scope: Scope) -> Result<u32, BinaryFault>
         ensures index { IfOk result (λ i. i ≡ declared (space s.Type) self.old) }
         ensures appended { OnOk result (self.new ≡ self.old ++ type_decl (scope_def scope (decls inner)) ∷ []) }
@@ -150,7 +160,7 @@ impl Declarations {
         Ok(index as u32)
     }
 
-    /// These bytes, and behind them a type of the declarations, which is declared there.
+    /// Returns the bytes in `before`, then those of a declaration of a type with these declarations.
     fn behind(self, before: &Buffer, scope: Scope) -> Result<Buffer, AllocError>
         ensures { IfOk result (λ b. b ≡ before.now ++ decl_bytes (type_decl (scope_def scope (decls self)))) }
     {
@@ -164,8 +174,8 @@ impl Declarations {
     }
 }
 
-/// Whether one more declaration of this size fits, where its space has so many indexes and so many declarations have so
-/// many bytes.
+/// Returns whether one more declaration of `size` bytes fits after `count` declarations with `bytes` bytes.
+/// Its index space has `index` indexes.
 fn fits(index: u64, count: u64, bytes: u128, size: u128) -> bool
     requires bytes { bytes < 2 ^ 65 }
     requires size { size < 2 ^ 127 + 2 ^ 104 }

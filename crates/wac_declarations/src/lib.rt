@@ -1,4 +1,6 @@
-//! Types as they are written: definitions, and the declarations of component types, instance types and core module types, one by one.
+//! Types and their declarations: sizes, bytes, and the writers of component, instance and core module types.
+//!
+//! The size of a declaration is checked before it is written. So `TooLarge` is found before a buffer grows.
 #![tactic(auto)]
 
 mod buffer;

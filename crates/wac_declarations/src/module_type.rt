@@ -1,4 +1,4 @@
-//! A core module type that is being written, declaration by declaration.
+//! The writer of core module types.
 
 ghost use Rattle.std.specs.Prelude.{◌≡◌, List, ℕ, ◌+◌, ◌<◌, ◌≤◌, ◌^◌, ◌++◌, ◌∷◌, [], length, OnOk, OnErr, IfOk, IsTrue, ◌↔◌};
 ghost use Rattle.wac_binary.specs.Items.{module_import, module_func, module_export};
@@ -20,17 +20,24 @@ use wac_primitives::CoreType;
 
 /// A core module type that is being written. Contracts see it as the list of its declarations.
 ///
-/// Each writer adds one declaration at the end. It answers `TooLarge` exactly where the declarations with the new one
-/// no longer fit 32 bits, and `OutOfMemory` where memory is refused; then it has added nothing.
+/// Each declaring call appends a declaration. Whether the indexes in it exist is not checked.
+///
+/// # Errors
+/// - [`TooLarge`](BinaryFault::TooLarge) if the declarations would not fit 32-bit sizes.
+/// - [`OutOfMemory`](BinaryFault::OutOfMemory).
+///
+/// On an error the declarations are unchanged.
 #[derive(Debug)]
 pub struct ModuleType {
     bytes: Vec<u8>,
     count: u64,
+    /// The number of function types.
     types: u64,
+    // The only list of declarations with these bytes (docs/PROOFS.md, 'Lists of values').
     ghost written: { WrittenModule bytes.items count } by { WrittenModule_prop bytes.items count },
 }
 
-/// What is written is let go of here, and not anew at each place where a builder goes out of scope.
+// By hand: a derived `Drop` is proved again wherever one goes out of scope (docs/PROOFS.md, 'Drop').
 impl Drop for ModuleType {
     fn drop(self) {
         let ModuleType {
@@ -59,7 +66,7 @@ impl Model for ModuleType {
 }
 
 impl ModuleType {
-    /// A core module type without declarations.
+    /// Creates a core module type without declarations.
     pub fn new(alloc: Global) -> ModuleType
         ensures { result ≡ [] }
     {
@@ -70,14 +77,14 @@ impl ModuleType {
         }
     }
 
-    /// That what is declared fits.
+    /// States that the declarations fit 32-bit sizes. Proof only (docs/PROOFS.md, 'Laws').
     pub fn fit_law(&self)
         ensures { ModuleFits self.now }
     {
         let _ = &self.bytes;
     }
 
-    /// Adds a declaration at the end, and answers how many function types stood before it.
+    /// Appends a declaration and returns the number of function types before it.
     fn append(&mut self, d: &ModuleDeclRef<'_>) -> Result<u32, BinaryFault>
         ensures index { IfOk result (λ i. i ≡ function_types self.old) }
         ensures appended { OnOk result (self.new ≡ self.old ++ module_decl_of d.now ∷ []) }
@@ -95,7 +102,7 @@ impl ModuleType {
         Ok(index as u32)
     }
 
-    /// Declares a function type with these parameters and results, and answers its index among the function types.
+    /// Declares a function type and returns its index in the module type.
     pub fn func(&mut self, params: &[CoreType], results: &[CoreType]) -> Result<u32, BinaryFault>
         ensures index { IfOk result (λ i. i ≡ function_types self.old) }
         ensures appended { OnOk result (self.new ≡ self.old ++ module_func params.now results.now ∷ []) }
@@ -106,7 +113,7 @@ impl ModuleType {
         self.append(&ModuleDeclRef::Func { params, results })
     }
 
-    /// Declares an import of this name from the module of that name.
+    /// Declares an import of `name` from the module named `module`.
     pub fn import(&mut self, module: &str, name: &str, item: EntityType) -> Result<(), BinaryFault>
         ensures appended { OnOk result (self.new ≡ self.old ++ module_import «module».now name.now item ∷ []) }
         ensures fits { OnOk result (ModuleFits self.new) }
@@ -117,7 +124,7 @@ impl ModuleType {
         Ok(())
     }
 
-    /// Declares an export of this name.
+    /// Declares an export.
     pub fn export(&mut self, name: &str, item: EntityType) -> Result<(), BinaryFault>
         ensures appended { OnOk result (self.new ≡ self.old ++ module_export name.now item ∷ []) }
         ensures fits { OnOk result (ModuleFits self.new) }
@@ -128,7 +135,7 @@ impl ModuleType {
         Ok(())
     }
 
-    /// How many bytes the type has.
+    /// Returns the size of the type in bytes.
     pub fn size(&self) -> u128
         ensures is { result ≡ length (module_bytes self.now) }
         ensures small { result ≤ 2 ^ 34 }
@@ -136,7 +143,7 @@ impl ModuleType {
         1 + u128::from(unsigned_size(self.count)) + u128::from(self.bytes.len() as u64)
     }
 
-    /// Puts the type's bytes at the end of a buffer.
+    /// Appends the type to a buffer, which may have grown after an error.
     pub fn put(&self, out: &mut Vec<u8>) -> Result<(), AllocError>
         ensures written { OnOk result (out.new.items ≡ out.old.items ++ module_bytes self.now) }
         ensures grows { (more : List ℕ) × (out.new.items ≡ out.old.items ++ more) }
@@ -147,7 +154,7 @@ impl ModuleType {
     }
 }
 
-/// How many function types a declaration adds.
+/// Returns the number of function types that a declaration adds.
 fn types_in(d: &ModuleDeclRef<'_>) -> u64
     ensures { result ≡ function_types (module_decl_of d.now ∷ []) }
 {
@@ -158,7 +165,7 @@ fn types_in(d: &ModuleDeclRef<'_>) -> u64
     }
 }
 
-/// Whether one more declaration of this size fits, where so many declarations have so many bytes.
+/// Returns whether one more declaration of `size` bytes fits after `count` declarations with `bytes` bytes.
 fn fits(count: u64, bytes: usize, size: u128) -> bool
     requires { size ≤ 2 ^ 69 }
     ensures { IsTrue result ↔ ((count + 1 < 2 ^ 32) × (bytes + size < 2 ^ 32)) }
@@ -166,7 +173,7 @@ fn fits(count: u64, bytes: usize, size: u128) -> bool
     count < (1 << 32) - 1 && bytes as u128 + size < 1 << 32
 }
 
-/// Puts a declaration at the end of a buffer, or leaves the buffer as it was.
+/// Appends a declaration, or leaves the buffer unchanged.
 fn append_module_decl(out: &mut Vec<u8>, d: &ModuleDeclRef<'_>) -> Result<(), AllocError>
     ensures written { OnOk result (out.new.items ≡ out.old.items ++ module_decl_bytes (module_decl_of d.now)) }
     ensures refused { OnErr result (out.new.items ≡ out.old.items) }

@@ -1,4 +1,4 @@
-//! The bytes of types, each put at the end of a buffer.
+//! Appends types to a buffer.
 
 ghost use Rattle.std.specs.Prelude.{◌≡◌, List, ℕ, ◌++◌, ◌∷◌, OnOk};
 ghost use Rattle.wac_binary.specs.Bytes.{text, value, optional, field, case, vector, value_def_bytes, type_bytes};
@@ -89,7 +89,7 @@ fn put_texts(out: &mut Vec<u8>, texts: &[&str]) -> Result<(), AllocError>
     Ok(())
 }
 
-/// Appends a function type.
+/// Appends a function type, and fails only if out of memory.
 pub fn put_func(out: &mut Vec<u8>, f: &FuncType<'_>) -> Result<(), AllocError>
     ensures written { OnOk result (out.new.items ≡ out.old.items ++ type_bytes (func_of f.now)) }
     ensures grows { (more : List ℕ) × (out.new.items ≡ out.old.items ++ more) }
@@ -137,7 +137,7 @@ fn put_names(out: &mut Vec<u8>, byte: u8, names: &[&str]) -> Result<(), AllocErr
     put_texts(out, names)
 }
 
-/// Appends the definition of a value type.
+/// Appends the definition of a value type, and fails only if out of memory.
 pub fn put_defined(out: &mut Vec<u8>, t: &DefinedType<'_>) -> Result<(), AllocError>
     ensures written { OnOk result (out.new.items ≡ out.old.items ++ value_def_bytes (defined_of t.now)) }
     ensures grows { (more : List ℕ) × (out.new.items ≡ out.old.items ++ more) }

@@ -1,4 +1,4 @@
-//! How many bytes the parts of items have: what is appended, counted before it is.
+//! Sizes in bytes of the parts of items, known before anything is written.
 
 ghost use Rattle.std.specs.Prelude.{◌≡◌, ◌+◌, ◌<◌, ◌≤◌, ◌^◌, ◌++◌, ◌∷◌, length};
 ghost use Rattle.wac_binary.specs.Leb.{leb, unsigned};
@@ -9,7 +9,7 @@ ghost use Rattle.wac_binary.specs.Views.{named, texts_of, arguments_of};
 use wac_binary::sorts::{Description, Sort};
 use wac_binary::types::ComponentValType;
 
-/// How long a number is whose last byte is below the limit.
+/// Returns the size of a number in LEB128 whose last byte is below the limit.
 #[tactic(auto, using(wac_binary::specs::LebLaws::leb_more, wac_binary::specs::LebLaws::leb_last, std::proofs::lemmas::Grind::common_steps))]
 fn leb_size(limit: u64, n: u64) -> u64
     requires { 0 < limit }
@@ -23,7 +23,7 @@ fn leb_size(limit: u64, n: u64) -> u64
     }
 }
 
-/// How long an unsigned number is.
+/// Returns the size of an unsigned number.
 #[inline(always)]
 #[tactic(auto, using(wac_binary::specs::LebLaws::leb_last, wac_bytes::proofs::Short::unsigned_length, std::proofs::lemmas::Grind::common_steps))]
 pub fn unsigned_size(n: u64) -> u64
@@ -34,7 +34,7 @@ pub fn unsigned_size(n: u64) -> u64
     if n < 128 { 1 } else { leb_size(128, n) }
 }
 
-/// How long an index is.
+/// Returns the size of an index.
 #[inline(always)]
 pub fn index_size(i: u32) -> u128
     ensures is { result ≡ length (unsigned i) }
@@ -43,7 +43,7 @@ pub fn index_size(i: u32) -> u128
     u128::from(unsigned_size(u64::from(i)))
 }
 
-/// How long a text is, with its length.
+/// Returns the size of a text with its length.
 #[inline(always)]
 pub fn text_size(t: &str) -> u128
     ensures is { result ≡ length (text t.now) }
@@ -52,7 +52,7 @@ pub fn text_size(t: &str) -> u128
     u128::from(unsigned_size(t.len() as u64)) + t.len() as u128
 }
 
-/// How many bytes these are.
+/// Returns the number of bytes.
 pub fn bytes_size(bytes: &[u8]) -> u128
     ensures is { result ≡ length bytes.now }
     ensures small { result ≤ 2 ^ 64 }
@@ -60,7 +60,7 @@ pub fn bytes_size(bytes: &[u8]) -> u128
     bytes.len() as u128
 }
 
-/// How long a value type in use is.
+/// Returns the size of a value type in use.
 pub fn value_size(t: ComponentValType) -> u128
     ensures is { result ≡ length (value t) }
     ensures small { result ≤ 2 ^ 32 }
@@ -71,7 +71,7 @@ pub fn value_size(t: ComponentValType) -> u128
     }
 }
 
-/// How long a value type is that may be missing.
+/// Returns the size of an optional value type.
 pub fn optional_size(t: Option<ComponentValType>) -> u128
     ensures is { result ≡ length (optional t) }
     ensures small { result ≤ 2 ^ 33 }
@@ -82,7 +82,7 @@ pub fn optional_size(t: Option<ComponentValType>) -> u128
     }
 }
 
-/// How long a sort is.
+/// Returns the size of a sort.
 pub fn sort_size(s: Sort) -> u128
     ensures is { result ≡ length (sort s) }
     ensures small { result ≤ 2 }
@@ -97,7 +97,7 @@ pub fn sort_size(s: Sort) -> u128
     }
 }
 
-/// How long is what an import, or an exported declaration, is.
+/// Returns the size of the description of an import or export.
 #[inline(always)]
 fn described_size(d: Description) -> u64
     ensures is { result ≡ length (described d) }
@@ -113,7 +113,7 @@ fn described_size(d: Description) -> u64
     }
 }
 
-/// How long a name is, behind the byte that says that it is one, with what stands under it.
+/// Returns the size of the name and the description of an import or export.
 #[inline(always)]
 pub fn named_size(name: &str, d: Description) -> u64
     ensures { result ≡ length (0 ∷ (text name.now ++ described d)) }
@@ -121,7 +121,7 @@ pub fn named_size(name: &str, d: Description) -> u64
     1 + unsigned_size(name.len() as u64) + name.len() as u64 + described_size(d)
 }
 
-/// How long an alias of an instance's export is.
+/// Returns the size of an alias of an instance's export.
 pub fn alias_export_size(s: Sort, instance: u32, name: &str) -> u128
     ensures is { result ≡ length (alias_bytes (export_alias s instance name.now)) }
     ensures small { result ≤ 2 ^ 65 }
@@ -129,7 +129,7 @@ pub fn alias_export_size(s: Sort, instance: u32, name: &str) -> u128
     sort_size(s) + 1 + index_size(instance) + text_size(name)
 }
 
-/// How long an alias of an index of an enclosing scope is.
+/// Returns the size of an outer alias.
 pub fn alias_outer_size(s: Sort, count: u32, index: u32) -> u128
     ensures is { result ≡ length (alias_bytes (outer_alias s count index)) }
     ensures small { result ≤ 2 ^ 65 }
@@ -137,7 +137,7 @@ pub fn alias_outer_size(s: Sort, count: u32, index: u32) -> u128
     sort_size(s) + 1 + index_size(count) + index_size(index)
 }
 
-/// How long a name, a sort and an index are.
+/// Returns the size of a name, a sort and an index.
 pub fn argument_size(name: &str, s: Sort, index: u32) -> u128
     ensures is { result ≡ length (argument (name.now, s, index)) }
     ensures small { result ≤ 2 ^ 64 + 2 ^ 33 }
@@ -145,7 +145,7 @@ pub fn argument_size(name: &str, s: Sort, index: u32) -> u128
     text_size(name) + sort_size(s) + index_size(index)
 }
 
-/// How long the arguments of an instantiation are.
+/// Returns the size of the arguments of an instantiation.
 pub fn arguments_size(arguments: &[(&str, Sort, u32)]) -> u128
     ensures is { result ≡ length (vector argument (arguments_of arguments.now)) }
     ensures small { result < 2 ^ 127 + 2 ^ 100 }
@@ -157,7 +157,7 @@ pub fn arguments_size(arguments: &[(&str, Sort, u32)]) -> u128
     size
 }
 
-/// How long the fields of a record, or the parameters of a function, are.
+/// Returns the size of the fields of a record, or of the parameters of a function.
 pub fn fields_size(fields: &[(&str, ComponentValType)]) -> u128
     ensures is { result ≡ length (vector field (named fields.now)) }
     ensures small { result < 2 ^ 127 + 2 ^ 100 }
@@ -176,7 +176,7 @@ fn field_size(name: &str, t: ComponentValType) -> u128
     text_size(name) + value_size(t)
 }
 
-/// How long the cases of a variant are.
+/// Returns the size of the cases of a variant.
 pub fn cases_size(cases: &[(&str, Option<ComponentValType>)]) -> u128
     ensures is { result ≡ length (vector case (named cases.now)) }
     ensures small { result < 2 ^ 127 + 2 ^ 100 }
@@ -195,7 +195,7 @@ fn case_size(name: &str, t: Option<ComponentValType>) -> u128
     text_size(name) + optional_size(t) + 1
 }
 
-/// How long the parts of a tuple are.
+/// Returns the size of the elements of a tuple.
 pub fn values_size(types: &[ComponentValType]) -> u128
     ensures is { result ≡ length (vector value types.now) }
     ensures small { result < 2 ^ 127 + 2 ^ 100 }
@@ -207,7 +207,7 @@ pub fn values_size(types: &[ComponentValType]) -> u128
     size
 }
 
-/// How long the names of flags or of an enum's cases are.
+/// Returns the size of the names of flags, or of the cases of an enum.
 pub fn texts_size(texts: &[&str]) -> u128
     ensures is { result ≡ length (vector text (texts_of texts.now)) }
     ensures small { result < 2 ^ 127 + 2 ^ 100 }

@@ -1,4 +1,4 @@
-//! How many bytes types and declarations have, counted before they are written.
+//! Sizes in bytes of types and declarations, known before anything is written.
 
 ghost use Rattle.std.specs.Prelude.{◌≡◌, ◌+◌, ◌<◌, ◌≤◌, ◌^◌, length};
 ghost use Rattle.wac_binary.specs.Bytes.{alias_bytes, value_def_bytes, type_bytes, decl_bytes, outcome};
@@ -51,7 +51,7 @@ fn defined_size(t: &DefinedType<'_>) -> u128
     }
 }
 
-/// How many bytes an alias has.
+/// Returns the size of an alias.
 pub fn alias_size(a: AliasRef<'_>) -> u128
     ensures is { result ≡ length (alias_bytes (alias_of a.entry)) }
     ensures small { result ≤ 2 ^ 65 }
@@ -62,7 +62,7 @@ pub fn alias_size(a: AliasRef<'_>) -> u128
     }
 }
 
-/// How many bytes a type has.
+/// Returns the size of a type.
 #[tactic(auto, using(crate::proofs::DeclLaws::scope_bytes))]
 pub fn type_size(t: TypeRef<'_>) -> u128
     ensures is { result ≡ length (type_bytes (type_of t.entry)) }
@@ -75,7 +75,7 @@ pub fn type_size(t: TypeRef<'_>) -> u128
     }
 }
 
-/// How many bytes a declaration has.
+/// Returns the size of a declaration.
 pub fn decl_size(d: &DeclRef<'_>) -> u128
     ensures is { result ≡ length (decl_bytes (decl_of d.now)) }
     ensures small { result < 2 ^ 127 + 2 ^ 103 }

@@ -1,4 +1,4 @@
--- The item that is about to be written.
+-- The values of the items that are to be written.
 use Rattle.wac_binary.specs.Items.{Item, custom, core_type, nested, instantiate, alias_item, type_item, import_item, export_item}
 use Rattle.wac_binary.specs.Views.{arguments_of}
 use Rattle.wac_declarations.specs.DeclView.{alias_of, type_of}

@@ -1,4 +1,4 @@
--- The open section, as a builder keeps it: its id and count apart from its things.
+-- The open section: its id and count, and the bytes of its items.
 use Rattle.std.specs.Prelude.{ℕ, List, [], ◌∷◌, Option, Some, None}
 use Rattle.wac_binary.specs.Bytes.{Section, preamble}
 use Rattle.wac_sections.specs.declared.section.Open.{Open}
@@ -10,7 +10,7 @@ abbrev pub section_of : Option Open → List ℕ → Option Section
 section_of None things = None
 section_of (Some o) things = Some (section o things)
 
--- what is written, after the preamble, which stands there from the first item on
+-- The bytes so far, or the preamble if nothing is written yet.
 abbrev pub begun : List ℕ → List ℕ
 begun [] = preamble
 begun (b ∷ bs) = b ∷ bs

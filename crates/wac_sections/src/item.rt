@@ -1,4 +1,6 @@
-//! An item that is about to be written.
+//! Items that are to be written. Their parts are borrowed.
+//!
+//! A call fails only if out of memory, unless it says otherwise. The buffer may have grown then, but keeps what it had.
 
 ghost use Rattle.std.specs.Prelude.{◌≡◌, List, ℕ, ◌++◌, ◌<◌, ◌^◌, length, OnOk, IfOk, IfErr};
 ghost use Rattle.wac_binary.specs.Bytes.{alone, item_bytes, section_id as id_of};
@@ -14,7 +16,7 @@ use wac_declarations::decl::{AliasRef, TypeRef, put_alias, put_type};
 use wac_declarations::module_type::ModuleType;
 use wac_declarations::size::{bytes_size, text_size};
 
-/// An item that is about to be written, with its parts where they are.
+/// An item whose section can contain several.
 #[derive(Clone, Copy)]
 pub enum ItemRef<'a> {
     CoreModule(&'a ModuleType),
@@ -32,7 +34,7 @@ pub enum ItemRef<'a> {
     },
 }
 
-/// Puts the bytes of an item at the end of a buffer.
+/// Appends an item.
 #[inline(always)]
 pub fn put_item(out: &mut Vec<u8>, item: &ItemRef<'_>) -> Result<(), AllocError>
     ensures written { OnOk result (out.new.items ≡ out.old.items ++ item_bytes (item_of item.now)) }
@@ -60,7 +62,7 @@ pub fn put_item(out: &mut Vec<u8>, item: &ItemRef<'_>) -> Result<(), AllocError>
     }
 }
 
-/// The id of the section in which an item stands.
+/// Returns the id of the section that contains an item.
 #[inline(always)]
 pub fn section_id(item: &ItemRef<'_>) -> u8
     ensures { result ≡ id_of (item_of item.now) }
@@ -75,14 +77,14 @@ pub fn section_id(item: &ItemRef<'_>) -> u8
     }
 }
 
-/// An item that has a section of its own and is about to be written.
+/// An item that has a section of its own.
 #[derive(Clone, Copy)]
 pub enum AloneRef<'a> {
     Component(&'a [u8]),
     Custom { name: &'a str, bytes: &'a [u8] },
 }
 
-/// Puts the bytes of such an item at the end of a buffer.
+/// Appends an item that has a section of its own.
 pub fn put_alone_item(out: &mut Vec<u8>, item: &AloneRef<'_>) -> Result<(), AllocError>
     ensures written { OnOk result (out.new.items ≡ out.old.items ++ item_bytes (alone_of item.now)) }
     ensures grows { (more : List ℕ) × (out.new.items ≡ out.old.items ++ more) }
@@ -96,7 +98,7 @@ pub fn put_alone_item(out: &mut Vec<u8>, item: &AloneRef<'_>) -> Result<(), Allo
     }
 }
 
-/// The id of the section of such an item.
+/// Returns the id of an item's own section.
 pub fn alone_id(item: &AloneRef<'_>) -> u8
     ensures { result ≡ id_of (alone_of item.now) }
 {
@@ -106,8 +108,10 @@ pub fn alone_id(item: &AloneRef<'_>) -> u8
     }
 }
 
-/// How many bytes such an item has, where there is room for it: its space has so many indexes, and its section fits 32
-/// bits; else `TooLarge`.
+/// Returns the size in bytes of an item that has a section of its own. Its index space has `indexes` indexes.
+///
+/// # Errors
+/// [`TooLarge`](BinaryFault::TooLarge) if its index or its section would not fit in 32 bits.
 pub fn alone_size(indexes: u64, item: &AloneRef<'_>) -> Result<u64, BinaryFault>
     ensures size { IfOk result (λ n. n ≡ length (item_bytes (alone_of item.now))) }
     ensures room { OnOk result ((indexes < 2 ^ 32) × SectionFits (alone (alone_of item.now))) }

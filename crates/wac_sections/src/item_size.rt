@@ -1,4 +1,4 @@
-//! How many bytes items have, counted before they are written.
+//! Sizes in bytes of items, known before anything is written.
 ghost use Rattle.std.specs.Prelude.{◌≡◌, ◌+◌, ◌<◌, ◌^◌, length};
 ghost use Rattle.wac_binary.specs.Bytes.{item_bytes};
 ghost use Rattle.wac_sections.specs.ItemView.{item_of};
@@ -7,7 +7,7 @@ use crate::item::ItemRef;
 use wac_declarations::size::{argument_size, arguments_size, index_size, named_size};
 use wac_declarations::type_size::{alias_size, type_size};
 
-/// How many bytes an item has, without its section.
+/// Returns the size of an item without the head of its section.
 #[inline(always)]
 pub fn item_size(item: &ItemRef<'_>) -> u128
     ensures is { result ≡ length (item_bytes (item_of item.now)) }

@@ -1,4 +1,4 @@
-//! The sections of a component: items as they are written, the finished sections, and one that is open for more.
+//! The sections of a component: items that are to be written, the finished sections, and the open section.
 #![tactic(auto)]
 
 pub mod item;

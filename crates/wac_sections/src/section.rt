@@ -1,9 +1,7 @@
-//! The sections of a component: finished ones, and one that is open for further items of its id.
+//! The finished sections of a component, and the open section, to which further items of its id can be added.
 //!
-//! Whether an item fits is decided by its size before anything is written. The first item of a new section goes to a buffer of
-//! its own, which is swapped in once it is written; every other item is written once, into the open section, and cut off where
-//! memory is refused. Whether a section fits is clear from its count and its size alone unless their sum is near 2 ^ 32, since a
-//! number has at most one byte more than its value; the count's own length is looked at only there.
+//! The size of an item is checked before it is written. The first item of a section is written to a spare buffer,
+//! which then becomes the open section. Other items are written to the open section, and cut off if out of memory.
 
 ghost use Rattle.std.specs.Prelude.{◌≡◌, List, ℕ, ◌+◌, ◌<◌, ◌≤◌, ◌^◌, ◌++◌, length, OnOk, OnErr, IfOk, IfSome, ◌↔◌, IsTrue};
 ghost use Rattle.std.specs.List.{flat_map};
@@ -22,21 +20,21 @@ use wac_declarations::size::unsigned_size;
 
 const PREAMBLE: [u8; 8] = [0x00, 0x61, 0x73, 0x6d, 0x0d, 0x00, 0x01, 0x00];
 
-/// The open section: its id, and how many things it has.
+/// The open section: its id and the number of its items.
 #[derive(Clone, Copy, Debug)]
 pub struct Open {
     pub id: u8,
     pub count: u64,
 }
 
-/// Whether sections of this id hold several things.
+/// Returns whether sections of this id contain a vector of items.
 fn is_shared(id: u8) -> bool
     ensures { result ≡ shared id }
 {
     id != 0 && id != 4
 }
 
-/// Whether a section with things of so many bytes, and of so many more, fits 32 bits.
+/// Returns whether the section `last` fits 32-bit sizes with items of `before` and `more` bytes.
 #[inline(always)]
 #[tactic(auto, using(wac_binary::specs::LebLaws::leb_length, std::proofs::lemmas::Grind::common_steps))]
 fn fits(last: Open, before: u64, more: u128) -> bool
@@ -48,7 +46,7 @@ fn fits(last: Open, before: u64, more: u128) -> bool
         return false;
     }
     let size = before + more as u64;
-    // The count has at most one byte more than its value, so far from the limit its bytes need no counting.
+    // A number has at most one byte more than its value, so the size of the count matters only near the limit.
     if last.count + size < (1 << 32) - 1 {
         return true;
     }
@@ -60,7 +58,7 @@ fn fits(last: Open, before: u64, more: u128) -> bool
     last.count < 1 << 32 && head + size < 1 << 32
 }
 
-/// Whether there is room for an item: its space has so many indexes, and the section that it goes to fits 32 bits with it.
+/// Returns whether an item's index and its section fit in 32 bits. Its index space has `indexes` indexes.
 #[inline(always)]
 pub fn has_room(indexes: u64, last: &Option<Open>, things: &[u8], item: &ItemRef<'_>) -> bool
     requires { IfSome (section_of last.now things.now) SectionFits }
@@ -69,7 +67,7 @@ pub fn has_room(indexes: u64, last: &Option<Open>, things: &[u8], item: &ItemRef
     indexes < 1 << 32 && section_has_room(last, things, item)
 }
 
-/// Whether the section that an item goes to fits 32 bits with it.
+/// Returns whether the section that an item is added to fits 32-bit sizes.
 #[inline(always)]
 fn section_has_room(last: &Option<Open>, things: &[u8], item: &ItemRef<'_>) -> bool
     requires { IfSome (section_of last.now things.now) SectionFits }
@@ -89,7 +87,7 @@ fn section_has_room(last: &Option<Open>, things: &[u8], item: &ItemRef<'_>) -> b
     }
 }
 
-/// Writes the preamble where nothing is written yet.
+/// Writes the preamble if nothing is written yet, and fails only if out of memory. An error leaves `bytes` unchanged.
 pub fn begin(bytes: &mut Vec<u8>) -> Result<(), AllocError>
     ensures begun { OnOk result (bytes.new.items ≡ begun bytes.old.items) }
     ensures refused { OnErr result (bytes.new.items ≡ bytes.old.items) }
@@ -101,6 +99,7 @@ pub fn begin(bytes: &mut Vec<u8>) -> Result<(), AllocError>
     }
 }
 
+/// Appends a section.
 fn put_section(out: &mut Vec<u8>, last: Open, things: &[u8]) -> Result<(), AllocError>
     requires { SectionFits (section last things.now) }
     ensures written { OnOk result (out.new.items ≡ out.old.items ++ section_bytes (section last things.now)) }
@@ -116,7 +115,7 @@ fn put_section(out: &mut Vec<u8>, last: Open, things: &[u8]) -> Result<(), Alloc
     out.extend_from_slice(things)
 }
 
-/// Puts the open section, where there is one, at the end of a buffer.
+/// Appends the open section, if there is one, and fails only if out of memory.
 pub fn put_open(out: &mut Vec<u8>, last: Option<Open>, things: &[u8]) -> Result<(), AllocError>
     requires { IfSome (section_of last things.now) SectionFits }
     ensures written { OnOk result (out.new.items ≡ out.old.items ++ flat_map section_bytes (one (section_of last things.now))) }
@@ -128,7 +127,7 @@ pub fn put_open(out: &mut Vec<u8>, last: Option<Open>, things: &[u8]) -> Result<
     }
 }
 
-/// Puts the open section at the end of the finished ones, or leaves them as they were.
+/// Appends the open section to the finished ones, or leaves them unchanged.
 fn close(bytes: &mut Vec<u8>, last: Option<Open>, things: &[u8]) -> Result<(), AllocError>
     requires { IfSome (section_of last things.now) SectionFits }
     ensures written { OnOk result (bytes.new.items ≡ bytes.old.items ++ flat_map section_bytes (one (section_of last things.now))) }
@@ -144,7 +143,7 @@ fn close(bytes: &mut Vec<u8>, last: Option<Open>, things: &[u8]) -> Result<(), A
     }
 }
 
-/// Writes an item at the end of an open section, and answers how many things that has then; or leaves them as they were.
+/// Appends an item to a section and returns the new number of its items, or leaves the section unchanged.
 #[inline(always)]
 fn join(things: &mut Vec<u8>, last: Open, item: &ItemRef<'_>) -> Result<u64, AllocError>
     requires { last.count < 2 ^ 32 }
@@ -162,8 +161,9 @@ fn join(things: &mut Vec<u8>, last: Open, item: &ItemRef<'_>) -> Result<u64, All
     }
 }
 
-/// Writes an item into the open section, or into the next one, which is then the open one, and answers how many things
-/// the open section has.
+/// Writes an item to the open section, or to a new one, and returns the number of items in the open section.
+///
+/// It fails only if out of memory, and then leaves `bytes` and `things` unchanged.
 #[inline(always)]
 pub fn put_shared(
     bytes: &mut Vec<u8>,
@@ -209,7 +209,9 @@ fn put_alone_sections(
     put_alone_item(out, item)
 }
 
-/// Closes the open section and writes an item of this size in a section of its own, or leaves the bytes as they were.
+/// Closes the open section, and writes an item of `size` bytes in a section of its own.
+///
+/// It fails only if out of memory, and then leaves `bytes` unchanged.
 pub fn put_alone(
     bytes: &mut Vec<u8>,
     last: Option<Open>,
