@@ -51,8 +51,7 @@ pub record IsFirstConflict (g : Graph) (import instantiation : NodeId) (key : Ke
 abbrev pub HasMerge : Graph → Type 0
 HasMerge g = HasNoDisagreement by_names g.types (to_merge (asked_entries g)) × HasNoCircle by_names g.types (to_merge (asked_entries g))
 
--- The import at `second` is the first that disagrees with an earlier one of its class, and `first` is the first of
--- those.
+-- The import at `second` is the first that disagrees with an earlier one of its class. The first such one is at `first`.
 pub record IsMergeConflict (g : Graph) (first second : ℕ) (export : Name) : Type 0 where
   pub disagree : Disagrees by_names g.types (to_merge (asked_entries g)) first second export
   pub earlier : Entry

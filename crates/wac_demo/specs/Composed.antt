@@ -1,4 +1,4 @@
--- What the compositions are.
+-- The compositions.
 use Rattle.std.specs.Prelude.{◌≡◌, ℕ, List, [], Some, None, IsSomeAnd, true, false, codes, ◌⊎◌}
 use Rattle.wac_primitives.specs.Name.{Name}
 use Rattle.wac_collection.specs.Collection.{Collection, item_at, world_imports, world_exports}
@@ -19,77 +19,76 @@ use Rattle.wac_nodes.specs.Stays.{IsAliasBy, IsArgumentBy}
 use Rattle.wac_causes.specs.declared.errors.EncodeError.{EncodeError}
 use Rattle.wac_causes.specs.declared.errors.EncodeError.TheVariants as error
 
--- the bytes are those of items that mean such a graph, encoded with such options
+-- The bytes are those of items that mean such a graph, encoded with such options.
 abbrev pub Compose : List ℕ → (EncodeOptions → Type 0) → (Graph → Type 0) → Type 0
 Compose bytes O P = (items : List Item) × (options : EncodeOptions) × (graph : Graph) × (bytes ≡ bytes_of items) × O options × Means items graph options × P graph
 
--- the options that stand where nothing else is asked
+-- The options are the default ones.
 abbrev pub AreDefault : EncodeOptions → Type 0
 AreDefault options = options ≡ default_options
 
--- those, but that a processor of this name and version is named
+-- The options are the default ones with a processor of this name and version.
 abbrev pub NameProcessor : Name → Name → EncodeOptions → Type 0
 NameProcessor name version options =
     (options.define_components ≡ true) × (options.validate ≡ true) × IsSomeAnd options.processor (λ p. (p.name.now ≡ name) × (p.version.now ≡ version))
 
--- an instance of a package of this name
+-- The node is an instance of a package with this name.
 abbrev pub IsInstanceOf : Graph → Name → NodeId → Type 0
 IsInstanceOf g name n = (id : PackageId) × (p : PackageParts) × (node_at g n ≡ Some (instance_node id p)) × (package_at g id ≡ Some p) × (p.name ≡ name)
 
--- the export of an instance of the first package is the argument for an import of an instance of the second
+-- An export of an instance of the first package is the argument for an import of an instance of the second.
 abbrev pub GivesExport : Graph → Name → Name → Name → Name → Type 0
 GivesExport g first exported second imported =
     (giver : NodeId) × (given : NodeId) × (taker : NodeId)
     × IsInstanceOf g first giver × IsAliasBy g giver exported given × IsInstanceOf g second taker × IsArgumentBy g taker imported given
 
--- the two packages of the composition `readme`: the first one's `a` is the second one's `b`
+-- The composition `readme`: `a` of `my:package1` is the argument `b` of `my:package2`.
 abbrev pub IsReadme : Graph → Type 0
 IsReadme g = GivesExport g (codes "my:package1") (codes "a") (codes "my:package2") (codes "b")
 
--- a package is plugged into another: the export of an instance of the plug is the argument for the import of its name of an instance
--- of the socket, and the socket's export is exported by its name
+-- A plug's export is the argument of the same name of a socket, and the socket's export is exported.
 abbrev pub IsPluggedInto : Graph → Name → Name → Name → Name → Type 0
 IsPluggedInto g plug given_name socket passed_name =
     (giver : NodeId) × (given : NodeId) × (taker : NodeId) × (passed : NodeId)
     × IsInstanceOf g plug giver × IsAliasBy g giver given_name given × IsInstanceOf g socket taker × IsArgumentBy g taker given_name given
     × IsAliasBy g taker passed_name passed × (export_at g passed_name ≡ Some passed)
 
--- the two packages of the composition `plug`: the plug's `a` is the socket's `a`, and the socket's `run` is exported
+-- The composition `plug`: `a` of `my:plug` is the argument `a` of `my:socket`, whose `run` is exported.
 abbrev pub IsPlugged : Graph → Type 0
 IsPlugged g = IsPluggedInto g (codes "my:plug") (codes "a") (codes "my:socket") (codes "run")
 
--- the package under the id is a component without items, of this name and no version, with these imports and exports
+-- The package has this name, no version, these imports and exports, and the bytes of an empty component.
 abbrev pub IsEmptyPackage : Graph → PackageId → Name → List (Name × ItemKind) → List (Name × ItemKind) → Type 0
 IsEmptyPackage g id name imports exports =
     IsSomeAnd (package_at g id) (λ p. (p.name ≡ name) × (p.version ≡ None) × (p.bytes ≡ preamble) × (world_imports g.types p.world ≡ imports) × (world_exports g.types p.world ≡ exports))
 
--- the item is a function without parameters and result
+-- The item is a function without parameters and result.
 abbrev pub IsPlainFunction : Collection → ItemKind → Type 0
 IsPlainFunction types (kind.Func f) = item_at types.funcs f.0 ≡ Some (record { params = []; result = None; is_async = false })
 IsPlainFunction types _ = ⊥
 
--- a function without parameters and result is imported by a name, exported by another, and its node is named
+-- A function without parameters and result is imported and exported under these names, and its node has this name.
 abbrev pub PassesFunction : Graph → Name → Name → Name → Type 0
 PassesFunction g imported exported name =
     (n : NodeId) × IsSomeAnd (node_at g n) (λ node. (node.kind ≡ import imported) × IsPlainFunction g.types node.item_kind × (node.name ≡ Some name)) × (export_at g exported ≡ Some n)
 
--- the composition `function`: the import `x` is exported as `y`, and its node is named `n`
+-- The composition `function`: the import `x` is exported as `y`, and its node is named `n`.
 abbrev pub IsFunction : Graph → Type 0
 IsFunction g = PassesFunction g (codes "x") (codes "y") (codes "n")
 
--- an instance of a package of this name is its own argument for this import
+-- An instance of the package is its own argument for this import.
 abbrev pub IsItsOwnArgument : Graph → Name → Name → Type 0
 IsItsOwnArgument g name imported = (n : NodeId) × IsInstanceOf g name n × IsArgumentBy g n imported n
 
--- the package of the composition `cycle`: its instance is its own `i`
+-- The composition `cycle`: an instance of `my:package` is its own argument `i`.
 abbrev pub IsCycle : Graph → Type 0
 IsCycle g = IsItsOwnArgument g (codes "my:package") (codes "i")
 
--- the refusal names the lowest node on a cycle of the graph's edges, or memory ran out
+-- The error names the lowest node on a cycle, or memory ran out.
 abbrev pub RefusesCycle : Graph → EncodeError → Type 0
 RefusesCycle g e = ((n : NodeId) × IsLowestOnCycle g.edges n × (e ≡ error.GraphContainsCycle n)) ⊎ (e ≡ error.OutOfMemory)
 
--- the words of the compositions
+-- The words of the compositions.
 abbrev pub empty_word : List ℕ
 empty_word = codes "empty"
 
@@ -108,10 +107,11 @@ cycle_word = codes "cycle"
 abbrev pub function_word : List ℕ
 function_word = codes "function"
 
+-- The word has a composition.
 abbrev pub IsWord : List ℕ → Type 0
 IsWord word = (word ≡ empty_word) ⊎ ((word ≡ processor_word) ⊎ ((word ≡ function_word) ⊎ ((word ≡ readme_word) ⊎ ((word ≡ cycle_word) ⊎ (word ≡ plug_word)))))
 
--- the bytes are those of the word's composition; that of `cycle` has none
+-- The bytes are those of the word's composition; `cycle` has none.
 pub data IsComposed (word bytes : List ℕ) : Type 0 where
   of_empty : word ≡ empty_word → Compose bytes AreDefault IsEmpty → IsComposed word bytes
   of_processor : word ≡ processor_word → Compose bytes (NameProcessor (codes "x") (codes "1")) IsEmpty → IsComposed word bytes

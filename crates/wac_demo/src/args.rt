@@ -1,4 +1,4 @@
-//! The word that the program's arguments ask for.
+//! The word given by the program's arguments.
 ghost use Rattle.std.specs.Prelude.{◌≡◌, IfOk, string_bytes};
 ghost use Rattle.std.specs.Vec.Iter.{into_iter_items};
 ghost use Rattle.wac_demo.specs.Word.{word_of as asked};
@@ -7,8 +7,7 @@ use std::alloc::{AllocError, Global};
 use std::rt::Env;
 use std::{env, io};
 
-/// The word that the arguments ask for; the empty text, which names no composition, where one of them is not UTF-8.
-/// Answers an error where memory ran out.
+/// Returns the program's word, or the empty text if an argument is not UTF-8. Fails if memory runs out.
 pub fn asked_word<R: Env + AllocGlobal>(rt: &R) -> io::Result<String> {
     match env::args(rt) {
         Ok(args) => Ok(word_of(rt.alloc(), args)?),
@@ -21,7 +20,7 @@ pub fn asked_word<R: Env + AllocGlobal>(rt: &R) -> io::Result<String> {
     }
 }
 
-/// The one argument behind the program's name; `readme` where there is none, and the empty text where there are several.
+/// Returns the argument after the program's name: `readme` if there is none, and the empty text if there are several.
 pub fn word_of(alloc: Global, mut args: env::Args) -> Result<String, AllocError>
     ensures { IfOk result (λ word. string_bytes word ≡ asked (into_iter_items args)) }
 {

@@ -14,10 +14,10 @@ use wac_graph::{CompositionGraph, plug};
 use wac_nodes::{EncodeOptions, PackageId, Processor};
 use wac_types::{FuncType, Interface, ItemKind, World};
 
-/// A component with nothing in it: no section, so the eight bytes of the preamble alone.
+/// The bytes of a component without sections.
 pub const EMPTY_COMPONENT: [u8; 8] = [0x00, 0x61, 0x73, 0x6d, 0x0d, 0x00, 0x01, 0x00];
 
-/// The graph that holds nothing.
+/// Encodes the empty graph.
 pub fn empty(alloc: Global) -> Result<Vec<u8>>
     ensures { IfOk result (λ bytes. Compose bytes.items AreDefault IsEmpty) }
 {
@@ -25,7 +25,7 @@ pub fn empty(alloc: Global) -> Result<Vec<u8>>
     Ok(graph.encode(EncodeOptions::default())?)
 }
 
-/// The graph that holds nothing, with a processor that is named.
+/// Encodes the empty graph with a processor.
 pub fn processor(alloc: Global) -> Result<Vec<u8>>
     ensures { IfOk result (λ bytes. Compose bytes.items (NameProcessor (codes "x") (codes "1")) IsEmpty) }
 {
@@ -40,7 +40,7 @@ pub fn processor(alloc: Global) -> Result<Vec<u8>>
     })?)
 }
 
-/// A function that is imported as `x` and exported as `y`; its node is named `n`.
+/// Encodes a function that is imported as `x` and exported as `y`, with a node named `n`.
 pub fn passed(alloc: Global) -> Result<Vec<u8>>
     ensures { IfOk result (λ bytes. Compose bytes.items AreDefault IsFunction) }
 {
@@ -52,7 +52,7 @@ pub fn passed(alloc: Global) -> Result<Vec<u8>>
     Ok(graph.encode(EncodeOptions::default())?)
 }
 
-/// Two packages: the function `a` of an instance of the first is given to an instance of the second as `b`.
+/// Encodes two instances of packages: the function `a` of the first is the argument `b` of the second.
 pub fn readme(alloc: Global) -> Result<Vec<u8>>
     ensures { IfOk result (λ bytes. Compose bytes.items AreDefault IsReadme) }
 {
@@ -67,14 +67,14 @@ pub fn readme(alloc: Global) -> Result<Vec<u8>>
     Ok(graph.encode(EncodeOptions::default())?)
 }
 
-/// An instance that is its own argument: it cannot be encoded.
+/// Tries to encode an instance that is its own argument, which is an error.
 pub fn cycle(alloc: Global) -> Result<Vec<u8>>
     ensures { IsErr result }
 {
     Err(cycle_refusal(alloc)?.into())
 }
 
-/// Why the graph of that instance cannot be encoded.
+/// Returns the error of encoding an instance that is its own argument.
 pub fn cycle_refusal(alloc: Global) -> Result<EncodeError>
     ensures { IfOk result (λ e. (graph : Graph) × IsCycle graph × RefusesCycle graph e) }
 {
@@ -86,8 +86,7 @@ pub fn cycle_refusal(alloc: Global) -> Result<EncodeError>
     Ok(graph.encode(EncodeOptions::default()).unwrap_err())
 }
 
-/// A package plugged into another: the function `a` that the plug exports is given to the socket as `a`, and the socket's
-/// function `run` is exported.
+/// Encodes a plug that exports the function `a`, plugged into a socket that imports `a` and exports the function `run`.
 pub fn plugged(alloc: Global) -> Result<Vec<u8>>
     ensures { IfOk result (λ bytes. Compose bytes.items AreDefault IsPlugged) }
 {
@@ -102,13 +101,13 @@ pub fn plugged(alloc: Global) -> Result<Vec<u8>>
         &[("run", function)],
     )?;
     let plugs = vec![in alloc; giver]?;
-    graph.law();
+    graph.law(); // proof only
     plug(&mut graph, plugs, socket)?;
-    graph.law();
+    graph.law(); // proof only
     Ok(graph.encode(EncodeOptions::default())?)
 }
 
-/// A function type without parameters and result.
+/// Adds a function type without parameters and result.
 pub fn function(alloc: Global, graph: &mut CompositionGraph) -> Result<ItemKind>
     ensures plain { IfOk result (λ kind. IsPlainFunction graph.new.types kind) }
     ensures stays { Stays graph.old graph.new }
@@ -117,7 +116,7 @@ pub fn function(alloc: Global, graph: &mut CompositionGraph) -> Result<ItemKind>
     Ok(ItemKind::Func(graph.add_func_type(function)?))
 }
 
-/// An instance type without exports.
+/// Adds an interface without exports.
 pub fn empty_instance(alloc: Global, graph: &mut CompositionGraph) -> Result<ItemKind>
     ensures { Stays graph.old graph.new }
 {
@@ -125,7 +124,7 @@ pub fn empty_instance(alloc: Global, graph: &mut CompositionGraph) -> Result<Ite
     Ok(ItemKind::Instance(graph.add_interface(interface)?))
 }
 
-/// A registered package of a new world with these imports and exports, its bytes an empty component.
+/// Registers a package of a new world with these imports and exports. Its bytes are an empty component.
 pub fn register(
     alloc: Global,
     graph: &mut CompositionGraph,

@@ -1,4 +1,4 @@
-//! Prints a composition of WebAssembly components by its word, as a line of hexadecimal.
+//! Prints a composition of WebAssembly components, chosen by a word, as a line of hexadecimal.
 #![tactic(auto)]
 
 mod args;

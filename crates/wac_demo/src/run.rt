@@ -1,4 +1,4 @@
-//! From a word to what the program prints and the status it ends with.
+//! The output and the exit status of the program.
 ghost use Rattle.std.specs.Prelude.{◌≡◌, ◌≢◌, ◌⊎◌, ℕ, ◌<◌, List, IfOk, MatchOption, string_bytes};
 ghost use Rattle.std.specs.Io.KnownBytes.{Appends, Keeps};
 ghost use Rattle.anyhow.specs.Error.{error_message};
@@ -10,9 +10,12 @@ use anyhow::{Error, Result};
 use std::alloc::Global;
 use std::io::Write;
 
-/// Prints the composition of this word: its bytes in lower-case hexadecimal and a newline, and answers 0. Prints the
-/// error's text and a newline where it cannot be composed, and answers 1; prints `unknown composition` and a newline
-/// where no composition has this word, and answers 2. Answers 3 where a write fails.
+/// Prints the composition of a word in lower-case hexadecimal with a newline, and returns the exit status.
+///
+/// - 0: the composition was printed.
+/// - 1: the text of an error was printed, since the composition failed.
+/// - 2: `unknown composition` was printed, since no composition has the word.
+/// - 3: a write failed.
 pub fn run<W: Write>(alloc: Global, word: &str, out: &mut W) -> u8
     ensures statuses { result < 4 }
     ensures composed { result ≡ 0 → (bytes : List ℕ) × IsComposed word.now bytes × Appends (W.contents out.old) (W.contents out.new) (hex_line bytes) }
@@ -34,7 +37,7 @@ pub fn run<W: Write>(alloc: Global, word: &str, out: &mut W) -> u8
     }
 }
 
-/// Prints an error's text and a newline, and answers 1, or 3 where a write fails.
+/// Prints the text of an error with a newline. Returns 1, or 3 if a write fails.
 pub fn refuse<W: Write>(error: &Error, out: &mut W) -> u8
     ensures { Prints (line_of (error_message error.now)) 1 result (W.contents out.old) (W.contents out.new) }
 {
@@ -44,7 +47,7 @@ pub fn refuse<W: Write>(error: &Error, out: &mut W) -> u8
     }
 }
 
-// The bytes in lower-case hexadecimal, and a newline.
+// Returns the bytes in lower-case hexadecimal with a newline.
 fn line(alloc: Global, bytes: &[u8]) -> Result<String>
     ensures { IfOk result (λ line. string_bytes line ≡ hex_line bytes.now) }
 {
@@ -53,7 +56,7 @@ fn line(alloc: Global, bytes: &[u8]) -> Result<String>
     Ok(line)
 }
 
-// The bytes of this word's composition, where there is one.
+// Returns the composition of a word, or `None` if the word has none.
 fn compose(alloc: Global, word: &str) -> Option<Result<Vec<u8>>>
     ensures { MatchOption result (IsWord word.now → ⊥) (λ r. IsWord word.now × IfOk r (λ bytes. IsComposed word.now bytes.items)) }
 {
@@ -68,7 +71,7 @@ fn compose(alloc: Global, word: &str) -> Option<Result<Vec<u8>>>
     }
 }
 
-// Prints a text, and answers the status, or 3 where a write fails.
+// Prints a text. Returns the status, or 3 if a write fails.
 fn print<W: Write>(text: &str, out: &mut W, status: u8) -> u8
     ensures { Prints text.now status result (W.contents out.old) (W.contents out.new) }
 {
@@ -78,7 +81,7 @@ fn print<W: Write>(text: &str, out: &mut W, status: u8) -> u8
     }
 }
 
-// Flushes, and answers the status, or 3 where that fails.
+// Flushes the output. Returns the status, or 3 if flushing fails.
 fn flushed<W: Write>(out: &mut W, status: u8) -> u8
     ensures { (result ≡ 3) ⊎ ((result ≡ status) × Keeps (W.contents out.old) (W.contents out.new)) }
 {

@@ -1,4 +1,4 @@
-// What is printed of a composition's word, and the word that arguments ask for.
+// Tests of the printed lines and of the words of arguments.
 use crate::args::asked_word;
 use crate::compositions::cycle_refusal;
 use crate::run::run;
@@ -24,7 +24,7 @@ const CYCLE: &str = "the graph contains a cycle and cannot be encoded\n";
 
 const UNKNOWN: &str = "unknown composition\n";
 
-// A word, the line that is printed, and the status.
+// A word, the line printed for it, and the status.
 const WORDS: &[(&str, &str, u8)] = &[
     ("empty", "0061736d0d000100\n", 0),
     ("processor", PROCESSOR, 0),
@@ -51,7 +51,7 @@ fn a_word_is_answered_by_a_line(rt: HostRuntime) {
     }
 }
 
-// The number of the node that a cycle is refused by, as a text.
+// The number of the node on the cycle, as text.
 fn refused_by(rt: &(impl Abort + AllocGlobal), refusal: &EncodeError) -> String {
     let EncodeError::GraphContainsCycle { node } = refusal else {
         panic!(rt; "no cycle is named");
@@ -66,7 +66,7 @@ fn a_cycle_is_refused_by_its_node(rt: HostRuntime) {
     assert_row(&rt, node.as_str() == "0", "a cycle");
 }
 
-// A writer that takes so many bytes, and whose flush fails where it is said to.
+// A writer with room for some bytes. `flushes` says whether flushing succeeds.
 #[derive(Drop)]
 struct Full {
     room: usize,
@@ -92,7 +92,7 @@ impl Write for Full {
     }
 }
 
-// A word, the room of a writer, whether it flushes, and the status.
+// A word, the room of the writer, whether it flushes, and the status.
 const ROOMS: &[(&str, usize, bool, u8)] = &[
     ("empty", 17, true, 0),
     ("empty", 17, false, 3),
@@ -116,7 +116,7 @@ fn a_failed_write_ends_with_3(rt: HostRuntime) {
     }
 }
 
-// Arguments behind the program's name.
+// The arguments after the program's name.
 #[derive(Drop)]
 struct Given<'a>(&'a [&'a [u8]]);
 
@@ -146,7 +146,7 @@ impl Env for Given<'_> {
     }
 }
 
-// Arguments, and the word that they ask for.
+// Arguments, and the word that they give.
 const ARGUMENTS: &[(&[&[u8]], &str)] = &[
     (&[], "readme"),
     (&[b"empty"], "empty"),

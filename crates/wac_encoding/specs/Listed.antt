@@ -1,4 +1,4 @@
--- Where the root aliases from what the imports of a graph list.
+-- The types that the root aliases from imported instances.
 use Rattle.std.specs.Prelude.{◌≡◌, Option, Some, None}
 use Rattle.wac_primitives.specs.Name.{Name}
 use Rattle.wac_shapes.specs.declared.component.DefinedTypeId.{DefinedTypeId}
@@ -12,12 +12,12 @@ use Rattle.wac_nodes.specs.OuterImports.{outer_entries}
 use Rattle.wac_meaning.specs.Beginning.{Places, IsPlacedAt}
 use Rattle.wac_meaning.specs.Listing.{first_listing}
 
--- a definition that an import lists is listed by the instance at that import's place, under its name there; another one is not listed
+-- The root records the first import that exports the type, by its index and the type's name; or neither exists.
 abbrev pub IsListedFrom : Graph → Places → Option (Name × Name) → Option Listed → Type 0
 IsListedFrom g places None None = Unit {0}
 IsListedFrom g places (Some (entry, name)) (Some (ByInstance i n)) = IsPlacedAt g places entry sort.Instance i × (n ≡ name)
 IsListedFrom g places o l = ⊥
 
--- and so of each definition
+-- The root records this for every defined type.
 abbrev pub IsListedFor : Graph → Places → Scope → Type 0
 IsListedFor g places s = (d : DefinedTypeId) → IsListedFrom g places (first_listing g.types (outer_entries g) d) (listed_at s d)

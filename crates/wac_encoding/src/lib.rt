@@ -1,6 +1,4 @@
-//! What is written of a graph, behind the imports of what it asks for: its nodes in order, its exports and the names of its nodes.
-//!
-//! A layer of `wac_graph`, whose crate is the door.
+//! Writing a graph after its imports: nodes in order, exports, names of nodes and the processor.
 #![tactic(auto)]
 
 mod listing;

@@ -1,4 +1,4 @@
-//! What the imports of a graph list, as it is recorded in the root.
+//! The types that imported instances export, for definitions to alias.
 ghost use Rattle.std.specs.Prelude.{◌≡◌, ℕ, false, OnOk, None, Some, IsSomeAnd, slice_get};
 ghost use Rattle.wac_causes.specs.NotYet.{AllImportable};
 ghost use Rattle.wac_encoding.specs.Listed.{IsListedFor};
@@ -26,8 +26,9 @@ use wac_reading::GraphReader;
 use wac_scopes::{Scope, instance_law};
 use wac_types::{InterfaceId, ItemKind};
 
-/// Records in the root, where the graph defines a type, what the instances list that the graph asks for, each at the import into which its
-/// name fell: definitions are aliased from there, each from the first instance that lists it.
+/// Records the types that imported instances export, so that definitions alias them. Does nothing without definitions.
+///
+/// A type is aliased from the first import that exports it.
 pub(crate) fn list_imports(
     reader: &GraphReader<'_>,
     imports: &ImportPlaces,
@@ -58,7 +59,7 @@ pub(crate) fn list_imports(
     Ok(())
 }
 
-/// Records what the instance lists that is asked for at a position.
+/// Records the types that the instance at a position of the imports exports.
 fn list_instance(
     reader: &GraphReader<'_>,
     imports: &ImportPlaces,
@@ -77,17 +78,17 @@ fn list_instance(
     ensures listed { OnOk result ((index : ℕ) × IsPlacedAt reader.now imports.now.places.items name.now sort.Instance index × AlsoLists root.old index (listed_definitions reader.now.types (interface_exports reader.now.types interface)) root.new) }
     ensures kept { OnOk result (root.new.content ≡ root.old.content) }
 {
-    wac_binary::law();
-    kept_law();
-    class_laws();
-    order_law();
-    instance_law();
-    reader.law();
+    wac_binary::law(); // proof only
+    kept_law(); // proof only
+    class_laws(); // proof only
+    order_law(); // proof only
+    instance_law(); // proof only
+    reader.law(); // proof only
     let types = reader.types();
-    types.law();
+    types.law(); // proof only
     let (_, index) = imports.place_of(name);
     let held = &types[interface];
-    held.exports.law();
+    held.exports.law(); // proof only
     let worlds = Worlds::new(types.allocator());
     let definitions = TypeEncoder::new(types, &worlds).listed_definitions(&held.exports)?;
     root.list_definitions(index, definitions)?;

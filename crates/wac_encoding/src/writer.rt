@@ -1,4 +1,4 @@
-//! From a graph to the bytes of one component, behind its imports.
+//! From a graph and its written imports to the bytes of a component.
 ghost use Rattle.std.specs.Prelude.{◌≡◌, ℕ, ◌<◌, IsSomeAnd, true, false, OnOk, IfOk, IfErr, IfSome, IfNone, Some, None, List, length, slice_get};
 ghost use Rattle.wac_binary.specs.Bytes.{bytes_of};
 ghost use Rattle.wac_binary.specs.Items.{Item as AnItem};
@@ -36,11 +36,14 @@ use wac_places::{ImportPlaces, import_indexes};
 use wac_reading::{Encoder, GraphReader, sort_of, write_processor};
 use wac_scopes::rooted_law;
 
-/// The bytes of one component that is what the graph composes, behind items that import what it asks for: these nodes in
-/// order, which are those that are no imports, the exports, the names of nodes where any is named, and the processor. It is
-/// told whether any node has a name, and whether any is a definition.
+/// Returns the bytes of the component that the graph composes. The root has the graph's imports already.
 ///
-/// Answers `TooLarge` where a size does not fit 32 bits, and `OutOfMemory` where memory ran out.
+/// The nodes of `order`, the exports, the names and the processor follow.
+/// `named` and `defined` say whether any node has a name, and whether any is a definition.
+///
+/// # Errors
+/// - [`TooLarge`](EncodeError::TooLarge) if an index, a count or a size does not fit 32 bits.
+/// - [`OutOfMemory`](EncodeError::OutOfMemory).
 pub fn write(
     reader: &GraphReader<'_>,
     root: ComponentBuilder,
@@ -62,10 +65,10 @@ pub fn write(
     ensures means { IfOk result (λ bytes. (items : List AnItem) × (bytes.items ≡ bytes_of items) × Means items reader.now options.entry) }
     ensures fault { IfErr result (λ e. cause_of e ≡ None) }
 {
-    wac_binary::law();
-    class_laws();
-    order_law();
-    reader.law();
+    wac_binary::law(); // proof only
+    class_laws(); // proof only
+    order_law(); // proof only
+    reader.law(); // proof only
     let indexes = import_indexes(reader, imports)?;
     let mut encoder = Encoder::new(reader.allocator(), root, indexes);
     list_imports(reader, imports, &mut encoder.root, defined)?;
@@ -77,7 +80,7 @@ pub fn write(
     Ok(component.into_bytes()?)
 }
 
-/// Writes these nodes one after another.
+/// Writes the nodes in this order.
 fn write_nodes(
     reader: &GraphReader<'_>,
     encoder: &mut Encoder,
@@ -101,7 +104,7 @@ fn write_nodes(
     Ok(())
 }
 
-/// Writes a node, and notes the index at which it stands.
+/// Writes a node and records its index.
 fn write_node(
     reader: &GraphReader<'_>,
     encoder: &mut Encoder,
@@ -131,7 +134,7 @@ fn write_node(
     Ok(())
 }
 
-/// Writes a definition: the types that it is made of, and the export by its first name, whose index it answers.
+/// Writes the types of a definition and the export under its first name. Returns the index of the export.
 fn write_definition(
     reader: &GraphReader<'_>,
     encoder: &mut Encoder,
@@ -153,7 +156,7 @@ fn write_definition(
     Ok(index)
 }
 
-/// Writes an instantiation behind its package's component, and answers its index.
+/// Writes an instantiation, after its package's component, and returns its index.
 fn write_instantiation(
     reader: &GraphReader<'_>,
     encoder: &mut Encoder,
@@ -170,15 +173,14 @@ fn write_instantiation(
     ensures kept { encoder.new.indexes ≡ encoder.old.indexes }
     ensures fault { IfErr result (λ e. cause_of e ≡ None) }
 {
-    rooted_law();
+    rooted_law(); // proof only
     let (id, package) = reader.package_of(n.0);
     let arguments = arguments(reader, imports, &encoder.indexes, n)?;
     let component = encoder.component(id, package.bytes())?;
     Ok(encoder.root.instantiate(component, &arguments)?)
 }
 
-/// An instantiation's arguments in world order: the import's name, with the sort and the index of the node that
-/// was set, or of the import into which the name fell.
+/// Returns an instantiation's arguments in world order, each with its import's name, sort and index.
 fn arguments<'a>(
     reader: &GraphReader<'a>,
     imports: &ImportPlaces,
@@ -202,8 +204,7 @@ fn arguments<'a>(
     Ok(arguments)
 }
 
-/// The sort and the index of an instantiation's argument: of the node that was set, or of the import into which the name
-/// fell.
+/// The sort and index of an argument: of the node that was set, or of the import of the name's class.
 fn argument(
     reader: &GraphReader<'_>,
     imports: &ImportPlaces,
@@ -220,9 +221,9 @@ fn argument(
     requires unset { IfNone source (IsUnsatisfied reader.now n position) }
     ensures { IsArgumentItem reader.now imports.now.places.items (index_in indexes.now) n position name.now (name.now, result.0, result.1) }
 {
-    class_laws();
-    order_law();
-    reader.law();
+    class_laws(); // proof only
+    order_law(); // proof only
+    reader.law(); // proof only
     match source {
         Some(source) => (sort_of(reader.item_kind(source)), indexes[source.0]),
         None => imports.place_of(name),

@@ -1,4 +1,4 @@
--- What is left of a walk over what a graph asks for. Private functions alone cite this.
+-- The list of imports while it is built. Only private functions use these definitions.
 use Rattle.std.specs.Prelude.{ℕ, zero, suc, ◌+◌, ◌≡◌, Bool, true, false, ◌&&◌, ◌||◌, cond, nat_eq, nat_lt, List, [], ◌∷◌, ◌++◌, length, map, Option, slice_get}
 use Rattle.std.specs.Borrow.{Bor}
 use Rattle.std.specs.HashSet.{HashSet, contains_by}
@@ -24,148 +24,160 @@ use Rattle.wac_fields.specs.ImportsLeft.{node_left}
 use Rattle.wac_nodes.specs.Asked.{Entry, asked_by, imported_by}
 use Rattle.wac_nodes.specs.Entries.{under_id, used_by, asks_again, once, with_used}
 
--- what an entry says
+-- The import as a value.
 abbrev pub entry_view : AskedEntry → Entry
 entry_view e = record { name = e.name.now; kind = e.kind; node = e.node }
 
--- the entry of an item that is used by what a node asks for
+-- The item as an import that node n needs.
 abbrev pub by_node : ℕ → Name × ItemKind → Entry
 by_node n u = record { name = u.0; kind = u.1; node = n }
 
--- an instance under a name
+-- The instance of an interface under a name.
 abbrev pub instance_under : Name → InterfaceId → Entry
 instance_under name i = record { name = name; kind = kind.Instance i; node = 0 }
 
--- one of the entries asks for the same instance under the same name
+-- The list has the same instance under the same name.
 abbrev pub has : List Entry → Entry → Bool
 has [] e = false
 has (x ∷ xs) e = asks_again x e || has xs e
 
+-- Every import of the second list is in the first, as an instance under its name.
 abbrev pub HasAll : List Entry → List Entry → Type 0
 HasAll xs ys = AllByRecursion (λ y. has xs y ≡ true) ys
 
--- with one more entry, unless it is asked for
+-- The list with one more import, unless it is an instance that is in the list.
 abbrev pub added : List Entry → Entry → List Entry
 added xs e = cond (has xs e) xs (xs ++ e ∷ [])
 
--- no entry asks again for what one before it asks for
+-- No import repeats an earlier instance.
 abbrev pub AreApart : List Entry → Type 0
 AreApart [] = Unit {0}
 AreApart (x ∷ xs) = AllByRecursion (λ y. asks_again x y ≡ false) xs × AreApart xs
 
--- what each entry uses is asked for before it, or was seen
+-- Everything that an import uses is before it, or was before the list.
 abbrev pub AreSettled : Collection → List Entry → List Entry → Type 0
 AreSettled c seen [] = Unit {0}
 AreSettled c seen (x ∷ xs) = HasAll seen (map (by_node x.node) (used_by c x.kind)) × AreSettled c (seen ++ x ∷ []) xs
 
--- whatever comes behind them, two lists ask for the same, and are settled alike
+-- The two lists are alike: after any continuation they have the same imports once, and the uses are in order.
 pub record AsksAlike (c : Collection) (a b : List Entry) : Type 0 where
   pub same : (tail : List Entry) → once (a ++ tail) ≡ once (b ++ tail)
   pub settled : (tail : List Entry) → AreSettled c [] (a ++ tail) → AreSettled c [] (b ++ tail)
 
--- the instance is known under the name
+-- The set has the instance under the name.
 abbrev pub knows : {S : Type 0} → HashSet (Bor (List ℕ) × InterfaceId) S → Name → InterfaceId → Bool
 knows s name i = contains_by (λ k. bytes_eq name k.0.now && nat_eq i.0 k.1.0) s
 
--- what is asked for so far
+-- The imports that are listed so far.
 abbrev pub entries_of : Asking → List Entry
 entries_of a = map entry_view a.entries.items
 
--- nothing is asked for again, and the instances that are asked for are known
+-- No instance is repeated, and the set has exactly the listed instances.
 pub record IsRight (a : Asking) : Type 0 where
   pub apart : AreApart (entries_of a)
   pub known : (name : Name) (i : InterfaceId) → knows a.known name i ≡ has (entries_of a) (instance_under name i)
 
--- the types that an interface uses
+-- The types that an interface uses.
 abbrev pub uses_of : Collection → InterfaceId → List (Name × UsedType)
 uses_of c i = option_case (item_at c.interfaces i.0) [] (λ it. it.uses)
 
--- the interfaces of used types are to be opened, the first at the end
+-- The tasks for the interfaces of these uses, the first one on top.
 abbrev pub openings : List (Name × UsedType) → List Task
 openings [] = []
 openings (u ∷ us) = openings us ++ Open u.1.interface ∷ []
 
+-- The interface of a task.
 abbrev pub task_id : Task → InterfaceId
 task_id (Open i) = i
 task_id (Close i) = i
 
+-- The interface of a task is of the collection.
 abbrev pub IsHeldTask : Collection → Task → Type 0
 IsHeldTask c t = HasInterface c (task_id t)
 
--- what a task comes to, and what tasks come to, the last first
+-- The items that a task lists.
 abbrev pub task_items : Collection → Task → List (Name × ItemKind)
 task_items c (Open i) = used_by c (kind.Instance i) ++ under_id c i
 task_items c (Close i) = under_id c i
 
+-- The items that tasks list, the last task first.
 abbrev pub tasks_items : Collection → List Task → List (Name × ItemKind)
 tasks_items c [] = []
 tasks_items c (t ∷ ts) = tasks_items c ts ++ task_items c t
 
+-- The imports that tasks list for node n.
 abbrev pub tasks_entries : Collection → ℕ → List Task → List Entry
 tasks_entries c n ts = map (by_node n) (tasks_items c ts)
 
--- how many interfaces were added before one
+-- The number of interfaces with fewer than b interfaces before them.
 abbrev pub count_before : ℕ → List (Held Interface) → ℕ
 count_before b [] = 0
 count_before b (h ∷ hs) = cond (nat_lt h.before b) (suc (count_before b hs)) (count_before b hs)
 
+-- The number of interfaces that were added before this one.
 abbrev pub rank : Collection → InterfaceId → ℕ
 rank c i = option_case (slice_get c.interfaces i.0) 0 (λ h. count_before h.before c.interfaces)
 
--- how many tasks an interface comes to, so many uses deep
+-- The sum over a list.
 abbrev pub total : {A : Type 0} → (A → ℕ) → List A → ℕ
 total f [] = 0
 total f (x ∷ xs) = f x + total f xs
 
+-- The number of tasks that an interface leads to, down to the given depth of uses.
 abbrev pub weight_to : ℕ → Collection → InterfaceId → ℕ
 weight_to zero c i = 0
 weight_to (suc k) c i = suc (suc (total (λ u. weight_to k c (u.1.interface)) (uses_of c i)))
 
+-- The number of tasks that a task leads to.
 abbrev pub task_weight : Collection → Task → ℕ
 task_weight c (Open i) = weight_to (suc (length c.interfaces)) c i
 task_weight c (Close i) = 1
 
+-- The number of tasks that all tasks lead to.
 abbrev pub tasks_weight : Collection → List Task → ℕ
 tasks_weight c ts = total (task_weight c) ts
 
--- a task was done: its interface was asked for, or is left behind what it uses, or is asked for now, or has no id
+-- The step of a task: skip a listed interface, delay it after its uses, list it, or pass one without id.
 pub data Did (c : Collection) (n : ℕ) (t : Task) (old new : List Entry) (left now : List Task) : Type 0 where
   skipped : (i : InterfaceId) (name : Name) → t ≡ Open i → under_id c i ≡ (name, kind.Instance i) ∷ [] → has old (instance_under name i) ≡ true → new ≡ old → now ≡ left → Did c n t old new left now
   put_off : (i : InterfaceId) → t ≡ Open i → new ≡ old → now ≡ left ++ Close i ∷ openings (uses_of c i) → Did c n t old new left now
   closed : (i : InterfaceId) (name : Name) → t ≡ Close i → under_id c i ≡ (name, kind.Instance i) ∷ [] → new ≡ added old (by_node n (name, kind.Instance i)) → now ≡ left → Did c n t old new left now
   passed : (i : InterfaceId) → t ≡ Close i → under_id c i ≡ [] → new ≡ old → now ≡ left → Did c n t old new left now
 
--- while tasks are done: what was asked for with what was wanted, and what is with what is left
+-- The listed imports together with those of the remaining tasks are alike to the wanted ones.
 pub record IsUnderWay (c : Collection) (n : ℕ) (wanted : List Entry) (now : List Entry) (tasks : List Task) : Type 0 where
   pub stands : AsksAlike c wanted (now ++ tasks_entries c n tasks)
   pub settled : AreSettled c [] (now ++ tasks_entries c n tasks)
   pub held : AllByRecursion (IsHeldTask c) tasks
 
--- the item is held
+-- The item's type is of the collection.
 abbrev pub IsHeldKind : Collection → ItemKind → Type 0
 IsHeldKind c k = holds_type c (kind_type k) ≡ true
 
--- what the node of a number asks for, as an instantiation, and as an import node
+-- The implicit imports of the node with this number.
 abbrev pub asked_at : Graph → ℕ → List Entry
 asked_at g n = asked_by g n (node_at g (record { 0 = n }))
 
+-- The explicit imports of the node with this number.
 abbrev pub imported_at : Graph → ℕ → List Entry
 imported_at g n = imported_by n (node_at g (record { 0 = n }))
 
--- what is asked for with each of the entries, by all instantiations, and by all import nodes
+-- Each import after the interfaces that it uses.
 abbrev pub all_with_used : Collection → List Entry → List Entry
 all_with_used c es = flat_map (with_used c) es
 
+-- The implicit imports of all nodes.
 abbrev pub all_asked_by : Graph → List Entry
 all_asked_by g = flat_map (asked_at g) (finite.keys g.nodes)
 
+-- The explicit imports of all nodes.
 abbrev pub all_imported_by : Graph → List Entry
 all_imported_by g = flat_map (imported_at g) (finite.keys g.nodes)
 
--- the entry of a row of a node's imports
+-- The import of a row of node n.
 abbrev pub row_entry : ℕ → Name × ItemKind × Option NodeId → Entry
 row_entry n r = record { name = r.0; kind = r.1; node = n }
 
--- the entries of an instantiation's imports from a position on
+-- The unsatisfied imports of node n from a position on.
 abbrev pub left_entries : Graph → ℕ → ℕ → List Entry
 left_entries g n from = map (row_entry n) (node_left g n from (node_at g (record { 0 = n })))

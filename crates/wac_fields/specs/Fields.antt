@@ -1,4 +1,4 @@
--- What a graph keeps in its fields, what they mean, and what is always true of them.
+-- The fields of a graph: their value and their invariant.
 use Rattle.std.specs.Prelude.{◌≡◌, ◌≤◌, ℕ, true, length, Some, String, Vec, vec_capacity}
 use Rattle.std.specs.Global.{Global}
 use Rattle.std.specs.FinSet as set
@@ -22,10 +22,11 @@ use Rattle.wac_fields.specs.declared.lost.Lost.{Lost}
 use Rattle.wac_fields.specs.Lost.{AreTold}
 use Rattle.wac_fields.specs.Slots.{AreKeyed, vacant_of}
 
--- nodes under names
+-- A map from names to nodes.
 abbrev pub Names : Type 0
 Names = HashMap (String Global) NodeId (BuildHasherDefault FoldHasher)
 
+-- The fields of a graph.
 pub record Fields : Type 0 where
   pub types : Collection
   pub nodes : Slab Node
@@ -37,6 +38,7 @@ pub record Fields : Type 0 where
   pub vacant : Vec ℕ Global
   pub lost : Lost
 
+-- The graph that the fields represent.
 abbrev pub graph_of : Fields → Graph
 graph_of a = record {
   types = a.types;
@@ -48,17 +50,17 @@ graph_of a = record {
   vacant = vacant_of a.vacant;
 }
 
--- what is always true
+-- The invariant of the fields.
 pub record Invariant (a : Fields) : Type 0 where
   pub sound : IsSound (graph_of a)
-  -- a position with an argument edge is satisfied, and no other
+  -- The satisfied positions of a node are exactly those with an argument edge.
   pub marked : (source target : NodeId) (position : ℕ) → set.contains a.edges (argument_edge source target position) ≡ true → satisfied_at (get a.nodes target.0) position ≡ true
   pub edged : (target : NodeId) (position : ℕ) → satisfied_at (get a.nodes target.0) position ≡ true → (source : NodeId) × (set.contains a.edges (argument_edge source target position) ≡ true)
-  -- packages are found under their keys, and each slot has room to be noted as vacant
+  -- Packages are found under their keys, and there is memory to free each slot.
   pub keyed : AreKeyed a.slots.items a.package_map.entries
   pub room : length a.slots.items ≤ vec_capacity a.vacant
-  -- imports are found under their names, and nothing else is
+  -- Exactly the import nodes are found under their names.
   pub named : (name : Name) (n : NodeId) → IsImportOf (graph_of a) name n → find_name (names_of a.imports.entries) name ≡ Some n
   pub importing : (name : Name) (n : NodeId) → find_name (names_of a.imports.entries) name ≡ Some n → IsImportOf (graph_of a) name n
-  -- each export is one of which its node tells
+  -- Each export is its node's latest, or its node is marked as having several.
   pub told : AreTold a.lost a.nodes a.exports.entries

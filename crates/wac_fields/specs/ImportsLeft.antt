@@ -1,4 +1,4 @@
--- What is left of a walk over a graph's imports. Private functions alone cite this.
+-- The rest of a walk over a graph's imports. Only private functions use these definitions.
 use Rattle.std.specs.Prelude.{ℕ, zero, suc, ◌+◌, ◌-◌, Bool, if◌then◌else◌, List, [], ◌∷◌, ◌++◌, map, drop, Option, Some, None}
 use Rattle.std.specs.List.{flat_map, range_with_len}
 use Rattle.wac_primitives.specs.Name.{Name}
@@ -9,20 +9,20 @@ use Rattle.wac_nodes.specs.Graph.{Graph, GraphNode, Kind, instantiation, node_at
 use Rattle.wac_nodes.specs.Asked.{is_satisfied}
 use Rattle.wac_nodes.specs.Imports.{unset_rows, node_rows}
 
--- the imports, numbered from i on, whose positions are not in the set
+-- The imports, numbered from i on, whose positions are not in the set.
 abbrev pub unset : (ℕ → Bool) → ℕ → List (Name × ItemKind) → List (Name × ItemKind)
 unset set i [] = []
 unset set i (e ∷ imports) = if set i then unset set (suc i) imports else e ∷ unset set (suc i) imports
 
--- those of a world's imports from position i on
+-- The imports of a world from position i on whose positions are not in the set.
 abbrev pub unset_from : (ℕ → Bool) → List (Name × ItemKind) → ℕ → List (Name × ItemKind)
 unset_from set imports i = unset set i (drop i imports)
 
--- the row of an instantiation's import
+-- The row of an implicit import.
 abbrev pub row_of : Name × ItemKind → Name × ItemKind × Option NodeId
 row_of e = (e.0, e.1, None)
 
--- the rows of an instantiation's imports from position i on
+-- The rows of an instantiation's unsatisfied imports from position i on.
 abbrev pub node_left : Graph → ℕ → ℕ → Option GraphNode → List (Name × ItemKind × Option NodeId)
 node_left g n i None = []
 node_left g n i (Some node) = of_kind node.kind
@@ -31,15 +31,15 @@ node_left g n i (Some node) = of_kind node.kind
     of_kind instantiation = map row_of (unset_from (is_satisfied g n) (imports_of g node) i)
     of_kind _ = []
 
--- the rows of the instantiations of so many numbers from n on, of the first one's imports from position i on
+-- The rows of `count` instantiations from number n on; the first one's start at position i.
 abbrev pub instantiations_left : Graph → ℕ → ℕ → ℕ → List (Name × ItemKind × Option NodeId)
 instantiations_left g n i zero = []
 instantiations_left g n i (suc count) = node_left g n i (node_at g (node_number n)) ++ flat_map (unset_rows g) (range_with_len (n + 1) count)
 
--- the rows of the import nodes of so many numbers from n on
+-- The rows of the import nodes among `count` numbers from n on.
 abbrev pub nodes_left : Graph → ℕ → ℕ → List (Name × ItemKind × Option NodeId)
 nodes_left g n count = flat_map (node_rows g) (range_with_len n count)
 
--- the rows of the instantiations from a number and a position on, then those of the import nodes from a number on, below an end
+-- The rows of instantiations from a number and position on, then of import nodes from a number on, up to the end.
 abbrev pub left : Graph → ℕ → ℕ → ℕ → ℕ → List (Name × ItemKind × Option NodeId)
 left g number position node end = instantiations_left g number position (end - number) ++ nodes_left g node (end - node)

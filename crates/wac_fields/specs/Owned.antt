@@ -1,4 +1,4 @@
--- Stored nodes of a package; cited by private functions alone, nothing public rests on it.
+-- Stored nodes of a package. Only private functions use this definition.
 use Rattle.std.specs.Prelude.{ℕ, Bool}
 use Rattle.std.specs.Option.{option_map}
 use Rattle.slab.specs.Slab.{Slab, get}
@@ -7,6 +7,6 @@ use Rattle.wac_nodes.specs.declared.packages.PackageId.{PackageId}
 use Rattle.wac_nodes.specs.Nodes.{node_of}
 use Rattle.wac_fields.specs.Unregistering.{is_of}
 
--- the node of this number is of the package
+-- The stored node with this number is one of the package.
 abbrev pub is_of_at : PackageId → Slab Node → ℕ → Bool
 is_of_at id nodes q = is_of id (option_map node_of (get nodes q))

@@ -1,4 +1,4 @@
--- Nodes and edges while some of them are taken out; cited by private functions alone, nothing public rests on it.
+-- Nodes and edges during a removal. Only private functions use these definitions.
 use Rattle.std.specs.Prelude.{◌≡◌, ◌⊎◌, ℕ, zero, suc, true, None, IsSome}
 use Rattle.std.specs.Option.{option_map}
 use Rattle.std.specs.FinSet as set
@@ -11,7 +11,7 @@ use Rattle.wac_nodes.specs.declared.node.Node.{Node}
 use Rattle.wac_nodes.specs.Nodes.{node_of, satisfied_at, IsInstantiationAt}
 use Rattle.wac_fields.specs.Removal.{Follows}
 
--- edges join nodes that are there; the positions that an instantiation keeps are those of its arguments, one for each
+-- Edges join existing nodes, and the satisfied positions are exactly those with an argument, at most one each.
 pub record AreTied (nodes : Slab Node) (edges : Edges) : Type 0 where
   pub ends : (e : Edge) → set.contains edges e ≡ true → IsSome (get nodes e.source.0) × IsSome (get nodes e.target.0)
   pub consumers : (source target : NodeId) (position : ℕ) → set.contains edges (argument_edge source target position) ≡ true → IsInstantiationAt (get nodes target.0)
@@ -19,14 +19,14 @@ pub record AreTied (nodes : Slab Node) (edges : Edges) : Type 0 where
   pub marked : (source target : NodeId) (position : ℕ) → set.contains edges (argument_edge source target position) ≡ true → satisfied_at (get nodes target.0) position ≡ true
   pub edged : (target : NodeId) (position : ℕ) → satisfied_at (get nodes target.0) position ≡ true → (source : NodeId) × (set.contains edges (argument_edge source target position) ≡ true)
 
--- the nodes that go are taken out, and edges at them; all other nodes are the same
+-- The nodes that go, and only edges at them, are removed. All other nodes are unchanged.
 pub record AreTaken (Goes : NodeId → Type 0) (nodes : Slab Node) (edges : Edges) (nodes' : Slab Node) (edges' : Edges) : Type 0 where
   pub gone : (n : NodeId) → Goes n → get nodes' n.0 ≡ None
   pub others : (n : NodeId) → (option_map node_of (get nodes' n.0) ≡ option_map node_of (get nodes n.0)) ⊎ ((get nodes' n.0 ≡ None) × Goes n)
   pub less : (e : Edge) → set.contains edges' e ≡ true → set.contains edges e ≡ true
   pub taken : (e : Edge) → set.contains edges e ≡ true → (set.contains edges' e ≡ true) ⊎ (Goes e.source ⊎ Goes e.target)
 
--- So many edges lead from the root to here, each followed by its target, and no other edge leads to a node on the way.
+-- A path of k edges leads from the root to here, and no other edge leads to a node of the path.
 abbrev pub IsWay : Edges → NodeId → ℕ → NodeId → Type 0
 IsWay edges root zero here = (here ≡ root) × ((e : Edge) → set.contains edges e ≡ true → e.target ≡ root → ⊥)
 IsWay edges root (suc k) here =

@@ -1,4 +1,4 @@
--- A node of which a graph sees other names; cited by private functions alone, nothing public rests on it.
+-- Changes of a node's names. Only private functions use these definitions.
 use Rattle.std.specs.Prelude.{◌≡◌, ℕ, Option, Some, IfSome}
 use Rattle.slab.specs.Slab.{Slab, get, with_value}
 use Rattle.wac_primitives.specs.Name.{Name}
@@ -6,14 +6,14 @@ use Rattle.wac_nodes.specs.declared.node.Node.{Node}
 use Rattle.wac_nodes.specs.Graph.{GraphNode}
 use Rattle.wac_nodes.specs.Nodes.{node_of}
 
--- in place of the node of this number stands one of the same kind; what a graph sees of it is changed so
+-- The node with this number is replaced by one of the same kind, whose value is changed like this.
 abbrev pub Renames : (GraphNode → GraphNode) → Slab Node → Slab Node → ℕ → Type 0
 Renames change old new number = IfSome (get old number) (λ n. (m : Node) × (new ≡ with_value old number m) × (m.kind ≡ n.kind) × (node_of m ≡ change (node_of n)))
 
--- named so
+-- The node with this name.
 abbrev pub with_name : Name → GraphNode → GraphNode
 with_name name n = record n { name = Some name }
 
--- exported last by this name, or not exported
+-- The node with this latest export name, or without one.
 abbrev pub with_export_name : Option Name → GraphNode → GraphNode
 with_export_name name n = record n { export_name = name }

@@ -1,4 +1,4 @@
--- Definitions among stored nodes, and the edges that a new one brings.
+-- The definitions among stored nodes, and the dependency edges of a new one.
 use Rattle.std.specs.Prelude.{◌≡◌, ◌⊎◌, ℕ, true, IsSomeAnd}
 use Rattle.std.specs.Option.{option_map}
 use Rattle.slab.specs.Slab.{Slab, get}
@@ -14,20 +14,21 @@ use Rattle.wac_nodes.specs.Graph.{definition}
 use Rattle.wac_nodes.specs.Nodes.{node_of}
 use Rattle.wac_nodes.specs.Definitions.{IsDefinedValue, dependency_edge}
 
--- the stored node of this number defines the type
+-- The stored node with this number defines the type.
 abbrev pub DefinesAt : Slab Node → AnyType → ℕ → Type 0
 DefinesAt nodes t q = IsSomeAnd (option_map node_of (get nodes q)) (λ x. (x.kind ≡ definition) × (x.item_kind ≡ TypeItem t))
 
--- each type that is defined is held
+-- Each defined type is of the collection.
 abbrev pub AreHeld : Collection → Slab Node → Type 0
 AreHeld c nodes = (q : ℕ) (t : AnyType) → DefinesAt nodes t q → holds_type c t ≡ true
 
--- the edge leads from a definition of u, as the node m, to one of t that reaches u, as the node n; or from n to m, where u reaches t.
--- What is reached is a defined value type
+-- A dependency edge between the definitions n of t and m of u, from the reached type to the one that reaches it.
+--
+-- Only a defined value type counts as reached.
 abbrev pub IsBetween : Collection → AnyType → NodeId → AnyType → NodeId → Edge → Type 0
 IsBetween c t n u m e =
     ((IsDefinedValue u × Reaches c t u) × (e ≡ dependency_edge m n)) ⊎ ((IsDefinedValue t × Reaches c u t) × (e ≡ dependency_edge n m))
 
--- a definition of the type, as the node n, brings this edge
+-- The edge is a dependency edge of a new definition n of type t.
 abbrev pub Brings : Collection → Slab Node → AnyType → NodeId → Edge → Type 0
 Brings c nodes t n e = (q : ℕ) × (u : AnyType) × DefinesAt nodes u q × IsBetween c t n u (node_number q) e

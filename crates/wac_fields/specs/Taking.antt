@@ -1,4 +1,4 @@
--- Names of imports while a node is taken out; cited by private functions alone, nothing public rests on it.
+-- The names of imports during a removal. Only private functions use these definitions.
 use Rattle.std.specs.Prelude.{◌≡◌, Bool, false, List, None, String, string_bytes, if◌then◌else◌}
 use Rattle.std.specs.Global.{Global}
 use Rattle.wac_primitives.specs.Name.{Name, same_name, find_name}
@@ -7,13 +7,13 @@ use Rattle.wac_nodes.specs.declared.node.NodeKind.{NodeKind}
 use Rattle.wac_nodes.specs.declared.node.NodeKind.TheVariants as code
 use Rattle.wac_nodes.specs.Nodes.{names_of}
 
--- a node of this kind imports the name
+-- A node of this kind imports the name.
 abbrev pub imports : NodeKind → Name → Bool
 imports (code.Import name) other = same_name other (string_bytes name)
 imports code.Definition other = false
 imports (code.Instantiation _) other = false
 imports code.Alias other = false
 
--- a name that such a node imports is free, and each other one is that of the same node as before
+-- The name that the removed node imports is free, and every other name has the same node as before.
 abbrev pub AreLeft : NodeKind → List (String Global × NodeId) → List (String Global × NodeId) → Type 0
 AreLeft k old new = (other : Name) → find_name (names_of new) other ≡ (if imports k other then None else find_name (names_of old) other)

@@ -1,4 +1,4 @@
-//! Edges that are added to a set, all or none of them.
+//! Adding several edges, all or none.
 ghost use Rattle.std.specs.Prelude.{◌≡◌, ◌↔◌, ◌⊎◌, true, OnOk, OnErr, Contains};
 ghost use Rattle.std.specs.FinSet as set;
 ghost use Rattle.wac_edges.specs.declared.edges.Edge.{Edge as AnEdge};
@@ -6,7 +6,7 @@ ghost use Rattle.wac_edges.specs.declared.edges.Edge.{Edge as AnEdge};
 use std::alloc::AllocError;
 use wac_edges::edges::{Edge, Edges};
 
-/// Adds edges none of which is in the set. Answers want of memory; then nothing has changed.
+/// Adds edges that are not in the set. On `AllocError` the set is unchanged.
 pub(crate) fn add_all(edges: &mut Edges, new: &[Edge]) -> Result<(), AllocError>
     requires { (e : AnEdge) → Contains new.now e → set.contains edges.old e ≡ true → ⊥ }
     ensures ok { OnOk result ((e : AnEdge) → (set.contains edges.new e ≡ true) ↔ (Contains new.now e ⊎ (set.contains edges.old e ≡ true))) }
@@ -24,7 +24,7 @@ pub(crate) fn add_all(edges: &mut Edges, new: &[Edge]) -> Result<(), AllocError>
     Ok(())
 }
 
-/// Takes edges out. Takes no memory.
+/// Removes the edges.
 fn take_back(edges: &mut Edges, taken: &[Edge])
     ensures { (e : AnEdge) → (set.contains edges.new e ≡ true) ↔ ((set.contains edges.old e ≡ true) × (Contains taken.now e → ⊥)) }
 {

@@ -1,7 +1,7 @@
-//! All that a graph asks for: with each import the interfaces that it uses, each instance once under a name.
+//! The list of the graph's imports, each after the interfaces that it uses, without repeated instances.
 //!
-//! An interface whose uses aren't asked for yet waits in a list of tasks, below them, so that no chain of uses is too
-//! long. What an instance uses is asked for before it, so one that is asked for already needs no walk.
+//! Interfaces wait on a stack of tasks until their uses are listed, so that long chains of uses need no recursion.
+//! An instance is listed after all it uses. So an instance that is listed already is skipped together with its uses.
 ghost use Rattle.std.specs.Prelude.{ℕ, ◌≡◌, ◌++◌, List, [], map, OnOk};
 ghost use Rattle.wac_collection.specs.Collection.{HasInterface};
 ghost use Rattle.wac_shapes.specs.declared.component.ItemKind.TheVariants.{Instance};
@@ -14,38 +14,38 @@ use std::alloc::{AllocError, Global};
 use std::collections::HashSet;
 use wac_types::{InterfaceId, ItemKind, Named, Types, UsedType};
 
-/// An import that is asked for, by a node.
+/// An import of the graph.
 #[derive(Clone, Copy)]
 pub struct AskedEntry<'a> {
-    /// Its name.
+    /// The name of the import.
     pub name: &'a str,
-    /// What it is.
+    /// The type of the import.
     pub kind: ItemKind,
-    /// The number of the node.
+    /// The number of the node that needs it.
     pub node: usize,
 }
 
-/// What is to be done with an interface that is used.
+/// A step for an interface that is used.
 #[derive(Clone, Copy)]
 enum Task {
-    /// What it uses is to be asked for first.
+    /// Lists what the interface uses, then the interface.
     Open(InterfaceId),
-    /// What it uses is asked for, and it is to be.
+    /// Lists the interface, whose uses are listed.
     Close(InterfaceId),
 }
 
-/// What is asked for so far.
+/// The imports that are listed so far.
 #[derive(Drop)]
 pub struct Asking<'a> {
-    /// The memory that it grows in.
+    /// The allocator of the list.
     alloc: Global,
-    /// The entries.
+    /// The imports.
     entries: Vec<AskedEntry<'a>>,
-    /// The instances among them.
+    /// The names and interfaces of the instances among them.
     known: HashSet<(&'a str, InterfaceId)>,
 }
 
-/// The interfaces of used types are to be opened, the first at the end.
+/// Pushes a task for the interface of each use, the first use on top.
 fn open_used(tasks: &mut Vec<Task>, uses: &Named<UsedType>) -> Result<(), AllocError>
     ensures { OnOk result (tasks.new.items ≡ tasks.old.items ++ openings uses.now) }
 {
@@ -58,7 +58,7 @@ fn open_used(tasks: &mut Vec<Task>, uses: &Named<UsedType>) -> Result<(), AllocE
 }
 
 impl<'a> Asking<'a> {
-    /// Nothing.
+    /// An empty list.
     pub fn new(alloc: Global) -> Asking<'a>
         ensures right { IsRight result }
         ensures empty { entries_of result ≡ [] }
@@ -70,14 +70,14 @@ impl<'a> Asking<'a> {
         }
     }
 
-    /// What was asked for, in order.
+    /// The listed imports, in order.
     pub fn into_entries(self) -> Vec<AskedEntry<'a>>
         ensures { map entry_view result.items ≡ entries_of self.entry }
     {
         self.entries
     }
 
-    /// Whether an instance is asked for under a name.
+    /// Whether the instance is listed under the name.
     fn has(&self, name: &'a str, id: InterfaceId) -> bool
         requires { IsRight self.now }
         ensures { result ≡ has (entries_of self.now) (instance_under name.now id) }
@@ -85,7 +85,7 @@ impl<'a> Asking<'a> {
         self.known.contains(&(name, id))
     }
 
-    /// Asks for one more import, unless it is an instance that is asked for under its name.
+    /// Appends the import, unless it is an instance that is listed under the same name.
     fn add(&mut self, asked: AskedEntry<'a>) -> Result<(), AllocError>
         requires { IsRight self.old }
         ensures right { OnOk result (IsRight self.new) }
@@ -102,7 +102,7 @@ impl<'a> Asking<'a> {
         Ok(())
     }
 
-    /// Leaves an interface to be asked for behind what it uses, unless it is asked for.
+    /// Pushes the tasks that list an interface after its uses, unless it is listed already.
     fn open(
         &self,
         types: &'a Types,
@@ -123,7 +123,7 @@ impl<'a> Asking<'a> {
         open_used(tasks, &interface.uses)
     }
 
-    /// Asks for an interface under its id.
+    /// Appends the interface under its id, if it has one.
     fn close(&mut self, types: &'a Types, node: usize, id: InterfaceId) -> Result<(), AllocError>
         requires held { HasInterface types.now id }
         requires right { IsRight self.old }
@@ -140,7 +140,7 @@ impl<'a> Asking<'a> {
         })
     }
 
-    /// Does a task: asks for its interface, or leaves it behind what it uses.
+    /// Performs one task.
     fn perform(
         &mut self,
         types: &'a Types,
@@ -159,7 +159,7 @@ impl<'a> Asking<'a> {
         }
     }
 
-    /// Asks for what an interface uses.
+    /// Appends the interfaces that an interface uses, directly or not.
     fn ask_used(&mut self, types: &'a Types, node: usize, id: InterfaceId) -> Result<(), AllocError>
         requires held { HasInterface types.now id }
         requires right { IsRight self.old }
@@ -167,7 +167,7 @@ impl<'a> Asking<'a> {
         ensures right { OnOk result (IsRight self.new) }
         ensures stands { OnOk result (AsksAlike types.now (entries_of self.old ++ map (by_node node) (used_by types.now (Instance id))) (entries_of self.new)) }
     {
-        types.law();
+        types.law(); // proof only
         let mut tasks = Vec::new(self.alloc);
         open_used(&mut tasks, &types[id].uses)?;
         while let Some(task) = tasks.pop() {
@@ -176,7 +176,7 @@ impl<'a> Asking<'a> {
         Ok(())
     }
 
-    /// Asks for an import, and before it for what it uses.
+    /// Appends an import after the interfaces that it uses.
     pub fn ask(&mut self, types: &'a Types, asked: AskedEntry<'a>) -> Result<(), AllocError>
         requires held { IsHeldKind types.now asked.kind }
         requires right { IsRight self.old }
@@ -185,7 +185,7 @@ impl<'a> Asking<'a> {
         ensures settled { OnOk result (AreSettled types.now [] (entries_of self.new)) }
         ensures stands { OnOk result (AsksAlike types.now (entries_of self.old ++ with_used types.now (entry_view asked.entry)) (entries_of self.new)) }
     {
-        types.law();
+        types.law(); // proof only
         let ItemKind::Instance(id) = asked.kind else {
             return self.add(asked);
         };

@@ -1,4 +1,4 @@
-//! Which types stored nodes define.
+//! The types that stored nodes define.
 ghost use Rattle.std.specs.Prelude.{◌≡◌, ◌↔◌, ℕ, Some, IsTrue};
 ghost use Rattle.std.specs.Bool.{OnTrue, OnFalse};
 ghost use Rattle.wac_shapes.specs.declared.component.«Type».{«Type» as AnyType};
@@ -8,7 +8,7 @@ use slab::Slab;
 use wac_nodes::{Node, NodeKind};
 use wac_types::{ItemKind, Type};
 
-/// Whether a node defines the type. Takes no memory.
+/// Whether a node defines the type.
 pub fn is_defined(nodes: &Slab<Node>, ty: Type) -> bool
     ensures there { OnTrue result ((q : ℕ) × DefinesAt nodes.now ty q) }
     ensures absent { OnFalse result ((q : ℕ) → DefinesAt nodes.now ty q → ⊥) }
@@ -21,7 +21,7 @@ pub fn is_defined(nodes: &Slab<Node>, ty: Type) -> bool
     false
 }
 
-/// Whether the node of this number defines the type.
+/// Whether the node with this number defines the type.
 fn defines(nodes: &Slab<Node>, number: usize, ty: Type) -> bool
     ensures { IsTrue result ↔ DefinesAt nodes.now ty number }
 {
@@ -31,7 +31,7 @@ fn defines(nodes: &Slab<Node>, number: usize, ty: Type) -> bool
     }
 }
 
-/// The type that the node of this number defines, if it defines one.
+/// The type that the node with this number defines, if it is a definition.
 pub(crate) fn defined_at(nodes: &Slab<Node>, number: usize) -> Option<Type>
     ensures { (t : AnyType) → (result ≡ Some t) ↔ DefinesAt nodes.now t number }
 {

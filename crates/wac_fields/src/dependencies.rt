@@ -1,4 +1,4 @@
-//! The edges between a new definition and those that are there.
+//! The dependency edges between a new definition and the existing ones.
 ghost use Rattle.std.specs.Prelude.{◌≡◌, ◌↔◌, ◌⊎◌, true, OnOk, OnErr, IfOk, IsTrue, Contains};
 ghost use Rattle.std.specs.FinSet as set;
 ghost use Rattle.wac_collection.specs.Collection.{holds_type};
@@ -16,8 +16,9 @@ use wac_nodes::{Node, NodeId};
 use wac_reach::{Reached, reach};
 use wac_types::{Type, Types, ValueType};
 
-/// Adds the edges that a definition of the type brings, as a node that has no edges yet. Answers want of memory; then nothing has
-/// changed. What a type reaches is gone through once for each definition.
+/// Adds the dependency edges of a new definition, whose node has no edges yet. On `AllocError` the edges are unchanged.
+///
+/// Each existing definition's type may be walked once.
 pub fn add_dependencies(
     nodes: &Slab<Node>,
     types: &Types,
@@ -35,7 +36,7 @@ pub fn add_dependencies(
     add_all(edges, brought.as_slice())
 }
 
-/// The edges that a definition of the type brings, as this node.
+/// Returns the dependency edges of a new definition.
 fn dependencies(
     nodes: &Slab<Node>,
     types: &Types,
@@ -63,7 +64,7 @@ fn dependencies(
     Ok(brought)
 }
 
-/// An edge from a definition to one that mentions it.
+/// The edge from a definition to one that depends on it.
 fn dependency(source: NodeId, target: NodeId) -> Edge
     ensures { result ≡ dependency_edge source target }
 {
@@ -74,7 +75,7 @@ fn dependency(source: NodeId, target: NodeId) -> Edge
     }
 }
 
-/// Whether the type is a defined value type, and one of those that were reached.
+/// Whether the type is a defined value type among those that were reached.
 fn is_reached(reached: &Reached, ty: Type) -> bool
     ensures { IsTrue result ↔ (IsDefinedValue ty × IsIn ty reached.now) }
 {
@@ -93,7 +94,7 @@ fn reaches(types: &Types, ty: Type, other: Type) -> Result<bool, AllocError>
     Ok(reached.contains(other))
 }
 
-/// Whether the type is a value type that has a definition of its own in the collection.
+/// Whether the type is a defined value type of the collection.
 fn is_defined_value(ty: Type) -> bool
     ensures { IsTrue result ↔ IsDefinedValue ty }
 {

@@ -1,4 +1,4 @@
-//! Laws over the steps of graphs, given to the caller of a call that does nothing else.
+//! Laws of removals from a graph, for callers that make several calls.
 ghost use Rattle.std.specs.Prelude.{◌≡◌, ℕ, None, IsSome, Result};
 ghost use Rattle.wac_collection.specs.Package.{PackageParts};
 ghost use Rattle.wac_edges.specs.declared.node.NodeId.{NodeId as AnId};
@@ -10,16 +10,19 @@ ghost use Rattle.wac_nodes.specs.Steps.{Registers};
 ghost use Rattle.wac_fields.specs.Removal.{GoesWith, Removes};
 ghost use Rattle.wac_fields.specs.Unregistering.{Unregisters, IsSpent};
 
-/// What a removal leaves: what goes with the node is gone, each other node is as it was, and an import whose argument went has
-/// none any more.
+/// Proves what a removal leaves.
+///
+/// The node and all that goes with it are gone, and other nodes are unchanged.
+/// An import whose argument is gone is unsatisfied.
 pub fn removal_law()
     ensures gone { (old new : Graph) (id n : AnId) → Removes old id new → GoesWith old.edges id n → node_at new n ≡ None }
     ensures stays { (old new : Graph) (id n : AnId) → Removes old id new → (GoesWith old.edges id n → ⊥) → node_at new n ≡ node_at old n }
     ensures unsatisfied { (old new : Graph) (id n consumer : AnId) (i : ℕ) → IsSound old → Removes old id new → GoesWith old.edges id n → IsArgumentOf old consumer i n → IsUnsatisfied new consumer i }
 {}
 
-/// An id whose package was unregistered is never valid again: it is spent, and stays so when packages are registered and
-/// unregistered; no other call changes slots.
+/// Proves that the id of an unregistered package is never valid again.
+///
+/// The id is spent after `unregister_package`, and every later call keeps it spent.
 pub fn unregistered_law()
     ensures spent { (old new : Graph) (id : APackageId) → IsSound old → IsSome (package_at old id) → Unregisters old id new → IsSpent new id }
     ensures invalid { (g : Graph) (id : APackageId) → IsSpent g id → package_at g id ≡ None }

@@ -1,7 +1,6 @@
-//! What the fields of a composition graph mean and what is always true of them: each change that a call makes to them keeps it, and is
-//! a step of the graph. What is asked for of its imports, what a new definition brings, and what a removal takes away.
+//! The fields of a composition graph: their value, their invariant, and proofs that each change of them is a step.
 //!
-//! A layer of `wac_graph`, whose crate is the door.
+//! It also lists the graph's imports, finds the dependencies of a definition, and removes nodes and packages.
 #![tactic(auto)]
 
 mod adding;

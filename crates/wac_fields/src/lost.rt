@@ -1,4 +1,4 @@
-//! Exports of nodes that were taken out: where they stand, and how they are taken out themselves.
+//! Removing the exports of removed nodes.
 ghost use Rattle.std.specs.Prelude.{◌≡◌, ◌≢◌, ℕ, true, not, OnOk, IfOk, is_some, IsSome, Some, None, slice_get, Contains};
 ghost use Rattle.slab.specs.Slab.{get, Updates};
 ghost use Rattle.wac_primitives.specs.Name.{Name as AName};
@@ -14,19 +14,19 @@ use std::alloc::{AllocError, Global};
 use std::collections::BTreeSet;
 use wac_nodes::{Node, NodeId};
 
-/// The positions of exports whose nodes were taken out.
+/// The positions of exports whose nodes are removed.
 ///
-/// A node keeps the name by which it was exported last, which leads to its place. Of nodes that may have further names all
-/// exports have to be gone through.
+/// A node stores its latest export name, which leads to that export.
+/// All exports are searched only if a removed node may have had several.
 pub struct Lost {
     positions: Vec<usize>,
-    // Whether no position is missing.
+    // Whether every position is noted.
     is_complete: bool,
-    // The numbers of nodes that may have further names.
+    // The numbers of nodes that may have several export names.
     again: BTreeSet<usize>,
 }
 
-/// A record of what was lost is let go of here, and not anew at each place where one goes out of scope.
+// By hand: a derived `Drop` is proved again wherever one goes out of scope (docs/PROOFS.md, 'Drop').
 impl Drop for Lost {
     fn drop(self) {
         let Lost {
@@ -38,7 +38,7 @@ impl Drop for Lost {
 }
 
 impl Lost {
-    /// No position and no such node; without room.
+    /// A record without positions and marks, and without memory.
     pub fn new(alloc: Global) -> Lost {
         Lost {
             positions: Vec::new(alloc),
@@ -47,7 +47,7 @@ impl Lost {
         }
     }
 
-    /// The same marks, with no position and with room for so many.
+    /// Clones the marks, with no positions and with memory for `count` of them.
     pub fn clone_with_room(&self, alloc: Global, count: usize) -> Result<Lost, AllocError>
         ensures { IfOk result (λ lost. (q : ℕ) → is_again lost q ≡ is_again self.now q) }
     {
@@ -61,7 +61,7 @@ impl Lost {
         })
     }
 
-    /// Begins anew, with no position.
+    /// Removes the noted positions.
     pub fn clear(&mut self)
         ensures { (q : ℕ) → is_again self.new q ≡ is_again self.old q }
     {
@@ -69,8 +69,7 @@ impl Lost {
         self.is_complete = true;
     }
 
-    /// Makes room for so many positions, before the node of this number is exported. Where it has a name already it may have
-    /// further ones from now on.
+    /// Reserves memory for `count` positions before a node is exported. Marks the node if it already has an export name.
     pub fn prepare(&mut self, count: usize, number: usize, is_named: bool) -> Result<(), AllocError>
         ensures kept { (q : ℕ) → is_again self.old q ≡ true → is_again self.new q ≡ true }
         ensures marked { OnOk result (is_named ≡ true → is_again self.new number ≡ true) }
@@ -83,7 +82,7 @@ impl Lost {
         Ok(())
     }
 
-    /// The node of this number has no names. Answers whether it may have had further ones.
+    /// Removes the mark of a node whose exports are gone. Returns whether it was marked.
     pub fn unmark(&mut self, number: usize) -> bool
         ensures was { result ≡ is_again self.old number }
         ensures others { (q : ℕ) → q ≢ number → is_again self.new q ≡ is_again self.old q }
@@ -92,7 +91,7 @@ impl Lost {
         !self.again.is_empty() && self.again.remove(&number)
     }
 
-    /// Notes a position, where there is room for it. Takes no memory.
+    /// Notes a position. Without memory for it, records that positions are missing.
     fn note(&mut self, position: usize)
         ensures noted { IsNoted self.new position }
         ensures kept { (i : ℕ) → IsNoted self.old i → IsNoted self.new i }
@@ -105,7 +104,7 @@ impl Lost {
         }
     }
 
-    /// Notes the exports of a node of this number.
+    /// Notes the export of a node, or that positions are missing if the node may have several.
     fn note_exports(&mut self, exports: &IndexMap<String, NodeId>, number: usize, node: &Node)
         ensures noted { (i : ℕ) (name : AName) (n : AnId) → slice_get (names_of exports.now.entries) i ≡ Some (name, n) → tells (is_again self.old number) (Some (node_of node.now)) name ≡ true → IsNoted self.new i }
         ensures kept { (i : ℕ) → IsNoted self.old i → IsNoted self.new i }
@@ -124,7 +123,7 @@ impl Lost {
     }
 }
 
-/// Takes a node out and notes its exports.
+/// Removes a node and notes its exports.
 pub(crate) fn take_node(
     nodes: &mut Slab<Node>,
     exports: &IndexMap<String, NodeId>,
@@ -143,8 +142,9 @@ pub(crate) fn take_node(
     nodes.remove(number)
 }
 
-/// Takes the exports out whose nodes are not there, from the last to the first; each time the last export takes the freed place.
-/// Where all their positions are noted, only those are looked at.
+/// Removes the exports of missing nodes, from the last to the first. Each time, the last export takes the freed place.
+///
+/// Only the noted positions are visited if none is missing.
 pub fn take_lost(exports: &mut IndexMap<String, NodeId>, nodes: &Slab<Node>, lost: &mut Lost)
     requires { AreNoted nodes.now lost.old exports.old.entries }
     ensures same { (q : ℕ) → is_again lost.new q ≡ is_again lost.old q }
@@ -157,7 +157,7 @@ pub fn take_lost(exports: &mut IndexMap<String, NodeId>, nodes: &Slab<Node>, los
     }
 }
 
-/// Takes those of the exports at these positions out whose nodes are not there.
+/// Removes the exports at these positions whose nodes are missing.
 fn take_noted(
     exports: &mut IndexMap<String, NodeId>,
     nodes: &Slab<Node>,
@@ -172,7 +172,7 @@ fn take_noted(
     }
 }
 
-/// Goes through all exports.
+/// Removes all exports whose nodes are missing.
 fn take_all(exports: &mut IndexMap<String, NodeId>, nodes: &Slab<Node>)
     ensures { names_of exports.new.entries ≡ without (λ m. not (is_some (get nodes.now m.0))) (names_of exports.old.entries) }
 {
@@ -183,7 +183,7 @@ fn take_all(exports: &mut IndexMap<String, NodeId>, nodes: &Slab<Node>)
     }
 }
 
-/// Takes the export at a position out where its node is not there; the last export takes its place.
+/// Removes the export at a position if its node is missing. The last export takes its place.
 fn take_lost_at(exports: &mut IndexMap<String, NodeId>, nodes: &Slab<Node>, position: usize)
     ensures { names_of exports.new.entries ≡ taken_at (λ m. not (is_some (get nodes.now m.0))) position (slice_get (names_of exports.old.entries) position) (names_of exports.old.entries) }
 {

@@ -1,4 +1,4 @@
-//! Nodes of a package that are taken out of the nodes and edges of a graph, and the exports that go with them.
+//! Removing the nodes of a package, with their edges and exports.
 ghost use Rattle.std.specs.Prelude.{◌≡◌, ◌≤◌, not, ℕ, true, false, filter, if◌then◌else◌};
 ghost use Rattle.std.specs.Option.{option_map};
 ghost use Rattle.std.specs.FinSet as set;
@@ -17,7 +17,7 @@ use slab::Slab;
 use wac_edges::edges::{Edges, End};
 use wac_nodes::{Node, NodeId, NodeKind, PackageId};
 
-/// Takes the exports of a package's nodes out; the others keep their order.
+/// Removes the exports of a package's nodes. The others keep their order.
 pub fn take_owned_exports(exports: &mut IndexMap<String, NodeId>, nodes: &Slab<Node>, id: PackageId)
     ensures { names_of exports.new.entries ≡ filter (λ e. not (is_of_at id nodes.now (e.1).0)) (names_of exports.old.entries) }
 {
@@ -28,7 +28,7 @@ pub fn take_owned_exports(exports: &mut IndexMap<String, NodeId>, nodes: &Slab<N
     );
 }
 
-/// Takes the nodes of a package out, by rising number, and the edges at them. Takes no memory.
+/// Removes the nodes of a package, by rising number, with their edges.
 pub fn take_owned(nodes: &mut Slab<Node>, edges: &mut Edges, lost: &mut Lost, id: PackageId)
     requires { AreTied nodes.old edges.old }
     ensures taken { AreTaken (λ n. is_of_at id nodes.old n.0 ≡ true) nodes.old edges.old nodes.new edges.new }
@@ -42,7 +42,7 @@ pub fn take_owned(nodes: &mut Slab<Node>, edges: &mut Edges, lost: &mut Lost, id
     }
 }
 
-/// Takes the node of this number out, and the edges at it, where it is of the package.
+/// Removes the node with this number and its edges, if it is one of the package.
 fn take_owned_at(
     nodes: &mut Slab<Node>,
     edges: &mut Edges,
@@ -65,7 +65,7 @@ fn take_owned_at(
     lost.unmark(number);
 }
 
-/// Takes the edges from a node out.
+/// Removes the edges that leave a node.
 fn take_from(nodes: &mut Slab<Node>, edges: &mut Edges, node: NodeId)
     requires { AreTied nodes.old edges.old }
     ensures less { (e : AnEdge) → set.contains edges.new e ≡ true → set.contains edges.old e ≡ true }
@@ -79,7 +79,7 @@ fn take_from(nodes: &mut Slab<Node>, edges: &mut Edges, node: NodeId)
     }
 }
 
-/// Whether the node of this number is of the package.
+/// Whether the node with this number is one of the package.
 fn is_owned(nodes: &Slab<Node>, number: usize, id: PackageId) -> bool
     ensures { result ≡ is_of_at id nodes.now number }
 {
@@ -92,7 +92,7 @@ fn is_owned(nodes: &Slab<Node>, number: usize, id: PackageId) -> bool
     }
 }
 
-/// Whether it is this package.
+/// Whether the owner is this package.
 fn is_package(owner: Option<PackageId>, id: PackageId) -> bool
     ensures { result ≡ is_owner id owner }
 {

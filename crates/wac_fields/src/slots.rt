@@ -1,4 +1,4 @@
-//! Slots of packages: which is used next, how a package is put into it, and how it is freed.
+//! The slots of packages: which is used next, and how they are filled and freed.
 ghost use Rattle.std.specs.Prelude.{◌≡◌, ◌<◌, ◌≤◌, if◌then◌else◌, [], None, OnOk, IfOk, IfSome, IsSome, length, slice_get, vec_len, vec_capacity};
 ghost use Rattle.std.specs.Map.{lookup};
 ghost use Rattle.wac_keys.specs.Key.{Key, same_key};
@@ -12,9 +12,9 @@ use std::alloc::AllocError;
 use wac_nodes::{BorrowedPackageKey, PackageId, Slot};
 use wac_types::{Package, PackageKey};
 
-/// The id of the next package, with the room for it: in the slot that was freed last, or in a new one.
+/// Returns the id of the next package and reserves memory for it: the slot freed last, or a new slot.
 ///
-/// A new slot has room for the link to it, so that it is freed without memory. Answers want of memory.
+/// Memory for freeing a new slot is reserved too, so that `unregister_package` needs none. Fails with `AllocError`.
 pub fn next_id(slots: &mut Vec<Slot>, vacant: &mut Vec<usize>) -> Result<PackageId, AllocError>
     requires { AreVacant slots.old.items (vacant_of vacant.old) }
     ensures id { IfOk result (IsNext slots.old.items (vacant_of vacant.old)) }
@@ -39,7 +39,7 @@ pub fn next_id(slots: &mut Vec<Slot>, vacant: &mut Vec<usize>) -> Result<Package
     })
 }
 
-/// Puts a package into the next slot, for which there is room. Takes no memory.
+/// Puts a package into the slot of `next_id`, for which memory is reserved.
 pub fn put_package(slots: &mut Vec<Slot>, vacant: &mut Vec<usize>, id: PackageId, package: Package)
     requires next { IsNext slots.old.items (vacant_of vacant.old) id }
     requires room { vacant.old.items ≡ [] → vec_len slots.old < vec_capacity slots.old }
@@ -58,9 +58,9 @@ pub fn put_package(slots: &mut Vec<Slot>, vacant: &mut Vec<usize>, id: PackageId
         .unwrap();
 }
 
-/// Takes a package out: under its key nothing is found any more, and its slot is vacant. Takes no memory.
+/// Removes a package, frees its slot and raises the slot's generation.
 ///
-/// The slot is of the next generation, and the next one to be used; where no generation follows, it is never used again.
+/// The slot is used next. A slot at the greatest generation is never used again.
 pub fn take_package(
     names: &mut IndexMap<PackageKey, PackageId>,
     slots: &mut Vec<Slot>,
@@ -78,7 +78,7 @@ pub fn take_package(
     free(slots, vacant, id);
 }
 
-/// Takes out what is found under a package's key.
+/// Removes the key of a package.
 fn take_key(names: &mut IndexMap<PackageKey, PackageId>, slots: &[Slot], id: PackageId)
     requires there { IsSome (package_in (slice_get slots.now id.slot) id) }
     ensures taken { IfSome (package_in (slice_get slots.now id.slot) id) (λ p. (k : Key) → lookup (same_key k) names.new.entries ≡ (if same_key (key_of p) k then None else lookup (same_key k) names.old.entries)) }
@@ -89,7 +89,7 @@ fn take_key(names: &mut IndexMap<PackageKey, PackageId>, slots: &[Slot], id: Pac
     names.swap_remove(BorrowedPackageKey::from_name_and_version(package.name(), package.version()));
 }
 
-/// Lets go of the package in a slot, and notes the slot where a generation follows.
+/// Removes the package in a slot and frees the slot, unless its generation is the greatest one.
 fn free(slots: &mut Vec<Slot>, vacant: &mut Vec<usize>, id: PackageId)
     requires there { IsSome (package_in (slice_get slots.old.items id.slot) id) }
     requires room { vec_len vacant.old < vec_capacity vacant.old }

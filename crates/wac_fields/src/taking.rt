@@ -1,4 +1,4 @@
-//! Nodes that are taken out of the nodes and edges of a graph.
+//! Removing nodes with everything that depends on them.
 ghost use Rattle.std.specs.Prelude.{◌≡◌, ◌≢◌, ◌↔◌, ◌≤◌, ◌&&◌, ◌==◌, not, ℕ, true, Some, None, IfSome, IfNone, IsTrue, IsSome};
 ghost use Rattle.std.specs.Option.{option_map};
 ghost use Rattle.std.specs.FinSet as set;
@@ -16,10 +16,10 @@ use slab::Slab;
 use wac_edges::edges::{Edge, Edges, End, Label};
 use wac_nodes::{Node, NodeId, NodeKind};
 
-/// Takes a node out with all that goes with it, and with their edges; answers the node.
+/// Removes a node and all that goes with it, with their edges. Returns the node.
 ///
-/// Takes no memory: edges lead to what goes, and back. Of the edges into a node that is entered only that one is left on
-/// which it was entered, until nothing leads from it any more.
+/// The walk follows outgoing edges. A visited node keeps only the incoming edge that the walk came by, which leads back.
+/// So no memory is needed.
 pub fn take_nodes(
     nodes: &mut Slab<Node>,
     edges: &mut Edges,
@@ -36,7 +36,7 @@ pub fn take_nodes(
     ensures next { nodes.new.vacant_key ≡ id.0 }
     ensures noted { AreNoted nodes.new lost.new exports.now.entries }
 {
-    let _room = nodes.capacity();
+    let _room = nodes.capacity(); // proof only
     take_into(nodes, edges, id, None);
     let mut here = id;
     let mut depth: usize = 0;
@@ -59,7 +59,7 @@ pub fn take_nodes(
     }
 }
 
-/// Takes a node out from which no edge leads, and to which one does; answers where that leads from.
+/// Removes a node without outgoing edges and its only incoming edge. Returns the source of that edge.
 fn leave(
     nodes: &mut Slab<Node>,
     edges: &mut Edges,
@@ -86,7 +86,7 @@ fn leave(
     edge.source
 }
 
-/// Takes the edges into a node out, but for one that is kept.
+/// Removes the edges into a node, except one.
 pub(crate) fn take_into(nodes: &mut Slab<Node>, edges: &mut Edges, node: NodeId, kept: Option<Edge>)
     requires { AreTied nodes.old edges.old }
     ensures less { (e : AnEdge) → set.contains edges.new e ≡ true → set.contains edges.old e ≡ true }
@@ -102,7 +102,7 @@ pub(crate) fn take_into(nodes: &mut Slab<Node>, edges: &mut Edges, node: NodeId,
     }
 }
 
-/// Takes an edge out; an import that it satisfies is not satisfied then.
+/// Removes an edge. The import that it satisfied is unsatisfied afterwards.
 pub(crate) fn take_edge(nodes: &mut Slab<Node>, edges: &mut Edges, edge: Edge)
     requires stands { set.contains edges.old edge ≡ true }
     requires tied { AreTied nodes.old edges.old }
@@ -116,7 +116,7 @@ pub(crate) fn take_edge(nodes: &mut Slab<Node>, edges: &mut Edges, edge: Edge)
     }
 }
 
-/// An edge at this end of a node, if there is one.
+/// An edge at this end of the node, if any.
 pub(crate) fn first_edge(edges: &Edges, node: NodeId, end: End) -> Option<Edge>
     ensures there { IfSome result (λ e. (set.contains edges.now e ≡ true) × (at_end end e ≡ node)) }
     ensures none { IfNone result ((e : AnEdge) → set.contains edges.now e ≡ true → at_end end e ≡ node → ⊥) }
@@ -124,7 +124,7 @@ pub(crate) fn first_edge(edges: &Edges, node: NodeId, end: End) -> Option<Edge>
     edges.walk(node, end).next()
 }
 
-/// An edge into a node that is not the one that is kept.
+/// An edge into the node other than the kept one, if any.
 fn other_into(edges: &Edges, node: NodeId, kept: Option<Edge>) -> Option<Edge>
     ensures there { IfSome result (λ e. (set.contains edges.now e ≡ true) × (e.target ≡ node)) }
     ensures other { IfSome result (λ e. kept ≡ Some e → ⊥) }
@@ -138,7 +138,7 @@ fn other_into(edges: &Edges, node: NodeId, kept: Option<Edge>) -> Option<Edge>
     None
 }
 
-/// Whether the edge is the one that is kept.
+/// Whether the edge is the kept one.
 fn is_kept(kept: Option<Edge>, edge: Edge) -> bool
     ensures { IsTrue result ↔ (kept ≡ Some edge) }
 {
@@ -148,7 +148,7 @@ fn is_kept(kept: Option<Edge>, edge: Edge) -> bool
     }
 }
 
-/// Marks the import of an instantiation at this position as not satisfied.
+/// Marks the instantiation's import at this position as unsatisfied.
 pub fn unsatisfy(nodes: &mut Slab<Node>, number: usize, position: usize)
     requires { IsInstantiationAt (get nodes.old number) }
     ensures same { (q : ℕ) → option_map node_of (get nodes.new q) ≡ option_map node_of (get nodes.old q) }
@@ -159,7 +159,7 @@ pub fn unsatisfy(nodes: &mut Slab<Node>, number: usize, position: usize)
     let NodeKind::Instantiation(positions) = &mut node.kind else {
         unreachable!()
     };
-    // The last one goes with the memory of the set, without a search.
+    // Clearing a set of one element needs no search.
     if positions.len() == 1 && positions.contains(&position) {
         positions.clear();
     } else {

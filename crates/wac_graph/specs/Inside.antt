@@ -1,7 +1,8 @@
--- What a graph keeps.
+-- The fields of a graph.
 use Rattle.wac_fields.specs.Fields.{Fields}
 use Rattle.wac_graph.specs.declared.graph.CompositionGraph.TheInside.{Inside}
 
+-- The fields of a graph.
 abbrev pub fields_of : Inside → Fields
 fields_of a = record {
   types = a.types;

@@ -1,4 +1,4 @@
--- What a graph lists: its nodes and its packages, by number, and the arguments of an instantiation.
+-- The nodes, packages and arguments that a graph's iterators yield.
 use Rattle.std.specs.Prelude.{ℕ, suc, ◌≡◌, ◌⊎◌, List, [], ◌∷◌, ◌++◌, map, Option, Some, None}
 use Rattle.std.specs.List.{AllByRecursion}
 use Rattle.std.specs.FinMap as finite
@@ -13,37 +13,37 @@ use Rattle.wac_edges.specs.Edge.{node_number}
 use Rattle.wac_nodes.specs.Graph.{Graph, GraphNode, Kind, instantiation, node_at, imports_of, IsArgumentOf, IsUnsatisfied}
 use Rattle.wac_nodes.specs.Gives.{GivesNode}
 
--- the ids of the nodes, by rising number
+-- The ids of the nodes, in order of number.
 abbrev pub node_ids : Graph → List NodeId
 node_ids g = map node_number (finite.keys g.nodes)
 
--- the nodes, each with its id, by rising number
+-- The nodes with their ids, in order of number.
 pub record AreNodes (g : Graph) (rows : List (NodeId × Node)) : Type 0 where
   pub ids : map (λ r. r.0) rows ≡ node_ids g
   pub given : AllByRecursion (λ r. GivesNode g r.0 r.1) rows
 
--- the package that the slot of this number holds, with its id
+-- The package in the slot with this number, if any, with its id.
 abbrev pub held_in : ℕ → ℕ → Option PackageParts → List (PackageId × PackageParts)
 held_in slot generation None = []
 held_in slot generation (Some p) = (record { slot = slot; generation = generation }, p) ∷ []
 
--- those that slots hold, numbered from i on
+-- The packages in the slots, numbered from i on, with their ids.
 abbrev pub held_from : ℕ → List Slot → List (PackageId × PackageParts)
 held_from i [] = []
 held_from i (slot ∷ slots) = held_in i slot.generation slot.«package» ++ held_from (suc i) slots
 
--- the registered packages, each with its id, by slot
+-- The registered packages with their ids, in order of slot.
 abbrev pub packages : Graph → List (PackageId × PackageParts)
 packages g = held_from 0 g.slots
 
--- of imports, numbered from i on, those for which an argument is set, each with the node that was set
+-- The imports, numbered from i on, that have an argument, with the argument.
 abbrev pub AreSet : Graph → NodeId → ℕ → List (Name × ItemKind) → List (Name × NodeId) → Type 0
 AreSet g id i [] rows = rows ≡ []
 AreSet g id i (e ∷ imports) rows =
     (IsUnsatisfied g id i × AreSet g id (suc i) imports rows)
     ⊎ ((node : NodeId) × (rest : List (Name × NodeId)) × (rows ≡ (e.0, node) ∷ rest) × IsArgumentOf g id i node × AreSet g id (suc i) imports rest)
 
--- what the world of an instantiation's package imports; nothing of any other node
+-- The imports of an instantiation; none for other nodes.
 abbrev pub imports_by : Graph → Option GraphNode → List (Name × ItemKind)
 imports_by g None = []
 imports_by g (Some node) = of_kind node.kind
@@ -52,9 +52,10 @@ imports_by g (Some node) = of_kind node.kind
     of_kind instantiation = imports_of g node
     of_kind _ = []
 
+-- The imports of the node with this id, if it is an instantiation.
 abbrev pub instance_imports : Graph → NodeId → List (Name × ItemKind)
 instance_imports g id = imports_by g (node_at g id)
 
--- the arguments of an instantiation, in the order of its world's imports; none of any other node
+-- The arguments of an instantiation with their imports' names, in world order; none for other nodes.
 abbrev pub AreArguments : Graph → NodeId → List (Name × NodeId) → Type 0
 AreArguments g id rows = AreSet g id 0 (instance_imports g id) rows

@@ -1,4 +1,4 @@
-//! What `set_instantiation_argument` looks up, tests and changes.
+//! Look-ups, checks and changes of instantiation arguments.
 ghost use Rattle.std.specs.Prelude.{◌≡◌, true, IsSome, IsTrue, OnOk, OnErr, IfOk, IfErr, Err, ◌||◌, ◌&&◌, ◌==◌, ℕ};
 ghost use Rattle.std.specs.FinSet as set;
 ghost use Rattle.std.specs.Option.{option_map};
@@ -22,7 +22,7 @@ use wac_nodes::{InstantiationArgumentError, Node, NodeId, NodeKind};
 use wac_types::laws::subtyping_is_reflexive;
 use wac_types::{ItemKind, SubtypeChecker, TypeFault};
 
-/// The edge of a node that is the argument for an instantiation's import at this position.
+/// The edge of an argument at this position.
 pub fn argument_edge(instantiation: NodeId, position: usize, argument: NodeId) -> Edge
     ensures { result ≡ labelled argument instantiation position }
 {
@@ -34,10 +34,11 @@ pub fn argument_edge(instantiation: NodeId, position: usize, argument: NodeId) -
 }
 
 impl CompositionGraph {
-    /// The position and the kind of an instantiation's import of this name.
+    /// The position and type of the instantiation's import with this name.
     ///
-    /// Answers `NodeIsNotAnInstantiation`, `InvalidArgumentName` where the package's world has no import of this name,
-    /// and `OutOfMemory` where memory ran out.
+    /// # Errors
+    /// - [`NodeIsNotAnInstantiation`](InstantiationArgumentError::NodeIsNotAnInstantiation) if the node is not one.
+    /// - [`InvalidArgumentName`](InstantiationArgumentError::InvalidArgumentName) if it has no import with this name.
     pub(crate) fn import_of(
         &self,
         instantiation: NodeId,
@@ -49,7 +50,7 @@ impl CompositionGraph {
         ensures refused { IfErr result (λ e. (argument : AnId) → SetsArgument self.now instantiation name.now argument (Err e) self.now) }
         ensures lacks { IfErr result (λ e. (argument : AnId) → UnsetsArgument self.now instantiation name.now argument (Err e) self.now) }
     {
-        self.types.law();
+        self.types.law(); // proof only
         let node = &self.nodes[instantiation.0];
         let NodeKind::Instantiation(_) = &node.kind else {
             return Err(InstantiationArgumentError::NodeIsNotAnInstantiation {
@@ -70,9 +71,7 @@ impl CompositionGraph {
         Ok((position, *kind))
     }
 
-    /// Tests that no node is given for an import.
-    ///
-    /// Answers `ArgumentAlreadyPassed` where one is, and `OutOfMemory` where memory ran out.
+    /// Checks that the import has no argument. Fails with `ArgumentAlreadyPassed` if it has one.
     pub(crate) fn check_unset(
         &self,
         instantiation: NodeId,
@@ -96,10 +95,11 @@ impl CompositionGraph {
         Ok(())
     }
 
-    /// Tests whether a node fits an import for which it is not given yet.
+    /// Checks that the node, which is not the import's argument, can become it.
     ///
-    /// Answers `ArgumentAlreadyPassed` where another node is given, `ArgumentTypeMismatch` where the node's item is no
-    /// subtype of the import, and `OutOfMemory` where memory ran out.
+    /// # Errors
+    /// - [`ArgumentAlreadyPassed`](InstantiationArgumentError::ArgumentAlreadyPassed) if the import has an argument.
+    /// - [`ArgumentTypeMismatch`](InstantiationArgumentError::ArgumentTypeMismatch) if its type is not a subtype.
     pub(crate) fn check_argument(
         &self,
         instantiation: NodeId,
@@ -118,7 +118,7 @@ impl CompositionGraph {
         self.check_unset(instantiation, name, position)?;
         let given = self.nodes[argument.0].item_kind;
         if is_same(given, kind) {
-            subtyping_is_reflexive(&self.types, kind);
+            subtyping_is_reflexive(&self.types, kind); // proof only
             return Ok(());
         }
         match SubtypeChecker::new().is_subtype(given, &self.types, kind, &self.types) {
@@ -132,7 +132,7 @@ impl CompositionGraph {
         }
     }
 
-    /// Whether a node is given for an instantiation's import at this position. Where no node is, this reads no edge.
+    /// Whether the node is the argument at this position. Reads no edge if the import is unsatisfied.
     pub(crate) fn is_given(&self, instantiation: NodeId, position: usize, argument: NodeId) -> bool
         requires { IsInstantiation self.now instantiation }
         ensures { result ≡ set.contains self.now.edges (labelled argument instantiation position) }
@@ -147,7 +147,7 @@ impl CompositionGraph {
             .contains(argument_edge(instantiation, position, argument))
     }
 
-    /// Gives a node as the argument for an import that it fits; where memory runs out nothing has changed.
+    /// Sets the argument of an import that it fits. On `AllocError` the graph is unchanged.
     pub(crate) fn give_argument(
         &mut self,
         instantiation: NodeId,
@@ -169,7 +169,7 @@ impl CompositionGraph {
         }
     }
 
-    /// Takes a node away as the argument for an instantiation's import at this position, where it is given.
+    /// Removes the argument at this position, if the node is it.
     pub(crate) fn take_argument(&mut self, instantiation: NodeId, position: usize, argument: NodeId)
         requires { IsInstantiation self.old instantiation }
         ensures { self.new ≡ record self.old { edges = set.remove self.old.edges (labelled argument instantiation position) } }
@@ -181,7 +181,7 @@ impl CompositionGraph {
     }
 }
 
-/// Whether both are the same function type or the same interface, by their ids.
+/// Whether both have the same id, for functions and instances. Then no types need to be compared.
 fn is_same(a: ItemKind, b: ItemKind) -> bool
     ensures { IsTrue result → a ≡ b }
 {
@@ -192,7 +192,7 @@ fn is_same(a: ItemKind, b: ItemKind) -> bool
     }
 }
 
-/// Marks the import of an instantiation at this position as satisfied.
+/// Marks the instantiation's import at this position as satisfied.
 fn satisfy(nodes: &mut Slab<Node>, number: usize, position: usize) -> Result<(), AllocError>
     requires { IsInstantiationAt (get nodes.old number) }
     ensures same { (q : ℕ) → option_map node_of (get nodes.new q) ≡ option_map node_of (get nodes.old q) }

@@ -1,4 +1,4 @@
-//! The arguments that are set of an instantiation.
+//! The arguments of an instantiation.
 ghost use Rattle.std.specs.Prelude.{◌≡◌, ◌∷◌, [], MatchOption};
 ghost use Rattle.wac_graph.specs.Listed.{AreArguments, instance_imports};
 ghost use Rattle.wac_graph.specs.Left.{listed_in, set_from};
@@ -8,14 +8,16 @@ use std::marker::Model;
 use wac_nodes::{NodeId, NodeKind};
 use wac_types::{ItemKind, Named};
 
-/// The arguments of an instantiation that are still to come, each under its import's name.
+/// An iterator over the arguments of an instantiation.
+///
+/// It is returned by [`CompositionGraph::get_instantiation_arguments`].
 #[derive(Drop)]
 pub struct Arguments<'a> {
     graph: &'a CompositionGraph,
     instantiation: NodeId,
-    // What its world imports; none where the node is no instantiation.
+    // The imports of the world, or `None` if the node is not an instantiation.
     imports: Option<&'a Named<ItemKind>>,
-    // The position of the import that is looked at next.
+    // The position of the next import.
     position: usize,
 }
 
@@ -56,8 +58,9 @@ impl<'a> Iterator for Arguments<'a> {
 }
 
 impl CompositionGraph {
-    /// The arguments that are set of an instantiation, each import's name with the node that was set, in the order of
-    /// its world's imports; none of any other node, and of an id of no node. Takes no memory.
+    /// The arguments of an instantiation with the names of their imports, in world order.
+    ///
+    /// Any id is accepted. The iterator is empty if the node is not an instantiation.
     pub fn get_instantiation_arguments(&self, id: NodeId) -> Arguments<'_>
         ensures { AreArguments self.now id result }
     {
@@ -69,7 +72,7 @@ impl CompositionGraph {
         }
     }
 
-    /// What the world of an instantiation imports; none of any other node.
+    /// The imports of an instantiation's world. `None` for other nodes.
     fn imports_of_node(&self, id: NodeId) -> Option<&Named<ItemKind>>
         ensures { listed_in result ≡ instance_imports self.now id }
     {
@@ -80,8 +83,7 @@ impl CompositionGraph {
         Some(self.imports_at(id.0))
     }
 
-    /// The first of these imports from a position on for which an argument is set: the position behind it, its name and
-    /// the node.
+    /// The first import from a position on that has an argument: the next position, its name and the argument.
     fn next_argument<'a>(
         &self,
         instantiation: NodeId,

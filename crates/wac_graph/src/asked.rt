@@ -1,4 +1,4 @@
-//! All that a graph asks for: with each import the interfaces that it uses, each instance once under a name.
+//! The graph's imports that are merged.
 ghost use Rattle.std.specs.Prelude.{◌≡◌, ◌++◌, [], map, IfOk, OnOk};
 ghost use Rattle.wac_nodes.specs.Entries.{asked_entries};
 ghost use Rattle.wac_reading.specs.Seen.{open_numbers};
@@ -9,8 +9,9 @@ use std::alloc::AllocError;
 use wac_fields::{AskedEntry, Asking};
 
 impl CompositionGraph {
-    /// What the graph asks for, the interfaces that an asked instance uses before it, each instance once under a name. These are
-    /// the instantiations that have an import which no argument satisfies.
+    /// Returns the graph's imports, each after the interfaces that it uses, without repeated instances.
+    ///
+    /// `instantiations` are all instantiations with unsatisfied imports.
     pub(crate) fn asked_entries(
         &self,
         instantiations: &[usize],
@@ -24,7 +25,7 @@ impl CompositionGraph {
         Ok(asking.into_entries())
     }
 
-    /// Asks for the imports of instantiations that no argument satisfies. These are all that have any.
+    /// Appends the unsatisfied imports of all instantiations that have any.
     fn ask_instantiations<'a>(
         &'a self,
         asking: &mut Asking<'a>,
@@ -43,7 +44,7 @@ impl CompositionGraph {
         Ok(())
     }
 
-    /// Asks for the imports of a node that no argument satisfies, where it is an instantiation.
+    /// Appends the unsatisfied imports of a node, if it is an instantiation.
     pub(crate) fn ask_unset<'a>(
         &'a self,
         asking: &mut Asking<'a>,
@@ -55,7 +56,7 @@ impl CompositionGraph {
         ensures settled { OnOk result (AreSettled self.now.types [] (entries_of asking.new)) }
         ensures stands { OnOk result (AsksAlike self.now.types (entries_of asking.old ++ all_with_used self.now.types (asked_at self.now n)) (entries_of asking.new)) }
     {
-        self.types.law();
+        self.types.law(); // proof only
         let mut from = 0;
         while let Some((behind, name, kind)) = self.unset_at(n, from) {
             asking.ask(
@@ -71,7 +72,7 @@ impl CompositionGraph {
         Ok(())
     }
 
-    /// Asks for the import nodes.
+    /// Appends the import nodes.
     fn ask_nodes<'a>(&'a self, asking: &mut Asking<'a>) -> Result<(), AllocError>
         requires right { IsRight asking.old }
         requires settled { AreSettled self.now.types [] (entries_of asking.old) }

@@ -1,4 +1,4 @@
-//! What is tested before a name is imported or exported, and before an export is aliased.
+//! Checks of names that are imported or exported, and look-ups of exports.
 ghost use Rattle.std.specs.Prelude.{◌≡◌, IfErr, IfOk, IfSome, IsSome, OnOk, Err, None, Some};
 ghost use Rattle.wac_edges.specs.declared.node.NodeId.{NodeId as AnId};
 ghost use Rattle.wac_nodes.specs.ExternName.{IsExportName, IsImportName};
@@ -11,7 +11,7 @@ use wac_nodes::{AliasError, ExportError, ImportError, NodeId, export_fault, impo
 use wac_types::ItemKind;
 
 impl CompositionGraph {
-    /// Refuses a name that cannot be imported.
+    /// Checks that a name can be imported.
     pub(crate) fn check_import(&self, name: &str) -> Result<(), ImportError>
         ensures free { OnOk result (IsFreeImport self.now name.now) }
         ensures valid { OnOk result (IsImportName name.now) }
@@ -29,7 +29,7 @@ impl CompositionGraph {
         Ok(())
     }
 
-    /// Refuses a name that cannot be exported.
+    /// Checks that a name can be exported.
     pub(crate) fn check_export(&self, name: &str) -> Result<(), ExportError>
         ensures free { OnOk result (export_at self.now name.now ≡ None) }
         ensures valid { OnOk result (IsExportName name.now) }
@@ -47,10 +47,11 @@ impl CompositionGraph {
         Ok(())
     }
 
-    /// The position and the kind of an instance's export of this name.
+    /// The position and type of the instance's export with this name.
     ///
-    /// Answers `NodeIsNotAnInstance`, `InstanceMissingExport` where it has no export of this name, and `OutOfMemory` where
-    /// memory ran out.
+    /// # Errors
+    /// - [`NodeIsNotAnInstance`](AliasError::NodeIsNotAnInstance) if the node is not an instance.
+    /// - [`InstanceMissingExport`](AliasError::InstanceMissingExport) if it has no export with this name.
     pub(crate) fn export_of(
         &self,
         instance: NodeId,

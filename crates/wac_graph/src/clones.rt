@@ -13,8 +13,10 @@ use wac_nodes::{Node, NodeId, PackageId, Slot};
 use wac_types::{PackageKey, Types};
 
 impl CompositionGraph {
-    /// An equal graph with the same ids, in memory of its own: what is done to the one leaves the other. The items of its
-    /// collection of types are shared. Answers `AllocError` where memory ran out.
+    /// Clones the graph. All ids are valid in the clone, and the types are shared.
+    ///
+    /// # Errors
+    /// `AllocError` if memory runs out.
     pub fn clone(&self) -> Result<CompositionGraph, AllocError>
         ensures { IfOk result (λ graph. graph ≡ self.now) }
     {
@@ -41,7 +43,7 @@ impl CompositionGraph {
     }
 }
 
-/// The same types, nodes and edges.
+/// Clones the types, nodes and edges.
 fn cloned_nodes(
     types: &Types,
     nodes: &Slab<Node>,
@@ -58,7 +60,7 @@ fn cloned_nodes(
     Ok((types, nodes, edges))
 }
 
-/// The same names of imports and exports, and the same keys of packages.
+/// Clones the names of imports and exports, and the keys of packages.
 fn cloned_names(
     imports: &IndexMap<String, NodeId>,
     exports: &IndexMap<String, NodeId>,
@@ -81,7 +83,7 @@ fn cloned_names(
     Ok((imports, exports, keys))
 }
 
-/// The same slots, and the same vacant ones, with room for each slot among these.
+/// Clones the slots and the list of free slots, with memory in it for every slot.
 fn cloned_slots(
     slots: &Vec<Slot>,
     vacant: &Vec<usize>,
@@ -95,7 +97,7 @@ fn cloned_slots(
     Ok((slots, vacant))
 }
 
-/// The same numbers, with room for so many more.
+/// Clones the numbers, with memory for `count` of them.
 fn clone_with_room(numbers: &Vec<usize>, count: usize) -> Result<Vec<usize>, AllocError>
     ensures same { IfOk result (λ copy. copy.items ≡ numbers.now.items) }
     ensures room { IfOk result (λ copy. count ≤ vec_capacity copy) }

@@ -1,4 +1,4 @@
-//! Imports of instantiations that are not satisfied, under the name of an import node.
+//! Unsatisfied imports that have the name of an import node.
 ghost use Rattle.std.specs.Prelude.{◌≡◌, ◌<◌, ℕ, OnOk, IfOk, IfErr, IfSome, IfNone, Some, length};
 ghost use Rattle.std.specs.BTreeSet as positions;
 ghost use Rattle.std.specs.Ordering.{nat_cmp};
@@ -21,7 +21,7 @@ use wac_nodes::{NodeId, NodeKind};
 use wac_types::{ItemKind, Named};
 
 impl CompositionGraph {
-    /// Refuses a graph with a conflict, by the first.
+    /// Checks that no unsatisfied import has the name of an import node. Reports the first one.
     pub(crate) fn check_conflicts(&self) -> Result<(), EncodeError>
         requires { IsAcyclic self.now.edges }
         ensures none { OnOk result (HasNoConflict self.now) }
@@ -38,7 +38,7 @@ impl CompositionGraph {
         Ok(())
     }
 
-    /// The position of a node's first import that is in conflict, with the import node of its name.
+    /// The position of a node's first import that has the name of an import node, and that node.
     fn conflict_at(&self, n: usize) -> Option<(usize, NodeId)>
         ensures some { IfSome result (λ c. IsFirstOf self.now (node_number n) c.0 c.1) }
         ensures none { IfNone result ((import : AnId) (i : ℕ) (name : AName) → IsConflict self.now import (node_number n) i name → ⊥) }
@@ -50,7 +50,7 @@ impl CompositionGraph {
         first_clash(satisfied, self.imports_at(n), &self.imports)
     }
 
-    /// The refusal that names a conflict.
+    /// Returns the error for a conflict.
     fn conflict(&self, n: usize, position: usize, import: NodeId) -> Result<EncodeError, AllocError>
         requires first { IsFirstOf self.now (node_number n) position import }
         requires lowest { IsLowest self.now n }
@@ -68,7 +68,7 @@ impl CompositionGraph {
     }
 }
 
-/// The first import whose position is not in the set and whose name is that of a node; its position and the node.
+/// The first import that is not in the set and has the name of an import node: its position and the node.
 fn first_clash(
     satisfied: &BTreeSet<usize>,
     imports: &Named<ItemKind>,
@@ -89,7 +89,7 @@ fn first_clash(
     None
 }
 
-/// The node that has the name of the import at this position, if the position is not in the set.
+/// The import node with the name of the import at this position, if the position is not in the set.
 fn clash_at(
     satisfied: &BTreeSet<usize>,
     imports: &Named<ItemKind>,

@@ -13,12 +13,16 @@ use wac_nodes::{DefineTypeError, Node, NodeId, import_fault};
 use wac_types::Type;
 
 impl CompositionGraph {
-    /// Defines a held type, exported by a name, last in order. The definition goes behind those of the defined value types that
-    /// the type reaches, and where it is one itself, those of the types that reach it go behind it.
+    /// Adds a definition of a type, exported under the name.
     ///
-    /// Answers `TypeAlreadyDefined` where a node defines the type, `CannotDefineResource` for a resource, `ExportConflict` where
-    /// the name is taken, `InvalidExternName` where the text is no component name, and `OutOfMemory` where memory ran out; then
-    /// nothing has changed.
+    /// Dependency edges are added from each defined value type that the type reaches.
+    /// If the type is a defined value type itself, they are also added to each definition that reaches it.
+    ///
+    /// # Errors
+    /// - [`TypeAlreadyDefined`](DefineTypeError::TypeAlreadyDefined) if a node defines the type.
+    /// - [`CannotDefineResource`](DefineTypeError::CannotDefineResource) if the type is a resource.
+    /// - [`ExportConflict`](DefineTypeError::ExportConflict) if the graph already exports the name.
+    /// - [`InvalidExternName`](DefineTypeError::InvalidExternName) if the name is not a component name.
     pub fn define_type(&mut self, name: &str, ty: Type) -> Result<NodeId, DefineTypeError>
         requires { holds_type self.old.types ty ≡ true }
         ensures { Defines self.old name.now ty result self.new }
@@ -29,7 +33,7 @@ impl CompositionGraph {
         Ok(self.add_definition(key, ty, node)?)
     }
 
-    /// Adds a definition that may be made; where memory runs out nothing has changed.
+    /// Adds a definition that passed all checks. On `AllocError` the graph is unchanged.
     fn add_definition(&mut self, name: String, ty: Type, node: Node) -> Result<NodeId, AllocError>
         requires held { holds_type self.old.types ty ≡ true }
         requires definable { IsDefinable self.old (string_bytes name) ty }
@@ -47,7 +51,7 @@ impl CompositionGraph {
         Ok(id)
     }
 
-    /// Refuses what may not be defined.
+    /// Checks that a type can be defined under a name.
     fn check_definition(&self, name: &str, ty: Type) -> Result<(), DefineTypeError>
         ensures { MatchResult result (λ _. IsDefinable self.now name.now ty) (λ e. Defines self.now name.now ty (Err e) self.now) }
     {

@@ -1,4 +1,4 @@
-//! Whether the definitions among a graph's nodes can be written so far.
+//! Whether encoding supports the graph's definitions.
 ghost use Rattle.std.specs.Prelude.{◌≡◌, true, false, Ok as Answers, IfSome, IsSomeAnd};
 ghost use Rattle.wac_causes.specs.NotYet.{AllDefinable};
 ghost use Rattle.wac_collection.specs.Collection.{holds_type};
@@ -18,8 +18,9 @@ use wac_reach::Reached;
 use wac_types::Types;
 
 impl CompositionGraph {
-    /// Whether each definition is of a type that is defined so far; it is told whether there is any. What their types reach
-    /// together is looked at once.
+    /// Whether the type of every definition is supported. `defined` says whether there is any definition.
+    ///
+    /// Each type is visited once.
     pub(crate) fn are_definable(&self, defined: bool) -> Result<bool, AllocError>
         requires { defined ≡ false → (n : AnId) → IsSomeAnd (node_at self.now n) (λ node. node.kind ≡ definition) → ⊥ }
         ensures all { result ≡ Answers true → AllDefinable self.now }
@@ -37,8 +38,7 @@ impl CompositionGraph {
         Ok(true)
     }
 
-    /// Whether the node of this number is none or no definition, or is one of a type that is defined so far. What was looked at before
-    /// is not looked at again.
+    /// Whether the node is not a definition or its type is supported. `looked` has the types that were visited.
     fn is_definable(&self, looked: &mut Reached, n: usize) -> Result<bool, AllocError>
         requires { AreFree self.now.types looked.old }
         ensures is { result ≡ Answers true → IfSome (node_at self.now (node_number n)) (λ node. node.kind ≡ definition → IsDefinableKind self.now.types node.item_kind) }
@@ -52,7 +52,7 @@ impl CompositionGraph {
     }
 }
 
-/// Whether a node is no definition, or is one of a type that is defined so far.
+/// Whether the node is not a definition or its type is supported.
 fn is_written_type(types: &Types, looked: &mut Reached, node: &Node) -> Result<bool, AllocError>
     requires held { holds_type types.now (kind_type node.now.item_kind) ≡ true }
     requires free { AreFree types.now looked.old }

@@ -1,4 +1,4 @@
-//! From a graph to the bytes of one component.
+//! Encoding a graph as a component.
 ghost use Rattle.std.specs.Prelude.{◌≡◌, true, false, IsSomeAnd, IsTrue, OnOk, IfOk, IfErr, IfSome, List};
 ghost use Rattle.wac_binary.specs.Bytes.{bytes_of};
 ghost use Rattle.wac_binary.specs.Items.{Item as AnItem};
@@ -29,30 +29,47 @@ use wac_nodes::EncodeOptions;
 use wac_places::ImportPlaces;
 
 impl CompositionGraph {
-    /// The bytes of one component that is what the graph composes: its imports, packages, instances, aliases, definitions and
-    /// exports.
+    /// Encodes the graph as one component and returns its bytes.
     ///
-    /// Answers `GraphContainsCycle` exactly where edges form a cycle, with the lowest node on one; else
-    /// `ImplicitImportConflict` where an import of an instantiation is not satisfied and has exactly the name of an import
-    /// node, with the lowest such instantiation and its first such import; else, where two imports of one class do not
-    /// agree, with the first that does not agree with an earlier one and the first that it does not agree with,
-    /// `ImportTypeMergeConflict` where an instantiation asks for it and `ExplicitImportMergeConflict` where it is an import
-    /// node; else `ImportsUseEachOther` where imports rest on each other in a circle; else `TypeNotWritable` where a type that a
-    /// node asks for cannot be written, whatever stands around it, with the lowest such node and the lowest fault of the first
-    /// such item that it asks for; else `NotYet` where a definition is of a
-    /// type that is not defined so far, an import has an item that is not imported so far, or the options ask for imported
-    /// components; else `TooLarge` where a size does not fit 32 bits; else, where the options ask for it, `ValidationFailure` where the outer
-    /// names may not stand together, with their first fault. Where memory ran out it answers `OutOfMemory`.
+    /// The component consists of these parts, in this order:
+    ///
+    /// 1. The imports: one for each class of the graph's imports, under its canonical name and with its merged type.
+    /// 2. The nodes except imports, the lowest number first among those whose edge sources are written.
+    ///    A package's component is written at its first use, and a definition is exported under its first name.
+    /// 3. The other exports, in the order in which they were added.
+    /// 4. The names of nodes and the processor, in custom sections.
+    ///
+    /// An unsatisfied import of an instantiation gets the import of its class as its argument.
+    ///
+    /// # Errors
+    /// [`EncodeError`] says which error is returned if several apply.
+    ///
+    /// - [`GraphContainsCycle`](EncodeError::GraphContainsCycle) if the edges form a cycle.
+    /// - [`ImplicitImportConflict`](EncodeError::ImplicitImportConflict) if an unsatisfied import has the name of an
+    ///   import node.
+    /// - [`ImportTypeMergeConflict`](EncodeError::ImportTypeMergeConflict) if an unsatisfied import disagrees with an
+    ///   earlier import of its class.
+    /// - [`ExplicitImportMergeConflict`](EncodeError::ExplicitImportMergeConflict) if an import node does.
+    /// - [`ImportsUseEachOther`](EncodeError::ImportsUseEachOther) if imports depend on each other in a cycle.
+    /// - [`TypeNotWritable`](EncodeError::TypeNotWritable) if a type that a node needs has no encoding.
+    /// - [`NotYet`](EncodeError::NotYet) if an import or definition is not supported, or `define_components` is false.
+    /// - [`TooLarge`](EncodeError::TooLarge) if an index, a count or a size does not fit 32 bits.
+    /// - [`ValidationFailure`](EncodeError::ValidationFailure) if `validate` is set and a name of an import or export
+    ///   is invalid or clashes with another.
     pub fn encode(&self, options: EncodeOptions<'_>) -> Result<Vec<u8>, EncodeError>
+        // The bytes are those of items that mean this graph.
         ensures means { IfOk result (λ bytes. (items : List AnItem) × (bytes.items ≡ bytes_of items) × Means items self.now options.entry) }
+        // A reported cause exists and is the first one.
         ensures cause { IfErr result (λ e. IfSome (cause_of e) (Stands self.now options.entry)) }
+        // If there is a cause, the result is an error that reports the first one.
         ensures refused { (cause : Cause) → Stands self.now options.entry cause → IsErrAnd result (AnswersFor cause) }
+        // If names are validated, those of the component are valid together.
         ensures valid { IfOk result (λ bytes. IsTrue options.entry.validate → (items : List AnItem) × (bytes.items ≡ bytes_of items) × AreValid (import_names items) (export_names items)) }
     {
-        fault_law();
-        class_laws();
-        order_law();
-        self.law();
+        fault_law(); // proof only
+        class_laws(); // proof only
+        order_law(); // proof only
+        self.law(); // proof only
         let reader = self.reader();
         let ordered = reader.ordered()?;
         self.check_conflicts()?;
@@ -72,7 +89,9 @@ impl CompositionGraph {
         Ok(bytes)
     }
 
-    /// The items that import what the graph asks for, and where each import stands. It is told whether any node is a definition.
+    /// Writes the merged imports. Returns the component with them and the place of each import.
+    ///
+    /// `defined` says whether any node is a definition.
     fn begin(
         &self,
         define_components: bool,
@@ -93,8 +112,8 @@ impl CompositionGraph {
         ensures defined { OnOk result (define_components ≡ true) }
         ensures refused { IfErr result (λ e. (o : Asked) → o.define_components ≡ define_components → IsRefusedBefore self.now o e) }
     {
-        class_laws();
-        order_law();
+        class_laws(); // proof only
+        order_law(); // proof only
         if !define_components || !self.are_definable(defined)? {
             return Err(EncodeError::NotYet);
         }

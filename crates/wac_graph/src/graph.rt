@@ -1,4 +1,4 @@
-//! The composition graph.
+//! The composition graph and its calls.
 ghost use Rattle.std.specs.Prelude.{◌≡◌, ◌==◌, ◌↔◌, ℕ, true, IsSome, IsTrue, IfOk, OnOk, OnErr, IfSome, IfNone, Some, None, Ok, length, slice_get};
 ghost use Rattle.std.specs.Option.{option_map};
 ghost use Rattle.slab.specs.Slab.{ContainsKey};
@@ -40,7 +40,35 @@ use wac_types::{
     WorldId,
 };
 
-/// A composition graph.
+/// A composition of WebAssembly components, as a directed graph.
+///
+/// A node is of one of four kinds:
+///
+/// - A *definition* of a type, which is always exported.
+/// - An *import* of an item.
+/// - An *instantiation* of a registered package.
+/// - An *alias* of an export of an instance.
+///
+/// An edge is of one of three kinds:
+///
+/// - An *alias* edge leads from an instance to an alias of one of its exports.
+/// - An *argument* edge leads from a node to the instantiation that takes it as an argument.
+/// - A *dependency* edge leads from a definition to a definition that depends on it.
+///
+/// An import of an instantiation is *unsatisfied* until an argument is set for it.
+/// The unsatisfied imports become imports of the encoded component, together with the import nodes.
+///
+/// # Ids
+///
+/// Calls require that the ids passed to them are valid in this graph, unless they say otherwise.
+/// [`has_node`](Self::has_node), [`has_package`](Self::has_package) and [`Types::contains`] test this.
+/// The number of a removed node may be given to another node. The id of an unregistered package is never valid again.
+///
+/// # Errors
+///
+/// A call that returns an error leaves the graph unchanged.
+/// A call that allocates may run out of memory, which is `AllocError` or the `OutOfMemory` of its error type.
+/// A call without such an error allocates nothing.
 pub struct CompositionGraph {
     pub(crate) alloc: Global,
     pub(crate) types: Types,
@@ -50,13 +78,13 @@ pub struct CompositionGraph {
     pub(crate) exports: IndexMap<String, NodeId>,
     pub(crate) package_map: IndexMap<PackageKey, PackageId>,
     pub(crate) slots: Vec<Slot>,
-    // The slots that were freed and may be used again, the one freed last at the end.
+    // The free slots that may be used again, the one freed last at the end.
     pub(crate) vacant: Vec<usize>,
-    // What a removal knows of exports.
+    // Leads `remove_node` to the exports that it removes.
     pub(crate) lost: Lost,
 }
 
-/// What a graph holds is let go of here, and not anew by each program that drops one.
+// By hand: a derived `Drop` is proved again wherever one goes out of scope (docs/PROOFS.md, 'Drop').
 impl Drop for CompositionGraph {
     fn drop(self) {
         let CompositionGraph {
@@ -92,7 +120,7 @@ impl Model for CompositionGraph {
 }
 
 impl CompositionGraph {
-    /// The empty graph.
+    /// Creates an empty graph.
     pub fn new(alloc: Global) -> CompositionGraph
         ensures { IsEmpty result }
     {
@@ -110,31 +138,34 @@ impl CompositionGraph {
         }
     }
 
-    /// The law of graphs, which every graph value keeps: an import of an instantiation has one argument at most, an export of an
-    /// instance one alias; an import name, an export name and a defined type are those of one node at most, and a package's key of
-    /// one package; edges join nodes that are there, as their labels say; each alias's source is there and each instance's package
-    /// is registered.
+    /// Proves the invariant of graphs, which holds after every call (docs/PROOFS.md, 'Laws').
+    ///
+    /// - Edges join existing nodes that fit their labels.
+    /// - An import of an instantiation has at most one argument, and an export of an instance at most one alias.
+    /// - An import name, an export name and a defined type belong to at most one node each.
+    /// - A key belongs to at most one registered package.
+    /// - The source of each alias exists, and the package of each instance is registered.
     pub fn law(&self)
         ensures { IsSound self.now }
     {
         let _ = &self.edges;
     }
 
-    /// The graph's collection of types.
+    /// The collection of types.
     pub fn types(&self) -> &Types
         ensures { result.now ≡ self.now.types }
     {
         &self.types
     }
 
-    /// Whether the node is in the graph now.
+    /// Whether the id is that of a node. Any id is accepted.
     pub fn has_node(&self, id: NodeId) -> bool
         ensures { IsTrue result ↔ IsSome (node_at self.now id) }
     {
         self.nodes.contains(id.0)
     }
 
-    /// Whether the package is registered now.
+    /// Whether the id is that of a registered package. Any id is accepted.
     pub fn has_package(&self, id: PackageId) -> bool
         ensures { IsTrue result ↔ IsSome (package_at self.now id) }
     {
@@ -144,61 +175,63 @@ impl CompositionGraph {
         }
     }
 
-    /// Adds a resource to the collection; refused as by [`Types::add_resource`], and then nothing has changed.
+    /// Adds a resource to the collection. Fails as [`Types::add_resource`] does.
     pub fn add_resource(&mut self, resource: Resource) -> Result<ResourceId, AddTypeError>
         ensures added { Adds self.old result self.new (λ id types. (id.0 ≡ length self.old.types.resources) × (types ≡ with_resource self.old.types resource)) }
         ensures fault { AnswersBy (mention_fault self.old.types (resource_mentions resource)) result }
     {
-        growth_law(&self.types);
+        growth_law(&self.types); // proof only
         self.types.add_resource(resource)
     }
 
-    /// Adds a function type to the collection; refused as by [`Types::add_func_type`], and then nothing has changed.
+    /// Adds a function type to the collection. Fails as [`Types::add_func_type`] does.
     pub fn add_func_type(&mut self, func: FuncType) -> Result<FuncTypeId, AddTypeError>
         ensures added { Adds self.old result self.new (λ id types. (id.0 ≡ length self.old.types.funcs) × (types ≡ with_func self.old.types func)) }
         ensures fault { AnswersBy (mention_fault self.old.types (func_mentions func)) result }
     {
-        growth_law(&self.types);
+        growth_law(&self.types); // proof only
         self.types.add_func_type(func)
     }
 
-    /// Adds a defined type to the collection; refused as by [`Types::add_defined_type`], and then nothing has changed.
+    /// Adds a defined type to the collection. Fails as [`Types::add_defined_type`] does.
     pub fn add_defined_type(&mut self, defined: DefinedType) -> Result<DefinedTypeId, AddTypeError>
         ensures added { Adds self.old result self.new (λ id types. (id.0 ≡ length self.old.types.defined) × (types ≡ with_defined self.old.types defined)) }
         ensures fault { AnswersBy (mention_fault self.old.types (defined_mentions defined)) result }
     {
-        growth_law(&self.types);
+        growth_law(&self.types); // proof only
         self.types.add_defined_type(defined)
     }
 
-    /// Adds an interface to the collection; refused as by [`Types::add_interface`], and then nothing has changed.
+    /// Adds an interface to the collection. Fails as [`Types::add_interface`] does.
     pub fn add_interface(&mut self, interface: Interface) -> Result<InterfaceId, AddTypeError>
         ensures added { Adds self.old result self.new (λ id types. (id.0 ≡ length self.old.types.interfaces) × (types ≡ with_interface self.old.types interface)) }
         ensures fault { AnswersBy (interface_fault self.old.types interface) result }
     {
-        growth_law(&self.types);
+        growth_law(&self.types); // proof only
         self.types.add_interface(interface)
     }
 
-    /// Adds a world to the collection; refused as by [`Types::add_world`], and then nothing has changed.
+    /// Adds a world to the collection. Fails as [`Types::add_world`] does.
     pub fn add_world(&mut self, world: World) -> Result<WorldId, AddTypeError>
         ensures added { Adds self.old result self.new (λ id types. (id.0 ≡ length self.old.types.worlds) × (types ≡ with_world self.old.types world)) }
         ensures fault { AnswersBy (world_fault self.old.types world) result }
     {
-        growth_law(&self.types);
+        growth_law(&self.types); // proof only
         self.types.add_world(world)
     }
 
-    /// Adds the type of a core module to the collection; refused as by [`Types::add_module_type`], and then nothing has changed.
+    /// Adds a core module type to the collection. Fails as [`Types::add_module_type`] does.
     pub fn add_module_type(&mut self, module_type: ModuleType) -> Result<ModuleTypeId, AddTypeError>
         ensures added { Adds self.old result self.new (λ id types. (id.0 ≡ length self.old.types.modules) × (types ≡ with_module self.old.types module_type)) }
         ensures fault { AnswersBy (None) result }
     {
-        growth_law(&self.types);
+        growth_law(&self.types); // proof only
         self.types.add_module_type(module_type)
     }
 
-    /// A package of a held world, with these bytes; refused as by [`Package::new`], and then nothing has changed.
+    /// Creates a package whose bytes are a component of this world. Fails as [`Package::new`] does.
+    ///
+    /// The bytes are not read: the caller vouches that they are such a component.
     pub fn new_package(
         &mut self,
         name: &str,
@@ -218,12 +251,14 @@ impl CompositionGraph {
         ensures held { IfOk result (λ p. HoldsPackage self.new.types p) }
         ensures fault { AnswersBy (package_fault self.old.types world) result }
     {
-        growth_law(&self.types);
+        growth_law(&self.types); // proof only
         Package::new(name, version, bytes, world, &mut self.types)
     }
 
-    /// Registers a package of a held world under a new id. Answers `PackageAlreadyRegistered` where a package of its
-    /// key is registered, and `OutOfMemory` where memory ran out; then nothing has changed.
+    /// Registers a package of this graph's collection and returns its id.
+    ///
+    /// # Errors
+    /// - [`PackageAlreadyRegistered`](RegisterPackageError::PackageAlreadyRegistered) if its key is registered.
     pub fn register_package(&mut self, package: Package) -> Result<PackageId, RegisterPackageError>
         requires { HoldsPackage self.old.types «package» }
         ensures { Registers self.old «package» result self.new }
@@ -238,7 +273,7 @@ impl CompositionGraph {
         Ok(id)
     }
 
-    /// The registered package of this name and version, with its id; none where no package of both is registered.
+    /// The registered package with this name and version, if any, and its id.
     pub fn get_package_by_name(
         &self,
         name: &str,
@@ -252,9 +287,11 @@ impl CompositionGraph {
         Some((id, &self[id]))
     }
 
-    /// An import of an item of a held type, under a name that no node imports yet. Answers `ImportAlreadyExists` where
-    /// one does, `InvalidImportName` where the text is no component name, and `OutOfMemory` where memory ran out; then
-    /// nothing has changed.
+    /// Adds an import node for an item of this type.
+    ///
+    /// # Errors
+    /// - [`ImportAlreadyExists`](ImportError::ImportAlreadyExists) if an import node has the name.
+    /// - [`InvalidImportName`](ImportError::InvalidImportName) if the name is not a component name.
     pub fn import(&mut self, name: &str, kind: ItemKind) -> Result<NodeId, ImportError>
         requires { holds_type self.old.types (kind_type kind) ≡ true }
         ensures step { Imports self.old name.now kind result self.new }
@@ -271,7 +308,7 @@ impl CompositionGraph {
         Ok(NodeId(number))
     }
 
-    /// The name of a node that is an import; none of another kind of node.
+    /// The name of an import node. `None` for other nodes.
     pub fn get_import_name(&self, id: NodeId) -> Option<&str>
         requires { IsSome (node_at self.now id) }
         ensures { IfSome (node_at self.now id) (λ node. option_map (λ s. s.now) result ≡ import_name node.kind) }
@@ -279,8 +316,10 @@ impl CompositionGraph {
         self.nodes[id.0].import_name()
     }
 
-    /// A new instance of a registered package, with no argument set. Answers want of memory; then nothing has
-    /// changed.
+    /// Adds an instance of a package, without arguments.
+    ///
+    /// # Errors
+    /// `AllocError` if memory runs out.
     pub fn instantiate(&mut self, id: PackageId) -> Result<NodeId, AllocError>
         requires { IsSome (package_at self.old id) }
         ensures { Instantiates self.old id result self.new }
@@ -297,9 +336,11 @@ impl CompositionGraph {
         Ok(NodeId(number))
     }
 
-    /// The alias of an instance's export: the one that is there, or a new one that carries the instance's package.
-    /// Answers `NodeIsNotAnInstance` where the node is no instance, `InstanceMissingExport` where it has no export of
-    /// this name, and `OutOfMemory` where memory ran out; then nothing has changed.
+    /// Returns the alias of an instance's export, and adds it if there is none.
+    ///
+    /// # Errors
+    /// - [`NodeIsNotAnInstance`](AliasError::NodeIsNotAnInstance) if the node is not an instance.
+    /// - [`InstanceMissingExport`](AliasError::InstanceMissingExport) if it has no export with this name.
     pub fn alias_instance_export(
         &mut self,
         instance: NodeId,
@@ -314,8 +355,8 @@ impl CompositionGraph {
         Ok(alias)
     }
 
-    /// The alias of an instance's export at a position, which is of this kind: the one that is there, or a new one. Where memory runs
-    /// out nothing has changed.
+    /// Returns the alias of the export at a position, and adds it if there is none.
+    /// On `AllocError` the graph is unchanged.
     pub(crate) fn alias_at(
         &mut self,
         instance: NodeId,
@@ -328,7 +369,7 @@ impl CompositionGraph {
         ensures kept { OnErr result (self.new ≡ self.old) }
         ensures there { IfOk result (λ alias. IsSome (node_at self.new alias)) }
     {
-        self.types.law();
+        self.types.law(); // proof only
         let package = self.nodes[instance.0].package;
         if let Some(alias) = self.edges.alias(instance, position) {
             return Ok(alias);
@@ -345,7 +386,7 @@ impl CompositionGraph {
         Ok(NodeId(number))
     }
 
-    /// The instance that a node is the alias of, and the name of the aliased export. None of another kind of node, and of an id of no node.
+    /// The instance and the name of the export that an alias is of. `None` for other nodes. Any id is accepted.
     pub fn get_alias_source(&self, id: NodeId) -> Option<(NodeId, &str)>
         ensures source { IfSome result (λ s. IsSourceOf self.now id s.0 s.1.now) }
         ensures none { IfNone result ((instance : AnId) (position : ℕ) → IsAliasOf self.now instance position id → ⊥) }
@@ -358,10 +399,16 @@ impl CompositionGraph {
         Some((source, name))
     }
 
-    /// Gives a node as the argument of this name to an instantiation; where it is given already, nothing changes.
-    /// Answers `NodeIsNotAnInstantiation`, `InvalidArgumentName` where the package's world has no import of this name,
-    /// `ArgumentAlreadyPassed` where another node is given, `ArgumentTypeMismatch` where the node's item is no subtype
-    /// of the import, and `OutOfMemory` where memory ran out; then nothing has changed.
+    /// Sets the argument of an instantiation for the import with this name.
+    ///
+    /// Does nothing if the argument is already set to this node.
+    ///
+    /// # Errors
+    /// - [`NodeIsNotAnInstantiation`](InstantiationArgumentError::NodeIsNotAnInstantiation) if the node is not one.
+    /// - [`InvalidArgumentName`](InstantiationArgumentError::InvalidArgumentName) if it has no import with this name.
+    /// - [`ArgumentAlreadyPassed`](InstantiationArgumentError::ArgumentAlreadyPassed) if another node is the argument.
+    /// - [`ArgumentTypeMismatch`](InstantiationArgumentError::ArgumentTypeMismatch) if the argument's type is not a
+    ///   subtype of the import's.
     pub fn set_instantiation_argument(
         &mut self,
         instantiation: NodeId,
@@ -381,9 +428,13 @@ impl CompositionGraph {
         Ok(())
     }
 
-    /// Takes a node away as the argument of this name of an instantiation; where it is not given, nothing changes.
-    /// Answers `NodeIsNotAnInstantiation`, and `InvalidArgumentName` where the package's world has no import of this name,
-    /// or `OutOfMemory` in place of it where memory ran out; then nothing has changed. Taking away takes no memory.
+    /// Removes the argument of an instantiation for the import with this name.
+    ///
+    /// Does nothing if the argument is not set to this node. Only the strings of an error are allocated.
+    ///
+    /// # Errors
+    /// - [`NodeIsNotAnInstantiation`](InstantiationArgumentError::NodeIsNotAnInstantiation) if the node is not one.
+    /// - [`InvalidArgumentName`](InstantiationArgumentError::InvalidArgumentName) if it has no import with this name.
     pub fn unset_instantiation_argument(
         &mut self,
         instantiation: NodeId,
@@ -398,7 +449,10 @@ impl CompositionGraph {
         Ok(())
     }
 
-    /// Names a node, in place of any name that it has. Answers want of memory; then nothing has changed.
+    /// Sets the name of a node, which `encode` writes in the `component-name` section. Replaces an earlier name.
+    ///
+    /// # Errors
+    /// `AllocError` if memory runs out.
     pub fn set_node_name(&mut self, node: NodeId, name: &str) -> Result<(), AllocError>
         requires { IsSome (node_at self.old node) }
         ensures { SetsName self.old node name.now result self.new }
@@ -407,9 +461,12 @@ impl CompositionGraph {
         Ok(())
     }
 
-    /// Exports a node by a further name, last in order. Answers `ExportAlreadyExists` where the name is taken,
-    /// `InvalidExportName` where the text is no component name or that of a hash, a url or a dependency, and
-    /// `OutOfMemory` where memory ran out; then nothing has changed.
+    /// Exports a node under a name, after all other exports. A node may have several export names.
+    ///
+    /// # Errors
+    /// - [`ExportAlreadyExists`](ExportError::ExportAlreadyExists) if the graph already exports the name.
+    /// - [`InvalidExportName`](ExportError::InvalidExportName) if the name is not a component name, or is a hash, url
+    ///   or dependency name.
     pub fn export(&mut self, node: NodeId, name: &str) -> Result<(), ExportError>
         requires { IsSome (node_at self.old node) }
         ensures { Exports self.old node name.now result self.new }
@@ -424,8 +481,12 @@ impl CompositionGraph {
         Ok(())
     }
 
-    /// Takes all export names of a node away; from the last to the first, each time the last export of the list takes the freed place.
-    /// Answers `MustExportDefinition` for a type definition; then nothing has changed. Takes no memory.
+    /// Removes all export names of a node.
+    ///
+    /// The names are removed from the last to the first. Each time, the last export of the graph takes the freed place.
+    ///
+    /// # Errors
+    /// - [`MustExportDefinition`](UnexportError::MustExportDefinition) if the node is a definition.
     pub fn unexport(&mut self, node: NodeId) -> Result<(), UnexportError>
         requires { IsSome (node_at self.old node) }
         ensures { Unexports self.old node result self.new }
@@ -439,7 +500,7 @@ impl CompositionGraph {
         Ok(())
     }
 
-    /// The node that is exported by a name.
+    /// The node that is exported under the name, if any.
     pub fn get_export(&self, name: &str) -> Option<NodeId>
         ensures { result ≡ export_at self.now name.now }
     {
@@ -478,13 +539,13 @@ impl Index<PackageId> for CompositionGraph {
     }
 }
 
-/// What a collection holds has the same trees when something is added, and mentions what it holds.
+/// Proves that adding to a well-formed collection keeps the trees of its types.
 fn growth_law(types: &Types)
     ensures trees { GrowthKeepsTrees types.now }
     ensures formed { IsWellFormed types.now }
 {
-    growth_keeps_trees(types);
-    types.law();
+    growth_keeps_trees(types); // proof only
+    types.law(); // proof only
 }
 
 fn set_export_name(
@@ -520,7 +581,7 @@ fn clear_export_name(nodes: &mut Slab<Node>, number: usize)
     nodes[number].clear_export_name();
 }
 
-/// Takes the exports of a node out, from the last to the first; each time the last export takes the freed place.
+/// Removes the exports of a node, from the last to the first. Each time, the last export takes the freed place.
 fn take_exports(exports: &mut IndexMap<String, NodeId>, node: NodeId)
     ensures { names_of exports.new.entries ≡ without (λ m. m.0 == node.0) (names_of exports.old.entries) }
 {
@@ -531,7 +592,7 @@ fn take_exports(exports: &mut IndexMap<String, NodeId>, node: NodeId)
     }
 }
 
-/// Takes the export at a position out, where it is one of the node; the last export takes its place.
+/// Removes the export at a position if it is the node's. The last export takes its place.
 fn take_export(exports: &mut IndexMap<String, NodeId>, node: NodeId, position: usize)
     ensures { names_of exports.new.entries ≡ taken_at (λ m. m.0 == node.0) position (slice_get (names_of exports.old.entries) position) (names_of exports.old.entries) }
 {

@@ -1,4 +1,4 @@
-//! What a graph asks for: the imports of its instantiations that no argument satisfies, and its import nodes.
+//! The implicit and explicit imports of a graph.
 ghost use Rattle.std.specs.Prelude.{◌≡◌, ◌<◌, ◌-◌, ◌+◌, ◌∷◌, [], IfSome, MatchOption, Some, None};
 ghost use Rattle.wac_edges.specs.Edge.{node_number};
 ghost use Rattle.wac_nodes.specs.Imports.{asked_rows};
@@ -9,17 +9,18 @@ use std::marker::Model;
 use wac_nodes::NodeId;
 use wac_types::ItemKind;
 
-/// The imports that a graph asks for and that are still to come, each with its name, its kind and, where it is an
-/// import node, the node's id.
+/// An iterator over the imports of a graph: name, type, and the node of an explicit import.
+///
+/// It is returned by [`CompositionGraph::imports`].
 #[derive(Drop)]
 pub struct Imports<'a> {
     graph: &'a CompositionGraph,
-    // The number of the instantiation that is looked at, and a position among its world's imports.
+    // The number of the next instantiation, and the position of its next import.
     number: usize,
     position: usize,
-    // The number from which on import nodes are still to come.
+    // The number of the next import node.
     node: usize,
-    // All numbers are below.
+    // A number greater than every node's number.
     end: usize,
 }
 
@@ -66,9 +67,11 @@ impl<'a> Iterator for Imports<'a> {
 }
 
 impl CompositionGraph {
-    /// What the graph asks for, each with its name and kind: first the imports of instantiations that no argument
-    /// satisfies, by the instantiations' numbers and in world order, each as often as it is asked for and without a
-    /// node; then the import nodes by number, each with its id. Takes no memory.
+    /// The graph's imports: first the implicit ones, then the explicit ones. They are not merged.
+    ///
+    /// - The implicit imports are the unsatisfied imports of instantiations, by node number and world order.
+    ///   They come without a node.
+    /// - The explicit imports are the import nodes, by node number, each with its id.
     pub fn imports(&self) -> Imports<'_>
         ensures { result ≡ asked_rows self.now }
     {
@@ -81,8 +84,9 @@ impl CompositionGraph {
         }
     }
 
-    /// The first import that no argument satisfies, of the instantiations from a number on and below an end, of the
-    /// first one's imports from a position on: its instantiation, the position behind it, its name and its kind.
+    /// The first unsatisfied import of instantiations `number..end`, from `position` on for the first of them.
+    ///
+    /// Returns the instantiation, the next position, the name and the type.
     fn next_unset(
         &self,
         number: usize,
@@ -101,7 +105,7 @@ impl CompositionGraph {
         None
     }
 
-    /// The first import node from a number on and below an end: its number, its name and its kind.
+    /// The first import node in `from..end`: its number, name and type.
     fn next_import_node(&self, from: usize, end: usize) -> Option<(usize, &str, ItemKind)>
         ensures below { IfSome result (λ r. r.0 < end) }
         ensures first { MatchOption result (nodes_left self.now from (end - from) ≡ []) (λ r. nodes_left self.now from (end - from) ≡ (r.1.now, r.2, Some (node_number r.0)) ∷ nodes_left self.now (r.0 + 1) (end - (r.0 + 1))) }

@@ -1,4 +1,4 @@
-//! What a graph holds, by rising number: its nodes, their ids, and its packages.
+//! Iterators over the nodes and packages of a graph.
 ghost use Rattle.std.specs.Prelude.{◌≡◌, ◌<◌, ◌+◌, ◌∷◌, [], IfSome, MatchOption, length};
 ghost use Rattle.wac_graph.specs.Listed.{AreNodes, node_ids, packages};
 ghost use Rattle.wac_graph.specs.Left.{packages_left};
@@ -9,7 +9,7 @@ use std::marker::Model;
 use wac_nodes::{Node, NodeId, PackageId, Slot};
 use wac_types::Package;
 
-/// The nodes that are still to come, each with its id.
+/// An iterator over the nodes of a graph with their ids. It is returned by [`CompositionGraph::nodes`].
 #[derive(Drop)]
 pub struct Nodes<'a> {
     entries: Iter<'a, Node>,
@@ -41,7 +41,7 @@ impl<'a> Iterator for Nodes<'a> {
     }
 }
 
-/// The ids of the nodes that are still to come.
+/// An iterator over the ids of a graph's nodes. It is returned by [`CompositionGraph::node_ids`].
 #[derive(Drop)]
 pub struct NodeIds<'a> {
     entries: Iter<'a, Node>,
@@ -72,11 +72,11 @@ impl<'a> Iterator for NodeIds<'a> {
     }
 }
 
-/// The packages that are still to come, each with its id.
+/// An iterator over the registered packages with their ids. It is returned by [`CompositionGraph::packages`].
 #[derive(Drop)]
 pub struct Packages<'a> {
     slots: &'a [Slot],
-    // The number of the slot that is looked at next.
+    // The number of the next slot.
     slot: usize,
 }
 
@@ -111,7 +111,7 @@ impl<'a> Iterator for Packages<'a> {
 }
 
 impl CompositionGraph {
-    /// The nodes, each with its id, by rising number. Takes no memory.
+    /// The nodes with their ids, in order of number.
     pub fn nodes(&self) -> Nodes<'_>
         ensures { AreNodes self.now result }
     {
@@ -120,7 +120,7 @@ impl CompositionGraph {
         }
     }
 
-    /// The ids of the nodes, by rising number. Takes no memory.
+    /// The ids of the nodes, in order of number.
     pub fn node_ids(&self) -> NodeIds<'_>
         ensures { result ≡ node_ids self.now }
     {
@@ -129,7 +129,7 @@ impl CompositionGraph {
         }
     }
 
-    /// The registered packages, each with its id, by slot. Takes no memory.
+    /// The registered packages with their ids, in order of slot.
     pub fn packages(&self) -> Packages<'_>
         ensures { result ≡ packages self.now }
     {
@@ -140,7 +140,7 @@ impl CompositionGraph {
     }
 }
 
-/// The first package of the slots from a number on, with its id.
+/// The first package in the slots from a number on, with its id.
 fn first_package(slots: &[Slot], from: usize) -> Option<(PackageId, &Package)>
     ensures below { IfSome result (λ r. r.0.slot < length slots.now) }
     ensures first { MatchOption result (packages_left slots.now from ≡ []) (λ r. packages_left slots.now from ≡ (r.0, r.1.now) ∷ packages_left slots.now (r.0.slot + 1)) }

@@ -1,9 +1,29 @@
-//! Composition graphs of WebAssembly components: packages, imports, instantiations, aliases, arguments and exports go
-//! into a [`CompositionGraph`], and `encode` gives the bytes of one component; `plug` plugs components into a socket.
+//! Composition graphs of WebAssembly components.
 //!
-//! The calls on a graph stand here, since they alone change its fields, and `plug`, which calls the graph: what the plugs'
-//! worlds export becomes the arguments of an instance of the socket, and what the socket's world exports is exported. The
-//! crates below hold what is re-exported here.
+//! A [`CompositionGraph`] describes how components are put together: which packages are instantiated, which exports
+//! become arguments of other instances, and what is imported and exported.
+//! [`CompositionGraph::encode`] turns the graph into the bytes of one component, and [`plug`] fills the imports of a
+//! socket component with the exports of other components.
+//!
+//! ```rust
+//! // `a` and `b` are functions of type `func`; `bytes1` and `bytes2` are the components of the packages.
+//! let mut graph = CompositionGraph::new(alloc);
+//! let func = ItemKind::Func(graph.add_func_type(FuncType::new(alloc, &[], None, false)?)?);
+//!
+//! let world = graph.add_world(World::new(alloc, None, &[], &[("a", func)])?)?;
+//! let package = graph.new_package("my:package1", None, bytes1, world)?;
+//! let first = graph.register_package(package)?;
+//!
+//! let world = graph.add_world(World::new(alloc, None, &[("b", func)], &[])?)?;
+//! let package = graph.new_package("my:package2", None, bytes2, world)?;
+//! let second = graph.register_package(package)?;
+//!
+//! let a = graph.instantiate(first)?;
+//! let a = graph.alias_instance_export(a, "a")?;
+//! let b = graph.instantiate(second)?;
+//! graph.set_instantiation_argument(b, "b", a)?;
+//! let bytes = graph.encode(EncodeOptions::default())?;
+//! ```
 #![tactic(auto)]
 
 mod arguments;

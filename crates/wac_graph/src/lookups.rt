@@ -1,4 +1,4 @@
-//! What is looked up of a graph by what encodes it.
+//! The graph as encoding reads it.
 ghost use Rattle.std.specs.Prelude.{◌≡◌, ◌∷◌, [], IsSomeAnd, IfSome, MatchOption, None, Some};
 ghost use Rattle.wac_edges.specs.Edge.{node_number};
 ghost use Rattle.wac_fields.specs.ImportsLeft.{node_left};
@@ -11,7 +11,7 @@ use wac_nodes::PackageId;
 use wac_types::{ItemKind, Named, Package};
 
 impl CompositionGraph {
-    /// What is read of the graph.
+    /// Borrows the fields of the graph.
     pub(crate) fn reader(&self) -> GraphReader<'_>
         ensures { result ≡ self.now }
     {
@@ -38,7 +38,7 @@ impl CompositionGraph {
         self.reader().package_of(n)
     }
 
-    /// What the world of an instantiation's package imports.
+    /// The imports of the world of an instantiation's package.
     pub(crate) fn imports_at(&self, n: usize) -> &Named<ItemKind>
         requires { IsSomeAnd (node_at self.now (node_number n)) (λ node. node.kind ≡ instantiation) }
         ensures { IfSome (node_at self.now (node_number n)) (λ node. result.now ≡ imports_of self.now node) }
@@ -46,15 +46,14 @@ impl CompositionGraph {
         self.reader().imports_at(n)
     }
 
-    /// The name and the kind of the node of this number, where it is an import node.
+    /// The name and type of the node with this number, if it is an import.
     pub(crate) fn import_node_at(&self, n: usize) -> Option<(&str, ItemKind)>
         ensures { MatchOption result (node_rows self.now n ≡ []) (λ r. node_rows self.now n ≡ (r.0.now, r.1, Some (node_number n)) ∷ []) }
     {
         self.reader().import_node_at(n)
     }
 
-    /// The first import of a node from a position on that no argument satisfies: the position behind it, its name and
-    /// its kind.
+    /// The first unsatisfied import of a node from a position on: the next position, its name and its type.
     pub(crate) fn unset_at(&self, n: usize, from: usize) -> Option<(usize, &str, ItemKind)>
         ensures { MatchOption result (node_left self.now n from (node_at self.now (node_number n)) ≡ []) (λ r. node_left self.now n from (node_at self.now (node_number n)) ≡ (r.1.now, r.2, None) ∷ node_left self.now n r.0 (node_at self.now (node_number n))) }
     {

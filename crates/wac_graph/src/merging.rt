@@ -1,4 +1,4 @@
-//! Whether what a graph asks for can be merged into one import for each class.
+//! Merging the graph's imports into one import for each class.
 ghost use Rattle.std.specs.Prelude.{◌≡◌, [], map, IfErr, IfOk, OnOk, string_bytes};
 ghost use Rattle.std.specs.List.{AllByRecursion};
 ghost use Rattle.wac_merge.specs.Aggregate.{IsFault};
@@ -24,8 +24,9 @@ use wac_places::exports_law;
 use wac_types::Types;
 
 impl CompositionGraph {
-    /// The merge of all that the graph asks for, and what that is. Refuses a graph that asks for what cannot be merged. These are
-    /// the instantiations that have an import which no argument satisfies.
+    /// Merges the graph's imports. Returns the merge and the imports that were merged.
+    ///
+    /// `instantiations` are all instantiations with unsatisfied imports.
     pub(crate) fn merged(
         &self,
         instantiations: &[usize],
@@ -38,8 +39,8 @@ impl CompositionGraph {
         ensures merges { OnOk result (HasMerge self.now) }
         ensures refused { IfErr result (λ e. (o : Asked) → IsRefused self.now o e) }
     {
-        self.law();
-        self.types.law();
+        self.law(); // proof only
+        self.types.law(); // proof only
         let entries = self.asked_entries(instantiations)?;
         if entries.is_empty() {
             let merge = self.merged_nothing()?;
@@ -48,31 +49,31 @@ impl CompositionGraph {
         let aggregator = self.aggregated(entries.as_slice())?;
         match aggregator.finish(&self.types) {
             Ok(merge) => {
-                exports_law(&self.types);
+                exports_law(&self.types); // proof only
                 exports_law(merge.types());
-                merge.types().law();
-                listed_law();
+                merge.types().law(); // proof only
+                listed_law(); // proof only
                 Ok((merge, entries))
             }
             Err(fault) => Err(self.merge_error(entries.as_slice(), fault)?),
         }
     }
 
-    /// The merge of a graph that asks for nothing. It is made over no types, since a merge holds those over which it is made.
+    /// The merge of no imports. It is made over an empty collection, because a merge copies the one it is made over.
     fn merged_nothing(&self) -> Result<TypeAggregator, EncodeError>
         requires { asked_entries self.now ≡ [] }
         ensures merged { IfOk result (IsMergedFor self.now) }
         ensures merges { HasMerge self.now }
         ensures refused { IfErr result (λ e. e ≡ EncodeError.OutOfMemory) }
     {
-        self.types.law();
-        exports_law(&self.types);
+        self.types.law(); // proof only
+        exports_law(&self.types); // proof only
         let types = Types::new(self.alloc);
         match TypeAggregator::new(self.alloc).finish(&types) {
             Ok(merge) => {
                 exports_law(merge.types());
-                merge.types().law();
-                listed_law();
+                merge.types().law(); // proof only
+                listed_law(); // proof only
                 Ok(merge)
             }
             Err(MergeFault::OutOfMemory) => Err(EncodeError::OutOfMemory),
@@ -80,7 +81,7 @@ impl CompositionGraph {
         }
     }
 
-    /// The entries, collected.
+    /// Collects the imports for a merge.
     fn aggregated(&self, entries: &[AskedEntry<'_>]) -> Result<TypeAggregator, AllocError>
         requires { AllByRecursion (λ e. IsHeldKind self.now.types e.kind) (map entry_view entries.now) }
         ensures { IfOk result (λ a. a.entries ≡ to_merge (map entry_view entries.now)) }
@@ -93,7 +94,7 @@ impl CompositionGraph {
         Ok(aggregator)
     }
 
-    /// The refusal that a fault of what is asked for comes to.
+    /// Returns the error of `encode` for an error of merging.
     fn merge_error(
         &self,
         entries: &[AskedEntry<'_>],
@@ -116,7 +117,7 @@ impl CompositionGraph {
         }
     }
 
-    /// The refusal that names two entries that do not agree.
+    /// Returns the error for two imports that disagree.
     fn disagreement(
         &self,
         entries: &[AskedEntry<'_>],
@@ -130,7 +131,7 @@ impl CompositionGraph {
         requires disagree { Disagrees by_names self.now.types (to_merge (asked_entries self.now)) first second (string_bytes export) }
         ensures { IfOk result (λ e. (o : Asked) → IsRefused self.now o e) }
     {
-        self.law();
+        self.law(); // proof only
         let earlier = NodeId(entries[first].node);
         let later = entries[second];
         let import = String::from_str(self.alloc, later.name)?;

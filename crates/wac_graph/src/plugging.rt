@@ -1,4 +1,4 @@
-//! The call that plugs components together.
+//! Plugging components into a socket component.
 ghost use Rattle.std.specs.Prelude.{◌≡◌, ◌⊎◌, ℕ, List, [], Some, IsSome, IfOk, IfErr, IfSome, slice_get, Ok, Err};
 ghost use Rattle.wac_nodes.specs.Graph.{package_at};
 ghost use Rattle.wac_nodes.specs.declared.errors.AliasError.{AliasError as AnAliasFault};
@@ -19,7 +19,7 @@ use wac_nodes::{NodeId, PackageId, one_export_answer};
 use wac_plugging::{PlugError, PlugFault, find_matches};
 use wac_types::Named;
 
-/// Finds the matches of a plug, and plugs it in by them. Answers whether there are any.
+/// Plugs in one plug. Returns whether any of its exports matches.
 fn plug_one(
     graph: &mut CompositionGraph,
     plug: PackageId,
@@ -35,7 +35,7 @@ fn plug_one(
     ensures plugged { IfOk result (λ has_match. Keeps graph.old graph.new × NoNameTwice (exports_of_package graph.old plug) × ((ms : List Match) × AreMatchesOf graph.old socket plug ms × PlugsIn plug node graph.old ms (Ok tt) graph.new × (has_match ≡ has_any ms))) }
     ensures refused { IfErr result (λ e. PlugsNamed socket node graph.old plug (Err e) graph.new) }
 {
-    graph.law();
+    graph.law(); // proof only
     let exporting = graph[plug].ty();
     let importing = graph[socket].ty();
     let pairs = find_matches(graph.types(), exporting, importing, firsts)?;
@@ -43,7 +43,7 @@ fn plug_one(
     Ok(!pairs.is_empty())
 }
 
-/// Plugs in each plug that matches, in order. Answers whether one does.
+/// Plugs in each plug, in order. Returns whether any export matches.
 fn plug_each(
     graph: &mut CompositionGraph,
     plugs: &[PackageId],
@@ -66,27 +66,27 @@ fn plug_each(
     Ok(has_match)
 }
 
-/// A package's world imports nothing under a name twice.
+/// Proves that a package's world imports no name twice.
 fn imports_law(graph: &CompositionGraph, id: PackageId)
     requires { IsSome (package_at graph.now id) }
     ensures { NoNameTwice (imports_of_package graph.now id) }
 {
-    graph.law();
+    graph.law(); // proof only
     let world = graph[id].ty();
-    graph.types()[world].imports.law();
+    graph.types()[world].imports.law(); // proof only
 }
 
-/// A package's world exports nothing under a name twice.
+/// Proves that a package's world exports no name twice.
 fn exports_law(graph: &CompositionGraph, id: PackageId)
     requires { IsSome (package_at graph.now id) }
     ensures { NoNameTwice (exports_of_package graph.now id) }
 {
-    graph.law();
+    graph.law(); // proof only
     let world = graph[id].ty();
-    graph.types()[world].exports.law();
+    graph.types()[world].exports.law(); // proof only
 }
 
-/// Plugs packages into a socket, as [`plug`] says.
+/// Does the work of [`plug`].
 fn plug_all(
     graph: &mut CompositionGraph,
     plugs: &[PackageId],
@@ -96,8 +96,8 @@ fn plug_all(
     requires socket { IsSome (package_at graph.old socket) }
     ensures { PlugsAllNamed graph.old plugs.now socket result graph.new }
 {
-    graph.law();
-    imports_law(graph, socket);
+    graph.law(); // proof only
+    imports_law(graph, socket); // proof only
     let mut firsts = None;
     let world = graph[socket].ty();
     let node = graph.instantiate(socket)?;
@@ -108,16 +108,21 @@ fn plug_all(
     pass_on_all(graph, world, node)
 }
 
-/// Plugs packages into a socket, a package too.
+/// Instantiates a socket package and sets its arguments to the exports of plug packages.
 ///
-/// The socket is instantiated. Then for each plug in order each export of its world is matched, in order: with the
-/// socket's import of its name, or, where there is none, with the first on one track with it, where the export's kind is a
-/// subtype of the import's. A plug with a match is instantiated once, and each export that matches is aliased and set as the
-/// argument. At last each export of the socket's world is aliased and exported by its name, in order.
+/// 1. The socket is instantiated.
+/// 2. Each export of each plug is matched, in order, with the socket's import of the same name. If there is none, it is
+///    matched with the first import on the same track. It matches only if its type is a subtype of the import's.
+/// 3. A plug with a match is instantiated once. Each export that matches is aliased and set as the argument.
+/// 4. If any export matched, each export of the socket is aliased and exported under its name, in order.
 ///
-/// Answers `NoPlugHappened` where nothing matches, `GraphError` where an import is matched twice (`ArgumentAlreadyPassed`)
-/// or an export of the socket may not be exported (the error of `export`), and `OutOfMemory` where memory ran out. What the
-/// steps before a refusal made stays, and nothing else has changed.
+/// # Errors
+/// - [`NoPlugHappened`](PlugError::NoPlugHappened) if no export matches.
+/// - [`GraphError`](PlugError::GraphError) if an import is matched twice (`ArgumentAlreadyPassed`), or if a name of the
+///   socket cannot be exported (the error of [`CompositionGraph::export`]).
+/// - [`OutOfMemory`](PlugError::OutOfMemory).
+///
+/// On an error, everything that the earlier steps added remains in the graph.
 pub fn plug(
     graph: &mut CompositionGraph,
     plugs: Vec<PackageId>,
@@ -125,17 +130,22 @@ pub fn plug(
 ) -> Result<(), PlugError>
     requires plugs { (i : ℕ) (id : AnId) → slice_get plugs.items i ≡ Some id → IsSome (package_at graph.old id) }
     requires socket { IsSome (package_at graph.old socket) }
+    // The graph changes by the steps above, and the result is theirs.
     ensures step { PlugsAll graph.old plugs.items socket result graph.new }
+    // If an import is matched twice, that is the error, and the only one from setting arguments.
     ensures twice { (ms : List Match) → AreAllMatches graph.old socket plugs.items ms → IsMatchedTwice ms → IsAlreadyPassed result ⊎ (result ≡ Err PlugError.OutOfMemory) }
     ensures only_twice { (e : AFault) → result ≡ Err (PlugError.GraphError (PlugFault.Argument e)) → IsAlreadyPassed result × ((ms : List Match) → AreAllMatches graph.old socket plugs.items ms → IsMatchedTwice ms) }
+    // An alias never fails, except for lack of memory.
     ensures no_alias { (e : AnAliasFault) → result ≡ Err (PlugError.GraphError (PlugFault.Alias e)) → ⊥ }
+    // If a name of the socket cannot be exported, the first one is the error, and the only one from exporting.
     ensures refused { (e : AnExportFault) → IsFirstRefused graph.old (names_of (exports_of_package graph.old socket)) e → (ms : List Match) → AreAllMatches graph.old socket plugs.items ms → (ms ≡ [] → ⊥) → (IsMatchedTwice ms → ⊥) → IsExportRefused result ⊎ (result ≡ Err PlugError.OutOfMemory) }
     ensures only_refused { (e : AnExportFault) → result ≡ Err (PlugError.GraphError (PlugFault.Export e)) → IsFirstRefused graph.old (names_of (exports_of_package graph.old socket)) e }
+    // Without any match, and only then, the result is `NoPlugHappened`.
     ensures nothing { AreAllMatches graph.old socket plugs.items [] → (result ≡ Err PlugError.NoPlugHappened) ⊎ (result ≡ Err PlugError.OutOfMemory) }
     ensures only_nothing { result ≡ Err PlugError.NoPlugHappened → AreAllMatches graph.old socket plugs.items [] }
 {
-    graph.law();
-    one_export_answer();
-    exports_law(graph, socket);
+    graph.law(); // proof only
+    one_export_answer(); // proof only
+    exports_law(graph, socket); // proof only
     plug_all(graph, &plugs, socket)
 }

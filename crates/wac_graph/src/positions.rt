@@ -1,4 +1,4 @@
-//! Aliases of exports and arguments for imports that are known by their positions: no name is looked up.
+//! Aliases and arguments by position, without looking up names.
 ghost use Rattle.std.specs.Prelude.{◌≡◌, IsSome, IfOk, IfErr, OnErr, Ok, Err};
 ghost use Rattle.wac_primitives.specs.Name.{Name as AName};
 ghost use Rattle.wac_shapes.specs.declared.component.ItemKind.{ItemKind as AnItem};
@@ -14,7 +14,7 @@ use wac_nodes::{InstantiationArgumentError, NodeId, NodeKind};
 use wac_types::ItemKind;
 
 impl CompositionGraph {
-    /// The kind of an instance's export at a position.
+    /// The type of an instance's export at a position.
     pub(crate) fn export_kind(&self, instance: NodeId, position: usize) -> ItemKind
         requires instance { IsSome (node_at self.now instance) }
         requires export { (name : AName) × (kind : AnItem) × HasExport self.now instance name position kind }
@@ -26,9 +26,7 @@ impl CompositionGraph {
         *self.types[interface].exports.value_at(position)
     }
 
-    /// The name of an instantiation's import at a position.
-    ///
-    /// Answers `NodeIsNotAnInstantiation`.
+    /// The name of an instantiation's import at a position. Fails with `NodeIsNotAnInstantiation`.
     fn import_name(
         &self,
         instantiation: NodeId,
@@ -48,7 +46,7 @@ impl CompositionGraph {
     }
 }
 
-/// The alias of an instance's export at a position, as `alias_instance_export` answers it for the name of the export.
+/// Returns the alias of the export at a position, as `alias_instance_export` does for its name.
 pub(crate) fn alias_export_at(
     graph: &mut CompositionGraph,
     instance: NodeId,
@@ -64,8 +62,9 @@ pub(crate) fn alias_export_at(
     graph.alias_at(instance, position, kind)
 }
 
-/// Gives a node as the argument for an instantiation's import at a position, as `set_instantiation_argument` does by the name of
-/// the import, where the node's item is known to be a subtype of the import: no types are compared.
+/// Sets the argument for the import at a position, as `set_instantiation_argument` does for its name.
+///
+/// The argument is known to fit, so no types are compared.
 pub(crate) fn set_argument_at(
     graph: &mut CompositionGraph,
     instantiation: NodeId,

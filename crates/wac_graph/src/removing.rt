@@ -1,4 +1,4 @@
-//! Nodes and packages that are taken out of a graph.
+//! Removing nodes and packages.
 ghost use Rattle.std.specs.Prelude.{IsSome};
 ghost use Rattle.wac_nodes.specs.Graph.{node_at, package_at};
 ghost use Rattle.wac_fields.specs.Removal.{Removes};
@@ -11,11 +11,11 @@ use wac_fields::{take_lost, take_nodes, take_owned, take_owned_exports, take_pac
 use wac_nodes::{NodeId, NodeKind, PackageId};
 
 impl CompositionGraph {
-    /// Removes a node and all that goes with it: its aliases and the definitions that mention it, and what goes with these.
+    /// Removes a node and all that depends on it: its aliases, its dependent definitions, and what depends on these.
     ///
-    /// Their names, edges and exports go too, so an argument that was one of them is not set any more. Exports are taken out
-    /// from the last to the first, and each time the last export of the list takes the freed place. The node's number is that
-    /// of the next node. Takes no memory.
+    /// Their edges and names go with them, so imports whose argument is removed become unsatisfied again.
+    /// Their exports are removed from the last to the first. Each time, the graph's last export takes the freed place.
+    /// The next node that is added gets the removed node's number.
     pub fn remove_node(&mut self, node: NodeId)
         requires { IsSome (node_at self.old node) }
         ensures { Removes self.old node self.new }
@@ -32,11 +32,11 @@ impl CompositionGraph {
         take_lost(&mut self.exports, &self.nodes, &mut self.lost);
     }
 
-    /// Unregisters a package, and removes its nodes: its instances and the aliases that carry it.
+    /// Unregisters a package and removes its nodes: its instances and the aliases that have it as their package.
     ///
-    /// Their names, edges and exports go too, so an argument that was one of them is not set any more; the other exports keep
-    /// their order. The id is never valid again, and the package's slot is the next one to be used, under another id. The highest
-    /// number of the package's nodes is that of the next node. Takes no memory.
+    /// Their edges, names and exports go with them, and the other exports keep their order.
+    /// The id is never valid again. The next package that is registered uses the same slot under a new id.
+    /// If a node is removed, the next node that is added gets the highest removed number.
     pub fn unregister_package(&mut self, package: PackageId)
         requires { IsSome (package_at self.old «package») }
         ensures { Unregisters self.old «package» self.new }
@@ -52,7 +52,7 @@ impl CompositionGraph {
     }
 }
 
-/// Takes the name out that a node of this kind imports.
+/// Removes the name that a node of this kind imports.
 fn take_import(imports: &mut IndexMap<String, NodeId>, kind: &NodeKind)
     ensures { AreLeft kind.now imports.old.entries imports.new.entries }
 {

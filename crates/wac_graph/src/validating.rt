@@ -1,4 +1,4 @@
-//! Whether the outer names of what a graph composes may stand together.
+//! Validation of the names of imports and exports.
 ghost use Rattle.std.specs.Prelude.{◌≡◌, true, IfErr, IsTrue, OnOk};
 ghost use Rattle.wac_causes.specs.OuterNames.{written_exports};
 ghost use Rattle.wac_causes.specs.Search.{NamesFault};
@@ -14,7 +14,7 @@ use wac_places::import_names;
 use wac_validation::{one_answer, validate};
 
 impl CompositionGraph {
-    /// Refuses, where it is asked for, imports and exports whose names may not stand together, with the first fault.
+    /// Checks that the names of the component's imports and exports are valid together, if `asked` is true.
     pub(crate) fn check_names(
         &self,
         merge: &TypeAggregator,
@@ -29,7 +29,7 @@ impl CompositionGraph {
         if !asked {
             return Ok(());
         }
-        one_answer();
+        one_answer(); // proof only
         let imports = import_names(self.alloc, merge.imports())?;
         let exports = self.reader().export_names(order)?;
         validate(self.alloc, &imports, &exports)?;

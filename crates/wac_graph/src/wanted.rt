@@ -1,4 +1,4 @@
-//! Whether what nodes ask for can be written, whatever stands around it.
+//! Whether the types that nodes need have an encoding.
 ghost use Rattle.std.specs.Prelude.{◌≡◌, ◌++◌, [], false, map, IfErr, IfOk, IsSomeAnd, OnOk};
 ghost use Rattle.wac_fields.specs.EntriesLeft.{entry_view, entries_of, IsRight, IsHeldKind, AreSettled, AsksAlike, all_with_used};
 ghost use Rattle.wac_causes.specs.Cause.{HasMerge, HasNoConflict};
@@ -22,8 +22,9 @@ use wac_scopes::WriteFault;
 use wac_writable::{Role, lowest_fault};
 
 impl CompositionGraph {
-    /// Refuses a graph in which a node asks for what cannot be written, by the first of it. The entries are what the graph
-    /// asks for, and it is told whether any node is a definition.
+    /// Checks that every type that a node needs has an encoding. Reports the first that has none.
+    ///
+    /// `entries` are the graph's imports, and `defined` says whether any node is a definition.
     pub(crate) fn check_types(
         &self,
         entries: Vec<AskedEntry<'_>>,
@@ -37,8 +38,8 @@ impl CompositionGraph {
         ensures none { OnOk result (HasNoTypeFault self.now) }
         ensures refused { IfErr result (λ e. (o : Asked) → IsRefused self.now o e) }
     {
-        self.law();
-        self.types.law();
+        self.law(); // proof only
+        self.types.law(); // proof only
         let wanted = self.wanted_of_asked(entries, defined)?;
         for i in 0..wanted.len() {
             let entry = wanted[i];
@@ -52,7 +53,7 @@ impl CompositionGraph {
         Ok(())
     }
 
-    /// The lowest fault of what a node asks for.
+    /// Returns the lowest fault of a type that a node needs, if any.
     fn entry_fault(&self, entry: AskedEntry<'_>) -> Result<Option<WriteFault>, AllocError>
         requires { IsHeldKind self.now.types entry.kind }
         ensures { IfOk result (IsLowest (IsEntryFault self.now (entry_view entry.entry))) }
@@ -60,7 +61,7 @@ impl CompositionGraph {
         lowest_fault(&self.types, entry.kind, self.role_at(entry.node))
     }
 
-    /// What is to be done with the items that a node asks for.
+    /// Whether the types that a node needs are imported or defined.
     fn role_at(&self, n: usize) -> Role
         ensures { result ≡ role_of (node_at self.now (node_number n)) }
     {
@@ -70,7 +71,7 @@ impl CompositionGraph {
         }
     }
 
-    /// What nodes ask for, from what the graph asks for: the same, where no node is an import or a definition.
+    /// Returns the types that nodes need. These are the graph's imports if no node is an import or a definition.
     fn wanted_of_asked<'a>(
         &'a self,
         entries: Vec<AskedEntry<'a>>,
@@ -86,7 +87,8 @@ impl CompositionGraph {
         self.wanted_entries()
     }
 
-    /// What nodes ask for, node by node, the interfaces that an asked instance uses before it, each instance once under a name.
+    /// Returns the types that nodes need, node by node, each after the interfaces that it uses.
+    /// No instance is repeated.
     fn wanted_entries(&self) -> Result<Vec<AskedEntry<'_>>, AllocError>
         ensures { IfOk result (λ v. map entry_view v.items ≡ wanted_of self.now) }
     {
@@ -97,7 +99,7 @@ impl CompositionGraph {
         Ok(asking.into_entries())
     }
 
-    /// Asks for what a node asks for.
+    /// Appends the types that a node needs.
     fn ask_wanted<'a>(&'a self, asking: &mut Asking<'a>, n: usize) -> Result<(), AllocError>
         requires right { IsRight asking.old }
         requires settled { AreSettled self.now.types [] (entries_of asking.old) }
@@ -135,7 +137,7 @@ impl CompositionGraph {
     }
 }
 
-/// What is to be done with the items that a node of this kind asks for.
+/// Whether the types that a node of this kind needs are imported or defined.
 fn role(kind: &NodeKind) -> Role
     ensures { result ≡ role_of_kind (kind_of kind.now) }
 {

@@ -1,4 +1,4 @@
-//! What plugging adds to a graph.
+//! The changes of a graph by plugging.
 ghost use Rattle.std.specs.Prelude.{◌≡◌, true, IsSome, OnOk};
 ghost use Rattle.wac_collection.specs.Collection.{holds_type, world_exports};
 ghost use Rattle.wac_shapes.specs.Named.{NoNameTwice, names_of};
@@ -18,8 +18,7 @@ use wac_plugging::{Pair, PlugError};
 use wac_types::WorldId;
 
 impl CompositionGraph {
-    /// Makes room for so many more nodes and edges, so that the tables of both grow at once. Nothing that can be seen changes, also
-    /// where memory runs out.
+    /// Reserves memory for more nodes and edges at once. The graph is unchanged.
     fn reserve(&mut self, nodes: usize, edges: usize) -> Result<(), AllocError>
         ensures { self.new ≡ self.old }
     {
@@ -28,7 +27,7 @@ impl CompositionGraph {
     }
 }
 
-/// Instantiates a plug, with room for so many aliases of its exports that become arguments: a node and two edges each.
+/// Instantiates a plug, with memory for so many aliases that become arguments: a node and two edges each.
 fn instantiate_plug(
     graph: &mut CompositionGraph,
     plug: PackageId,
@@ -41,7 +40,7 @@ fn instantiate_plug(
     graph.instantiate(plug)
 }
 
-/// Gives the export of a plug's node to the socket's node, whose import it is known to fit: its alias becomes the argument.
+/// Aliases the plug's export of a match and sets it as the socket's argument, which it is known to fit.
 fn wire(
     graph: &mut CompositionGraph,
     plug: NodeId,
@@ -55,12 +54,12 @@ fn wire(
     ensures kept { OnOk result (Keeps graph.old graph.new) }
 {
     let alias = alias_export_at(graph, plug, pair.export)?;
-    graph.law();
+    graph.law(); // proof only
     set_argument_at(graph, socket, pair.import, alias)?;
     Ok(())
 }
 
-/// Plugs in one plug by the matches of its world with that of the socket; without a match it is left out.
+/// Instantiates a plug and wires its matches. Does nothing without matches.
 pub fn plug_in(
     graph: &mut CompositionGraph,
     plug: PackageId,
@@ -79,7 +78,7 @@ pub fn plug_in(
     if pairs.is_empty() {
         return Ok(());
     }
-    graph.law();
+    graph.law(); // proof only
     let node = instantiate_plug(graph, plug, pairs.len())?;
     for i in 0..pairs.len() {
         wire(graph, node, socket, pairs[i])?;
@@ -87,7 +86,7 @@ pub fn plug_in(
     Ok(())
 }
 
-/// Exports the socket's export of this name by its name.
+/// Aliases the socket's export with this name and exports the alias under the name.
 fn pass_on(graph: &mut CompositionGraph, socket: NodeId, name: &str) -> Result<(), PlugError>
     requires { IsSome (node_at graph.old socket) }
     ensures step { PassesOn socket graph.old name.now result graph.new }
@@ -98,7 +97,7 @@ fn pass_on(graph: &mut CompositionGraph, socket: NodeId, name: &str) -> Result<(
     Ok(())
 }
 
-/// Exports each export of the socket, an instance of a package of this world, by its name, in order.
+/// Exports every export of the socket, an instance of a package of this world, in order.
 pub fn pass_on_all(
     graph: &mut CompositionGraph,
     world: WorldId,

@@ -1,4 +1,4 @@
-//! The writer of the imports of what a graph asks for.
+//! Writing the graph's imports.
 ghost use Rattle.std.specs.Prelude.{◌≡◌, ◌⊎◌, IfErr, IfNone, IfOk, IfSome};
 ghost use Rattle.wac_causes.specs.NotYet.{AllImportable};
 ghost use Rattle.wac_causes.specs.declared.errors.EncodeError.TheVariants as error;
@@ -13,7 +13,7 @@ use wac_merge::TypeAggregator;
 use wac_merge::laws::{class_laws, order_law};
 
 impl CompositionGraph {
-    /// The imports of what the graph asks for, as they are written; none where one is not importable so far.
+    /// Writes the merged imports. Returns `None` if one is not supported.
     pub(crate) fn written_imports(
         &self,
         merge: &TypeAggregator,
@@ -25,9 +25,9 @@ impl CompositionGraph {
         ensures none { IfOk result (λ o. IfNone o (AllImportable self.now → ⊥)) }
         ensures refused { IfErr result (λ e. (e ≡ error.OutOfMemory) ⊎ ((e ≡ error.TooLarge) × AllImportable self.now)) }
     {
-        self.law();
-        class_laws();
-        order_law();
+        self.law(); // proof only
+        class_laws(); // proof only
+        order_law(); // proof only
         Ok(write_imports(self.alloc, merge)?)
     }
 }

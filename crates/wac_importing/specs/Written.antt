@@ -1,4 +1,4 @@
--- The imports of a merge as they are written into the root of a component.
+-- The imports of a merge in the root of a component.
 use Rattle.std.specs.Prelude.{ℕ, ◌≡◌, ◌⊎◌, List, map, take, Some, slice_get, Err}
 use Rattle.wac_primitives.specs.Name.{Name}
 use Rattle.wac_shapes.specs.declared.component.ItemKind.{ItemKind}
@@ -18,22 +18,22 @@ use Rattle.wac_worlds.specs.Nested.{AreWorlds, AreWorldsRefused}
 use Rattle.wac_importable.specs.Holders.{holders_of, IsAhead}
 use Rattle.wac_importable.specs.Modules.{OneDoesNotFit}
 
--- every import of a merge is imported so far
+-- Every import can be imported.
 abbrev pub AllImportable : Merged → Type 0
 AllImportable m = (p : ℕ) (e : Entry) → slice_get m.imports p ≡ Some e → IsImportableKind m.types e.kind
 
--- one is not
+-- An import that cannot be imported.
 pub record HasUnimportable (m : Merged) : Type 0 where
   pub p : ℕ
   pub entry : Entry
   pub there : slice_get m.imports p ≡ Some entry
   pub not_yet : IsImportableKind m.types entry.kind → ⊥
 
--- listed items as they are entered
+-- The imports as names and types.
 abbrev pub entry_items : List Entry → List (Name × ItemKind)
 entry_items es = map (λ e. (e.name, e.kind)) es
 
--- an import does not fit behind those before it, with some of the types that it is made of, with the worlds inside as they are written ahead
+-- An import does not fit 32 bits after those before it, with its types and the worlds inside it.
 pub record HasTooLarge (m : Merged) : Type 0 where
   pub p : ℕ
   pub entry : Entry
@@ -46,25 +46,25 @@ pub record HasTooLarge (m : Merged) : Type 0 where
   pub ahead : IsAhead m.types worlds entry.kind
   pub large : OneDoesNotFit worlds m.types entry.name entry.kind scope
 
--- the component type of a world inside the imports does not fit, with those inside it
+-- The component type of a world inside the imports does not fit 32 bits.
 abbrev pub HasTooLargeWorld : Merged → Type 0
 HasTooLargeWorld m = AreWorldsRefused {A = Unit {0}} m.types (holders_of (entry_items m.imports)) (Err fault.TooLarge)
 
--- and so where the answer is that something is too large
+-- `TooLarge` means that an import or a world inside the imports does not fit.
 abbrev pub IsTooLarge : Merged → BinaryFault → Type 0
 IsTooLarge m TooLarge = HasTooLarge m ⊎ HasTooLargeWorld m
 IsTooLarge m OutOfMemory = Unit {0}
 
--- what stands where the imports are refused
+-- The error is justified: all imports are supported, and for `TooLarge` something does not fit.
 abbrev pub AreRefused : Merged → BinaryFault → Type 0
 AreRefused m TooLarge = AllImportable m × IsTooLarge m TooLarge
 AreRefused m OutOfMemory = Unit {0}
 
--- a collection and listed items as a merge
+-- The imports of a merge with these types.
 abbrev pub merge_of : Collection → List (Name × ItemKind) → Merged
 merge_of c es = record { types = c; imports = import_entries es }
 
--- what stands where one import is refused
+-- The error of one import is justified: for `TooLarge` it does not fit.
 abbrev pub IsNotWritten : Worlds → Collection → Scope → Name → ItemKind → BinaryFault → Type 0
 IsNotWritten ws c s n item TooLarge = OneDoesNotFit ws c n item s
 IsNotWritten ws c s n item OutOfMemory = Unit {0}

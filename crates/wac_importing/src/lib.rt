@@ -1,6 +1,4 @@
-//! The imports of a merge, written into the root of a component, and where each stands. Which can be written so far `wac_importable` tells.
-//!
-//! A layer of `wac_graph`, whose crate is the door.
+//! Writing the merged imports of a graph into the root of a component.
 #![tactic(auto)]
 
 mod written;

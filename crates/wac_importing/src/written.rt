@@ -1,4 +1,4 @@
-//! The writer of a merge's imports.
+//! Writing the imports of a merge.
 
 ghost use Rattle.std.specs.Prelude.{◌≡◌, ◌⊎◌, ℕ, true, List, None, Some, Ok as Answers, Err as Refused, IfOk, IfErr, IfSome, slice_get};
 ghost use Rattle.wac_shapes.specs.Kinds.{kind_type};
@@ -33,24 +33,24 @@ use wac_root::RootEncoder;
 use wac_scopes::{Encodable, EncodeFault, Scope, root_law};
 use wac_worlds::worlds_inside;
 
-/// The imports of a merge as they are written: a component that has them and the types that they are made of, and of each import, in
-/// order, the sort and its index of that sort.
+/// The written imports of a merge: a component with the imports and the types they need, and the place of each import.
 #[derive(Drop)]
 pub struct WrittenImports {
-    /// The component that is begun.
+    /// The component with the imports.
     pub root: ComponentBuilder,
-    /// Where each import stands.
+    /// The sort and index of each import, in order.
     pub places: Vec<(Sort, u32)>,
 }
 
-/// Writes the imports of a finished merge, in order, each under its name, behind the types that it is made of, each of which is
-/// written once; but the type of a core module, and the component type of a world, are written for each import of one.
+/// Writes the imports of a finished merge in order, each after the types that it needs.
 ///
-/// Answers none exactly where an import is not importable so far: it is no core module, no function, no type item of a value type,
-/// a function type, an interface or a world, and no instance or component, or one of an interface or a world that lists other items
-/// than functions, type items of value types and function types, instances of such, and type items of interfaces and worlds of
-/// such, or it is made of a handle; memory may be refused before that is known. Answers `TooLarge` where an import does not fit
-/// behind those before it; `OutOfMemory` where memory was refused.
+/// A type is written once, except the types of modules and of worlds, which are written for each import.
+/// Returns `None` if an import is not supported yet: a value, a resource, anything with a handle, or an instance or
+/// component that imports or exports a module, a component or a value.
+///
+/// # Errors
+/// - [`TooLarge`](BinaryFault::TooLarge) if an index, a count or a size does not fit 32 bits.
+/// - [`OutOfMemory`](BinaryFault::OutOfMemory), also in place of `None`.
 pub fn write_imports(
     alloc: Global,
     merge: &TypeAggregator,
@@ -66,14 +66,14 @@ pub fn write_imports(
 {
     let types = merge.types();
     let imports = merge.imports();
-    types.law();
+    types.law(); // proof only
     if !are_importable(types, imports)? {
         return Ok(None);
     }
     Ok(Some(write_all(alloc, types, imports)?))
 }
 
-/// Writes imports that all are imported so far.
+/// Writes imports that are all supported.
 fn write_all(
     alloc: Global,
     types: &Types,
@@ -85,10 +85,10 @@ fn write_all(
     ensures sorts { IfOk result (λ w. AreOfSorts (merge_of types.now imports.now) w.places.items) }
     ensures fault { IfErr result (IsTooLarge (merge_of types.now imports.now)) }
 {
-    types.law();
-    imports.law();
-    wac_binary::law();
-    root_law();
+    types.law(); // proof only
+    imports.law(); // proof only
+    wac_binary::law(); // proof only
+    root_law(); // proof only
     let worlds = write_worlds(types, imports)?;
     let mut root = Scope::new(alloc, Encodable::Builder(ComponentBuilder::new(alloc)));
     let mut places = Vec::new(alloc);
@@ -103,7 +103,7 @@ fn write_all(
     })
 }
 
-/// Writes ahead the component types of the worlds inside imports that all are imported so far, each once.
+/// Encodes the component types of the worlds inside the imports, each once.
 fn write_worlds(types: &Types, imports: &Named<ItemKind>) -> Result<Worlds, BinaryFault>
     requires held { (i : ℕ) (e : List ℕ × AnyItem) → slice_get imports.now i ≡ Some e → holds_type types.now (kind_type e.1) ≡ true }
     requires importable { AreImportable types.now imports.now }
@@ -111,7 +111,7 @@ fn write_worlds(types: &Types, imports: &Named<ItemKind>) -> Result<Worlds, Bina
     ensures all { IfOk result (AllWritten types.now (holders_that imports.now)) }
     ensures fault { IfErr result (IsTooLarge (merge_of types.now imports.now)) }
 {
-    types.law();
+    types.law(); // proof only
     let holders = holders_of(types.allocator(), imports)?;
     match worlds_inside(types, holders.as_slice()) {
         Ok(worlds) => Ok(worlds),
@@ -121,7 +121,7 @@ fn write_worlds(types: &Types, imports: &Named<ItemKind>) -> Result<Worlds, Bina
     }
 }
 
-/// Writes an import that is imported so far, and answers its index.
+/// Writes a supported import and returns its index.
 fn write_one(
     alloc: Global,
     types: &Types,
@@ -156,7 +156,7 @@ fn write_one(
     }
 }
 
-/// Writes an import of a component of a held world that is imported so far, and answers its index.
+/// Writes a supported component import and returns its index.
 fn write_component(
     types: &Types,
     worlds: &Worlds,
@@ -184,7 +184,7 @@ fn write_component(
     }
 }
 
-/// Writes a type item of a held world that is imported so far, and answers its index.
+/// Writes a supported import of a world's component type and returns its index.
 fn write_world_type(
     types: &Types,
     worlds: &Worlds,
@@ -212,7 +212,7 @@ fn write_world_type(
     }
 }
 
-/// Writes an import that is imported so far and no core module, component or type item of a world, and answers its index.
+/// Writes any other supported import and returns its index.
 fn write_item(
     types: &Types,
     worlds: &Worlds,
@@ -244,7 +244,7 @@ fn write_item(
     }
 }
 
-/// The component that is written in the root.
+/// The component in a root scope.
 fn builder_of(content: Encodable) -> ComponentBuilder
     requires { IsRoot content }
     ensures { content ≡ Builder result }
@@ -255,7 +255,7 @@ fn builder_of(content: Encodable) -> ComponentBuilder
     }
 }
 
-/// The sort of an item's index.
+/// The sort of an item.
 fn sort_of(kind: ItemKind) -> Sort
     ensures { result ≡ sort_of_kind kind }
 {

@@ -33,7 +33,8 @@ HasNoHandle _ = ⊥
 
 -- An item, if there is one, is plain. A plain item contains no resource or handle.
 --
--- It is a function, a value type, a function type, an instance of plain items, or the type of an instance or component.
+-- It is a function, a value type, a function type, an instance of plain items, or the type of an instance or component
+-- of plain items.
 abbrev pub IsPlainWhereThere : {L : Type 0} → TypeTree L → Type 0
 IsPlainWhereThere absent = Unit {0}
 IsPlainWhereThere (function_item t) = HasNoHandle t

@@ -1,4 +1,7 @@
 -- When component items mean a graph: the statement that `encode` proves about its result.
+--
+-- `meaning` reads items back: the imports, nested components, instantiations and exports, and what each index refers to.
+-- `Means` says that exactly the graph is read back, for given options.
 use Rattle.std.specs.Prelude.{ℕ, suc, ◌+◌, ◌<◌, ◌≤◌, ◌≡◌, ◌↔◌, Bool, true, false, not, ◌&&◌, ◌==◌, if◌then◌else◌, List, [], ◌∷◌, ◌++◌, length, map, filter, Option, Some, None, IsSome, slice_get, codes}
 use Rattle.std.specs.List.{list_any, flat_map}
 use Rattle.semver.specs.Identifiers.{parts_text}
@@ -89,8 +92,7 @@ package_bytes g p = option_case (package_at g p) [] (λ it. it.bytes)
 abbrev pub package_components : Graph → EncodeOptions → List NodeId → List (List ℕ)
 package_components g o order = if o.define_components then map (package_bytes g) (used_packages g order) else []
 
--- The name of a package's import: `unlocked-dep=<name>` or `unlocked-dep=<name@{>=version}>` (Explainer.md,
--- `unlockeddep`).
+-- A package's import name: `unlocked-dep=<name>` or `unlocked-dep=<name@{>=version}>` (Explainer.md, `depname`).
 abbrev pub dependency_name : Key → Name
 dependency_name (name, None) = codes "unlocked-dep=<" ++ name ++ codes ">"
 dependency_name (name, Some version) = codes "unlocked-dep=<" ++ name ++ codes "@{>=" ++ parts_text version ++ codes "}>"
@@ -107,7 +109,7 @@ package_imports g o order = if o.define_components then [] else flat_map (packag
 abbrev pub package_thing : EncodeOptions → (imports place : ℕ) → Thing
 package_thing o imports place = if o.define_components then component_at place else import_at (imports + place)
 
--- An argument: the node that was set, or the import of the class of the argument's name.
+-- An argument: the node that was set, or, if the import is unsatisfied, the import of its name's class.
 pub data IsArgument (g : Graph) (at : NodeId → Thing) (n : NodeId) (i : ℕ) (name : Name) : Thing → Type 0 where
   given : (node : NodeId) → IsArgumentOf g n i node → IsArgument g at n i name (at node)
   asked : (p : ℕ) → IsUnsatisfied g n i → IsImportPlace g name p → IsArgument g at n i name (import_at p)
@@ -118,7 +120,7 @@ AreArguments g at n i [] [] = Unit {0}
 AreArguments g at n i (e ∷ imports) (a ∷ arguments) = (a.0 ≡ e.0) × IsArgument g at n i e.0 a.1 × AreArguments g at n (suc i) imports arguments
 AreArguments g at n i _ _ = ⊥
 
--- Node n's instantiation is of its package's component, with its arguments.
+-- The instantiation is node n: an instance of its package's component with its arguments.
 pub record IsInstantiationOf (g : Graph) (o : EncodeOptions) (imports : ℕ) (at : NodeId → Thing) (order : List NodeId) (n : NodeId) (it : Instantiation) : Type 0 where
   pub node : GraphNode
   pub there : node_at g n ≡ Some node
@@ -242,8 +244,7 @@ pub record Means (items : List Item) (g : Graph) (o : EncodeOptions) : Type 0 wh
   -- Each node's index refers to what the node is.
   pub things : (n : NodeId) (node : GraphNode) → node_at g n ≡ Some node → IsThing g at order n node
   pub stand : (n : NodeId) (node : GraphNode) → node_at g n ≡ Some node → stands_for (meaning items) (sort_of_kind node.item_kind) (index n) ≡ at n
-  -- The exports are exactly the graph's: definitions' first names in written order, then the others in the graph's
-  -- order.
+  -- The exports are exactly the graph's: definitions' first names in written order, then the rest in the graph's order.
   pub exports : map shown (meaning items).exports ≡ flat_map (first_export g at) order ++ flat_map (export_of g at) (further_exports g)
   -- Each written node has an item of its own, in written order.
   pub place : NodeId → ℕ

@@ -21,7 +21,7 @@ use Rattle.wac_meaning.specs.Means.{package_bytes, sort_of_kind}
 use Rattle.wac_meaning.specs.Beginning.{Places, IsPlacedAt}
 use Rattle.wac_meaning.specs.Encoding.{HasComponent, Progress, index_in}
 
--- An argument item: the index of the node that was set, or of the import of the class of the argument's name.
+-- An argument item: the index of the node that was set, or, if there is none, of the import of its name's class.
 pub data IsArgumentItem (g : Graph) (places : Places) (index : NodeId → ℕ) (n : NodeId) (i : ℕ) (name : Name) (a : Name × Sort × ℕ) : Type 0 where
   of_node : (source : NodeId) (node : GraphNode) → a.0 ≡ name → IsArgumentOf g n i source → node_at g source ≡ Some node → a.1 ≡ sort_of_kind node.item_kind → a.2 ≡ index source
       → IsArgumentItem g places index n i name a

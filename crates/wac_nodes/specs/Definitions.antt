@@ -26,7 +26,7 @@ abbrev pub IsResource : AnyType → Type 0
 IsResource (ty.Resource _) = Unit {0}
 IsResource _ = ⊥
 
--- The type is a defined value type of the collection: not primitive, and not a handle as such.
+-- The type is a defined value type of the collection, and not a primitive type or a handle.
 abbrev pub IsDefinedValue : AnyType → Type 0
 IsDefinedValue (ty.Value (val.Defined _)) = Unit {0}
 IsDefinedValue _ = ⊥

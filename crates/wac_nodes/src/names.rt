@@ -11,7 +11,7 @@ use wac_names::{ComponentName, NameFault};
 pub fn one_export_answer()
     ensures { (text : Name) → IsExportDecided text }
 {
-    wac_names::one_answer();
+    wac_names::one_answer(); // proof only
 }
 
 /// Returns why a text is not a valid import name, or `None` if it is valid.

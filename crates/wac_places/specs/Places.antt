@@ -1,4 +1,4 @@
--- The merged imports of what a graph asks for, and where the import of a name stands.
+-- The merged imports of a graph, and the place of each name's import.
 use Rattle.std.specs.Prelude.{ℕ, ◌≡◌, true, length, map, List, Some, slice_get}
 use Rattle.wac_primitives.specs.Name.{Name}
 use Rattle.wac_entries.specs.Classes.{Entry, by_names, imported_as}
@@ -15,14 +15,14 @@ use Rattle.wac_meaning.specs.Encoding.{index_in}
 use Rattle.wac_meaning.specs.MergedImports.{AreOfSorts, IsMergeOf, IsFoundAt}
 use Rattle.wac_places.specs.declared.places.ImportPlaces.{ImportPlaces}
 
--- there is an import under what the name is imported as
+-- There is an import under the name's canonical name.
 pub record IsImportedName (a : Aggregate) (name : Name) : Type 0 where
   pub p : ℕ
   pub entry : Entry
   pub there : slice_get (a.merge).imports p ≡ Some entry
   pub named : entry.name ≡ imported_as by_names a.entries name
 
--- it stands at this index of this sort
+-- The import under the name's canonical name has this sort and index.
 pub record IsPlaceOf (a : Aggregate) (places : Places) (name : Name) (place : Sort × ℕ) : Type 0 where
   pub p : ℕ
   pub entry : Entry
@@ -30,23 +30,23 @@ pub record IsPlaceOf (a : Aggregate) (places : Places) (name : Name) (place : So
   pub named : entry.name ≡ imported_as by_names a.entries name
   pub placed : slice_get places p ≡ Some place
 
--- the merge of all that the graph asks for, each of whose interfaces lists what those list that it unites, in their order
+-- The merge is a finished one of all imports of the graph, and keeps the order of exports.
 pub record IsMergedFor (g : Graph) (a : Aggregate) : Type 0 where
   pub finished : a.is_finished ≡ true
   pub entries : a.entries ≡ outer_entries g
   pub whole : IsMergeOf g a.merge
   pub listed : AreListedInOrder by_names g.types (outer_entries g) a.merge
 
--- these are its imports, each with its place
+-- The imports are those of the graph's merge, each with its place.
 pub record ArePlaced (g : Graph) (p : ImportPlaces) : Type 0 where
   pub merged : IsMergedFor g p.merge
   pub counted : length p.places.items ≡ length ((p.merge).merge).imports
   pub sorts : AreOfSorts (p.merge).merge p.places.items
 
--- each import node has the index of the import into which its name fell
+-- Each import node has the index of its class's import.
 abbrev pub AreFound : Graph → ImportPlaces → List ℕ → Type 0
 AreFound g p indexes = (n : NodeId) (node : GraphNode) (name : Name) → node_at g n ≡ Some node → node.kind ≡ graph.import name → IsFoundAt g (p.merge).merge p.places.items name (sort_of_kind node.item_kind) (index_in indexes n)
 
--- the names of imports
+-- The names of the imports.
 abbrev pub names_of : List Entry → List Name
 names_of es = map (λ e. e.name) es

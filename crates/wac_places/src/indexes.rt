@@ -13,7 +13,7 @@ use std::alloc::AllocError;
 use wac_merge::laws::{class_laws, order_law};
 use wac_reading::GraphReader;
 
-/// At each import node's number the index of its import.
+/// Returns a list with each import node's index at the node's number, and zeros at other numbers.
 pub fn import_indexes(
     reader: &GraphReader<'_>,
     imports: &ImportPlaces,
@@ -35,13 +35,13 @@ pub fn import_indexes(
     Ok(indexes)
 }
 
-/// The index of the import of an import node; zero of any other number.
+/// The index of an import node, or zero for another node.
 fn import_index(reader: &GraphReader<'_>, imports: &ImportPlaces, n: usize) -> u32
     requires { ArePlaced reader.now imports.now }
     ensures { IfSome (node_at reader.now (node_number n)) (λ node. (name : AName) → node.kind ≡ import name → IsFoundAt reader.now imports.now.merge.merge imports.now.places.items name (sort_of_kind node.item_kind) result) }
 {
-    class_laws();
-    order_law();
+    class_laws(); // proof only
+    order_law(); // proof only
     match reader.import_node_at(n) {
         Some((name, _)) => imports.place_of(name).1,
         None => 0,

@@ -1,6 +1,4 @@
-//! Where the imports of what a graph asks for stand among the items that are written, and the index of each import node there.
-//!
-//! A layer of `wac_graph`, whose crate is the door.
+//! The places of a graph's imports in the component: the sort and index of each import, also by import node.
 #![tactic(auto)]
 
 mod indexes;

@@ -1,4 +1,4 @@
-//! Where a name's import stands.
+//! The place of each import.
 ghost use Rattle.std.specs.Prelude.{◌≡◌, IfOk, length, map, true};
 ghost use Rattle.wac_meaning.specs.MergedImports.{ExportsOnce};
 ghost use Rattle.wac_validation.specs.Views.{texts};
@@ -9,17 +9,17 @@ use wac_binary::Sort;
 use wac_merge::TypeAggregator;
 use wac_types::{ItemKind, Named, Types};
 
-/// The imports of a finished merge, with the sort and the index at which each stands.
+/// The imports of a finished merge, with the sort and index of each.
 #[derive(Drop)]
 pub struct ImportPlaces {
     /// The merge.
     pub merge: TypeAggregator,
-    /// The places, by the position of the import.
+    /// The sort and index of each import, by position.
     pub places: Vec<(Sort, u32)>,
 }
 
 impl ImportPlaces {
-    /// The sort and the index of the import under which a name is imported.
+    /// The sort and index of the import of the name's class.
     pub fn place_of(&self, name: &str) -> (Sort, u32)
         requires finished { self.now.merge.is_finished ≡ true }
         requires counted { length self.now.places.items ≡ length self.now.merge.merge.imports }
@@ -34,16 +34,16 @@ impl ImportPlaces {
     }
 }
 
-/// The law of the interfaces of a collection: none exports a name twice.
+/// Proves that no interface of the collection exports a name twice (docs/PROOFS.md, 'Laws').
 pub fn exports_law(types: &Types)
     ensures { ExportsOnce types.now }
 {
     for (_, interface) in types.interfaces() {
-        interface.exports.law();
+        interface.exports.law(); // proof only
     }
 }
 
-/// The names of imports, in order.
+/// Returns the names of the imports, in order.
 pub fn import_names(alloc: Global, imports: &Named<ItemKind>) -> Result<Vec<&str>, AllocError>
     ensures { IfOk result (λ v. texts v.items ≡ map (λ e. e.0) imports.now) }
 {

@@ -1,4 +1,4 @@
--- What is known of a match before it is wired: its export fits its import. Private functions alone cite this.
+-- Matches whose export fits the import. Only private functions use these definitions.
 use Rattle.std.specs.Prelude.{◌≡◌, ℕ, List, [], Some, IfSome, IsSomeAnd, slice_get}
 use Rattle.wac_primitives.specs.Name.{Name, option_case}
 use Rattle.wac_shapes.specs.Named.{named_at}
@@ -12,27 +12,27 @@ use Rattle.wac_plugging.specs.Positions.{HasExport, HasNamed}
 use Rattle.wac_plugging.specs.Matching.{Match, exports_of_package}
 use Rattle.wac_plugging.specs.declared.matching.Pair.{Pair}
 
--- the export of a match is a subtype of its import, where both are there
+-- The export of the match is a subtype of its import, if both exist.
 abbrev pub Fits : Collection → List (Name × ItemKind) → List (Name × ItemKind) → Match → Type 0
 Fits types exports imports m = IfSome (named_at 0 m.export exports) (λ e. IfSome (named_at 0 m.import imports) (λ i. IsSubtype types e.1 types i.1))
 
--- so it is with what a plug's node exports and what a socket's node imports
+-- The match fits the exports of the plug's node and the imports of the socket's node.
 abbrev pub FitsNodes : Graph → NodeId → NodeId → Match → Type 0
 FitsNodes g plug socket m = IfSome (node_at g plug) (λ p. IfSome (node_at g socket) (λ s. Fits g.types (exports_of g p) (imports_of g s) m))
 
--- so it is with what a plug exports, for each of these matches
+-- Every match fits the exports of the plug's world and the imports of the socket's node.
 abbrev pub AllFit : Graph → PackageId → NodeId → List Match → Type 0
 AllFit g plug socket ms = (i : ℕ) (m : Match) → slice_get ms i ≡ Some m → IfSome (node_at g socket) (λ s. Fits g.types (exports_of_package g plug) (imports_of g s) m)
 
--- the node is there, and is of this package
+-- The node is an instance of this package.
 abbrev pub IsNodeOf : Graph → NodeId → PackageId → Type 0
 IsNodeOf g node socket = IsSomeAnd (node_at g node) (λ n. n.owner ≡ Some socket)
 
--- what a node imports
+-- The imports of a node.
 abbrev pub node_imports : Graph → NodeId → List (Name × ItemKind)
 node_imports g id = option_case (node_at g id) [] (λ n. imports_of g n)
 
--- a match stands at these positions among what the plug's node exports and what the socket's node imports, and fits
+-- The match has these positions among the exports and imports of the nodes, and fits.
 pub record IsPair (g : Graph) (plug socket : NodeId) (p : Pair) (m : Match) : Type 0 where
   pub given : ItemKind
   pub taken : ItemKind

@@ -1,4 +1,4 @@
--- What plugging adds, with what is known of the names in worlds. Private functions alone cite this.
+-- Plugging with unique names in worlds. Only private functions use these definitions.
 use Rattle.std.specs.Prelude.{◌≡◌, ◌⊎◌, List, Ok, Err, IsErr}
 use Rattle.wac_shapes.specs.Named.{names_of, NoNameTwice}
 use Rattle.wac_edges.specs.declared.node.NodeId.{NodeId}
@@ -9,13 +9,13 @@ use Rattle.wac_plugging.specs.declared.errors.PlugError.TheVariants.{OutOfMemory
 use Rattle.wac_plugging.specs.Matching.{Match, AreMatchesOf, AreAllMatches, imports_of_package, exports_of_package}
 use Rattle.wac_plugging.specs.Plugging.{Answer, InOrder, PlugsIn, Ends}
 
--- as `Plugs`, and what the plug exports has no name twice
+-- As `Plugs`, and the plug exports no name twice.
 abbrev pub PlugsNamed : PackageId → NodeId → Graph → PackageId → Answer → Graph → Type 0
 PlugsNamed socket node old plug answer new =
     ((answer ≡ Err OutOfMemory) × (new ≡ old))
     ⊎ (NoNameTwice (exports_of_package old plug) × ((ms : List Match) × AreMatchesOf old socket plug ms × PlugsIn plug node old ms answer new))
 
--- as `PlugsAll`, and what the socket imports has no name twice
+-- As `PlugsAll`, and the socket imports no name twice.
 abbrev pub PlugsAllNamed : Graph → List PackageId → PackageId → Answer → Graph → Type 0
 PlugsAllNamed old plugs socket answer new =
     ((answer ≡ Err OutOfMemory) × (new ≡ old))

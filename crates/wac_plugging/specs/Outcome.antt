@@ -1,4 +1,4 @@
--- When `plug` is refused, by the matches.
+-- The errors of `plug` by the matches.
 use Rattle.std.specs.Prelude.{◌≡◌, ◌⊎◌, List, [], ◌∷◌, Some, None, Err, string_bytes}
 use Rattle.wac_primitives.specs.Name.{Name}
 use Rattle.wac_nodes.specs.declared.errors.ExportError.{ExportError}
@@ -11,37 +11,37 @@ use Rattle.wac_plugging.specs.declared.errors.PlugFault.TheVariants.{Argument, E
 use Rattle.wac_plugging.specs.Matching.{Match}
 use Rattle.wac_plugging.specs.Plugging.{Answer}
 
--- an import is the one of a match
+-- The import is that of a match.
 abbrev pub IsMatched : Name → List Match → Type 0
 IsMatched name [] = ⊥
 IsMatched name (m ∷ ms) = (m.import ≡ name) ⊎ IsMatched name ms
 
--- one of these matches has the import of an earlier one, or of one that was given before
+-- A match has the import of an earlier match, or of a given one.
 abbrev pub IsMatchedAgain : List Match → List Match → Type 0
 IsMatchedAgain given [] = ⊥
 IsMatchedAgain given (m ∷ ms) = IsMatched m.import given ⊎ IsMatchedAgain (m ∷ given) ms
 
--- an import is matched twice
+-- Two matches have one import.
 abbrev pub IsMatchedTwice : List Match → Type 0
 IsMatchedTwice ms = IsMatchedAgain [] ms
 
--- an argument is passed already
+-- The result is `ArgumentAlreadyPassed`.
 abbrev pub IsAlreadyPassed : Answer → Type 0
 IsAlreadyPassed (Err (GraphError (Argument (ArgumentAlreadyPassed node text)))) = Unit {0}
 IsAlreadyPassed _ = ⊥
 
--- `export` refuses a name: one that is exported already, or that may not be exported, by its fault
+-- `export` returns this error for the name: it is already exported, or it is not an export name.
 abbrev pub IsRefusedExport : Graph → Name → ExportError → Type 0
 IsRefusedExport g name (export_error.ExportAlreadyExists text node) = (string_bytes text ≡ name) × (export_at g name ≡ Some node)
 IsRefusedExport g name (export_error.InvalidExportName text source) = (string_bytes text ≡ name) × (export_at g name ≡ None) × HasExportFault name source
 IsRefusedExport g name export_error.OutOfMemory = ⊥
 
--- the refusal of the first of these names that `export` refuses
+-- The error is that of the first name that `export` rejects.
 abbrev pub IsFirstRefused : Graph → List Name → ExportError → Type 0
 IsFirstRefused g [] refusal = ⊥
 IsFirstRefused g (name ∷ names) refusal = IsRefusedExport g name refusal ⊎ ((export_at g name ≡ None) × IsExportName name × IsFirstRefused g names refusal)
 
--- an export is refused
+-- The result is an error of `export`.
 abbrev pub IsExportRefused : Answer → Type 0
 IsExportRefused (Err (GraphError (Export refusal))) = Unit {0}
 IsExportRefused _ = ⊥

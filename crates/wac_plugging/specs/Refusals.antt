@@ -1,4 +1,4 @@
--- A refused call on the graph as what `plug` answers: the refusal itself, but for want of memory.
+-- Errors of calls on the graph as errors of `plug`; running out of memory stays `OutOfMemory`.
 use Rattle.wac_nodes.specs.declared.errors.AliasError.{AliasError}
 use Rattle.wac_nodes.specs.declared.errors.AliasError.TheVariants as alias_error
 use Rattle.wac_nodes.specs.declared.errors.ExportError.{ExportError}
@@ -9,17 +9,17 @@ use Rattle.wac_plugging.specs.declared.errors.PlugError.{PlugError}
 use Rattle.wac_plugging.specs.declared.errors.PlugError.TheVariants.{GraphError, OutOfMemory}
 use Rattle.wac_plugging.specs.declared.errors.PlugFault.TheVariants.{Alias, Argument, Export}
 
--- of an alias
+-- An error of `alias_instance_export`.
 abbrev pub of_alias : AliasError → PlugError
 of_alias alias_error.OutOfMemory = OutOfMemory
 of_alias refusal = GraphError (Alias refusal)
 
--- of an argument
+-- An error of `set_instantiation_argument`.
 abbrev pub of_argument : InstantiationArgumentError → PlugError
 of_argument argument_error.OutOfMemory = OutOfMemory
 of_argument refusal = GraphError (Argument refusal)
 
--- of an export
+-- An error of `export`.
 abbrev pub of_export : ExportError → PlugError
 of_export export_error.OutOfMemory = OutOfMemory
 of_export refusal = GraphError (Export refusal)

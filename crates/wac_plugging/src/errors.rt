@@ -1,11 +1,11 @@
-//! Why plugging is refused.
+//! The errors of plugging.
 ghost use Rattle.std.specs.Prelude.{◌≡◌};
 
 use std::alloc::{AllocError, AllocFailed};
 use thiserror::Error;
 use wac_nodes::{AliasError, ExportError, InstantiationArgumentError};
 
-/// The call on the graph that was refused while components were plugged together, with its refusal.
+/// The error of the graph call that failed during plugging.
 #[derive(Debug, Drop, Error)]
 pub enum PlugFault {
     /// An export of an instance could not be aliased.
@@ -19,16 +19,16 @@ pub enum PlugFault {
     Export(ExportError),
 }
 
-/// Why `plug` is refused.
+/// The error of `plug`.
 #[derive(Debug, Drop, Error)]
 pub enum PlugError {
     /// No export of a plug matches an import of the socket.
     #[error("the socket component had no matching imports for the plugs that were provided")]
     NoPlugHappened,
-    /// A call on the graph was refused.
+    /// A call on the graph failed.
     #[error("an error occurred when building the composition graph")]
     GraphError { source: PlugFault },
-    /// There was no memory.
+    /// Out of memory.
     #[error("out of memory")]
     OutOfMemory,
 }
@@ -53,7 +53,7 @@ impl<T: Drop> From<AllocFailed<T>> for PlugError {
     }
 }
 
-/// A refused alias as the fault; want of memory is an error of its own.
+/// An error of aliasing, as `GraphError` or `OutOfMemory`.
 impl From<AliasError> for PlugError {
     ghost use Rattle.wac_plugging.specs.Refusals.{of_alias};
 
@@ -69,7 +69,7 @@ impl From<AliasError> for PlugError {
     }
 }
 
-/// A refused argument as the fault; want of memory is an error of its own.
+/// An error of setting an argument, as `GraphError` or `OutOfMemory`.
 impl From<InstantiationArgumentError> for PlugError {
     ghost use Rattle.wac_plugging.specs.Refusals.{of_argument};
 
@@ -85,7 +85,7 @@ impl From<InstantiationArgumentError> for PlugError {
     }
 }
 
-/// A refused export as the fault; want of memory is an error of its own.
+/// An error of exporting, as `GraphError` or `OutOfMemory`.
 impl From<ExportError> for PlugError {
     ghost use Rattle.wac_plugging.specs.Refusals.{of_export};
 

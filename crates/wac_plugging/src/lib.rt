@@ -1,7 +1,6 @@
-//! What plugging components into a socket is: which exports of a plug match which imports of the socket, what `plug` adds to a
-//! graph by the graph's steps, and why it is refused. The matches of two worlds are found here.
+//! Plugging components into a socket component: which exports match which imports, and the errors.
 //!
-//! A layer of `wac_graph`, whose crate is the door: `plug` itself stands there, since it calls the graph.
+//! The definitions in `specs/` say what `plug` adds to a graph, as steps of the graph.
 #![tactic(auto)]
 
 mod errors;

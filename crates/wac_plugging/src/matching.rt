@@ -1,4 +1,4 @@
-//! Which exports of a plug match which imports of a socket.
+//! The matches between a plug's exports and a socket's imports.
 ghost use Rattle.std.specs.Prelude.{◌≡◌, ◌<◌, true, length, slice_get, string_bytes, IfOk, OnOk, IfSome, IsSomeAnd, MatchOption};
 ghost use Rattle.wac_collection.specs.Collection.{holds_type, holds_all, kind_types, world_imports, world_exports};
 ghost use Rattle.wac_shapes.specs.Kinds.{kind_type};
@@ -14,21 +14,23 @@ use std::alloc::{AllocError, Global};
 use wac_names::Track;
 use wac_types::{ItemKind, Named, ShapeError, SubtypeChecker, TypeFault, Types, WorldId};
 
-/// The positions of an export of a plug and of the import of the socket that it goes to, in their worlds.
+/// The positions of a plug's export and of the socket's import that it matches, in their worlds.
 #[derive(Clone, Copy, Debug)]
 pub struct Pair {
+    /// The position of the export.
     pub export: usize,
+    /// The position of the import.
     pub import: usize,
 }
 
-/// The text that names share exactly where they are on one track.
+/// A text that two names share if and only if they have one track.
 fn track_key(alloc: Global, name: &str) -> Result<String, AllocError>
     ensures { IfOk result (λ key. string_bytes key ≡ track_key name.now) }
 {
     Track::new(alloc, name)?.to_key(alloc)
 }
 
-/// Puts a position under a key, unless there is one.
+/// Inserts a position under a key, unless the key has one.
 fn put_first(
     alloc: Global,
     firsts: &mut Named<usize>,
@@ -44,7 +46,7 @@ fn put_first(
     }
 }
 
-/// The position of the first import on each track, under the track's key.
+/// Returns the position of each track's first import, by the track's key.
 fn first_on_tracks(alloc: Global, imports: &Named<ItemKind>) -> Result<Named<usize>, AllocError>
     ensures { IfOk result (λ firsts. AreFirsts imports.now firsts) }
 {
@@ -56,7 +58,7 @@ fn first_on_tracks(alloc: Global, imports: &Named<ItemKind>) -> Result<Named<usi
     Ok(firsts)
 }
 
-/// The position of the first import on one track with this name. The firsts of all tracks are found when one is asked for.
+/// Returns the position of the first import on the name's track. Fills `firsts` if it is empty.
 fn first_on_track(
     alloc: Global,
     imports: &Named<ItemKind>,
@@ -77,8 +79,7 @@ fn first_on_track(
     Ok(position)
 }
 
-/// The position of the import that an export of this name goes to: the one of its name, else the first on one track with
-/// it.
+/// Returns the position of the import that an export goes to: that of the same name, or else the first on its track.
 fn target(
     alloc: Global,
     imports: &Named<ItemKind>,
@@ -95,7 +96,7 @@ fn target(
     first_on_track(alloc, imports, firsts, name)
 }
 
-/// The position of the import that an export of this name and kind matches, where it has a match.
+/// Returns the position of the import that an export matches, if there is a match.
 fn find_match(
     types: &Types,
     imports: &Named<ItemKind>,
@@ -121,7 +122,9 @@ fn find_match(
     }
 }
 
-/// The matches of the exports of a plug's world, in order. The first import on each track is found when an export asks for one.
+/// Returns the matches of a plug with a socket, in order of the plug's exports.
+///
+/// `firsts` is filled once and can be passed again for other plugs of the same socket.
 pub fn find_matches(
     types: &Types,
     plug: WorldId,
@@ -137,11 +140,11 @@ pub fn find_matches(
     ensures named { OnOk result (NoNameTwice (world_exports types.now plug)) }
     ensures asked { OnOk result (NoNameTwice (world_imports types.now socket)) }
 {
-    types.law();
+    types.law(); // proof only
     let exports = &types[plug].exports;
-    exports.law();
+    exports.law(); // proof only
     let imports = &types[socket].imports;
-    imports.law();
+    imports.law(); // proof only
     let mut pairs = Vec::with_capacity(types.allocator(), exports.len())?;
     for i in 0..exports.len() {
         let (name, kind) = exports.entry_at(i);

@@ -1,7 +1,8 @@
--- What is read of a graph.
+-- The value of a reader.
 use Rattle.wac_fields.specs.Fields.{Fields}
 use Rattle.wac_reading.specs.declared.reader.GraphReader.TheInside.{Inside}
 
+-- The fields that the reader borrows.
 abbrev pub fields_of : Inside → Fields
 fields_of a = record {
   types = a.types.now;

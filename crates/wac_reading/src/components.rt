@@ -1,4 +1,4 @@
-//! The component index of each package that is written.
+//! The component indexes of the packages that are written.
 ghost use Rattle.std.specs.Prelude.{◌≡◌, ◌≢◌, ◌<◌, ◌++◌, ◌∷◌, [], ℕ, Some, IfSome, IfNone, OnOk, OnErr, false, length, slice_get, slice_index_or};
 ghost use Rattle.std.specs.List.{list_any};
 ghost use Rattle.std.specs.Map.{lookup};
@@ -8,13 +8,12 @@ use std::alloc::{AllocError, Global};
 use std::marker::Model;
 use wac_nodes::PackageId;
 
-/// The component index of each package that is written, in the order in which they were written. It is found by the package's
-/// slot.
+/// The component indexes of the packages that are written, in order of writing. A package is found by its slot.
 #[derive(Drop)]
 pub struct Components {
-    /// The packages with their components.
+    /// The packages and their component indexes.
     entries: Vec<(PackageId, u32)>,
-    /// For each slot one more than the place of an entry of that slot; 0 where none is.
+    /// For each slot, the position of its first entry plus one, or 0 without an entry.
     places: Vec<usize>,
 }
 
@@ -32,7 +31,7 @@ impl Model for Components {
 }
 
 impl Components {
-    /// No component is written.
+    /// Creates an empty table.
     pub fn new(alloc: Global) -> Components
         ensures { result ≡ [] }
     {
@@ -42,7 +41,7 @@ impl Components {
         }
     }
 
-    /// The component index of a package, where it is written.
+    /// The component index of a package, if it is written.
     pub fn get(&self, id: PackageId) -> Option<u32>
         ensures there { IfSome result (λ c. (k : ℕ) × (slice_get self.now k ≡ Some (id, c))) }
         ensures absent { IfNone result (list_any (λ e. same_package id e.0) self.now ≡ false) }
@@ -58,7 +57,7 @@ impl Components {
         find(&self.entries, id)
     }
 
-    /// Adds a package that is written. Where memory runs out nothing has changed.
+    /// Adds a package. On `AllocError` the table is unchanged.
     pub fn insert(&mut self, id: PackageId, index: u32) -> Result<(), AllocError>
         ensures pushed { OnOk result (self.new ≡ self.old ++ (id, index) ∷ []) }
         ensures refused { OnErr result (self.new ≡ self.old) }
@@ -70,7 +69,7 @@ impl Components {
     }
 }
 
-/// One more than the place of an entry of a slot; 0 where none is.
+/// The position of a slot's first entry plus one, or 0 without an entry.
 fn next_of(places: &[usize], slot: usize) -> usize
     ensures { result ≡ slice_index_or places.now slot 0 }
 {
@@ -80,7 +79,7 @@ fn next_of(places: &[usize], slot: usize) -> usize
     }
 }
 
-/// Makes room for the place of a slot's entry; where memory runs out nothing has changed.
+/// Extends the positions to this slot. On `AllocError` they are unchanged.
 fn make_room(places: &mut Vec<usize>, slot: usize) -> Result<(), AllocError>
     ensures there { OnOk result (slot < length places.new.items) }
     ensures same { (s : ℕ) → slice_index_or places.new.items s 0 ≡ slice_index_or places.old.items s 0 }
@@ -94,7 +93,7 @@ fn make_room(places: &mut Vec<usize>, slot: usize) -> Result<(), AllocError>
     Ok(())
 }
 
-/// Notes an entry of a slot, unless one is noted: what comes next after its place.
+/// Records the position plus one of a slot's entry, unless the slot has one.
 fn note_place(places: &mut Vec<usize>, slot: usize, next: usize)
     requires { slot < length places.old.items }
     ensures noted { slice_index_or places.old.items slot 0 ≡ 0 → slice_index_or places.new.items slot 0 ≡ next }
@@ -106,7 +105,7 @@ fn note_place(places: &mut Vec<usize>, slot: usize, next: usize)
     }
 }
 
-/// The component index of a package, looked for through all entries.
+/// The component index of a package, searched among all entries.
 fn find(entries: &[(PackageId, u32)], id: PackageId) -> Option<u32>
     ensures { result ≡ lookup (same_package id) entries.now }
 {

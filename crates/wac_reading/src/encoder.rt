@@ -1,4 +1,4 @@
-//! A component that is being written.
+//! The component that is being written.
 ghost use Rattle.std.specs.Prelude.{◌≡◌, [], IfOk, IfErr, None};
 ghost use Rattle.wac_causes.specs.Cause.{cause_of};
 ghost use Rattle.wac_meaning.specs.Means.{sort_of_kind};
@@ -15,17 +15,16 @@ use wac_nodes::PackageId;
 use wac_scopes::{Encodable, Scope, rooted_law};
 use wac_types::ItemKind;
 
-/// A component that is being written: the root with its items and the definitions that are recorded there, the component index of
-/// each package, and the index of each node.
+/// The component that is being written, with the component indexes of packages and the indexes of nodes.
 #[derive(Drop)]
 pub struct Encoder {
-    /// What memory is asked of.
+    /// The allocator.
     pub alloc: Global,
-    /// The root, with what is recorded there.
+    /// The root scope.
     pub root: Scope,
-    /// The component index of each package that is written.
+    /// The component indexes of the packages that are written.
     pub components: Components,
-    /// The index of each node, by its number.
+    /// The index of each node, by number.
     pub indexes: Vec<u32>,
 }
 
@@ -33,7 +32,7 @@ impl Encoder {
     ghost use Rattle.wac_meaning.specs.Encoding.{HasComponent};
     ghost use Rattle.wac_collection.specs.Collection.{Collection as AnyTypes};
 
-    /// What is written is this, with no component yet, and these are the indexes of nodes.
+    /// Continues this component, without any package, with these indexes of nodes.
     pub fn new(alloc: Global, component: ComponentBuilder, indexes: Vec<u32>) -> Encoder
         ensures items { items_of result.root.content ≡ component }
         ensures right { (c : AnyTypes) → IsRightRoot c result.root }
@@ -42,7 +41,7 @@ impl Encoder {
         ensures components { result.components ≡ [] }
         ensures indexes { result.indexes ≡ indexes }
     {
-        rooted_law();
+        rooted_law(); // proof only
         Encoder {
             alloc,
             root: Scope::new(alloc, Encodable::Builder(component)),
@@ -51,7 +50,7 @@ impl Encoder {
         }
     }
 
-    /// What is written, and the indexes of nodes.
+    /// Returns the component and the indexes of nodes.
     pub fn finish(self) -> (ComponentBuilder, Vec<u32>)
         requires { IsRoot self.root.content }
         ensures items { result.0 ≡ items_of self.root.content }
@@ -63,7 +62,7 @@ impl Encoder {
         }
     }
 
-    /// The component index of a package, whose bytes are written where they were not.
+    /// Returns the component index of a package, and writes its bytes first if they are not written yet.
     pub fn component(&mut self, id: PackageId, bytes: &[u8]) -> Result<u32, EncodeError>
         requires { IsRoot self.old.root.content }
         ensures there { IfOk result (λ c. HasComponent bytes.now id c self.old.components self.new.components (items_of self.old.root.content) (items_of self.new.root.content)) }
@@ -72,7 +71,7 @@ impl Encoder {
         ensures kept { self.new.indexes ≡ self.old.indexes }
         ensures fault { IfErr result (λ e. cause_of e ≡ None) }
     {
-        rooted_law();
+        rooted_law(); // proof only
         if let Some(index) = self.components.get(id) {
             return Ok(index);
         }
@@ -82,7 +81,7 @@ impl Encoder {
     }
 }
 
-/// The sort of an item's index.
+/// The sort of an item.
 pub fn sort_of(kind: ItemKind) -> Sort
     ensures { result ≡ sort_of_kind kind }
 {

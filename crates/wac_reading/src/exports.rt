@@ -1,4 +1,4 @@
-//! The names of exports, in the order in which they are written.
+//! The names of exports, in written order.
 ghost use Rattle.std.specs.List.{flat_map};
 ghost use Rattle.std.specs.Prelude.{◌≡◌, IfOk, [], ◌∷◌, MatchOption};
 ghost use Rattle.wac_causes.specs.OuterNames.{first_name_of, written_exports};
@@ -12,7 +12,7 @@ use std::alloc::AllocError;
 use wac_nodes::{Node, NodeId};
 
 impl<'a> GraphReader<'a> {
-    /// The names of the exports, where the nodes are written in this order: the first names of definitions, then the others.
+    /// Returns the names of all exports: the first names of these nodes' definitions, then the further ones.
     pub fn export_names(&self, order: &[NodeId]) -> Result<Vec<&'a str>, AllocError>
         ensures { IfOk result (λ names. texts names.items ≡ written_exports self.now order.now) }
     {
@@ -25,7 +25,7 @@ impl<'a> GraphReader<'a> {
         Ok(names)
     }
 
-    /// The first names of the definitions among these nodes, in order.
+    /// Returns the first export names of the definitions among these nodes, in order.
     fn first_names(&self, order: &[NodeId]) -> Result<Vec<&'a str>, AllocError>
         ensures { IfOk result (λ names. texts names.items ≡ flat_map (first_name_of self.now) order.now) }
     {
@@ -38,7 +38,7 @@ impl<'a> GraphReader<'a> {
         Ok(names)
     }
 
-    /// The first name of a definition; none of another node.
+    /// The first export name of a definition. `None` for other nodes.
     pub(crate) fn first_name(&self, n: NodeId) -> Option<&'a str>
         ensures { MatchOption result (first_name_of self.now n ≡ []) (λ name. first_name_of self.now n ≡ name.now ∷ []) }
     {
@@ -48,7 +48,7 @@ impl<'a> GraphReader<'a> {
         }
     }
 
-    /// The name and the node of the export at a position; none past the last, and where the name is a definition's first one.
+    /// The name and node of the export at a position, or `None` if the name is a definition's first one.
     pub(crate) fn further_export(&self, i: usize) -> Option<(&'a str, NodeId)>
         ensures { MatchOption result (further_at self.now i ≡ []) (λ e. further_at self.now i ≡ (e.0.now, e.1) ∷ []) }
     {
@@ -60,7 +60,7 @@ impl<'a> GraphReader<'a> {
     }
 }
 
-/// Whether the name is that by which a definition was exported first.
+/// Whether the name is the definition's first export name.
 fn is_first_name(node: &Node, name: &str) -> bool
     ensures { result ≡ is_first (node_of node.now) name.now }
 {

@@ -1,6 +1,6 @@
-//! A graph's fields, borrowed: what is looked up there, the order of the nodes, and the parts that are written of it.
+//! Reading a graph for encoding: look-ups in its borrowed fields, and the order of its nodes.
 //!
-//! A layer of `wac_graph`, whose crate is the door.
+//! It also writes the parts that need no type encoder: aliases, exports, names and the processor.
 #![tactic(auto)]
 
 mod components;

@@ -1,4 +1,4 @@
-//! What is looked up of a graph's instantiations, imports and definitions.
+//! Look-ups of instantiations, imports and definitions.
 ghost use Rattle.std.specs.Prelude.{◌≡◌, ◌<◌, ◌↔◌, IsSome, IsSomeAnd, IfSome, Some, ◌∷◌, [], MatchOption, None, slice_get, true};
 ghost use Rattle.wac_collection.specs.Collection.{holds_type};
 ghost use Rattle.wac_edges.specs.Edge.{node_number};
@@ -20,7 +20,7 @@ use wac_nodes::{NodeId, NodeKind, PackageId, Slot, first_gap};
 use wac_types::{ItemKind, Named, Package, Type, Types};
 
 impl<'a> GraphReader<'a> {
-    /// What memory is asked of.
+    /// The allocator.
     pub fn allocator(&self) -> Global {
         self.alloc
     }
@@ -40,7 +40,7 @@ impl<'a> GraphReader<'a> {
         &self.nodes[n.0].kind
     }
 
-    /// The item that a node stands for.
+    /// The item that a node provides.
     pub fn item_kind(&self, n: NodeId) -> ItemKind
         requires { IsSome (node_at self.now n) }
         ensures { IfSome (node_at self.now n) (λ node. node.item_kind ≡ result) }
@@ -63,7 +63,7 @@ impl<'a> GraphReader<'a> {
         }
     }
 
-    /// What the world of an instantiation's package imports.
+    /// The imports of the world of an instantiation's package.
     pub fn imports_at(&self, n: usize) -> &'a Named<ItemKind>
         requires { IsSomeAnd (node_at self.now (node_number n)) (λ node. node.kind ≡ instantiation) }
         ensures { IfSome (node_at self.now (node_number n)) (λ node. result.now ≡ imports_of self.now node) }
@@ -72,21 +72,21 @@ impl<'a> GraphReader<'a> {
         &self.types[package.ty()].imports
     }
 
-    /// A number above those of all nodes.
+    /// A number greater than every node's number.
     pub fn capacity(&self) -> usize
         ensures { (n : AnId) → IsSome (node_at self.now n) → n.0 < result }
     {
         self.nodes.capacity()
     }
 
-    /// Whether no node is an import. Each stands under its name among the imports, so these tell it.
+    /// Whether there is no import node.
     pub fn imports_nothing(&self) -> bool
         ensures { (result ≡ true) ↔ ((name : AName) (n : AnId) → IsImportOf self.now name n → ⊥) }
     {
         self.imports.is_empty()
     }
 
-    /// The name and the kind of the node of this number, where it is an import node.
+    /// The name and type of the node with this number, if it is an import.
     pub fn import_node_at(&self, n: usize) -> Option<(&'a str, ItemKind)>
         ensures { MatchOption result (node_rows self.now n ≡ []) (λ r. node_rows self.now n ≡ (r.0.now, r.1, Some (node_number n)) ∷ []) }
     {
@@ -95,7 +95,7 @@ impl<'a> GraphReader<'a> {
         Some((name, node.item_kind))
     }
 
-    /// The first name of a definition, and the type that it defines.
+    /// The first export name of a definition, and the type that it defines.
     pub fn definition(&self, n: NodeId) -> (&'a str, Type)
         requires { IsSomeAnd (node_at self.now n) (λ node. node.kind ≡ definition) }
         ensures held { holds_type self.now.types result.1 ≡ true }
@@ -111,8 +111,7 @@ impl<'a> GraphReader<'a> {
         (name, ty)
     }
 
-    /// The first import of a node from a position on that no argument satisfies: the position behind it, its name and
-    /// its kind.
+    /// The first unsatisfied import of a node from a position on: the next position, its name and its type.
     pub fn unset_at(&self, n: usize, from: usize) -> Option<(usize, &'a str, ItemKind)>
         ensures { MatchOption result (node_left self.now n from (node_at self.now (node_number n)) ≡ []) (λ r. node_left self.now n from (node_at self.now (node_number n)) ≡ (r.1.now, r.2, None) ∷ node_left self.now n r.0 (node_at self.now (node_number n))) }
     {
@@ -124,7 +123,7 @@ impl<'a> GraphReader<'a> {
     }
 }
 
-/// The first import from a position on whose position is not in the set: the position behind it, its name and its kind.
+/// The first import from a position on that is not in the set: the next position, its name and its type.
 fn first_unset<'a>(
     satisfied: &BTreeSet<usize>,
     imports: &'a Named<ItemKind>,
@@ -136,7 +135,7 @@ fn first_unset<'a>(
     Some((i + 1, imports.name_at(i), *imports.value_at(i)))
 }
 
-/// The package of an id, where the slot holds one of the id's generation.
+/// The package in the id's slot, if the slot has the id's generation.
 pub fn package_in_slots(slots: &[Slot], id: PackageId) -> Option<&Package>
     ensures { option_copied result ≡ package_in (slice_get slots.now id.slot) id }
 {

@@ -1,4 +1,4 @@
-//! The names of nodes, as names of the indexes at which these stand.
+//! The names of nodes as names of indexes.
 ghost use Rattle.std.specs.Prelude.{◌≡◌, ◌↔◌, ◌≤◌, ◌++◌, ℕ, List, false, Some, IfOk, IsSome, IsSomeAnd, IsTrue, OnOk};
 ghost use Rattle.wac_binary.specs.declared.sorts.Sort.{Sort as ASort};
 ghost use Rattle.wac_edges.specs.declared.node.NodeId.{NodeId as AnId};
@@ -18,8 +18,9 @@ use wac_binary::Sort;
 use wac_nodes::NodeId;
 
 impl<'a> GraphReader<'a> {
-    /// The names of the indexes at which named nodes stand, those of each sort by rising indexes. Of several nodes with one
-    /// index the lowest named one gives the name.
+    /// Returns the names of indexes, sort by sort and in order of index. `named` says whether any node has a name.
+    ///
+    /// An index of several nodes has the name of the lowest node with a name.
     pub(crate) fn index_names(
         &self,
         indexes: &[u32],
@@ -40,7 +41,7 @@ impl<'a> GraphReader<'a> {
         Ok(names)
     }
 
-    /// Adds the names of the indexes of one sort, behind the others. The numbers of named nodes are below an end.
+    /// Appends the names of one sort's indexes. Nodes from number `end` on have no names.
     fn add_names<'b>(
         &'b self,
         names: &mut Vec<(Sort, u32, &'b str)>,
@@ -57,7 +58,7 @@ impl<'a> GraphReader<'a> {
         Ok(())
     }
 
-    /// A number below which all nodes are that have a name: zero where none has one.
+    /// A number such that no node from it on has a name.
     fn names_end(&self, named: bool) -> usize
         requires { named ≡ false → (sort : ASort) (n : AnId) → IsNamed self.now sort n → ⊥ }
         ensures { (sort : ASort) (n : AnId) → result ≤ n.0 → IsNamed self.now sort n → ⊥ }
@@ -73,7 +74,7 @@ impl<'a> GraphReader<'a> {
         0
     }
 
-    /// Whether the node of this number is there and has a name.
+    /// Whether the node with this number exists and has a name.
     pub(crate) fn has_name(&self, n: usize) -> bool
         ensures { (sort : ASort) → IsNamed self.now sort (node_number n) → IsTrue result }
     {
@@ -83,7 +84,7 @@ impl<'a> GraphReader<'a> {
         }
     }
 
-    /// The names of the indexes of one sort, by rising indexes. The numbers of named nodes are below an end.
+    /// Returns the names of one sort's indexes, in order of index. Nodes from number `end` on have no names.
     fn sort_names(
         &self,
         indexes: &[u32],
@@ -102,7 +103,7 @@ impl<'a> GraphReader<'a> {
         Ok(names)
     }
 
-    /// For each index of a sort at which a named node stands the lowest of these. The numbers of named nodes are below an end.
+    /// Returns the lowest named node of each index of a sort. Nodes from number `end` on have no names.
     fn lowest_named(
         &self,
         indexes: &[u32],
@@ -123,7 +124,7 @@ impl<'a> GraphReader<'a> {
         Ok(lowest)
     }
 
-    /// Whether the node is there, is of this sort and has a name.
+    /// Whether the node exists, has a name, and has an item of this sort.
     fn is_named(&self, n: NodeId, sort: Sort) -> bool
         ensures { IsTrue result ↔ IsNamed self.now sort n }
     {

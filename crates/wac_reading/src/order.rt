@@ -1,4 +1,4 @@
-//! The order in which nodes are written, and what is seen of all nodes before.
+//! The order in which nodes are written, and what one pass over all nodes finds.
 ghost use Rattle.std.specs.Prelude.{◌≡◌, ◌∷◌, ◌++◌, [], cond, false, OnOk, IfOk, IfErr, IsSomeAnd, IsTrue};
 ghost use Rattle.wac_binary.specs.declared.sorts.Sort.{Sort as ASort};
 ghost use Rattle.wac_causes.specs.Search.{IsRefused};
@@ -18,35 +18,34 @@ use wac_causes::EncodeError;
 use wac_edges::order::order;
 use wac_nodes::{NodeId, NodeKind};
 
-/// The nodes in the order in which they are written, and what was seen of all nodes on the way.
+/// The nodes in written order, with the facts that the pass over all nodes found.
 #[derive(Drop)]
 pub struct Ordered {
-    /// The nodes that are no imports, each the lowest of those that are left to which no edge leads from one that is left.
+    /// The nodes except imports, each the lowest one whose edge sources are all written or imports.
     pub order: Vec<NodeId>,
     /// Whether any node has a name.
     pub named: bool,
     /// Whether any node is a definition.
     pub defined: bool,
-    /// The numbers of the instantiations that have an import which no argument satisfies, rising.
+    /// The numbers of the instantiations with an unsatisfied import, in order.
     pub open: Vec<usize>,
 }
 
-/// What is seen of all nodes, before they are put in order.
+/// The facts that the pass over all nodes found.
 #[derive(Drop)]
 struct Seen {
-    // Which numbers are those of nodes that are no imports.
+    // Whether the node with each number is to be written.
     left: Vec<bool>,
     // Whether any node has a name.
     named: bool,
     // Whether any node is a definition.
     defined: bool,
-    // The numbers of the instantiations that have an import which no argument satisfies, rising.
+    // The numbers of the instantiations with an unsatisfied import, in order.
     numbers: Vec<usize>,
 }
 
 impl<'a> GraphReader<'a> {
-    /// The nodes that are no imports, each the lowest of those that are left to which no edge leads from one that is left; with
-    /// whether any node has a name, whether any is a definition, and which instantiations have an import that no argument satisfies.
+    /// Orders the nodes for writing. Fails with `GraphContainsCycle` if the edges form a cycle.
     pub fn ordered(&self) -> Result<Ordered, EncodeError>
         ensures whole { IfOk result (λ r. Writes self.now.edges (is_written self.now) r.order.items) }
         ensures named { IfOk result (λ r. r.named ≡ false → (sort : ASort) (n : AnId) → IsNamed self.now sort n → ⊥) }
@@ -67,7 +66,7 @@ impl<'a> GraphReader<'a> {
         }
     }
 
-    /// The refusal that names the lowest node on a cycle.
+    /// Returns the error that names the lowest node on a cycle.
     fn cycle(&self) -> Result<EncodeError, AllocError>
         requires { (n : AnId) × IsOnCycle self.now.edges n }
         ensures { IfOk result (λ e. (o : Asked) → IsRefused self.now o e) }
@@ -81,8 +80,7 @@ impl<'a> GraphReader<'a> {
         Ok(EncodeError::GraphContainsCycle { node: n })
     }
 
-    /// Which numbers are those of nodes that are no imports, whether any node has a name, whether any is a definition, and which
-    /// instantiations have an import that no argument satisfies.
+    /// Collects these facts in one pass over all nodes.
     fn to_write(&self) -> Result<Seen, AllocError>
         ensures left { IfOk result (λ s. (n : AnId) → is_left s.left.items n ≡ is_written self.now n) }
         ensures named { IfOk result (λ s. s.named ≡ false → (sort : ASort) (n : AnId) → IsNamed self.now sort n → ⊥) }
@@ -107,7 +105,7 @@ impl<'a> GraphReader<'a> {
         })
     }
 
-    /// Whether the number is that of a node that is no import.
+    /// Whether the node with this number is to be written: it exists and is not an import.
     fn is_to_write(&self, n: usize) -> bool
         ensures { result ≡ is_written self.now (node_number n) }
     {
@@ -117,7 +115,7 @@ impl<'a> GraphReader<'a> {
         }
     }
 
-    /// Whether the number is that of a definition.
+    /// Whether the node with this number is a definition.
     fn is_definition(&self, n: usize) -> bool
         ensures { IsSomeAnd (node_at self.now (node_number n)) (λ node. node.kind ≡ definition) → IsTrue result }
     {
@@ -127,7 +125,7 @@ impl<'a> GraphReader<'a> {
         }
     }
 
-    /// Adds the number of an instantiation that has an import which no argument satisfies, and that of no other node.
+    /// Appends the number if its node is an instantiation with an unsatisfied import.
     fn note_open(&self, numbers: &mut Vec<usize>, n: usize) -> Result<(), AllocError>
         ensures { OnOk result (numbers.new.items ≡ numbers.old.items ++ open_at self.now n) }
     {
@@ -138,7 +136,7 @@ impl<'a> GraphReader<'a> {
         Ok(())
     }
 
-    /// Whether the number is that of an instantiation that has an import which no argument satisfies.
+    /// Whether the node with this number is an instantiation with an unsatisfied import.
     fn is_open(&self, n: usize) -> bool
         ensures { open_at self.now n ≡ cond result (n ∷ []) [] }
     {
@@ -146,7 +144,7 @@ impl<'a> GraphReader<'a> {
     }
 }
 
-/// Whether a node of this kind is an import.
+/// Whether the kind is an import.
 fn is_import(kind: &NodeKind) -> bool
     ensures { result ≡ is_import (kind_of kind.now) }
 {
@@ -156,7 +154,7 @@ fn is_import(kind: &NodeKind) -> bool
     }
 }
 
-/// Whether a node of this kind is a definition.
+/// Whether the kind is a definition.
 fn is_definition(kind: &NodeKind) -> bool
     ensures { result ≡ is_definition (kind_of kind.now) }
 {

@@ -1,4 +1,4 @@
-//! The parts that are written of a graph: an alias, the exports, and what is named.
+//! The parts of a graph that are written without a type encoder: aliases, exports and custom sections.
 ghost use Rattle.std.specs.Prelude.{◌≡◌, ◌++◌, ℕ, IsSomeAnd, false, OnOk, IfOk, IfErr, IfSome, None, List, map};
 ghost use Rattle.wac_binary.specs.declared.sorts.Sort.{Sort as ASort};
 ghost use Rattle.wac_causes.specs.Cause.{cause_of};
@@ -27,7 +27,7 @@ use wac_scopes::rooted_law;
 use wac_types::ItemKind;
 
 impl<'a> GraphReader<'a> {
-    /// Writes an alias, and answers its index.
+    /// Writes an alias and returns its index.
     pub fn write_alias(&self, encoder: &mut Encoder, n: NodeId) -> Result<u32, EncodeError>
         requires alias { IsSomeAnd (node_at self.now n) (λ node. node.kind ≡ alias) }
         requires right { IsRightRoot self.now.types encoder.old.root }
@@ -38,7 +38,7 @@ impl<'a> GraphReader<'a> {
         ensures kept { encoder.new.indexes ≡ encoder.old.indexes }
         ensures fault { IfErr result (λ e. cause_of e ≡ None) }
     {
-        rooted_law();
+        rooted_law(); // proof only
         let Some((source, position)) = self.edges.alias_source(n) else {
             unreachable!()
         };
@@ -51,7 +51,7 @@ impl<'a> GraphReader<'a> {
         Ok(encoder.root.alias_export(sort, instance, name)?)
     }
 
-    /// Writes the graph's exports by other names than definitions' first ones, in its order.
+    /// Writes the exports in the graph's order, without definitions' first names.
     pub fn write_exports(
         &self,
         component: &mut ComponentBuilder,
@@ -67,7 +67,7 @@ impl<'a> GraphReader<'a> {
         Ok(())
     }
 
-    /// Writes the export at a position, where its name is no definition's first one.
+    /// Writes the export at a position, unless its name is a definition's first one.
     fn write_export(
         &self,
         component: &mut ComponentBuilder,
@@ -87,7 +87,7 @@ impl<'a> GraphReader<'a> {
         Ok(())
     }
 
-    /// Writes the custom section with the names of nodes, where any has one.
+    /// Writes the `component-name` section, if any node has a name. `named` says whether one may have.
     pub fn write_names(
         &self,
         component: &mut ComponentBuilder,
@@ -109,7 +109,7 @@ impl<'a> GraphReader<'a> {
     }
 }
 
-/// Writes the custom section that names the processor, where one is given.
+/// Writes the `producers` section, if a processor is given.
 pub fn write_processor(
     alloc: Global,
     component: &mut ComponentBuilder,

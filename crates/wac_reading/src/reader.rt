@@ -1,4 +1,4 @@
-//! What is read of a graph.
+//! The borrowed fields of a graph.
 ghost use Rattle.wac_nodes.specs.Sound.{IsSound};
 
 use indexmap::IndexMap;
@@ -10,28 +10,28 @@ use wac_fields::Lost;
 use wac_nodes::{Node, NodeId, PackageId, Slot};
 use wac_types::{PackageKey, Types};
 
-/// The fields of a graph, borrowed.
+/// The fields of a graph, borrowed. Its value is that of the graph.
 #[derive(Drop)]
 pub struct GraphReader<'a> {
-    /// What memory is asked of.
+    /// The allocator.
     pub alloc: Global,
     /// The collection of types.
     pub types: &'a Types,
     /// The nodes, by number.
     pub nodes: &'a Slab<Node>,
-    /// The edges between them.
+    /// The edges.
     pub edges: &'a Edges,
-    /// The import nodes, by the names that they import.
+    /// The import nodes, by name.
     pub imports: &'a IndexMap<String, NodeId>,
-    /// The exported nodes, by the names of exports.
+    /// The exported nodes, by export name.
     pub exports: &'a IndexMap<String, NodeId>,
-    /// The registered packages, by their keys.
+    /// The registered packages, by key.
     pub package_map: &'a IndexMap<PackageKey, PackageId>,
     /// The slots of packages.
     pub slots: &'a Vec<Slot>,
-    /// The slots that were freed and may be used again, the one freed last at the end.
+    /// The free slots that may be used again, the one freed last at the end.
     pub vacant: &'a Vec<usize>,
-    /// What a removal knows of exports.
+    /// The record that `remove_node` uses to find exports.
     pub lost: &'a Lost,
 }
 
@@ -52,7 +52,7 @@ impl<'a> Model for GraphReader<'a> {
 }
 
 impl<'a> GraphReader<'a> {
-    /// The law of graphs, which every graph value keeps.
+    /// Proves the invariant of graphs (docs/PROOFS.md, 'Laws').
     pub fn law(&self)
         ensures { IsSound self.now }
     {

@@ -1,4 +1,4 @@
-//! Where an instantiation's arguments come from.
+//! The sources of an instantiation's arguments.
 ghost use Rattle.std.specs.Prelude.{◌≡◌, ◌≢◌, ℕ, IfOk, Some, None, length, slice_get, slice_set};
 ghost use Rattle.wac_edges.specs.declared.node.NodeId.{NodeId as AnId};
 ghost use Rattle.wac_edges.specs.declared.edges.Label.TheVariants as label;
@@ -11,8 +11,7 @@ use wac_edges::edges::{Edge, End, Label};
 use wac_nodes::NodeId;
 
 impl<'a> GraphReader<'a> {
-    /// For each of an instantiation's first so many imports the node that is set as its argument. Each edge to the
-    /// instantiation is read once.
+    /// Returns the argument of each of an instantiation's first `count` imports, in one pass over its incoming edges.
     pub fn sources(&self, n: usize, count: usize) -> Result<Vec<Option<NodeId>>, AllocError>
         ensures counted { IfOk result (λ v. length v.items ≡ count) }
         ensures set { IfOk result (λ v. (i : ℕ) (source : AnId) → slice_get v.items i ≡ Some (Some source) → IsArgumentOf self.now (node_number n) i source) }
@@ -26,7 +25,7 @@ impl<'a> GraphReader<'a> {
     }
 }
 
-/// Notes an edge's source at the position of the argument that it is, where there is such a place.
+/// Stores the source of an argument edge at the argument's position.
 fn note_source(sources: &mut [Option<NodeId>], edge: Edge)
     ensures argument { (i : ℕ) → edge.label ≡ label.Argument i → sources.new ≡ slice_set sources.old i (Some edge.source) }
     ensures other { ((i : ℕ) → edge.label ≢ label.Argument i) → sources.new ≡ sources.old }

@@ -1,4 +1,4 @@
--- When `encode` is refused before anything is written. Private functions alone cite this.
+-- Errors of `encode` from before anything is written. Only private functions use this definition.
 use Rattle.std.specs.Prelude.{◌≡◌, ◌⊎◌, None}
 use Rattle.wac_causes.specs.declared.errors.EncodeError.{EncodeError}
 use Rattle.wac_causes.specs.Cause.{cause_of}
@@ -7,6 +7,6 @@ use Rattle.wac_causes.specs.Search.{IsRefused}
 use Rattle.wac_nodes.specs.Graph.{Graph}
 use Rattle.wac_nodes.specs.declared.options.EncodeOptions.{EncodeOptions}
 
--- refused before anything is written, or for want of room where all can be written
+-- The error reports a cause that is found before writing, or nothing is unsupported and it reports no cause.
 abbrev pub IsRefusedBefore : Graph → EncodeOptions → EncodeError → Type 0
 IsRefusedBefore g o e = IsRefused g o e ⊎ ((cause_of e ≡ None) × (IsNotYet g o → ⊥))
