@@ -195,7 +195,7 @@ impl Types {
         self.alloc
     }
 
-    /// Whether the type is of the collection: each id in it is one of an item.
+    /// Whether the type is of the collection: each id in it is in range.
     pub fn contains(&self, ty: Type) -> bool
         ensures { result ≡ holds_type self.now ty }
     {
@@ -216,7 +216,7 @@ impl Types {
         self.resources.len() == 0
     }
 
-    // Whether the value type is of the collection: each id in it is one of an item.
+    // Whether the value type is of the collection: each id in it is in range.
     pub(crate) fn contains_value(&self, value: ValueType) -> bool
         ensures { result ≡ holds_value self.now value }
     {
@@ -238,7 +238,7 @@ impl Types {
         count.checked_add(self.modules.len())
     }
 
-    // The number of items. It is an `OutOfMemory` if a `usize` cannot hold it, since no memory has room for as many.
+    // The number of items. `Err(OutOfMemory)` if a `usize` cannot hold it, since no memory has room for that many.
     fn count(&self) -> Result<usize, AddTypeError>
         ensures count { IfOk result (λ n. n ≡ size self.now) }
         ensures fault { IfErr result (λ e. e ≡ OutOfMemory) }

@@ -1,4 +1,4 @@
--- Questions settle a fact: it holds only if the new ones have the answer yes, and it holds if all have.
+-- Questions settle a fact: if it holds, the answer to the new ones is yes; if the answer to all is yes, it holds.
 use Rattle.std.specs.Prelude.{ℕ, ◌≤◌, ◌≡◌, ◌↔◌, Bool, true, not, List, ◌++◌, ◌⊎◌}
 use Rattle.std.specs.List.{AllByRecursion, Contains}
 use Rattle.wac_comparison.specs.declared.questions.Question.{Question}
@@ -67,7 +67,7 @@ second_node q = record { turned = not q.turned; ty = q.second }
 abbrev pub AsksTheSame : Asked → Asked → Type 0
 AsksTheSame old new = (new.questions.items ≡ old.questions.items) × (new.others.keys ≡ old.others.keys) × (new.classes.links.entries ≡ old.classes.links.entries)
 
--- The question was added, unless it was asked before.
+-- A question that is not about equality was added, unless it was asked before.
 pub record Puts (old new : Asked) (q : Question) : Type 0 where
   pub added : List Question
   pub grown : new.questions.items ≡ old.questions.items ++ added
@@ -76,7 +76,7 @@ pub record Puts (old new : Asked) (q : Question) : Type 0 where
   pub asked : AreAsked old → AreAsked new
   pub there : AreAsked old → Contains new.questions.items q
 
--- The question, whether two types are equal, was added, unless its answer follows from earlier ones.
+-- A question whether two types are equal was added, unless its answer follows from earlier ones.
 pub record PutsPlain (old new : Asked) (q : Question) : Type 0 where
   pub added : List Question
   pub grown : new.questions.items ≡ old.questions.items ++ added

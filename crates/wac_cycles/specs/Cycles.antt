@@ -20,7 +20,7 @@ AreWithin targets = (a b : ℕ) → IsStep targets a b → b < length targets
 abbrev pub LeadsBack : List (BTreeSet ℕ) → ℕ → Type 0
 LeadsBack targets n = Path (IsStep targets) n n
 
--- no number is on a cycle
+-- No number is on a cycle.
 abbrev pub HasNoCycle : List (BTreeSet ℕ) → Type 0
 HasNoCycle targets = (n : ℕ) → LeadsBack targets n → ⊥
 

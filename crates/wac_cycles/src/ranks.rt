@@ -141,7 +141,7 @@ impl Search {
         Ok(true)
     }
 
-    /// Takes the last step that was not taken yet.
+    /// Takes the last pending step or beginning.
     fn look(&mut self, targets: &[BTreeSet<usize>]) -> Result<bool, AllocError>
         requires within { AreWithin targets.now }
         requires among { IsAmong (length targets.now) self.old }

@@ -343,7 +343,7 @@ fn count(counts: &mut [usize], left: &[bool], edge: Edge) -> Result<(), AllocErr
     let source = edge.source.0;
     let target = edge.target.0;
     if source < left.len() && left[source] && target < counts.len() {
-        // Never: no memory has room for so many edges.
+        // Unreachable: there is no memory for that many edges.
         let Some(more) = counts[target].checked_add(1) else {
             return Err(AllocError);
         };

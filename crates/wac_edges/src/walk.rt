@@ -61,7 +61,7 @@ pub(crate) fn records_at<'a>(
     ensures list { result ≡ list_at table.now end (first_at end firsts.now node) }
     ensures short { length result < 2 ^ 64 }
 {
-    // Proof only: no list has more records than the table has room for.
+    // Proof only: no list has more records than the table has room for (docs/PROOFS.md, 'Laws').
     let _room = table.capacity();
     Records {
         table,

@@ -1,10 +1,10 @@
--- Which two names clash.
+-- Which two names clash (Explainer.md, "Import and Export Definitions").
 use Rattle.std.specs.Prelude.{◌≡◌, ◌⊎◌, ℕ, List, ◌∷◌, ◌++◌, map, Option, Some, None}
 use Rattle.std.specs.Char.{to_ascii_lowercase}
 use Rattle.wac_names.specs.Kind.{Kind, constructor, hash, interface, joined, label, locked, method, static, unlocked, url}
 use Rattle.wac_names.specs.Grammar.{HasKind}
 
--- Labels, constructors, methods and static functions are plain: what they say once the bracket is dropped.
+-- A plain name without its bracketed prefix: labels, constructors, methods and static functions are plain.
 unfoldable pub plain : Kind → Option (List ℕ)
 plain (label l) = Some l
 plain (constructor r) = Some r
@@ -16,29 +16,29 @@ plain (locked p v h) = None
 plain (url u h) = None
 plain (hash h) = None
 
--- a text with its letters lowered
+-- A text in lower case.
 abbrev pub lowered : List ℕ → List ℕ
 lowered text = map to_ascii_lowercase text
 
--- a label, and the constructor of exactly that label
+-- A label, and the constructor of the same label.
 abbrev pub IsItsConstructor : Kind → Kind → Type 0
 IsItsConstructor j k = (l : List ℕ) × (j ≡ label l) × (k ≡ constructor l)
 
--- a fact of two plain names, and one of any others
+-- P of two plain names, and Q of any others.
 abbrev pub BothPlain : Option (List ℕ) → Option (List ℕ) → (List ℕ → List ℕ → Type 0) → Type 0 → Type 0
 BothPlain (Some x) (Some y) P Q = P x y
 BothPlain (Some x) None P Q = Q
 BothPlain None y P Q = Q
 
--- Two plain names clash where they are equal without their brackets and with letters lowered, but for a
--- label and its own constructor. Any others clash where their texts are equal.
+-- Two plain names clash if they are equal without prefixes and in lower case, unless they are a label and its own
+-- constructor. Other names clash if their texts are equal.
 abbrev pub KindsClash : Kind → Kind → Type 0
 KindsClash j k =
     BothPlain (plain j) (plain k)
     (λ x y. (lowered x ≡ lowered y) × ¬ (IsItsConstructor j k ⊎ IsItsConstructor k j))
     (joined j ≡ joined k)
 
--- two texts are names that clash
+-- Both texts are names, and they clash.
 pub record Clash (s t : List ℕ) : Type 0 where
   pub one : Kind
   pub other : Kind

@@ -1,6 +1,6 @@
--- The faults of a text. The first line of the table that fits the text decides what it must be; of what
--- it must be, the first that doesn't hold is the fault.
--- A byte is its number: 46 is `.`, 47 `/`, 58 `:`, 60 `<`, 62 `>`, 64 `@`.
+-- The fault of a text that is not a name. The first line of the table that fits the text decides what the text must be.
+-- The first of these conditions that does not hold is the fault.
+-- Bytes: 46 is `.`, 47 is `/`, 58 is `:`, 60 is `<`, 62 is `>`, 64 is `@`.
 use Rattle.std.specs.Prelude.{◌≡◌, ℕ, List, [], ◌++◌, codes, IsTrue, ◌⊎◌}
 use Rattle.wac_names.specs.Text.{after, before, ends, front, has}
 use Rattle.wac_names.specs.Label.{IsLabel, IsLowerLabel}
@@ -9,56 +9,56 @@ use Rattle.wac_names.specs.Grammar.{IsHash, IsRange, IsVersion}
 use Rattle.wac_names.specs.declared.fault.NameFault.{NameFault}
 use Rattle.wac_names.specs.declared.fault.NameFault.TheVariants as fault
 
--- the text begins with a front, and what follows has the fact
+-- The text begins with start, and P holds of what follows.
 abbrev pub Follows : List ℕ → List ℕ → (List ℕ → Type 0) → Type 0
 Follows start text P = (rest : List ℕ) × (text ≡ start ++ rest) × P rest
 
--- a line of the table, and the lines after it: where the first fits, it alone counts
+-- A line of the table with the lines after it: if the line fits, only it counts.
 abbrev pub Line : Type 0 → Type 0 → Type 0 → Type 0
 Line fits here later = (fits × here) ⊎ (¬ fits × later)
 
--- a line that fits the texts that begin with a front
+-- A line that fits the texts that begin with start.
 abbrev pub Front : List ℕ → List ℕ → (List ℕ → Type 0) → Type 0 → Type 0
 Front start text here later = Line (Follows start text (λ _. Unit {0})) (Follows start text here) later
 
--- what must hold, the fault where it doesn't, and what must hold besides
+-- A condition, the fault if it does not hold, and the conditions after it.
 abbrev pub Must : NameFault → Type 0 → NameFault → Type 0 → Type 0
 Must f holds g later = (¬ holds × (f ≡ g)) ⊎ (holds × later)
 
--- the text is a range
+-- The text is a range.
 abbrev pub IsRangeText : List ℕ → Type 0
 IsRangeText text = (r : Range) × IsRange r × (range_text r ≡ text)
 
--- two texts, cut at the first `:`, are a package
+-- The text is a package if split at the first `:`.
 abbrev pub IsPackageText : List ℕ → Type 0
 IsPackageText text = IsLowerLabel (before 58 text) × IsLowerLabel (after 58 text)
 
--- what follows the first `@`, where there is one, has the fact
+-- P holds of the text after the first `@`, if there is one.
 abbrev pub IfVersioned : List ℕ → (List ℕ → Type 0) → Type 0
 IfVersioned text P = IsTrue (has 64 text) → P (after 64 text)
 
--- behind `integrity=<`: up to the first `>` a hash, and nothing after
+-- After `integrity=<`: a hash up to the first `>`, and nothing after it.
 abbrev pub HashFault : NameFault → List ℕ → Type 0
 HashFault f text =
     Must f (IsTrue (has 62 text)) fault.Unclosed
     (Must f (IsHash (before 62 text)) fault.BadHash
     (Must f (after 62 text ≡ []) fault.Trailing ⊥))
 
--- a tail is nothing, or `,` and an integrity
+-- The end of a name: nothing, or `,` and a hash.
 abbrev pub TailFault : NameFault → List ℕ → Type 0
 TailFault f text =
     Line (text ≡ []) ⊥
     (Front (codes ",integrity=<") text (HashFault f)
     (f ≡ fault.Trailing))
 
--- behind `unlocked-dep=<`: a package and perhaps a range, and `>` at the end
+-- After `unlocked-dep=<`: a package, a range or none, and `>` at the end.
 abbrev pub UnlockedFault : NameFault → List ℕ → Type 0
 UnlockedFault f text =
     Must f (IsTrue (ends 62 text)) fault.Unclosed
     (Must f (IsPackageText (before 64 (front text))) fault.BadPackage
     (Must f (IfVersioned (front text) IsRangeText) fault.BadRange ⊥))
 
--- behind `locked-dep=<`: up to the first `>` a package and perhaps a version, then a tail
+-- After `locked-dep=<`: a package and a version or none up to the first `>`, then the end.
 abbrev pub LockedFault : NameFault → List ℕ → Type 0
 LockedFault f text =
     Must f (IsTrue (has 62 text)) fault.Unclosed
@@ -66,13 +66,13 @@ LockedFault f text =
     (Must f (IfVersioned (before 62 text) IsVersion) fault.BadVersion
     (TailFault f (after 62 text))))
 
--- behind `url=<`: up to the first `>` any text without `<`, then a tail
+-- After `url=<`: any text without `<` up to the first `>`, then the end.
 abbrev pub UrlFault : NameFault → List ℕ → Type 0
 UrlFault f text =
     Must f (IsTrue (has 62 text) × ¬ IsTrue (has 60 (before 62 text))) fault.Unclosed
     (TailFault f (after 62 text))
 
--- a name cut at the first `@`, then at the first `:`, then at the first `/` after it
+-- An interface: a text split at the first `@`, then at the first `:`, then at the first `/` after that.
 abbrev pub InterfaceFault : NameFault → List ℕ → Type 0
 InterfaceFault f text =
     let rest = after 58 (before 64 text) in
@@ -80,11 +80,11 @@ InterfaceFault f text =
     (Must f (IsLabel (after 47 rest)) fault.BadLabel
     (Must f (IfVersioned text IsVersion) fault.BadVersion ⊥))
 
--- a resource and a name, cut at the first `.`
+-- A resource and a name, split at the first `.`.
 abbrev pub PathFault : NameFault → List ℕ → Type 0
 PathFault f text = Must f (IsLabel (before 46 text) × IsLabel (after 46 text)) fault.BadLabel ⊥
 
--- a text that begins with `[`
+-- A text that begins with `[`.
 abbrev pub BracketFault : NameFault → List ℕ → Type 0
 BracketFault f text =
     Front (codes "[constructor]") text (λ rest. Must f (IsLabel rest) fault.BadLabel ⊥)
@@ -92,7 +92,7 @@ BracketFault f text =
     (Front (codes "[static]") text (PathFault f)
     (f ≡ fault.BadLabel)))
 
--- the fault of a text
+-- The fault of a text, by the first line that fits.
 abbrev pub FaultOf : NameFault → List ℕ → Type 0
 FaultOf f text =
     Line (text ≡ []) (f ≡ fault.Empty)
@@ -104,5 +104,6 @@ FaultOf f text =
     (Line (IsTrue (has 58 text)) (InterfaceFault f text)
     (Must f (IsLabel text) fault.BadLabel ⊥)))))))
 
+-- The text has the fault.
 pub record HasFault (text : List ℕ) (f : NameFault) : Type 0 where
   pub fault_of : FaultOf f text

@@ -1,70 +1,71 @@
--- What a name says, as a value: its kind with the bytes of its pieces, and the text that the pieces make.
--- A byte is its number: 44 is `,`, 46 `.`, 47 `/`, 58 `:`, 60 `<`, 62 `>`, 64 `@`, and 32 a space.
+-- The kind of a name with its pieces as bytes, and the text that the pieces make.
+-- Bytes: 32 is a space, 44 is `,`, 46 is `.`, 47 is `/`, 58 is `:`, 60 is `<`, 62 is `>`, 64 is `@`.
 use Rattle.std.specs.Prelude.{ℕ, List, [], ◌∷◌, ◌++◌, codes, Option, Some, None}
 
--- `namespace:name`
+-- A package: `namespace:name`.
 pub record Package : Type 0 where
   pub namespace : List ℕ
   pub name : List ℕ
 
--- `*`, `{>=low}`, `{<high}` and `{>=low <high}`
+-- A range of versions: `*`, `{>=low}`, `{<high}` or `{>=low <high}`.
 pub data Range : Type 0 where
   any : Range
   at_least : List ℕ → Range
   below : List ℕ → Range
   between : List ℕ → List ℕ → Range
 
--- the kinds, each with its pieces
+-- The kinds of names, with their pieces.
 pub data Kind : Type 0 where
-  -- a label
+  -- A label.
   label : List ℕ → Kind
-  -- `[constructor]` and the resource
+  -- `[constructor]` and a resource.
   constructor : List ℕ → Kind
-  -- `[method]` and the resource, then the name
+  -- `[method]`, a resource and a name.
   method : List ℕ → List ℕ → Kind
-  -- `[static]` and the resource, then the name
+  -- `[static]`, a resource and a name.
   static : List ℕ → List ℕ → Kind
-  -- a package, the interface and perhaps a version
+  -- A package, an interface and an optional version.
   interface : Package → List ℕ → Option (List ℕ) → Kind
-  -- a package and perhaps a range of versions
+  -- A package and an optional range of versions.
   unlocked : Package → Option Range → Kind
-  -- a package, perhaps a version, perhaps an integrity
+  -- A package, an optional version and an optional hash.
   locked : Package → Option (List ℕ) → Option (List ℕ) → Kind
-  -- where it lies, perhaps an integrity
+  -- A location and an optional hash.
   url : List ℕ → Option (List ℕ) → Kind
-  -- an integrity
+  -- A hash.
   hash : List ℕ → Kind
 
--- nothing, or a mark and the piece behind it
+-- Nothing, or a mark and the piece after it.
 abbrev pub marked : List ℕ → Option (List ℕ) → List ℕ
 marked mark None = []
 marked mark (Some piece) = mark ++ piece
 
--- `namespace:name`
+-- The text of a package: `namespace:name`.
 abbrev pub package_text : Package → List ℕ
 package_text p = p.namespace ++ 58 ∷ p.name
 
+-- The text of a range.
 abbrev pub range_text : Range → List ℕ
 range_text any = codes "*"
 range_text (at_least low) = codes "{>=" ++ (low ++ codes "}")
 range_text (below high) = codes "{<" ++ (high ++ codes "}")
 range_text (between low high) = codes "{>=" ++ (low ++ 32 ∷ 60 ∷ (high ++ codes "}"))
 
--- the text of an optional range, behind its `@`
+-- The text of an optional range, after its `@`.
 abbrev pub range_part : Option Range → List ℕ
 range_part None = []
 range_part (Some r) = 64 ∷ range_text r
 
--- `integrity=<..>`
+-- The text of a hash: `integrity=<..>`.
 abbrev pub integrity_text : List ℕ → List ℕ
 integrity_text h = codes "integrity=<" ++ (h ++ codes ">")
 
--- the text of an optional integrity at the end, behind its `,`
+-- The text of an optional hash at the end of a name, after its `,`.
 abbrev pub integrity_part : Option (List ℕ) → List ℕ
 integrity_part None = []
 integrity_part (Some h) = 44 ∷ integrity_text h
 
--- the text that the pieces of a kind make
+-- The text that the pieces of a kind make.
 unfoldable pub joined : Kind → List ℕ
 joined (label l) = l
 joined (constructor r) = codes "[constructor]" ++ r
@@ -76,7 +77,7 @@ joined (locked p v h) = codes "locked-dep=<" ++ ((package_text p ++ marked (code
 joined (url u h) = codes "url=<" ++ (u ++ 62 ∷ integrity_part h)
 joined (hash h) = integrity_text h
 
--- a name of this kind may be exported: not a hash, a url or a dependency
+-- A name of this kind can be exported: it is not a hash, a URL or a dependency.
 abbrev pub IsExportable : Kind → Type 0
 IsExportable (label l) = Unit {0}
 IsExportable (constructor r) = Unit {0}

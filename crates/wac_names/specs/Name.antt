@@ -6,20 +6,20 @@ use Rattle.wac_names.specs.Faults.{HasFault}
 use Rattle.wac_names.specs.declared.fault.NameFault.{NameFault}
 use Rattle.wac_names.specs.declared.fault.NameFault.TheVariants as fault
 
--- what a contract sees of a name
+-- A component name.
 pub record Name : Type 0 where
   pub text : List ℕ
   pub kind : Kind
 
--- Each text has exactly one answer: a kind or a fault, never both, and one alone.
+-- Each text has either one kind or one fault.
 pub record IsDecided (text : List ℕ) : Type 0 where
-  -- it has a kind or a fault
+  -- The text has a kind or a fault.
   pub some : ((k : Kind) × HasKind text k) ⊎ ((f : NameFault) × HasFault text f)
-  -- it has at most one kind
+  -- The text has at most one kind.
   pub one_kind : (j k : Kind) → HasKind text j → HasKind text k → j ≡ k
-  -- it has at most one fault
+  -- The text has at most one fault.
   pub one_fault : (f g : NameFault) → HasFault text f → HasFault text g → f ≡ g
-  -- it never has both
+  -- The text does not have both.
   pub apart : (k : Kind) (f : NameFault) → HasKind text k → HasFault text f → ⊥
-  -- its fault is never that of memory or of exporting
+  -- The fault is neither out of memory nor about exporting.
   pub own : (f : NameFault) → HasFault text f → (f ≢ fault.OutOfMemory) × (f ≢ fault.NotExportable)

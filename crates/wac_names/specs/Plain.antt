@@ -7,23 +7,23 @@ use Rattle.wac_names.specs.Text.{after, has}
 use Rattle.wac_names.specs.Reading.{Read}
 use Rattle.wac_names.specs.declared.fault.NameFault.{NameFault}
 
--- what was read is a version without pre-release and build metadata
+-- The parsed version has no pre-release and no build metadata.
 abbrev pub ArePlain : Result Parts Error → Type 0
 ArePlain (Ok parts) = (parts.3 ≡ []) × (parts.4 ≡ [])
 ArePlain (Err e) = ⊥
 
--- a text is a plain version
+-- The text is a plain version.
 abbrev pub IsPlainVersion : List ℕ → Type 0
 IsPlainVersion text = ArePlain (version_parts text)
 
--- the bounds of a range are plain
+-- The bounds of the range are plain.
 abbrev pub IsPlainRange : Range → Type 0
 IsPlainRange any = Unit {0}
 IsPlainRange (at_least low) = IsPlainVersion low
 IsPlainRange (below high) = IsPlainVersion high
 IsPlainRange (between low high) = IsPlainVersion low × IsPlainVersion high
 
--- each version of a kind is plain
+-- Each version of the kind is plain.
 abbrev pub IsPlainKind : Kind → Type 0
 IsPlainKind (label l) = Unit {0}
 IsPlainKind (constructor r) = Unit {0}
@@ -35,11 +35,11 @@ IsPlainKind (locked p v h) = IfSome v IsPlainVersion
 IsPlainKind (url u h) = Unit {0}
 IsPlainKind (hash h) = Unit {0}
 
--- a text has no `@`, or a plain version behind its first
+-- The text has no `@`, or a plain version after its first `@`.
 abbrev pub IsPlainText : List ℕ → Type 0
 IsPlainText text = (has 64 text ≡ false) ⊎ IsPlainVersion (after 64 text)
 
--- a function whose text reads as something plain answered it
+-- If the text reads as something plain, the function succeeds.
 abbrev pub AnswersPlain : {X A : Type 0} → (A → Type 0) → Read A → Result X NameFault → Type 0
 AnswersPlain IsPlain (Ok x) result = IsPlain x → IsOk result
 AnswersPlain IsPlain (Err f) result = ⊤

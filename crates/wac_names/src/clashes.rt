@@ -11,7 +11,7 @@ use crate::kind::ComponentNameKind;
 use crate::name::ComponentName;
 use crate::text::{same, strip};
 
-/// What a plain name says without its bracket.
+/// Returns a plain name without its bracketed prefix. Names of other kinds are not plain.
 fn plain<'a>(text: &'a str, kind: ComponentNameKind<'a>) -> Option<&'a str>
     requires { HasKind text.now (kind_view kind) }
     ensures { option_copied result ≡ plain (kind_view kind.entry) }
@@ -25,7 +25,7 @@ fn plain<'a>(text: &'a str, kind: ComponentNameKind<'a>) -> Option<&'a str>
     }
 }
 
-/// Whether the second is the constructor of exactly the label that the first is.
+/// Whether `label` is a label, and `constructor` is the constructor of the same label.
 fn is_its_constructor(label: ComponentNameKind<'_>, constructor: ComponentNameKind<'_>) -> bool
     ensures { IsTrue result ↔ IsItsConstructor (kind_view label.entry) (kind_view constructor.entry) }
 {
@@ -37,7 +37,7 @@ fn is_its_constructor(label: ComponentNameKind<'_>, constructor: ComponentNameKi
     false
 }
 
-/// Whether one of two names is a label and the other its constructor.
+/// Whether one of two names is a label, and the other is the constructor of the same label.
 fn are_label_and_constructor(a: ComponentNameKind<'_>, b: ComponentNameKind<'_>) -> bool
     ensures { IsTrue result ↔ (IsItsConstructor (kind_view a.entry) (kind_view b.entry)
         ⊎ IsItsConstructor (kind_view b.entry) (kind_view a.entry)) }
@@ -45,11 +45,11 @@ fn are_label_and_constructor(a: ComponentNameKind<'_>, b: ComponentNameKind<'_>)
     is_its_constructor(a, b) || is_its_constructor(b, a)
 }
 
-/// Whether two names clash, so that they can't both be imports, or both be exports, of one component.
+/// Whether two names clash, so that a component cannot import both or export both.
 ///
-/// Labels, constructors, methods and static functions clash where they are equal once the bracket is
-/// dropped and letters are lowered; a label and the constructor of exactly that label don't. All other
-/// names clash only where they are equal. Takes no memory.
+/// Labels, constructors, methods and static functions clash if they are equal without the bracketed prefix and in
+/// lower case. A label and the constructor of the same label do not. Other names clash only if they are equal
+/// (Explainer.md, "Import and Export Definitions"). Takes no memory.
 pub fn clash(a: &ComponentName<'_>, b: &ComponentName<'_>) -> bool
     ensures { IsTrue result ↔ Clash (name_view a.now).text (name_view b.now).text }
 {
@@ -64,7 +64,7 @@ pub fn clash(a: &ComponentName<'_>, b: &ComponentName<'_>) -> bool
     left.eq_ignore_ascii_case(right) && !are_label_and_constructor(one, other)
 }
 
-/// Clashing doesn't depend on the order of the two.
+/// Proof only: clashing is symmetric (docs/PROOFS.md, 'Laws').
 pub fn clash_is_symmetric()
     ensures { (s t : List ℕ) → Clash s t → Clash t s }
 {}

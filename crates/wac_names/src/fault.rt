@@ -1,37 +1,36 @@
 use thiserror::Error;
 
-/// Why a text is no component name, or can't be used as one. Displayed by the variant's name.
+/// Why a text is not a component name, or cannot be used as one. `Display` writes the variant's name.
 #[derive(Clone, Copy, Debug, PartialEq, Eq, Error)]
 pub enum NameFault {
     /// The text is empty.
     #[error("Empty")]
     Empty,
-    /// A label was wanted, and what stands there is none.
+    /// A part of the text that must be a label is not one.
     #[error("BadLabel")]
     BadLabel,
-    /// What follows `@` is no semantic version.
+    /// The text after `@` is not a semantic version.
     #[error("BadVersion")]
     BadVersion,
-    /// The package isn't two lower-case labels with a `:` between them.
+    /// The package is not two lower-case labels with a `:` between them.
     #[error("BadPackage")]
     BadPackage,
-    /// What follows `@` is no range of versions.
+    /// The text after `@` is not a range of versions.
     #[error("BadRange")]
     BadRange,
-    /// What stands between `integrity=<` and `>` is no hash.
+    /// The text between `integrity=<` and `>` is not a hash.
     #[error("BadHash")]
     BadHash,
-    /// A `<` without its `>`.
+    /// A `<` has no `>`.
     #[error("Unclosed")]
     Unclosed,
-    /// Something stands after the end of the name.
+    /// There is text after the end of the name.
     #[error("Trailing")]
     Trailing,
-    /// An allocation was refused.
+    /// Out of memory.
     #[error("OutOfMemory")]
     OutOfMemory,
-    /// The name is a hash, a url or a dependency, which can't be exported. Answered where a name is
-    /// exported, and never by this crate.
+    /// The name is a hash, a URL or a dependency, which cannot be exported. Reading a name never returns this.
     #[error("NotExportable")]
     NotExportable,
 }

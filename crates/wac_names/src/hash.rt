@@ -1,4 +1,4 @@
-// The hash of a component: items separated by one space.
+// Hashes of components: items separated by one space.
 
 ghost use Rattle.std.specs.Prelude.{◌≡◌, MatchOption, true, false, drop};
 ghost use Rattle.std.specs.List.{list_all};
@@ -33,7 +33,7 @@ fn is_padding(text: &str) -> bool
     }
 }
 
-/// One or more letters, digits, `+` and `/`, and at most two `=`.
+/// Whether the text is one or more letters, digits, `+` and `/`, and then at most two `=`.
 #[tactic(auto, unfolding(crate::specs::Reading::is_digest))]
 fn is_digest(text: &str) -> bool
     ensures { result ≡ is_digest text.now }
@@ -42,7 +42,7 @@ fn is_digest(text: &str) -> bool
     !digest.is_empty() && is_encoded(digest) && is_padding(padding)
 }
 
-/// What stands behind the algorithm.
+/// Returns what follows the algorithm, if the text begins with one.
 #[tactic(auto, unfolding(crate::specs::Reading::has_algorithm))]
 fn behind_algorithm(text: &str) -> Option<&str>
     ensures { MatchOption result (has_algorithm text.now ≡ false)

@@ -10,38 +10,38 @@ use crate::reading::parse_version;
 use semver::Version;
 use std::alloc::{AllocError, Global};
 
-/// What a component name is, with its pieces as they stand in its text.
+/// The kind of a component name, with the pieces of its text.
 #[derive(Clone, Copy, Debug)]
 pub enum ComponentNameKind<'a> {
-    /// A label, as `read-file`.
+    /// A label: `read-file`.
     Label(&'a str),
-    /// The constructor of a resource, as `[constructor]file`.
+    /// The constructor of a resource: `[constructor]file`.
     Constructor(&'a str),
-    /// A method of a resource, as `[method]file.read`.
+    /// A method of a resource: `[method]file.read`.
     Method {
-        /// The resource, as `file`.
+        /// The resource: `file`.
         resource: &'a str,
-        /// The method, as `read`.
+        /// The method: `read`.
         name: &'a str,
     },
-    /// A static function of a resource, as `[static]file.open`.
+    /// A static function of a resource: `[static]file.open`.
     Static {
-        /// The resource, as `file`.
+        /// The resource: `file`.
         resource: &'a str,
-        /// The function, as `open`.
+        /// The function: `open`.
         name: &'a str,
     },
-    /// An interface of a package, as `wasi:io/streams@0.2.0`.
+    /// An interface of a package: `wasi:io/streams@0.2.0`.
     Interface(InterfaceName<'a>),
-    /// A package that is wanted or locked, as `unlocked-dep=<a:b@{>=1.0.0}>`.
+    /// A package that a component depends on: `unlocked-dep=<a:b@{>=1.0.0}>`.
     Dependency(DependencyName<'a>),
-    /// Where a component lies, as `url=<https://example.com>`.
+    /// The location of a component: `url=<https://example.com>`.
     Url(UrlName<'a>),
-    /// The hash of a component, as `integrity=<sha256-AAAA>`.
+    /// The hash of a component: `integrity=<sha256-AAAA>`.
     Hash(HashName<'a>),
 }
 
-/// A package: two lower-case labels, as `wasi:io`.
+/// A package: two lower-case labels, `wasi:io`.
 #[derive(Clone, Copy, Debug)]
 pub struct PackageName<'a> {
     pub(crate) namespace: &'a str,
@@ -56,7 +56,7 @@ pub struct InterfaceName<'a> {
     pub(crate) version: Option<&'a str>,
 }
 
-/// A range of versions, its bounds as texts.
+/// A range of versions, with its bounds as texts.
 #[derive(Clone, Copy, Debug)]
 pub enum VersionRange<'a> {
     /// `*`
@@ -67,9 +67,9 @@ pub enum VersionRange<'a> {
     Below(&'a str),
     /// `{>=low <high}`
     Between {
-        /// The least version.
+        /// The lowest version.
         low: &'a str,
-        /// The version above all.
+        /// The version that is above all of the range.
         high: &'a str,
     },
 }
@@ -81,21 +81,21 @@ pub enum DependencyName<'a> {
     Unlocked {
         /// The package.
         package: PackageName<'a>,
-        /// The versions that are wanted: any where there is none.
+        /// The versions that are allowed; any version if there is no range.
         range: Option<VersionRange<'a>>,
     },
-    /// A package at one version, perhaps with its hash.
+    /// A package at one version.
     Locked {
         /// The package.
         package: PackageName<'a>,
-        /// Its version, where there is one.
+        /// The version, if there is one.
         version: Option<&'a str>,
-        /// Its hash, where there is one.
+        /// The hash, if there is one.
         integrity: Option<&'a str>,
     },
 }
 
-/// Where a component lies, perhaps with its hash.
+/// The location of a component, with or without its hash.
 #[derive(Clone, Copy, Debug)]
 pub struct UrlName<'a> {
     pub(crate) url: &'a str,
@@ -109,7 +109,7 @@ pub struct HashName<'a> {
 }
 
 impl ComponentNameKind<'_> {
-    /// Whether a name of this kind may be exported: not a hash, a url or a dependency.
+    /// Whether a name of this kind can be exported: it is not a hash, a URL or a dependency.
     pub fn is_exportable(&self) -> bool
         ensures { IsTrue result ↔ IsExportable (kind_view self.now) }
     {
@@ -127,14 +127,14 @@ impl ComponentNameKind<'_> {
 }
 
 impl<'a> PackageName<'a> {
-    /// The namespace, as `wasi` of `wasi:io`.
+    /// The namespace: `wasi` of `wasi:io`.
     pub fn namespace(&self) -> &'a str
         ensures { result.now ≡ (package_view self.now).namespace }
     {
         self.namespace
     }
 
-    /// The name, as `io` of `wasi:io`.
+    /// The name: `io` of `wasi:io`.
     pub fn name(&self) -> &'a str
         ensures { result.now ≡ (package_view self.now).name }
     {
@@ -143,37 +143,38 @@ impl<'a> PackageName<'a> {
 }
 
 impl<'a> InterfaceName<'a> {
-    /// The namespace, as `wasi` of `wasi:io/streams@0.2.0`.
+    /// The namespace: `wasi` of `wasi:io/streams@0.2.0`.
     pub fn namespace(&self) -> &'a str
         ensures { result.now ≡ (interface_package self.now).namespace }
     {
         self.package.namespace()
     }
 
-    /// The package, as `io` of `wasi:io/streams@0.2.0`.
+    /// The name of the package: `io` of `wasi:io/streams@0.2.0`.
     pub fn package(&self) -> &'a str
         ensures { result.now ≡ (interface_package self.now).name }
     {
         self.package.name()
     }
 
-    /// The interface, as `streams` of `wasi:io/streams@0.2.0`.
+    /// The name of the interface: `streams` of `wasi:io/streams@0.2.0`.
     pub fn interface(&self) -> &'a str
         ensures { result.now ≡ interface_name self.now }
     {
         self.interface
     }
 
-    /// The text of the version, as `0.2.0` of `wasi:io/streams@0.2.0`, where there is one.
+    /// The text of the version, if there is one: `0.2.0` of `wasi:io/streams@0.2.0`.
     pub fn version_text(&self) -> Option<&'a str>
         ensures { option_copied result ≡ interface_version self.now }
     {
         self.version
     }
 
-    /// The version, where there is one.
+    /// Returns the version, if there is one.
     ///
-    /// A version without pre-release and build metadata takes no memory.
+    /// # Errors
+    /// - `AllocError` if out of memory. A version without pre-release and build metadata takes no memory.
     pub fn version(&self, alloc: Global) -> Result<Option<Version>, AllocError>
         ensures value { IfOk result (λ v. option_map parts_of v ≡ parts_piece (interface_version self.now)) }
         ensures none { interface_version self.now ≡ None → IsOk result }
@@ -184,14 +185,14 @@ impl<'a> InterfaceName<'a> {
 }
 
 impl<'a> UrlName<'a> {
-    /// Where the component lies.
+    /// The location of the component.
     pub fn url(&self) -> &'a str
         ensures { result.now ≡ url_text self.now }
     {
         self.url
     }
 
-    /// The hash of the component, where there is one.
+    /// The hash of the component, if there is one.
     pub fn integrity(&self) -> Option<&'a str>
         ensures { option_copied result ≡ url_integrity self.now }
     {
@@ -200,7 +201,7 @@ impl<'a> UrlName<'a> {
 }
 
 impl<'a> HashName<'a> {
-    /// The hash of the component, its items separated by one space.
+    /// The hash of the component: items separated by one space.
     pub fn integrity(&self) -> &'a str
         ensures { result.now ≡ hash_text self.now }
     {

@@ -1,4 +1,4 @@
-// The bytes and labels of the grammar.
+// Labels of the grammar.
 
 ghost use Rattle.std.specs.Prelude.{◌≡◌, ◌==◌};
 ghost use Rattle.std.specs.List.{list_all, slice_split};

@@ -30,21 +30,22 @@ pub struct ComponentName<'a> {
 impl<'a> ComponentName<'a> {
     ghost use Rattle.wac_names.specs.NameView.{name_view};
 
-    /// The name that a text is, or why it is none.
+    /// Reads a text as a component name.
     ///
-    /// `OutOfMemory` comes where memory is refused for the pre-release or the build metadata of a
-    /// version; any other fault is that of the text.
+    /// # Errors
+    /// - The fault of a text that is not a name.
+    /// - [`OutOfMemory`](NameFault::OutOfMemory) if out of memory for the pre-release or build metadata of a version.
     pub fn new(alloc: Global, text: &'a str) -> Result<Self, NameFault>
         ensures ok { IfOk result (λ n. ((name_view n).text ≡ text.now) × HasKind text.now (name_view n).kind) }
         ensures fault { IfErr result (λ f. (f ≡ NameFault.OutOfMemory) ⊎ HasFault text.now f) }
 
-        // A text that has a kind is refused for want of memory alone.
+        // A text that has a kind is an error only if out of memory.
         ensures accepts { (k : Kind) → HasKind text.now k → IfErr result (λ f. f ≡ NameFault.OutOfMemory) }
         // A name whose versions have no pre-release and no build metadata takes no memory.
         ensures plain { (k : Kind) → HasKind text.now k → IsPlainKind k → IsOk result }
         // A text without an `@` takes no memory.
         ensures memory { has 64 text.now ≡ false → IfErr result (λ f. f ≢ NameFault.OutOfMemory) }
-        // A text that has a fault is never accepted.
+        // A text that has a fault is an error.
         ensures refuses { (f : NameFault) → HasFault text.now f
             → (result ≡ Err NameFault.OutOfMemory) ⊎ (result ≡ Err f) }
     {
@@ -52,7 +53,7 @@ impl<'a> ComponentName<'a> {
         Ok(ComponentName { text, kind })
     }
 
-    /// What the name is, with its pieces. Takes no memory.
+    /// The kind of the name, with its pieces.
     pub fn kind(&self) -> ComponentNameKind<'a>
         ensures value { kind_view result ≡ (name_view self.now).kind }
         ensures kind { HasKind (name_view self.now).text (kind_view result) }
@@ -68,7 +69,7 @@ impl<'a> ComponentName<'a> {
     }
 }
 
-/// Names are equal where their texts are.
+/// Names are equal if their texts are.
 impl<'a> PartialEq for ComponentName<'a> {
     ghost use Rattle.wac_names.specs.NameView.{text_of};
 
@@ -87,7 +88,7 @@ impl<'a> Eq for ComponentName<'a> {
     ghost laws = { on_equiv text_of nat_list_eq_equiv };
 }
 
-/// A name is hashed as its text is.
+/// The hash of a name is the hash of its text.
 impl<'a> Hash for ComponentName<'a> {
     ghost use Rattle.wac_names.specs.NameView.{text_of};
 
@@ -100,7 +101,7 @@ impl<'a> Hash for ComponentName<'a> {
     }
 }
 
-/// Each text has exactly one answer: one kind or one fault, and never both.
+/// Proof only: each text has either one kind or one fault (docs/PROOFS.md, 'Laws').
 pub fn one_answer()
     ensures { (text : List ℕ) → IsDecided text }
 {}

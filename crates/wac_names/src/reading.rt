@@ -1,4 +1,4 @@
-// A text is cut once, from the left.
+// Reading of names: a text is split once, from the left.
 
 ghost use Rattle.std.specs.Prelude.{◌≡◌, ◌≢◌, IfErr, IfOk, IfSome, IsOk, None, false};
 ghost use Rattle.wac_names.specs.Text.{has};
@@ -21,7 +21,7 @@ use crate::text::{cut, halves, strip, strip_end, versioned};
 use semver::Version;
 use std::alloc::{AllocError, Global};
 
-/// A version, or the fault.
+/// Checks that the text is a version. Its fault is `fault`.
 #[tactic(auto, unfolding(crate::specs::Track::parts_piece))]
 fn check_version(alloc: Global, text: &str, fault: NameFault) -> Result<(), NameFault>
     ensures value { PassesOrMemory (is_version text.now) fault result (λ _. Unit {0}) }
@@ -34,7 +34,7 @@ fn check_version(alloc: Global, text: &str, fault: NameFault) -> Result<(), Name
     }
 }
 
-/// The package of two lower-case labels.
+/// Returns the package of two lower-case labels.
 #[tactic(auto, unfolding(crate::specs::Reading::is_package))]
 fn package<'a>(namespace: &'a str, name: &'a str) -> Result<PackageName<'a>, NameFault>
     ensures { Passes (is_package (package_of namespace.now name.now)) NameFault.BadPackage result
@@ -47,7 +47,7 @@ fn package<'a>(namespace: &'a str, name: &'a str) -> Result<PackageName<'a>, Nam
     }
 }
 
-/// The package of a text `namespace:name`.
+/// Reads `namespace:name`.
 fn named_package(text: &str) -> Result<PackageName<'_>, NameFault>
     ensures { Passes (is_package (named_package text.now)) NameFault.BadPackage result
         (λ p. package_view p ≡ named_package text.now) }
@@ -56,7 +56,7 @@ fn named_package(text: &str) -> Result<PackageName<'_>, NameFault>
     package(namespace, name)
 }
 
-/// A label, or the fault.
+/// Checks that the text is a label, and returns it.
 fn label(text: &str) -> Result<&str, NameFault>
     ensures { Passes (is_label text.now) NameFault.BadLabel result (λ l. l.now ≡ text.now) }
 {
@@ -67,7 +67,7 @@ fn label(text: &str) -> Result<&str, NameFault>
     }
 }
 
-/// A resource and a name, cut at the first `.`.
+/// Reads a resource and a name, split at the first `.`.
 fn path(text: &str) -> Result<(&str, &str), NameFault>
     ensures value { Gives (λ p. method p.0.now p.1.now) result (read_path method text.now) }
     ensures memory { IfErr result (λ f. f ≢ NameFault.OutOfMemory) }
@@ -76,7 +76,7 @@ fn path(text: &str) -> Result<(&str, &str), NameFault>
     Ok((label(resource)?, label(name)?))
 }
 
-/// What stands behind `integrity=<`.
+/// Reads the text after `integrity=<`.
 #[tactic(auto, unfolding(crate::specs::Reading::read_hash))]
 fn hash(text: &str) -> Result<&str, NameFault>
     ensures value { Gives (λ h. h.now) result (read_hash text.now) }
@@ -94,7 +94,7 @@ fn hash(text: &str) -> Result<&str, NameFault>
     Ok(integrity)
 }
 
-/// What stands at the end: nothing, or an integrity.
+/// Reads the end of a name: nothing, or `,integrity=<` and a hash.
 #[tactic(auto, unfolding(crate::specs::Reading::read_tail))]
 fn tail(text: &str) -> Result<Option<&str>, NameFault>
     ensures value { Gives option_copied result (read_tail text.now) }
@@ -109,7 +109,7 @@ fn tail(text: &str) -> Result<Option<&str>, NameFault>
     }
 }
 
-/// One of `{>=low}` and `{>=low <high}`, without its braces and its `>=`.
+/// Reads the bounds of `{>=low}` or `{>=low <high}`, without the braces and the `>=`.
 #[tactic(auto, unfolding(crate::specs::Reading::read_from))]
 fn range_from(alloc: Global, text: &str) -> Result<VersionRange<'_>, NameFault>
     ensures value { GivesOrMemory range_view result (read_from text.now) }
@@ -127,7 +127,7 @@ fn range_from(alloc: Global, text: &str) -> Result<VersionRange<'_>, NameFault>
     Ok(VersionRange::Between { low, high })
 }
 
-/// A range of versions.
+/// Reads a range of versions.
 #[tactic(auto, unfolding(crate::specs::Reading::read_range))]
 fn range(alloc: Global, text: &str) -> Result<VersionRange<'_>, NameFault>
     ensures value { GivesOrMemory range_view result (read_range text.now) }
@@ -152,7 +152,7 @@ fn range(alloc: Global, text: &str) -> Result<VersionRange<'_>, NameFault>
     }
 }
 
-/// The range where there is one.
+/// Reads a range of versions, if there is one.
 fn range_piece(alloc: Global, text: Option<&str>) -> Result<Option<VersionRange<'_>>, NameFault>
     ensures value { GivesOrMemory (option_map range_view) result (read_range_piece (option_copied text.entry)) }
     ensures none { option_copied text.entry ≡ None → IsOk result }
@@ -164,7 +164,7 @@ fn range_piece(alloc: Global, text: Option<&str>) -> Result<Option<VersionRange<
     }
 }
 
-/// A version where there is one, or the fault.
+/// Checks that a text, if there is one, is a version.
 #[tactic(auto, unfolding(crate::specs::Reading::is_version_piece))]
 fn check_version_piece(alloc: Global, text: Option<&str>) -> Result<(), NameFault>
     ensures value { PassesOrMemory (is_version_piece (option_copied text.entry)) NameFault.BadVersion result (λ _. Unit {0}) }
@@ -177,7 +177,7 @@ fn check_version_piece(alloc: Global, text: Option<&str>) -> Result<(), NameFaul
     }
 }
 
-/// What stands behind `unlocked-dep=<`.
+/// Reads the text after `unlocked-dep=<`.
 #[tactic(auto, using(crate::proofs::MemoryFacts::has_front, crate::proofs::MemoryFacts::no_piece), unfolding(crate::specs::Reading::read_unlocked, crate::specs::Reading::read_unlocked_inside))]
 fn unlocked(alloc: Global, text: &str) -> Result<DependencyName<'_>, NameFault>
     ensures value { GivesOrMemory dependency_view result (read_unlocked text.now) }
@@ -193,7 +193,7 @@ fn unlocked(alloc: Global, text: &str) -> Result<DependencyName<'_>, NameFault>
     Ok(DependencyName::Unlocked { package, range })
 }
 
-/// What stands behind `locked-dep=<`.
+/// Reads the text after `locked-dep=<`.
 #[tactic(auto, using(crate::proofs::MemoryFacts::has_part, crate::proofs::MemoryFacts::no_piece), unfolding(crate::specs::Reading::read_locked, crate::specs::Reading::read_locked_inside))]
 fn locked(alloc: Global, text: &str) -> Result<DependencyName<'_>, NameFault>
     ensures value { GivesOrMemory dependency_view result (read_locked text.now) }
@@ -214,7 +214,7 @@ fn locked(alloc: Global, text: &str) -> Result<DependencyName<'_>, NameFault>
     })
 }
 
-/// What stands behind `url=<`.
+/// Reads the text after `url=<`.
 #[tactic(auto, unfolding(crate::specs::Reading::read_url))]
 fn url(text: &str) -> Result<UrlName<'_>, NameFault>
     ensures value { Gives url_view result (read_url text.now) }
@@ -230,7 +230,7 @@ fn url(text: &str) -> Result<UrlName<'_>, NameFault>
     Ok(UrlName { url, integrity })
 }
 
-/// The pieces of an interface, whose version isn't tested.
+/// Reads an interface.
 #[tactic(auto, using(crate::proofs::MemoryFacts::no_piece), unfolding(crate::specs::Reading::read_interface))]
 fn interface(alloc: Global, text: &str) -> Result<InterfaceName<'_>, NameFault>
     ensures value { GivesOrMemory interface_view result (read_interface text.now) }
@@ -250,7 +250,7 @@ fn interface(alloc: Global, text: &str) -> Result<InterfaceName<'_>, NameFault>
     })
 }
 
-/// A text that begins with `[`.
+/// Reads a text that begins with `[`.
 #[tactic(auto, unfolding(crate::specs::Reading::read_bracketed))]
 fn bracketed(text: &str) -> Result<ComponentNameKind<'_>, NameFault>
     ensures value { Gives kind_view result (read_bracketed text.now) }
@@ -270,7 +270,7 @@ fn bracketed(text: &str) -> Result<ComponentNameKind<'_>, NameFault>
     Err(NameFault::BadLabel)
 }
 
-/// An interface where there is a `:`, else a label.
+/// Reads an interface if there is a `:`, else a label.
 #[tactic(auto, unfolding(crate::specs::Reading::read_plain))]
 fn plain(alloc: Global, text: &str) -> Result<ComponentNameKind<'_>, NameFault>
     ensures value { GivesOrMemory kind_view result (read_plain text.now) }
@@ -283,7 +283,7 @@ fn plain(alloc: Global, text: &str) -> Result<ComponentNameKind<'_>, NameFault>
     }
 }
 
-/// A url, a hash or what is plain.
+/// Reads a URL, a hash, an interface or a label.
 #[tactic(auto, using(crate::proofs::MemoryFacts::has_behind), unfolding(crate::specs::Reading::read_placed))]
 fn placed(alloc: Global, text: &str) -> Result<ComponentNameKind<'_>, NameFault>
     ensures value { GivesOrMemory kind_view result (read_placed text.now) }
@@ -300,7 +300,7 @@ fn placed(alloc: Global, text: &str) -> Result<ComponentNameKind<'_>, NameFault>
     plain(alloc, text)
 }
 
-/// A dependency, or what isn't in brackets otherwise.
+/// Reads any text that does not begin with `[`.
 #[tactic(auto, using(crate::proofs::MemoryFacts::has_behind), unfolding(crate::specs::Reading::read_marked))]
 fn marked(alloc: Global, text: &str) -> Result<ComponentNameKind<'_>, NameFault>
     ensures value { GivesOrMemory kind_view result (read_marked text.now) }
@@ -316,7 +316,7 @@ fn marked(alloc: Global, text: &str) -> Result<ComponentNameKind<'_>, NameFault>
     placed(alloc, text)
 }
 
-/// The kind of a text, or why it has none.
+/// Reads a text as a name, and returns its kind.
 #[tactic(auto, unfolding(crate::specs::Reading::read))]
 pub(crate) fn kind(alloc: Global, text: &str) -> Result<ComponentNameKind<'_>, NameFault>
     ensures value { GivesOrMemory kind_view result (read text.now) }
@@ -332,7 +332,7 @@ pub(crate) fn kind(alloc: Global, text: &str) -> Result<ComponentNameKind<'_>, N
     }
 }
 
-/// Whether a text without its version names an interface.
+/// Whether the text is an interface without a version.
 #[tactic(auto, unfolding(crate::specs::Reading::is_interface_name))]
 pub(crate) fn is_interface_name(name: &str) -> bool
     ensures { result ≡ is_interface_name name.now }
@@ -342,7 +342,7 @@ pub(crate) fn is_interface_name(name: &str) -> bool
     package(namespace, name).is_ok() && is_label(interface)
 }
 
-/// The version that a text is, where it is one.
+/// Parses a version, if there is one. Returns `None` for a text that is not a version.
 #[tactic(auto, unfolding(crate::specs::Track::parts_piece))]
 pub(crate) fn parse_version(
     alloc: Global,

@@ -1,11 +1,11 @@
-// Cutting a text.
+// Splitting of texts.
 
 ghost use Rattle.std.specs.Prelude.{◌≡◌, true, false, MatchOption, IsTrue, ◌<◌, ◌↔◌};
 ghost use Rattle.wac_names.specs.Text.{has, before, after, begins, behind, ends, front};
 ghost use Rattle.wac_names.specs.Reading.{version_piece};
 ghost use Rattle.std.specs.Option.{option_copied};
 
-/// The text before the first `at`, and the text after it.
+/// Splits at the first `at`, if there is one.
 pub(crate) fn cut(text: &str, at: char) -> Option<(&str, &str)>
     requires { at < 128 }
     ensures { MatchOption result (has at text.now ≡ false)
@@ -14,7 +14,7 @@ pub(crate) fn cut(text: &str, at: char) -> Option<(&str, &str)>
     text.split_once(at)
 }
 
-/// The same, where without an `at` all stands before it.
+/// Splits at the first `at`. Without one, the whole text is before it.
 pub(crate) fn halves(text: &str, at: char) -> (&str, &str)
     requires { at < 128 }
     ensures before { result.0.now ≡ before at text.now }
@@ -26,7 +26,7 @@ pub(crate) fn halves(text: &str, at: char) -> (&str, &str)
     }
 }
 
-/// The text before the first `@`, and the text after it where there is one.
+/// Splits at the first `@`. Without one, the whole text is before it, and nothing after.
 pub(crate) fn versioned(text: &str) -> (&str, Option<&str>)
     ensures before { result.0.now ≡ before 64 text.now }
     ensures after { option_copied result.1 ≡ version_piece text.now }
@@ -37,7 +37,7 @@ pub(crate) fn versioned(text: &str) -> (&str, Option<&str>)
     }
 }
 
-/// What stands behind the text that it begins with.
+/// Returns what follows `start`, if the text begins with it.
 pub(crate) fn strip<'a>(text: &'a str, start: &str) -> Option<&'a str>
     ensures { MatchOption result (begins start.now text.now ≡ false)
         (λ rest. (begins start.now text.now ≡ true) × (rest.now ≡ behind start.now text.now)) }
@@ -45,7 +45,7 @@ pub(crate) fn strip<'a>(text: &'a str, start: &str) -> Option<&'a str>
     text.strip_prefix(start)
 }
 
-/// What stands before the byte that it ends with.
+/// Returns the text without its last byte, if that is `end`.
 pub(crate) fn strip_end(text: &str, end: char) -> Option<&str>
     requires { end < 128 }
     ensures { MatchOption result (ends end text.now ≡ false)
@@ -54,7 +54,7 @@ pub(crate) fn strip_end(text: &str, end: char) -> Option<&str>
     text.strip_suffix(end)
 }
 
-/// Whether two texts are the same.
+/// Whether two texts are equal.
 pub(crate) fn same(a: &str, b: &str) -> bool
     ensures { IsTrue result ↔ (a.now ≡ b.now) }
 {

@@ -17,27 +17,28 @@ use semver::Version;
 use std::alloc::{AllocError, Global};
 use std::cmp::Ordering;
 
-/// What names have in common of which one may stand for the other. Two names have one track exactly
-/// where their tracks are equal, so a track serves as the key of a map.
+/// The track of a name. By semver, names with equal tracks can be used for each other.
+///
+/// A track can be the key of a map.
 #[derive(Clone, Copy, Debug, PartialEq, Eq, Hash)]
 pub enum Track<'a> {
-    /// The whole text of what has no release.
+    /// The whole text, if it is not an interface with a released version.
     Text(&'a str),
-    /// An interface without its version, and a major number of 1 or more.
+    /// An interface without its version, and a major number of at least 1.
     Major {
         /// The text before the `@`.
         name: &'a str,
         /// The major number.
         major: u64,
     },
-    /// An interface without its version, a major number of 0, and a minor number of 1 or more.
+    /// An interface without its version, with major number 0 and a minor number of at least 1.
     Minor {
         /// The text before the `@`.
         name: &'a str,
         /// The minor number.
         minor: u64,
     },
-    /// An interface without its version, a major and a minor number of 0, and the patch number.
+    /// An interface without its version, with major and minor number 0, and its patch number.
     Patch {
         /// The text before the `@`.
         name: &'a str,
@@ -46,7 +47,7 @@ pub enum Track<'a> {
     },
 }
 
-/// The version of an interface name that has one.
+/// Returns the version of an interface name that has one.
 #[tactic(auto, unfolding(crate::specs::Reading::read_version, crate::specs::Reading::version_piece))]
 fn version(alloc: Global, text: &str) -> Result<Option<Version>, AllocError>
     ensures value { IfOk result (λ v. option_map parts_of v ≡ read_version text.now) }
@@ -61,7 +62,7 @@ fn version(alloc: Global, text: &str) -> Result<Option<Version>, AllocError>
     }
 }
 
-/// The track of a release.
+/// Returns the track of an interface with a released version.
 #[tactic(auto, unfolding(crate::specs::Track::series))]
 fn series<'a>(name: &'a str, version: &Version) -> Track<'a>
     ensures { track_view result ≡ series name.now (parts_of version.now) }
@@ -84,7 +85,7 @@ fn series<'a>(name: &'a str, version: &Version) -> Track<'a>
     }
 }
 
-/// The track of a text, from the text before its `@` and its version.
+/// Returns the track of a text, whose part before the `@` is `name`.
 fn track_at<'a>(text: &'a str, name: &'a str, version: &Option<Version>) -> Track<'a>
     ensures { track_view result ≡ track_at text.now name.now (option_map parts_of version.now) }
 {
@@ -95,10 +96,13 @@ fn track_at<'a>(text: &'a str, name: &'a str, version: &Option<Version>) -> Trac
 }
 
 impl<'a> Track<'a> {
-    /// The track of a text: that of its release where it is an interface name with a version that
-    /// isn't a pre-release, and else the whole text. Build metadata doesn't count.
+    /// Returns the track of a text.
     ///
-    /// A text without an `@` takes no memory, nor does one whose version has no pre-release and no build metadata.
+    /// An interface name with a version that is not a pre-release has the track of its release; build metadata does not
+    /// count. The track of any other text is the whole text.
+    ///
+    /// # Errors
+    /// - `AllocError` if out of memory. Only the pre-release and the build metadata of a version take memory.
     pub fn new(alloc: Global, text: &'a str) -> Result<Self, AllocError>
         ensures value { IfOk result (λ t. HasTrack text.now (track_view t)) }
         ensures memory { has 64 text.now ≡ false → IsOk result }
@@ -109,8 +113,10 @@ impl<'a> Track<'a> {
         Ok(track_at(text, name, &version))
     }
 
-    /// The track as a text, for the keys of a map: the keys of two names are equal exactly where the
-    /// names have one track.
+    /// Returns the track as a text, for the keys of a map. Keys are equal if and only if the tracks are.
+    ///
+    /// # Errors
+    /// - `AllocError` if out of memory.
     #[tactic(auto, unfolding(crate::specs::Track::key_text))]
     pub fn to_key(&self, alloc: Global) -> Result<String, AllocError>
         ensures { IfOk result (λ key. string_bytes key ≡ key_text (track_view self.now)) }
@@ -124,9 +130,10 @@ impl<'a> Track<'a> {
     }
 }
 
-/// Whether two names have one track.
+/// Whether two names have the same track.
 ///
-/// A text without an `@` takes no memory, nor does one whose version has no pre-release and no build metadata.
+/// # Errors
+/// - `AllocError` if out of memory. Only the pre-release and the build metadata of a version take memory.
 pub fn are_semver_compatible(alloc: Global, a: &str, b: &str) -> Result<bool, AllocError>
     ensures value { IfOk result (λ r. IsTrue r ↔ OneTrack a.now b.now) }
     ensures plain { IsPlainText a.now → IsPlainText b.now → IsOk result }
@@ -136,10 +143,12 @@ pub fn are_semver_compatible(alloc: Global, a: &str, b: &str) -> Result<bool, Al
     Ok(a == b)
 }
 
-/// The order of two interface names by their versions: by number, then by pre-release, then by build
-/// metadata. A name without a version comes before each that has one.
+/// Compares two interface names by their versions: by number, then by pre-release, then by build metadata.
 ///
-/// A text without an `@` takes no memory, nor does one whose version has no pre-release and no build metadata.
+/// A name without a version comes before each that has one.
+///
+/// # Errors
+/// - `AllocError` if out of memory. Only the pre-release and the build metadata of a version take memory.
 pub fn compare_versions(alloc: Global, a: &str, b: &str) -> Result<Ordering, AllocError>
     ensures value { IfOk result (λ o. (x : Option Parts) × (y : Option Parts) × HasVersion a.now x × HasVersion b.now y
         × (o ≡ option_cmp version_cmp x y)) }
@@ -150,22 +159,22 @@ pub fn compare_versions(alloc: Global, a: &str, b: &str) -> Result<Ordering, All
     Ok(a.cmp(&b))
 }
 
-/// One track is an equivalence, and each text has exactly one track.
+/// Proof only: each text has exactly one track, and having the same track is an equivalence (docs/PROOFS.md, 'Laws').
 pub fn one_track_laws()
     ensures { OneTrackLaws }
 {}
 
-/// The keys of two names are equal exactly where the names have one track.
+/// Proof only: the keys of two names are equal if and only if their tracks are (docs/PROOFS.md, 'Laws').
 pub fn keys_tell_tracks()
     ensures { KeysTellTracks }
 {}
 
-/// Each text has one version at most, and versions are in a total order.
+/// Proof only: each text has at most one version, and the order of versions is total (docs/PROOFS.md, 'Laws').
 pub fn version_laws()
     ensures { VersionLaws }
 {}
 
-/// The track and the version that are read of a text are its own.
+/// Proof only: the track and the version that are read from a text are its own (docs/PROOFS.md, 'Laws').
 pub fn reading_laws()
     ensures { ReadingLaws }
 {}

@@ -6,13 +6,13 @@ use Rattle.wac_primitives.specs.declared.core_types.CoreRefType.{CoreRefType}
 -- An import or export of a core module; `no_item` for a name that is not there.
 pub data CoreItem : Type 0 where
   no_item : CoreItem
-  -- parameters, results
+  -- Parameters, results.
   core_function : List CoreType → List CoreType → CoreItem
-  -- element type, 64-bit, shared, minimum, maximum
+  -- Element type, 64-bit, shared, minimum, maximum.
   core_table : CoreRefType → Bool → Bool → ℕ → Option ℕ → CoreItem
-  -- 64-bit, shared, minimum, maximum, log2 of the page size
+  -- 64-bit, shared, minimum, maximum, log2 of the page size.
   core_memory : Bool → Bool → ℕ → Option ℕ → Option ℕ → CoreItem
-  -- value type, mutable, shared
+  -- Value type, mutable, shared.
   core_global : CoreType → Bool → Bool → CoreItem
-  -- parameters, results
+  -- Parameters, results.
   core_tag : List CoreType → List CoreType → CoreItem

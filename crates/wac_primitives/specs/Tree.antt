@@ -110,7 +110,7 @@ out_by (suc k) l = further_out (out_by k l)
 abbrev pub seen_from : ℕ → Tree → Tree
 seen_from k = moved (out_by k)
 
--- A binding of an instance type, seen from the scope that binds an instance of it at this side and path.
+-- A binding that an instance type sees, as seen from the scope with an instance of it at this side and path.
 abbrev pub taken_at : Side → List Place → ℕ → Side → List Place → Leaf
 taken_at side path zero s p = record { out = 0; side = side; path = path ++ p }
 taken_at side path (suc o) s p = record { out = o; side = s; path = p }

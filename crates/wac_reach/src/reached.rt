@@ -63,7 +63,7 @@ impl Reached {
         ensures alone { IfSome result (λ k. (j : ℕ) → slice_get self.now j ≡ Some ty → j ≡ k) }
         ensures none { IfNone result (IsIn ty self.now → ⊥) }
     {
-        // Proof only: no type occurs twice.
+        // Proof only: no type occurs twice (docs/PROOFS.md, 'Laws').
         let _types = self.types.as_slice();
         self.types.get_index_of(&ty)
     }

@@ -132,7 +132,7 @@ impl<V> CoreImports<V> {
     pub fn law(&self)
         ensures { NoImportTwice self.now }
     {
-        // Proof only: the keys of a map are distinct.
+        // Proof only: the keys of a map are distinct (docs/PROOFS.md, 'Laws').
         let _ = self.entries.len();
     }
 

@@ -338,7 +338,7 @@ impl<'a> Iterator for LabelNames<'a> {
 /// The greatest number of entries that are searched one by one. Further entries go into a map.
 const FEW: usize = 32;
 
-/// The same, if the number of entries is announced. If more are announced, all go into a map.
+/// The greatest number of announced entries with which a list is begun. If more are announced, all go into a map.
 const FEW_KNOWN: usize = 8;
 
 // Whether two names are equal. Most unequal names already differ in length or last byte, which is cheap to compare.

@@ -1,4 +1,4 @@
--- The subtype relation on trees, by its rules ("Subtyping").
+-- The subtype relation on the trees of types ("Subtyping").
 use Rattle.std.specs.Prelude.{ℕ, ◌≡◌, ◌≢◌, ◌≤◌, false, List, map, Option, Some, None, slice_get}
 use Rattle.wac_primitives.specs.Name.{Name}
 use Rattle.wac_primitives.specs.Core.{CoreItem, no_item, core_table, core_memory}

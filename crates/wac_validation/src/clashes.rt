@@ -12,7 +12,7 @@ use crate::keys::key_of;
 use std::alloc::{AllocError, Global};
 use wac_names::{ComponentName, clash};
 
-/// Whether the name at a position clashes with a name.
+/// Whether the name at `position` clashes with `name`.
 fn clashes_at(names: &[ComponentName<'_>], position: usize, name: &ComponentName<'_>) -> bool
     requires { position < length names.now }
     ensures { IsTrue result ↔ Clash (at (name_texts names.now) position) (text_of name.now) }
@@ -20,7 +20,7 @@ fn clashes_at(names: &[ComponentName<'_>], position: usize, name: &ComponentName
     clash(&names[position], name)
 }
 
-/// The earliest of these positions whose name clashes with a name.
+/// Returns the earliest of the positions whose name clashes with `name`.
 fn clashing(
     names: &[ComponentName<'_>],
     alike: Option<Alike>,
@@ -49,7 +49,12 @@ fn clashing(
     }
 }
 
-/// The positions of the first two names that clash, if any do: of the earliest second, and for it of the earliest first.
+/// Returns the positions of the first two names that clash, if any do.
+///
+/// The second is the earliest that clashes with a name before it, and the first is the earliest such name.
+///
+/// # Errors
+/// - `AllocError` if out of memory.
 pub fn first_clash(
     alloc: Global,
     names: &[ComponentName<'_>],

@@ -1,30 +1,30 @@
-//! Why the outer names of a component may not stand together.
+//! Why the outer names of a component are not valid.
 ghost use Rattle.std.specs.Prelude.{◌≡◌};
 
 use std::alloc::{AllocError, AllocFailed};
 use thiserror::Error;
 
-/// What is wrong with the outer names of a component. Displayed by the variant's name.
+/// A fault of the outer names of a component. `Display` writes the variant's name.
 #[derive(Debug, Drop, PartialEq, Eq, Error)]
 pub enum ValidationFault {
-    /// A name that is outside the grammar of component names.
+    /// A name is outside the grammar of component names.
     #[error("BadName")]
     BadName { name: String },
-    /// Two imports that clash, or two exports, in written order.
+    /// Two imports or two exports clash. They are in written order.
     #[error("Clash")]
     Clash { first: String, second: String },
-    /// The name of a hash, a url or a dependency, which can't be exported.
+    /// An export has the name of a hash, a URL or a dependency.
     #[error("NotExportable")]
     NotExportable { name: String },
 }
 
-/// Why `validate` is refused.
+/// Why validation fails.
 #[derive(Debug, Drop, PartialEq, Eq, Error)]
 pub enum ValidationError {
-    /// The names may not stand together.
+    /// The names are not valid.
     #[error("the outer names are not valid")]
     Fault { source: ValidationFault },
-    /// There was no memory.
+    /// Out of memory.
     #[error("out of memory")]
     OutOfMemory,
 }

@@ -1,4 +1,4 @@
-//! A key that clashing names share.
+//! Keys of names. Names that clash have the same key.
 ghost use Rattle.std.specs.Prelude.{◌≡◌, ◌∷◌, ◌++◌, IfOk, string_bytes};
 ghost use Rattle.wac_names.specs.Clash.{lowered};
 ghost use Rattle.wac_names.specs.NameView.{name_view};
@@ -7,7 +7,7 @@ ghost use Rattle.wac_validation.specs.Key.{HasKey};
 use std::alloc::{AllocError, Global};
 use wac_names::{ComponentName, ComponentNameKind};
 
-/// The key of a name that is plain without a bracket, or of a constructor by its resource.
+/// Returns the key of a label, or of the constructor of a resource.
 fn plain_key(alloc: Global, said: &str) -> Result<String, AllocError>
     ensures { IfOk result (λ key. string_bytes key ≡ 46 ∷ lowered said.now) }
 {
@@ -15,7 +15,7 @@ fn plain_key(alloc: Global, said: &str) -> Result<String, AllocError>
     format!(in alloc; ".{said}")
 }
 
-/// The key of a function of a resource.
+/// Returns the key of a method or a static function.
 fn function_key(alloc: Global, resource: &str, name: &str) -> Result<String, AllocError>
     ensures { IfOk result (λ key. string_bytes key ≡ 46 ∷ (lowered resource.now ++ 46 ∷ lowered name.now)) }
 {
@@ -24,15 +24,20 @@ fn function_key(alloc: Global, resource: &str, name: &str) -> Result<String, All
     format!(in alloc; ".{resource}.{name}")
 }
 
-/// The key of a name that is not plain.
+/// Returns the key of a name that is not plain.
 fn text_key(alloc: Global, text: &str) -> Result<String, AllocError>
     ensures { IfOk result (λ key. string_bytes key ≡ 61 ∷ text.now) }
 {
     format!(in alloc; "={text}")
 }
 
-/// The key of a name: `.` and what a plain name says without its bracket, its letters lowered; of any other name `=` and
-/// its text.
+/// Returns the key of a name.
+///
+/// The key of a plain name is `.` and the name without its bracketed prefix, in lower case. The key of any other name
+/// is `=` and its text.
+///
+/// # Errors
+/// - `AllocError` if out of memory.
 pub fn key_of(alloc: Global, name: &ComponentName<'_>) -> Result<String, AllocError>
     ensures { IfOk result (λ key. HasKey (name_view name.now).text (string_bytes key)) }
 {

@@ -1,17 +1,17 @@
-//! Whether the outer names of a component may stand together.
+//! Validation of the outer names of a component: the names of its imports and exports.
 //!
 //! ```rust
 //! validate(alloc, &["a", "[constructor]a"], &["run"])?;
 //! validate(alloc, &["a", "A"], &[]) // the fault `Clash` of `a` and `A`
 //! ```
 //!
-//! Of the imports first, then of the exports, what is refused is the first name outside the grammar, else the first
-//! two that clash, and of exports else the first that is a hash, a url or a dependency. Of two that clash the second
-//! is the earliest that clashes with a name before it, and the first the earliest with which it does
-//! (`specs/FirstFault.antt`). An import and an export never clash.
+//! The first fault is returned. Imports come before exports. Among the names of each, the first name outside the
+//! grammar comes first, then the first two names that clash, then the first export that is a hash, a URL or a
+//! dependency. The first two that clash are the earliest name that clashes with one before it, and the earliest such
+//! name (`FirstFault.antt`). An import and an export never clash.
 //!
-//! The time grows with the total length of the names and their number: names that clash share a key, and under each
-//! key at most two names stand that do not clash.
+//! Time grows with the number of names and their total length. Names that clash have the same key, and at most two
+//! names of a key do not clash.
 #![tactic(auto)]
 
 mod clashes;

@@ -1,4 +1,4 @@
-//! The names that texts are, and those that can't be exported.
+//! Reading of names, and names that cannot be exported.
 ghost use Rattle.std.specs.Prelude.{◌≡◌, ◌≢◌, IfOk, IfErr, MatchResult};
 ghost use Rattle.wac_validation.specs.FirstFault.{bad_name, IsExportFault, IsNameFault, IsRefusal};
 ghost use Rattle.wac_validation.specs.Valid.{Each, IsExportName, IsName};
@@ -8,7 +8,7 @@ use crate::fault::{ValidationError, ValidationFault};
 use std::alloc::Global;
 use wac_names::{ComponentName, NameFault};
 
-/// Why a text is refused that is no name.
+/// Returns the error for a text that is not a name, for this reason.
 fn unnamed(alloc: Global, text: &str, fault: NameFault) -> ValidationError
     ensures { IsRefusal (λ f. (f ≡ bad_name text.now) × (fault ≢ NameFault.OutOfMemory)) result }
 {
@@ -23,7 +23,11 @@ fn unnamed(alloc: Global, text: &str, fault: NameFault) -> ValidationError
     }
 }
 
-/// The names that texts are.
+/// Reads texts as names.
+///
+/// # Errors
+/// - [`BadName`](ValidationFault::BadName) of the first text that is not a name.
+/// - [`OutOfMemory`](ValidationError::OutOfMemory).
 pub fn names_of<'a>(
     alloc: Global,
     written: &[&'a str],
@@ -43,7 +47,11 @@ pub fn names_of<'a>(
     Ok(names)
 }
 
-/// Refuses names of which one can't be exported, with the first.
+/// Checks that all names can be exported.
+///
+/// # Errors
+/// - [`NotExportable`](ValidationFault::NotExportable) of the first name that cannot.
+/// - [`OutOfMemory`](ValidationError::OutOfMemory).
 pub fn exportable(alloc: Global, names: &[ComponentName<'_>]) -> Result<(), ValidationError>
     ensures { MatchResult result
         (λ _. Each IsExportName (name_texts names.now))

@@ -1,4 +1,4 @@
-//! The outer names of a component.
+//! Validation of the outer names of a component.
 ghost use Rattle.std.specs.Prelude.{◌≡◌, ◌<◌, List, length, IfOk, IfErr, MatchResult};
 ghost use Rattle.wac_validation.specs.FirstFault.{clash, fault_view, HasOneAnswer, IsFirstFault, IsNameFault, IsRefusal};
 ghost use Rattle.wac_validation.specs.Valid.{Text, at, AreNames, AreValid};
@@ -10,7 +10,7 @@ use crate::naming::{exportable, names_of};
 use std::alloc::{AllocError, Global};
 use wac_names::ComponentName;
 
-/// The clash of the names at two positions.
+/// Returns the clash of the names at two positions.
 fn clash_of(
     alloc: Global,
     names: &[ComponentName<'_>],
@@ -26,7 +26,7 @@ fn clash_of(
     Ok(ValidationFault::Clash { first, second })
 }
 
-/// The names that texts are, where no two of them clash.
+/// Reads texts as names, of which no two may clash.
 fn names_apart<'a>(
     alloc: Global,
     written: &[&'a str],
@@ -43,15 +43,18 @@ fn names_apart<'a>(
     Err(ValidationError::Fault { source })
 }
 
-/// Refuses outer names that may not stand together in one component: the names of its imports and of its exports, in
-/// written order.
+/// Checks that a component can have these imports and exports. Names are in written order.
 ///
-/// The fault is the first of the imports, or else of the exports. Of each a name outside the grammar (`BadName`) comes
-/// before two that clash (`Clash`), and of exports these come before a name that can't be exported (`NotExportable`).
-/// Of one kind the earliest counts: of two that clash the earliest second, and for it the earliest first. Any import
-/// may have the name of an export.
+/// An import and an export may have the same name.
 ///
-/// `OutOfMemory` comes where memory is refused for the names that are read, their keys or the texts of the fault.
+/// # Errors
+/// For the imports, and then for the exports:
+/// - [`BadName`](ValidationFault::BadName) of the first name outside the grammar.
+/// - [`Clash`](ValidationFault::Clash) of the first two names that clash: the earliest name that clashes with one
+///   before it, and the earliest such name.
+///
+/// Then [`NotExportable`](ValidationFault::NotExportable) of the first export that is a hash, a URL or a dependency.
+/// [`OutOfMemory`](ValidationError::OutOfMemory) if memory runs out before a fault is returned.
 pub fn validate(alloc: Global, imports: &[&str], exports: &[&str]) -> Result<(), ValidationError>
     ensures { MatchResult result
         (λ _. AreValid (texts imports.now) (texts exports.now))
@@ -62,7 +65,7 @@ pub fn validate(alloc: Global, imports: &[&str], exports: &[&str]) -> Result<(),
     exportable(alloc, &exports)
 }
 
-/// Outer names have no fault or exactly one that is first, and never both.
+/// Proof only: outer names have no fault, or exactly one that is first (docs/PROOFS.md, 'Laws').
 pub fn one_answer()
     ensures { (imports exports : List Text) → HasOneAnswer imports exports }
 {}
