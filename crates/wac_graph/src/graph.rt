@@ -508,6 +508,7 @@ impl CompositionGraph {
     }
 }
 
+/// Returns the node with the id, which must be valid.
 impl Index<NodeId> for CompositionGraph {
     type Output = Node;
 
@@ -522,6 +523,7 @@ impl Index<NodeId> for CompositionGraph {
     }
 }
 
+/// Returns the package with the id, which must be valid.
 impl Index<PackageId> for CompositionGraph {
     type Output = Package;
 

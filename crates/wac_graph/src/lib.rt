@@ -5,8 +5,10 @@
 //! [`CompositionGraph::encode`] turns the graph into the bytes of one component, and [`plug`] fills the imports of a
 //! socket component with the exports of other components.
 //!
+//! Here an instance of `my:package1` exports a function `a`, which becomes the argument `b` of an instance of
+//! `my:package2`. `bytes1` and `bytes2` are the components of the two packages.
+//!
 //! ```rust
-//! // `a` and `b` are functions of type `func`; `bytes1` and `bytes2` are the components of the packages.
 //! let mut graph = CompositionGraph::new(alloc);
 //! let func = ItemKind::Func(graph.add_func_type(FuncType::new(alloc, &[], None, false)?)?);
 //!

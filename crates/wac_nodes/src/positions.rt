@@ -9,7 +9,7 @@ use std::collections::BTreeSet;
 
 /// Returns the first position in `from..end` that is not in the set.
 ///
-/// Takes constant time if the set is exactly `0..end`.
+/// A set that is exactly `0..end` is not searched.
 pub fn first_gap(positions: &BTreeSet<usize>, from: usize, end: usize) -> Option<usize>
     ensures some { IfSome result (IsGap positions.now from end) }
     ensures none { IfNone result ((i : ℕ) → from ≤ i → i < end → contains nat_cmp positions.now i ≡ true) }
