@@ -3,9 +3,9 @@
 use anyhow::{Result, bail};
 use std::alloc::Global;
 use wac_graph::{CompositionGraph, plug};
+use wac_graph_model::{EncodeOptions, NodeId, PackageId};
 use wac_measures::graph::Graph;
 use wac_measures::types::Collection;
-use wac_nodes::{EncodeOptions, NodeId, PackageId};
 use wac_types::{DefinedType, FuncType, Interface, ItemKind, ValueType, World};
 
 /// A component with nothing in it.

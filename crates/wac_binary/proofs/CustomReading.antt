@@ -3,15 +3,15 @@ use Rattle.std.proofs.Common.{◌≡◌, ℕ, List, [], ◌∷◌, ◌++◌, len
 use Rattle.std.specs.Prelude.{if◌then◌else◌, eqb, codes}
 use Rattle.std.specs.List.{flat_map}
 use Rattle.std.proofs.lemmas.Bool.Decides.{nat_tests}
-use Rattle.wac_primitives.specs.Name.{Name}
+use Rattle.wac_types_shapes.specs.primitives.Name.{Name}
 use Rattle.wac_binary.specs.Leb.{unsigned}
 use Rattle.wac_binary.specs.Bytes.{text}
 use Rattle.wac_binary.specs.Indexes.{space}
 use Rattle.wac_binary.specs.Customs.{same_sort, of_sort, naming, names_in, subsection, sorts_in_order, names_bytes, producers_bytes}
 use Rattle.wac_binary.specs.declared.sorts.Sort.{Sort}
 use Rattle.wac_binary.specs.declared.sorts.Sort.TheVariants as s
-use Rattle.wac_binary.specs.OneReading.{OneReading, one_unsigned, one_pair, one_vector, one_text, heads, same_length}
-use Rattle.wac_binary.specs.OneItem.{one_sort}
+use Rattle.wac_binary.specs.private.OneReading.{OneReading, one_unsigned, one_pair, one_vector, one_text, heads, same_length}
+use Rattle.wac_binary.specs.private.OneItem.{one_sort}
 
 one_naming : OneReading naming
 one_naming = one_pair one_unsigned one_text

@@ -1,7 +1,7 @@
 -- Look-ups in scopes, what a scope that grew keeps, and types that look at nothing around them.
 use Rattle.std.proofs.Common.{◌≡◌, ℕ, zero, suc, ◌<◌, List, [], ◌∷◌, ◌++◌, length, refl, ap, ◌∙◌, arith}
 use Rattle.std.specs.Prelude.{Some, slice_get}
-use Rattle.wac_primitives.specs.Tree.{Tree, component, instance}
+use Rattle.wac_types_shapes.specs.primitives.Tree.{Tree, component, instance}
 use Rattle.wac_binary.specs.Items.{TypeDef, value_def, func_def, component_def, instance_def, export_alias, outer_alias, Decls, end, next, decls, Decl, core_type_decl, type_decl, alias_decl, import_decl, export_decl}
 use Rattle.wac_binary.specs.Unfold.{Scope, Bound, empty, type_at, bound_at, scope_at, with_outer, tree_of, after, with_decl}
 use Rattle.wac_binary.specs.Growth.{Grows, TypeStaysWithin, StayWithin, StaysWithin}

@@ -9,3 +9,4 @@ pub mod HasMeaningLaws
 pub mod AddedLaws
 pub mod KeptLaws
 pub mod ListedLaws
+pub mod lemmas

@@ -1,10 +1,10 @@
 -- What a declaration adds to its scope, and that it changes nothing else; and what growth of the scopes around it leaves.
 use Rattle.std.proofs.Common.{◌≡◌, ℕ, zero, suc, ◌+◌, ◌<◌, ◌≤◌, List, [], ◌∷◌, ◌++◌, length, refl, ap, sym, ◌∙◌, subst, length-append, arith, append-nil, append_assoc}
 use Rattle.std.specs.Prelude.{Some}
-use Rattle.wac_primitives.specs.Name.{Name}
-use Rattle.wac_primitives.specs.Core.{CoreItem}
-use Rattle.wac_primitives.specs.Tree.{Side, Place, Tree, seen_from, component, instance}
-use Rattle.wac_primitives.specs.declared.core_types.CoreType.{CoreType}
+use Rattle.wac_types_shapes.specs.primitives.Name.{Name}
+use Rattle.wac_types_shapes.specs.primitives.Core.{CoreItem}
+use Rattle.wac_types_shapes.specs.primitives.Tree.{Side, Place, Tree, seen_from, component, instance}
+use Rattle.wac_types_shapes.specs.declared.primitives.core_types.CoreType.{CoreType}
 use Rattle.wac_binary.specs.declared.sorts.Sort.{Sort}
 use Rattle.wac_binary.specs.declared.sorts.Sort.TheVariants as s
 use Rattle.wac_binary.specs.declared.sorts.Description.{Description}

@@ -1,7 +1,7 @@
 -- What the index of a new item or declaration refers to, and the imports and exports after it.
 use Rattle.std.specs.Prelude.{List, [], ◌∷◌, ◌++◌}
-use Rattle.wac_primitives.specs.Name.{Name}
-use Rattle.wac_primitives.specs.Tree.{Tree}
+use Rattle.wac_types_shapes.specs.primitives.Name.{Name}
+use Rattle.wac_types_shapes.specs.primitives.Tree.{Tree}
 use Rattle.wac_binary.specs.declared.sorts.Sort.TheVariants as s
 use Rattle.wac_binary.specs.Items.{Item, import_item, export_item, Decl, decls, import_decl, export_decl}
 use Rattle.wac_binary.specs.Indexes.{space, indexes, declared}

@@ -1,13 +1,13 @@
 -- The bytes of items and of whole components (Binary.md).
 use Rattle.std.specs.Prelude.{ℕ, ◌+◌, ◌*◌, List, [], ◌∷◌, ◌++◌, length, Option, Some, None, Bool, true, false, ◌&&◌, if◌then◌else◌, eqb}
 use Rattle.std.specs.List.{flat_map}
-use Rattle.wac_primitives.specs.declared.component.PrimitiveType.{PrimitiveType}
-use Rattle.wac_primitives.specs.declared.component.PrimitiveType.TheVariants as p
-use Rattle.wac_primitives.specs.declared.core_types.CoreRefType.{CoreRefType}
-use Rattle.wac_primitives.specs.declared.core_types.CoreRefType.TheVariants as r
-use Rattle.wac_primitives.specs.declared.core_types.CoreType.{CoreType}
-use Rattle.wac_primitives.specs.declared.core_types.CoreType.TheVariants as c
-use Rattle.wac_primitives.specs.Name.{Name}
+use Rattle.wac_types_shapes.specs.declared.primitives.component.PrimitiveType.{PrimitiveType}
+use Rattle.wac_types_shapes.specs.declared.primitives.component.PrimitiveType.TheVariants as p
+use Rattle.wac_types_shapes.specs.declared.primitives.core_types.CoreRefType.{CoreRefType}
+use Rattle.wac_types_shapes.specs.declared.primitives.core_types.CoreRefType.TheVariants as r
+use Rattle.wac_types_shapes.specs.declared.primitives.core_types.CoreType.{CoreType}
+use Rattle.wac_types_shapes.specs.declared.primitives.core_types.CoreType.TheVariants as c
+use Rattle.wac_types_shapes.specs.primitives.Name.{Name}
 use Rattle.wac_binary.specs.declared.core_types.EntityType.{EntityType}
 use Rattle.wac_binary.specs.declared.core_types.EntityType.TheVariants as t
 use Rattle.wac_binary.specs.declared.core_types.TableType.{TableType}

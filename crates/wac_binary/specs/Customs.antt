@@ -1,7 +1,7 @@
 -- The contents of the custom sections `component-name` and `producers`.
 use Rattle.std.specs.Prelude.{ℕ, ◌<◌, List, [], ◌∷◌, ◌++◌, length, if◌then◌else◌, Bool, eqb, codes}
 use Rattle.std.specs.List.{AllByRecursion, flat_map}
-use Rattle.wac_primitives.specs.Name.{Name}
+use Rattle.wac_types_shapes.specs.primitives.Name.{Name}
 use Rattle.wac_binary.specs.Leb.{unsigned}
 use Rattle.wac_binary.specs.Bytes.{text, vector, sort}
 use Rattle.wac_binary.specs.Indexes.{space}

@@ -1,6 +1,6 @@
 -- Growth of scopes, and the types and declarations that it does not change.
 use Rattle.std.specs.Prelude.{◌≡◌, ℕ, suc, ◌<◌, ◌≤◌, List, [], ◌∷◌, ◌++◌, length}
-use Rattle.wac_primitives.specs.Tree.{Tree}
+use Rattle.wac_types_shapes.specs.primitives.Tree.{Tree}
 use Rattle.wac_binary.specs.declared.sorts.Sort.{Sort}
 use Rattle.wac_binary.specs.declared.sorts.Sort.TheVariants as s
 use Rattle.wac_binary.specs.Items.{export_alias, outer_alias, TypeDef, value_def, func_def, component_def, instance_def, Decls, end, next, Decl, core_type_decl, type_decl, alias_decl, import_decl, export_decl}

@@ -2,9 +2,9 @@
 -- sort of its target, and no name is declared twice.
 use Rattle.std.specs.Prelude.{ℕ, ◌≡◌, ◌<◌, T, false, List, [], ◌∷◌, length, map, Option, Some, None}
 use Rattle.std.specs.List.{AllByRecursion, list_any}
-use Rattle.wac_primitives.specs.Core.{CoreItem, no_item}
-use Rattle.wac_primitives.specs.Name.{Name, same_name}
-use Rattle.wac_primitives.specs.Tree.{Tree, absent, resource, primitive, own, borrow, record_of, variant_of, list_of, fixed_list_of, tuple_of, flags_of, enum_of, option_of, result_of, stream_of, future_of, function, instance, component, module_of, items_in}
+use Rattle.wac_types_shapes.specs.primitives.Core.{CoreItem, no_item}
+use Rattle.wac_types_shapes.specs.primitives.Name.{Name, same_name}
+use Rattle.wac_types_shapes.specs.primitives.Tree.{Tree, absent, resource, primitive, own, borrow, record_of, variant_of, list_of, fixed_list_of, tuple_of, flags_of, enum_of, option_of, result_of, stream_of, future_of, function, instance, component, module_of, items_in}
 use Rattle.wac_binary.specs.declared.core_types.EntityType.{EntityType}
 use Rattle.wac_binary.specs.declared.core_types.EntityType.TheVariants as t
 use Rattle.wac_binary.specs.declared.types.ComponentValType.{ComponentValType}

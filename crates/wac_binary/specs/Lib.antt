@@ -1,9 +1,7 @@
 pub mod Items
 pub mod Leb
-pub mod LebLaws
 pub mod Bytes
 pub mod Indexes
-pub mod Spaces
 pub mod Fits
 pub mod Customs
 pub mod Views
@@ -12,10 +10,4 @@ pub mod Growth
 pub mod Meaning
 pub mod HasMeaning
 pub mod Added
-pub mod Code
-pub mod OneReading
-pub mod OneType
-pub mod OneModule
-pub mod OneItem
-pub mod OneText
-pub mod Sections
+pub mod private

@@ -1,7 +1,7 @@
 -- The meaning of a component's items: its imports, nested components, instantiations, exports and custom sections.
 use Rattle.std.specs.Prelude.{ℕ, zero, suc, List, [], ◌∷◌, ◌++◌, if◌then◌else◌, length, map, Bool, true, false}
-use Rattle.wac_primitives.specs.Name.{Name}
-use Rattle.wac_primitives.specs.Tree.{imported, position, Tree, absent, items_in}
+use Rattle.wac_types_shapes.specs.primitives.Name.{Name}
+use Rattle.wac_types_shapes.specs.primitives.Tree.{imported, position, Tree, absent, items_in}
 use Rattle.wac_binary.specs.declared.sorts.Sort.{Sort}
 use Rattle.wac_binary.specs.declared.sorts.Sort.TheVariants as s
 use Rattle.wac_binary.specs.Items.{export_alias, outer_alias, Item, custom, core_type, nested, instantiate, alias_item, type_item, import_item, export_item}

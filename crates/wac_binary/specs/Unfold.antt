@@ -1,9 +1,9 @@
 -- Scopes: what their type and instance indexes refer to, and the tree of each type.
 use Rattle.std.specs.Prelude.{ℕ, zero, suc, Bool, true, false, List, [], ◌∷◌, ◌++◌, if◌then◌else◌, length, map, Option, Some, None}
-use Rattle.wac_primitives.specs.Name.{Name, same_name}
-use Rattle.wac_primitives.specs.Tree.{Side, imported, exported, Place, named, Tree, absent, resource, primitive, record_of, variant_of, list_of, fixed_list_of, tuple_of, flags_of, enum_of, option_of, result_of, stream_of, future_of, function, instance, component, module_of, fresh, type_equal, function_item, instance_item, component_item, module_item, value_item, seen_from, taken_from, items_in, own_of, borrow_of}
-use Rattle.wac_primitives.specs.declared.core_types.CoreType.{CoreType}
-use Rattle.wac_primitives.specs.Core.{CoreItem, no_item, core_function, core_table, core_memory, core_global, core_tag}
+use Rattle.wac_types_shapes.specs.primitives.Name.{Name, same_name}
+use Rattle.wac_types_shapes.specs.primitives.Tree.{Side, imported, exported, Place, named, Tree, absent, resource, primitive, record_of, variant_of, list_of, fixed_list_of, tuple_of, flags_of, enum_of, option_of, result_of, stream_of, future_of, function, instance, component, module_of, fresh, type_equal, function_item, instance_item, component_item, module_item, value_item, seen_from, taken_from, items_in, own_of, borrow_of}
+use Rattle.wac_types_shapes.specs.declared.primitives.core_types.CoreType.{CoreType}
+use Rattle.wac_types_shapes.specs.primitives.Core.{CoreItem, no_item, core_function, core_table, core_memory, core_global, core_tag}
 use Rattle.wac_binary.specs.declared.core_types.EntityType.{EntityType}
 use Rattle.wac_binary.specs.declared.core_types.EntityType.TheVariants as t
 use Rattle.wac_binary.specs.declared.types.ComponentValType.{ComponentValType}

@@ -1,7 +1,7 @@
 -- The values of the borrowed types that the writers take.
 use Rattle.std.specs.Prelude.{ℕ, List, map}
 use Rattle.std.specs.Borrow.{Bor}
-use Rattle.wac_primitives.specs.Name.{Name}
+use Rattle.wac_types_shapes.specs.primitives.Name.{Name}
 use Rattle.wac_binary.specs.declared.sorts.Sort.{Sort}
 use Rattle.wac_binary.specs.declared.types.FuncType.{FuncType}
 use Rattle.wac_binary.specs.declared.types.DefinedType.{DefinedType}

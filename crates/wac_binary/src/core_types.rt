@@ -1,6 +1,6 @@
 //! Types of what a core module imports and exports.
 
-use wac_primitives::{CoreRefType, CoreType};
+use wac_types_shapes::{CoreRefType, CoreType};
 
 /// The type of a table.
 #[derive(Clone, Copy, Debug)]

@@ -2,16 +2,16 @@
 
 ghost use Rattle.std.specs.Prelude.{◌≡◌, List, ℕ, suc, ◌<◌, ◌≤◌, ◌^◌, ◌++◌, ◌∷◌, [], length, slice_get, Bool, Some, None};
 ghost use Rattle.std.specs.List.{flat_map};
-ghost use Rattle.wac_primitives.specs.Tree.{Tree, imported, exported, position, named, resource, seen_from};
+ghost use Rattle.wac_types_shapes.specs.primitives.Tree.{Tree, imported, exported, position, named, resource, seen_from};
 ghost use Rattle.wac_binary.specs.Items.{Item, TypeDef, core_type, instantiate, alias_item, export_alias, outer_alias, type_item, import_item, export_item, func_def, Decl, Decls, decls, core_type_decl, type_decl, alias_decl, import_decl, export_decl, ModuleDecl, module_func};
 ghost use Rattle.wac_binary.specs.Bytes.{module_decl_bytes, decls_bytes, bytes_of};
 ghost use Rattle.wac_binary.specs.Customs.{of_sort, names_bytes, producers_bytes};
-ghost use Rattle.wac_primitives.specs.Name.{Name};
+ghost use Rattle.wac_types_shapes.specs.primitives.Name.{Name};
 ghost use Rattle.wac_binary.specs.Indexes.{space, core_types, sort_added, indexes, declared, function_types};
 ghost use Rattle.wac_binary.specs.Unfold.{Scope, Bound, empty, unbound, type_at, bound_at, scope_at, aliased_type, aliased_instance, tree_of, after, with_decl, module_tree, no_module, module_after, func_at};
 ghost use Rattle.wac_binary.specs.Growth.{Grows, AllGrow, TypeReaches, Reach, Reaches, TypeStaysWithin, StayWithin, StaysWithin};
-ghost use Rattle.wac_primitives.specs.Core.{CoreItem};
-ghost use Rattle.wac_primitives.specs.declared.core_types.CoreType.{CoreType as OfCoreType};
+ghost use Rattle.wac_types_shapes.specs.primitives.Core.{CoreItem};
+ghost use Rattle.wac_types_shapes.specs.declared.primitives.core_types.CoreType.{CoreType as OfCoreType};
 ghost use Rattle.wac_binary.specs.Meaning.{meaning, root_scope, read, read_all, things, stands_for, thing_added};
 ghost use Rattle.wac_binary.specs.HasMeaning.{HasMeaning, ItemHasMeaning, DeclsHaveMeaning, DeclHasMeaning, ImportNothing, TypeHasMeaning};
 ghost use Rattle.wac_binary.specs.Added.{type_added, instance_added, type_declared, instance_declared, imports_added, exports_added, imports_declared, exports_declared};
@@ -22,7 +22,7 @@ ghost use Rattle.wac_binary.specs.declared.sorts.Description.TheVariants as e;
 ghost use Rattle.wac_binary.specs.declared.types.ComponentValType.{ComponentValType as OfValType};
 
 /// States that different lists of items have different bytes.
-#[tactic(auto, using(crate::specs::OneText::one_reading))]
+#[tactic(auto, using(crate::specs::private::OneText::one_reading))]
 pub fn one_reading()
     ensures { (xs ys : List Item) → bytes_of xs ≡ bytes_of ys → xs ≡ ys }
 {}

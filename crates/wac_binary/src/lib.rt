@@ -1,23 +1,23 @@
-//! The binary format of components (Binary.md) as definitions and laws, and the types that the writers take.
+//! The binary format of components (Binary.md): a writer for each item.
 //!
-//! - The items of a component, the declarations of its types, and the bytes of both.
-//! - The index spaces that they fill, and which items fit in 32 bits.
-//! - Their meaning: imports, instantiations, exports, and the tree of each type.
-//!
-//! Nothing is written here. `ComponentBuilder`, `ComponentType`, `InstanceType` and `ModuleType` are the writers.
+//! [`ComponentBuilder`] appends the items of a component and returns the index of each. [`ComponentType`], [`InstanceType`]
+//! and [`ModuleType`] hold the declarations of a type. `specs/` says which bytes an item has and what items mean.
+//! The functions of [`laws`] do nothing: their contracts are laws that proofs cite.
 #![tactic(auto)]
 
-pub mod core_types;
-pub mod fault;
+mod builder;
+mod bytes;
+mod core_types;
+mod declarations;
+mod fault;
 pub mod laws;
-pub mod sorts;
-pub mod types;
+mod sections;
+mod sorts;
+mod types;
 
+pub use builder::{ComponentBuilder, component_names, producers};
 pub use core_types::{EntityType, GlobalType, MemoryType, TableType};
+pub use declarations::{ComponentType, InstanceType, ModuleType};
 pub use fault::BinaryFault;
-pub use laws::{
-    added_law, declared_law, fit_law, has_meaning_law, kept_law, law, listed_law, module_law,
-    one_custom_reading, one_reading, scope_law, within_law,
-};
 pub use sorts::{Description, Sort};
 pub use types::{ComponentValType, DefinedType, FuncType};

@@ -2,7 +2,7 @@
 
 ghost use Rattle.std.specs.Prelude.{◌≡◌, ◌<◌};
 ghost use Rattle.wac_binary.specs.Indexes.{space as space_of, described_sort as sort_of};
-ghost use Rattle.wac_binary.specs.Spaces.{number as number_of};
+ghost use Rattle.wac_binary.specs.private.Spaces.{number as number_of};
 
 /// A sort of definitions. Each sort has an index space.
 #[derive(Clone, Copy, Debug, PartialEq, Eq)]

@@ -1,6 +1,6 @@
 //! Types as the writers take them. Lists and names are borrowed.
 
-use wac_primitives::PrimitiveType;
+use wac_types_shapes::PrimitiveType;
 
 /// A value type in use (`valtype`).
 #[derive(Clone, Copy, Debug, PartialEq, Eq)]

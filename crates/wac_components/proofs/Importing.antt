@@ -1,14 +1,14 @@
 -- Components and types of worlds are imported into the root.
 use Rattle.std.specs.Prelude.{ℕ, ◌≡◌, List, ◌∷◌, Err}
 use Rattle.std.proofs.Common.{ap, ◌∙◌, subst, inl, inr}
-use Rattle.wac_primitives.specs.Name.{Name}
-use Rattle.wac_shapes.specs.declared.component.ItemKind.TheVariants as kind
-use Rattle.wac_shapes.specs.declared.component.WorldId.{WorldId}
-use Rattle.wac_shapes.specs.declared.component.«Type».{«Type» as AnyType}
-use Rattle.wac_shapes.specs.declared.component.«Type».TheVariants as ty
-use Rattle.wac_primitives.specs.Tree.{Tree, component, type_equal, component_item}
-use Rattle.wac_collection.specs.Collection.{Collection}
-use Rattle.wac_collection.specs.Bound.{held_tree}
+use Rattle.wac_types_shapes.specs.primitives.Name.{Name}
+use Rattle.wac_types_shapes.specs.declared.shapes.component.ItemKind.TheVariants as kind
+use Rattle.wac_types_shapes.specs.declared.shapes.component.WorldId.{WorldId}
+use Rattle.wac_types_shapes.specs.declared.shapes.component.«Type».{«Type» as AnyType}
+use Rattle.wac_types_shapes.specs.declared.shapes.component.«Type».TheVariants as ty
+use Rattle.wac_types_shapes.specs.primitives.Tree.{Tree, component, type_equal, component_item}
+use Rattle.wac_types_collection.specs.collection.Collection.{Collection}
+use Rattle.wac_types_collection.specs.collection.Bound.{held_tree}
 use Rattle.wac_binary.specs.declared.sorts.Description.{Description}
 use Rattle.wac_binary.specs.declared.sorts.Sort.TheVariants as sort
 use Rattle.wac_binary.specs.HasMeaning.{IsType, IsComponent}

@@ -1,8 +1,8 @@
 //! The writer of worlds as definitions.
 
 ghost use Rattle.std.specs.Prelude.{◌≡◌, true, false, Ok as Answers, IfOk, OnErr};
-ghost use Rattle.wac_shapes.specs.declared.component.«Type».TheVariants as ty;
-ghost use Rattle.wac_collection.specs.Collection.{HasWorld};
+ghost use Rattle.wac_types_shapes.specs.declared.shapes.component.«Type».TheVariants as ty;
+ghost use Rattle.wac_types_collection.specs.collection.Collection.{HasWorld};
 ghost use Rattle.wac_scopes.specs.declared.encodable.Encodable.TheVariants.{Component};
 ghost use Rattle.wac_scopes.specs.Rooted.{IsRightRoot};
 ghost use Rattle.wac_scopes.specs.Sides.{IsOpenComponent};
@@ -13,9 +13,9 @@ ghost use Rattle.wac_components.specs.Definitions.{HasWorldId, IsDefinableWorld,
 
 use crate::encoder::ComponentEncoder;
 use std::alloc::AllocError;
-use wac_builder::{ComponentType, Sort};
-use wac_collection::WorldId;
+use wac_binary::{ComponentType, Sort};
 use wac_scopes::{Encodable, EncodeFault, Scope, closing_law, rooted_law, step_law, still_law};
+use wac_types_collection::WorldId;
 
 impl<'a> ComponentEncoder<'a> {
     /// Writes a component type that exports a component of a held world under the world's id: the world's component type, and that

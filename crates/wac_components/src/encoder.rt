@@ -1,16 +1,16 @@
 //! The writer of worlds at the root, and what it takes from the writer of worlds.
 
 ghost use Rattle.std.specs.Prelude.{◌≡◌, ◌⊎◌, false, None, Ok as Answers, Err as Refused, IfOk};
-ghost use Rattle.wac_collection.specs.Collection.{HasWorld};
+ghost use Rattle.wac_types_collection.specs.collection.Collection.{HasWorld};
 ghost use Rattle.wac_scopes.specs.declared.fault.EncodeFault.TheVariants.{OutOfMemory};
 ghost use Rattle.wac_sorting.specs.Worlds.{SayWorlds};
 ghost use Rattle.wac_worlds.specs.Worlds.{is_plain_world, SaysIfThere, WritesIfThere, IsWorldRefused};
 
 use std::alloc::AllocError;
-use wac_builder::ComponentType;
-use wac_collection::{Types, WorldId};
+use wac_binary::ComponentType;
 use wac_encode::Worlds;
 use wac_scopes::EncodeFault;
+use wac_types_collection::{Types, WorldId};
 use wac_worlds::WorldEncoder;
 
 /// Writes what the root of a component imports and defines of worlds.

@@ -1,9 +1,9 @@
 //! The writer of imports of components and of types of worlds.
 
 ghost use Rattle.std.specs.Prelude.{◌≡◌, ◌⊎◌, false, None, Ok as Answers, Err as Refused, IfOk, OnErr};
-ghost use Rattle.wac_shapes.specs.declared.component.ItemKind.TheVariants as kind;
-ghost use Rattle.wac_shapes.specs.declared.component.«Type».TheVariants as ty;
-ghost use Rattle.wac_collection.specs.Collection.{HasWorld};
+ghost use Rattle.wac_types_shapes.specs.declared.shapes.component.ItemKind.TheVariants as kind;
+ghost use Rattle.wac_types_shapes.specs.declared.shapes.component.«Type».TheVariants as ty;
+ghost use Rattle.wac_types_collection.specs.collection.Collection.{HasWorld};
 ghost use Rattle.wac_binary.specs.declared.sorts.Description.TheVariants as e;
 ghost use Rattle.wac_scopes.specs.declared.fault.EncodeFault.TheVariants.{OutOfMemory};
 ghost use Rattle.wac_scopes.specs.Contents.{IsRoot};
@@ -13,9 +13,9 @@ ghost use Rattle.wac_worlds.specs.Worlds.{is_plain_world};
 ghost use Rattle.wac_components.specs.Imports.{ImportsWorldIfThere, IsWorldNotImported};
 
 use crate::encoder::ComponentEncoder;
-use wac_binary::listed_law;
-use wac_collection::WorldId;
+use wac_binary::laws::listed_law;
 use wac_scopes::{EncodeFault, Scope, step_law, still_law};
+use wac_types_collection::WorldId;
 
 impl<'a> ComponentEncoder<'a> {
     /// Imports a component of a held world into the root, behind the other imports, and answers the component's index. The world's

@@ -5,19 +5,19 @@ use Rattle.std.specs.Borrow.{Bor}
 use Rattle.std.specs.Option.{option_map}
 use Rattle.std.proofs.Common.{refl, ap, ◌∙◌, sym, subst, arith, inl, inr}
 use Rattle.std.proofs.Math.Path.{fun_ext}
-use Rattle.wac_primitives.specs.Name.{Name, option_case}
-use Rattle.wac_shapes.specs.declared.component.FuncType.{FuncType}
-use Rattle.wac_shapes.specs.declared.component.FuncTypeId.{FuncTypeId}
-use Rattle.wac_shapes.specs.declared.component.ValueType.{ValueType}
-use Rattle.wac_shapes.specs.declared.component.DefinedTypeId.{DefinedTypeId}
-use Rattle.wac_shapes.specs.declared.component.ValueType.TheVariants as val
-use Rattle.wac_shapes.specs.declared.component.«Type».{«Type» as AnyType}
-use Rattle.wac_shapes.specs.declared.component.«Type».TheVariants as ty
-use Rattle.wac_collection.specs.declared.collection.Held.{Held}
-use Rattle.wac_collection.specs.Collection.{Collection, IsWellFormed, IsBefore, IsValueBefore, item_at, item_of, and_maybe, seconds, func_values, value_types, holds_value}
-use Rattle.wac_collection.specs.Aliases.{value_resolved}
-use Rattle.wac_collection.specs.Bound.{Bindings}
-use Rattle.wac_collection.proofs.Growth.{value_within}
+use Rattle.wac_types_shapes.specs.primitives.Name.{Name, option_case}
+use Rattle.wac_types_shapes.specs.declared.shapes.component.FuncType.{FuncType}
+use Rattle.wac_types_shapes.specs.declared.shapes.component.FuncTypeId.{FuncTypeId}
+use Rattle.wac_types_shapes.specs.declared.shapes.component.ValueType.{ValueType}
+use Rattle.wac_types_shapes.specs.declared.shapes.component.DefinedTypeId.{DefinedTypeId}
+use Rattle.wac_types_shapes.specs.declared.shapes.component.ValueType.TheVariants as val
+use Rattle.wac_types_shapes.specs.declared.shapes.component.«Type».{«Type» as AnyType}
+use Rattle.wac_types_shapes.specs.declared.shapes.component.«Type».TheVariants as ty
+use Rattle.wac_types_collection.specs.declared.collection.collection.Held.{Held}
+use Rattle.wac_types_collection.specs.collection.Collection.{Collection, IsWellFormed, IsBefore, IsValueBefore, item_at, item_of, and_maybe, seconds, func_values, value_types, holds_value}
+use Rattle.wac_types_collection.specs.collection.Aliases.{value_resolved}
+use Rattle.wac_types_collection.specs.collection.Bound.{Bindings}
+use Rattle.wac_types_collection.proofs.lemmas.collection.Growth.{value_within}
 use Rattle.wac_binary.specs.declared.types.ComponentValType.{ComponentValType}
 use Rattle.wac_binary.specs.Items.{TypeDef, func_def}
 use Rattle.wac_binary.specs.Views.{named}

@@ -3,20 +3,20 @@ use Rattle.std.specs.Prelude.{ℕ, zero, suc, ◌≡◌, List, [], ◌∷◌, �
 use Rattle.std.specs.List.{AllZip}
 use Rattle.std.specs.Borrow.{Bor}
 use Rattle.std.proofs.Common.{refl, ap, ◌∙◌, sym, subst, take}
-use Rattle.wac_primitives.specs.Name.{Name}
-use Rattle.wac_shapes.specs.declared.component.DefinedType.{DefinedType}
-use Rattle.wac_shapes.specs.declared.component.DefinedType.TheVariants as def
-use Rattle.wac_shapes.specs.declared.component.Record.{Record}
-use Rattle.wac_shapes.specs.declared.component.Variant.{Variant}
-use Rattle.wac_shapes.specs.declared.component.Flags.{Flags}
-use Rattle.wac_shapes.specs.declared.component.Enum.{Enum}
-use Rattle.wac_shapes.specs.declared.component.ValueType.{ValueType}
-use Rattle.wac_shapes.specs.declared.component.ValueType.TheVariants as val
-use Rattle.wac_shapes.specs.declared.component.«Type».{«Type» as AnyType}
-use Rattle.wac_shapes.specs.declared.component.«Type».TheVariants as ty
-use Rattle.wac_collection.specs.Bound.{Bindings}
-use Rattle.wac_collection.specs.Collection.{Collection, IsWellFormed}
-use Rattle.wac_collection.specs.Aliases.{value_resolved}
+use Rattle.wac_types_shapes.specs.primitives.Name.{Name}
+use Rattle.wac_types_shapes.specs.declared.shapes.component.DefinedType.{DefinedType}
+use Rattle.wac_types_shapes.specs.declared.shapes.component.DefinedType.TheVariants as def
+use Rattle.wac_types_shapes.specs.declared.shapes.component.Record.{Record}
+use Rattle.wac_types_shapes.specs.declared.shapes.component.Variant.{Variant}
+use Rattle.wac_types_shapes.specs.declared.shapes.component.Flags.{Flags}
+use Rattle.wac_types_shapes.specs.declared.shapes.component.Enum.{Enum}
+use Rattle.wac_types_shapes.specs.declared.shapes.component.ValueType.{ValueType}
+use Rattle.wac_types_shapes.specs.declared.shapes.component.ValueType.TheVariants as val
+use Rattle.wac_types_shapes.specs.declared.shapes.component.«Type».{«Type» as AnyType}
+use Rattle.wac_types_shapes.specs.declared.shapes.component.«Type».TheVariants as ty
+use Rattle.wac_types_collection.specs.collection.Bound.{Bindings}
+use Rattle.wac_types_collection.specs.collection.Collection.{Collection, IsWellFormed}
+use Rattle.wac_types_collection.specs.collection.Aliases.{value_resolved}
 use Rattle.wac_binary.specs.declared.types.ComponentValType.{ComponentValType}
 use Rattle.wac_binary.specs.Items.{ValueDef, list_def, fixed_list_def, tuple_def, option_def, result_def, stream_def, future_def, record_def, variant_def, flags_def, enum_def}
 use Rattle.wac_binary.specs.Views.{named, texts_of}

@@ -6,24 +6,24 @@
 
 ghost use Rattle.std.specs.Prelude.{◌≡◌, ◌<◌, true, ℕ, List, Option, None, Some, IsSome, IfOk, OnOk, OnErr, length, slice_get};
 ghost use Rattle.std.specs.List.{AllZip};
-ghost use Rattle.wac_shapes.specs.declared.component.ValueType.TheVariants as val;
-ghost use Rattle.wac_shapes.specs.declared.component.ValueType.{ValueType as AnyValue};
-ghost use Rattle.wac_collection.specs.Collection.{HasDefined, holds_value, item_at};
-ghost use Rattle.wac_collection.specs.Aliases.{target_of, value_resolved};
+ghost use Rattle.wac_types_shapes.specs.declared.shapes.component.ValueType.TheVariants as val;
+ghost use Rattle.wac_types_shapes.specs.declared.shapes.component.ValueType.{ValueType as AnyValue};
+ghost use Rattle.wac_types_collection.specs.collection.Collection.{HasDefined, holds_value, item_at};
+ghost use Rattle.wac_types_collection.specs.collection.Aliases.{target_of, value_resolved};
 ghost use Rattle.wac_binary.specs.Views.{defined_of};
 ghost use Rattle.wac_scopes.specs.Scoped.{IsAsBefore, listed_at, value_index};
 ghost use Rattle.wac_defining.specs.Written.{Says, MaybeSays, SaysDefinition, IsByRecord, MaybeByRecord, IsDefinedByRecord, IsKnown, PartOf, WritesFor, IsRefused};
 ghost use Rattle.wac_defining.specs.Tasks.{IsReady, Did, WritesOne, AliasesOne, AllKnown, ValueSays, FieldSays, CaseSays, IsText, IsPlain, IsOneRefused, IsOneAliasRefused, IsMissing, IsStepRefused};
-ghost use Rattle.wac_shapes.specs.declared.component.DefinedType.{DefinedType as AnyDefined};
+ghost use Rattle.wac_types_shapes.specs.declared.shapes.component.DefinedType.{DefinedType as AnyDefined};
 
 use crate::task::Task;
 use std::alloc::AllocError;
 use wac_binary::{ComponentValType, DefinedType};
-use wac_collection::{
-    DefinedType as HeldType, DefinedTypeId, Labels, Named, Sequence, Types, ValueType,
-};
 use wac_listing::part_at;
 use wac_scopes::{EncodeFault, Scope, WriteFault, alias_law, step_law, still_law};
+use wac_types_collection::{
+    DefinedType as HeldType, DefinedTypeId, Labels, Named, Sequence, Types, ValueType,
+};
 
 /// Writes value types and function types of a collection into open scopes, with the definitions that they are made of.
 #[derive(Clone, Copy)]

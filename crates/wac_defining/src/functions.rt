@@ -1,16 +1,16 @@
 //! The writer of function types.
 
 ghost use Rattle.std.specs.Prelude.{◌≡◌, true, ℕ, List, [], Some, None, IfOk, OnOk, slice_get};
-ghost use Rattle.wac_shapes.specs.declared.component.ValueType.{ValueType as AnyValue};
-ghost use Rattle.wac_shapes.specs.declared.component.«Type».TheVariants as ty;
-ghost use Rattle.wac_collection.specs.Collection.{HasFunc, and_maybe, holds_value, item_at, seconds};
+ghost use Rattle.wac_types_shapes.specs.declared.shapes.component.ValueType.{ValueType as AnyValue};
+ghost use Rattle.wac_types_shapes.specs.declared.shapes.component.«Type».TheVariants as ty;
+ghost use Rattle.wac_types_collection.specs.collection.Collection.{HasFunc, and_maybe, holds_value, item_at, seconds};
 ghost use Rattle.wac_scopes.specs.Scoped.{type_index};
 ghost use Rattle.wac_defining.specs.Written.{MaybeSays, MaybeByRecord, IsKnown, PartOfOne, WritesFor, IsRefused, IsOfFunc, AddsHeldFunc, IsFuncAt, IsFuncRefused};
 
 use crate::encoder::DefinitionEncoder;
 use wac_binary::{ComponentValType, FuncType};
-use wac_collection::{FuncType as HeldFunc, FuncTypeId, Named, ValueType};
 use wac_scopes::{EncodeFault, Scope, step_law, still_law};
+use wac_types_collection::{FuncType as HeldFunc, FuncTypeId, Named, ValueType};
 
 impl<'a> DefinitionEncoder<'a> {
     /// Writes the value types of parameters, in order.

@@ -1,6 +1,6 @@
 //! What is still to be written.
 
-use wac_collection::DefinedTypeId;
+use wac_types_collection::DefinedTypeId;
 
 /// A definition that is to be written, whose parts before a position are.
 #[derive(Clone, Copy)]

@@ -2,22 +2,22 @@
 use Rattle.std.proofs.Common.{ℕ, zero, suc, ◌<◌, [], ◌∷◌, refl, subst, arith, Result, Ok, Err, IsErr, IfSome, IsSome, inl, inr}
 use Rattle.std.proofs.lemmas.Bool.{cases_lt}
 use Rattle.std.specs.Result.{IsErrAnd}
-use Rattle.wac_primitives.specs.Name.{Name}
-use Rattle.wac_shapes.specs.declared.component.ItemKind.{ItemKind}
+use Rattle.wac_types_shapes.specs.primitives.Name.{Name}
+use Rattle.wac_types_shapes.specs.declared.shapes.component.ItemKind.{ItemKind}
 use Rattle.wac_edges.specs.declared.node.NodeId.{NodeId}
 use Rattle.wac_edges.specs.Edge.{argument_edge}
 use Rattle.wac_edges.specs.Order.{Edges, IsOnCycle, IsLowestOnCycle}
-use Rattle.wac_nodes.specs.declared.options.EncodeOptions.{EncodeOptions}
-use Rattle.wac_nodes.specs.declared.packages.PackageId.{PackageId}
-use Rattle.wac_nodes.specs.Graph.{Graph, node_at}
-use Rattle.wac_nodes.specs.Steps.{Instantiates, SetsArgument}
-use Rattle.wac_nodes.specs.Stays.{IsArgumentBy}
-use Rattle.wac_nodes.proofs.StaysLemmas.{argument-stays}
-use Rattle.wac_terms.specs.declared.fault.MergeFault.TheVariants as merge
-use Rattle.wac_causes.specs.declared.errors.EncodeError.{EncodeError}
-use Rattle.wac_causes.specs.declared.errors.EncodeError.TheVariants as error
-use Rattle.wac_causes.specs.Cause.{Cause, cycle, CauseKind, a_cycle, a_conflict, a_disagreement, a_circle, a_type_fault, unwritten, an_invalid_name, rank, IsFirstKind, Stands, cause_of, AnswersFor}
-use Rattle.wac_causes.proofs.StandsLemmas.{stands_cycle}
+use Rattle.wac_graph_model.specs.declared.nodes.options.EncodeOptions.{EncodeOptions}
+use Rattle.wac_graph_model.specs.declared.nodes.packages.PackageId.{PackageId}
+use Rattle.wac_graph_model.specs.nodes.Graph.{Graph, node_at}
+use Rattle.wac_graph_model.specs.nodes.Steps.{Instantiates, SetsArgument}
+use Rattle.wac_graph_model.specs.nodes.Stays.{IsArgumentBy}
+use Rattle.wac_graph_model.proofs.lemmas.nodes.StaysLemmas.{argument-stays}
+use Rattle.wac_merge_classes.specs.declared.terms.fault.MergeFault.TheVariants as merge
+use Rattle.wac_graph_model.specs.declared.causes.errors.EncodeError.{EncodeError}
+use Rattle.wac_graph_model.specs.declared.causes.errors.EncodeError.TheVariants as error
+use Rattle.wac_graph_model.specs.causes.Cause.{Cause, cycle, CauseKind, a_cycle, a_conflict, a_disagreement, a_circle, a_type_fault, unwritten, an_invalid_name, rank, IsFirstKind, Stands, cause_of, AnswersFor}
+use Rattle.wac_graph_model.proofs.lemmas.causes.StandsLemmas.{stands_cycle}
 use Rattle.wac_demo.specs.Composed.{IsInstanceOf, IsEmptyPackage, IsItsOwnArgument, RefusesCycle}
 use Rattle.wac_demo.proofs.Following.{instance-later, instance-there, there-is}
 

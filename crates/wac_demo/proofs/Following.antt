@@ -2,23 +2,23 @@
 use Rattle.std.proofs.Common.{◌≡◌, ℕ, List, [], ◌∷◌, ◌++◌, length, refl, ap, ◌∙◌, sym, subst, Option, Some, None, Ok, IsSome, is_some}
 use Rattle.std.specs.Prelude.{IsSomeAnd}
 use Rattle.std.proofs.lemmas.Bool.{false≢true}
-use Rattle.wac_primitives.specs.Name.{Name, option_case}
-use Rattle.wac_shapes.specs.Named.{named_at}
-use Rattle.wac_collection.specs.Collection.{item_at, world_imports, world_exports, with_world}
-use Rattle.wac_collection.specs.Package.{PackageParts}
-use Rattle.wac_collection.specs.declared.collection.Held.{Held}
-use Rattle.wac_shapes.specs.declared.component.Interface.{Interface}
-use Rattle.wac_shapes.specs.declared.component.ItemKind.{ItemKind}
-use Rattle.wac_shapes.specs.declared.component.World.{World}
-use Rattle.wac_shapes.specs.declared.component.WorldId.{WorldId}
+use Rattle.wac_types_shapes.specs.primitives.Name.{Name, option_case}
+use Rattle.wac_types_shapes.specs.shapes.Named.{named_at}
+use Rattle.wac_types_collection.specs.collection.Collection.{item_at, world_imports, world_exports, with_world}
+use Rattle.wac_types_collection.specs.collection.Package.{PackageParts}
+use Rattle.wac_types_collection.specs.declared.collection.collection.Held.{Held}
+use Rattle.wac_types_shapes.specs.declared.shapes.component.Interface.{Interface}
+use Rattle.wac_types_shapes.specs.declared.shapes.component.ItemKind.{ItemKind}
+use Rattle.wac_types_shapes.specs.declared.shapes.component.World.{World}
+use Rattle.wac_types_shapes.specs.declared.shapes.component.WorldId.{WorldId}
 use Rattle.wac_edges.specs.declared.node.NodeId.{NodeId}
-use Rattle.wac_nodes.specs.declared.packages.PackageId.{PackageId}
+use Rattle.wac_graph_model.specs.declared.nodes.packages.PackageId.{PackageId}
 use Rattle.wac_edges.specs.Edge.{alias_edge}
-use Rattle.wac_nodes.specs.Graph.{Graph, GraphNode, node_at, package_at}
-use Rattle.wac_nodes.specs.Steps.{Adds, Registers, Instantiates, instance_node, Aliases, export_named, SetsArgument}
+use Rattle.wac_graph_model.specs.nodes.Graph.{Graph, GraphNode, node_at, package_at}
+use Rattle.wac_graph_model.specs.nodes.Steps.{Adds, Registers, Instantiates, instance_node, Aliases, export_named, SetsArgument}
 use Rattle.wac_binary.specs.Bytes.{preamble}
-use Rattle.wac_nodes.specs.Stays.{Stays, IsAliasBy}
-use Rattle.wac_nodes.proofs.StaysLemmas.{stays-trans, instance-stays, alias-stays, argument-stays, registered-there}
+use Rattle.wac_graph_model.specs.nodes.Stays.{Stays, IsAliasBy}
+use Rattle.wac_graph_model.proofs.lemmas.nodes.StaysLemmas.{stays-trans, instance-stays, alias-stays, argument-stays, registered-there}
 use Rattle.wac_demo.specs.Composed.{IsInstanceOf, GivesExport, IsEmptyPackage}
 
 item-last : {A : Type 0} (xs : List (Held A)) (x : Held A) → item_at (xs ++ x ∷ []) (length xs) ≡ Some x.item

@@ -2,18 +2,18 @@
 use Rattle.std.proofs.Common.{◌≡◌, ℕ, zero, suc, ◌<◌, true, List, [], ◌∷◌, length, refl, ap, ◌∙◌, sym, subst, nat_lt, arith, Some, Ok, IsSome}
 use Rattle.std.specs.Prelude.{IfSome, IsSomeAnd, ◌++◌}
 use Rattle.std.specs.FinMap as map
-use Rattle.wac_shapes.specs.Kinds.{kind_type}
-use Rattle.wac_primitives.specs.Name.{Name}
-use Rattle.wac_collection.specs.Collection.{Collection, item_at, holds_type}
-use Rattle.wac_collection.specs.declared.collection.Held.{Held}
-use Rattle.wac_shapes.specs.declared.component.ItemKind.{ItemKind}
-use Rattle.wac_shapes.specs.declared.component.ItemKind.TheVariants as kind
+use Rattle.wac_types_shapes.specs.shapes.Kinds.{kind_type}
+use Rattle.wac_types_shapes.specs.primitives.Name.{Name}
+use Rattle.wac_types_collection.specs.collection.Collection.{Collection, item_at, holds_type}
+use Rattle.wac_types_collection.specs.declared.collection.collection.Held.{Held}
+use Rattle.wac_types_shapes.specs.declared.shapes.component.ItemKind.{ItemKind}
+use Rattle.wac_types_shapes.specs.declared.shapes.component.ItemKind.TheVariants as kind
 use Rattle.wac_edges.specs.declared.node.NodeId.{NodeId}
-use Rattle.wac_nodes.specs.Graph.{Graph, GraphNode, import, node_at, export_at}
-use Rattle.wac_nodes.specs.Steps.{Imports, Exports, SetsName, import_node}
-use Rattle.wac_nodes.proofs.Added.{insert_same}
-use Rattle.wac_nodes.proofs.NodeLemmas.{find_new}
-use Rattle.wac_nodes.proofs.StaysLemmas.{import-stays}
+use Rattle.wac_graph_model.specs.nodes.Graph.{Graph, GraphNode, import, node_at, export_at}
+use Rattle.wac_graph_model.specs.nodes.Steps.{Imports, Exports, SetsName, import_node}
+use Rattle.wac_graph_model.proofs.lemmas.nodes.Added.{insert_same}
+use Rattle.wac_graph_model.proofs.lemmas.nodes.NodeLemmas.{find_new}
+use Rattle.wac_graph_model.proofs.lemmas.nodes.StaysLemmas.{import-stays}
 use Rattle.wac_demo.specs.Composed.{IsPlainFunction, PassesFunction}
 use Rattle.wac_demo.proofs.Following.{there-is}
 

@@ -5,32 +5,32 @@ use Rattle.std.specs.FinMap as map
 use Rattle.std.specs.FinSet as set
 use Rattle.std.proofs.lemmas.Bool.{false≢true}
 use Rattle.std.proofs.lemmas.List.{append-nil}
-use Rattle.wac_primitives.specs.Name.{Name, find_name, same_name, option_case}
-use Rattle.wac_shapes.specs.Named.{names_of}
-use Rattle.wac_shapes.proofs.Names.{same_name-refl}
-use Rattle.wac_shapes.specs.declared.component.ItemKind.{ItemKind}
-use Rattle.wac_shapes.specs.declared.component.World.{World}
-use Rattle.wac_collection.specs.Collection.{Collection, item_at, world_imports, world_exports}
-use Rattle.wac_collection.specs.Package.{PackageParts}
+use Rattle.wac_types_shapes.specs.primitives.Name.{Name, find_name, same_name, option_case}
+use Rattle.wac_types_shapes.specs.shapes.Named.{names_of}
+use Rattle.wac_types_shapes.proofs.lemmas.shapes.Names.{same_name-refl}
+use Rattle.wac_types_shapes.specs.declared.shapes.component.ItemKind.{ItemKind}
+use Rattle.wac_types_shapes.specs.declared.shapes.component.World.{World}
+use Rattle.wac_types_collection.specs.collection.Collection.{Collection, item_at, world_imports, world_exports}
+use Rattle.wac_types_collection.specs.collection.Package.{PackageParts}
 use Rattle.wac_binary.specs.Bytes.{preamble}
 use Rattle.wac_edges.specs.declared.edges.Edge.{Edge}
 use Rattle.wac_edges.specs.Edge.{alias_edge, argument_edge}
-use Rattle.wac_nodes.specs.declared.errors.ExportError.{ExportError}
-use Rattle.wac_nodes.specs.declared.errors.InstantiationArgumentError.{InstantiationArgumentError}
+use Rattle.wac_graph_model.specs.declared.nodes.errors.ExportError.{ExportError}
+use Rattle.wac_graph_model.specs.declared.nodes.errors.InstantiationArgumentError.{InstantiationArgumentError}
 use Rattle.wac_edges.specs.declared.node.NodeId.{NodeId}
-use Rattle.wac_nodes.specs.declared.packages.PackageId.{PackageId}
-use Rattle.wac_nodes.specs.Graph as graph
-use Rattle.wac_nodes.specs.Graph.{Graph, GraphNode, node_at, package_at, export_at, IsAliasOf}
-use Rattle.wac_nodes.specs.Sound.{IsSound}
-use Rattle.wac_nodes.specs.Stays.{Stays, IsAliasBy, IsArgumentBy}
-use Rattle.wac_nodes.specs.Steps.{AddsNode, Instantiates, instance_node, Aliases, AliasesOf, GivesAlias, export_named, import_named, SetsArgument, Exports}
-use Rattle.wac_nodes.proofs.Added.{by_eq, insert_same, insert_other}
-use Rattle.wac_nodes.proofs.StaysLemmas.{stays-trans, node-stays, alias-stays, argument-stays}
-use Rattle.wac_plugging.specs.Matching.{Match, IsFirstOnTrack, IsMatch, HasNoMatch, AreMatches, AreMatchesOf, AreAllMatches, imports_of_package, exports_of_package}
-use Rattle.wac_plugging.specs.Plugging.{Answer, answered, InOrder, Wires, PassesOn, PlugsIn, Plugs, Ends, PlugsAll}
-use Rattle.wac_plugging.specs.Refusals.{of_alias, of_argument, of_export}
-use Rattle.wac_plugging.specs.declared.errors.PlugError.{PlugError}
-use Rattle.wac_plugging.specs.declared.errors.PlugError.TheVariants.{NoPlugHappened, OutOfMemory}
+use Rattle.wac_graph_model.specs.declared.nodes.packages.PackageId.{PackageId}
+use Rattle.wac_graph_model.specs.nodes.Graph as graph
+use Rattle.wac_graph_model.specs.nodes.Graph.{Graph, GraphNode, node_at, package_at, export_at, IsAliasOf}
+use Rattle.wac_graph_model.specs.nodes.Sound.{IsSound}
+use Rattle.wac_graph_model.specs.nodes.Stays.{Stays, IsAliasBy, IsArgumentBy}
+use Rattle.wac_graph_model.specs.nodes.Steps.{AddsNode, Instantiates, instance_node, Aliases, AliasesOf, GivesAlias, export_named, import_named, SetsArgument, Exports}
+use Rattle.wac_graph_model.proofs.lemmas.nodes.Added.{by_eq, insert_same, insert_other}
+use Rattle.wac_graph_model.proofs.lemmas.nodes.StaysLemmas.{stays-trans, node-stays, alias-stays, argument-stays}
+use Rattle.wac_graph.specs.plugs.Matching.{Match, IsFirstOnTrack, IsMatch, HasNoMatch, AreMatches, AreMatchesOf, AreAllMatches, imports_of_package, exports_of_package}
+use Rattle.wac_graph.specs.plugs.Plugging.{Answer, answered, InOrder, Wires, PassesOn, PlugsIn, Plugs, Ends, PlugsAll}
+use Rattle.wac_graph.specs.plugs.Refusals.{of_alias, of_argument, of_export}
+use Rattle.wac_graph.specs.declared.plugs.errors.PlugError.{PlugError}
+use Rattle.wac_graph.specs.declared.plugs.errors.PlugError.TheVariants.{NoPlugHappened, OutOfMemory}
 use Rattle.wac_demo.specs.Composed.{IsEmptyPackage, IsPluggedInto}
 use Rattle.wac_demo.proofs.Following.{alias-later, some-of, there-is, parts-of}
 

@@ -4,9 +4,9 @@ use Rattle.std.proofs.lemmas.Bool.{false≢true}
 use Rattle.std.specs.Io.KnownBytes.{Appends}
 use Rattle.wac_binary.specs.Items.{Item}
 use Rattle.wac_binary.specs.Bytes.{bytes_of}
-use Rattle.wac_nodes.specs.declared.options.EncodeOptions.{EncodeOptions}
-use Rattle.wac_nodes.specs.Graph.{Graph}
-use Rattle.wac_meaning.specs.Means.{Means}
+use Rattle.wac_graph_model.specs.declared.nodes.options.EncodeOptions.{EncodeOptions}
+use Rattle.wac_graph_model.specs.nodes.Graph.{Graph}
+use Rattle.wac_graph_model.specs.meaning.Means.{Means}
 use Rattle.wac_demo.specs.Composed.{Compose, IsComposed, of_empty, of_processor, of_function, of_readme, of_plug, cycle_word}
 use Rattle.wac_demo.specs.Printed.{hex_line, Prints}
 

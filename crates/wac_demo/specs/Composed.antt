@@ -1,23 +1,23 @@
 -- The compositions.
 use Rattle.std.specs.Prelude.{◌≡◌, ℕ, List, [], Some, None, IsSomeAnd, true, false, codes, ◌⊎◌}
-use Rattle.wac_primitives.specs.Name.{Name}
-use Rattle.wac_collection.specs.Collection.{Collection, item_at, world_imports, world_exports}
-use Rattle.wac_collection.specs.Package.{PackageParts}
-use Rattle.wac_shapes.specs.declared.component.ItemKind.{ItemKind}
-use Rattle.wac_shapes.specs.declared.component.ItemKind.TheVariants as kind
+use Rattle.wac_types_shapes.specs.primitives.Name.{Name}
+use Rattle.wac_types_collection.specs.collection.Collection.{Collection, item_at, world_imports, world_exports}
+use Rattle.wac_types_collection.specs.collection.Package.{PackageParts}
+use Rattle.wac_types_shapes.specs.declared.shapes.component.ItemKind.{ItemKind}
+use Rattle.wac_types_shapes.specs.declared.shapes.component.ItemKind.TheVariants as kind
 use Rattle.wac_binary.specs.Items.{Item}
 use Rattle.wac_binary.specs.Bytes.{preamble, bytes_of}
 use Rattle.wac_edges.specs.declared.node.NodeId.{NodeId}
 use Rattle.wac_edges.specs.Order.{IsLowestOnCycle}
-use Rattle.wac_nodes.specs.declared.options.EncodeOptions.{EncodeOptions}
-use Rattle.wac_nodes.specs.declared.packages.PackageId.{PackageId}
-use Rattle.wac_nodes.specs.Graph.{Graph, import, node_at, package_at, export_at}
-use Rattle.wac_nodes.specs.Options.{default_options}
-use Rattle.wac_meaning.specs.Means.{Means}
-use Rattle.wac_nodes.specs.Steps.{IsEmpty, instance_node}
-use Rattle.wac_nodes.specs.Stays.{IsAliasBy, IsArgumentBy}
-use Rattle.wac_causes.specs.declared.errors.EncodeError.{EncodeError}
-use Rattle.wac_causes.specs.declared.errors.EncodeError.TheVariants as error
+use Rattle.wac_graph_model.specs.declared.nodes.options.EncodeOptions.{EncodeOptions}
+use Rattle.wac_graph_model.specs.declared.nodes.packages.PackageId.{PackageId}
+use Rattle.wac_graph_model.specs.nodes.Graph.{Graph, import, node_at, package_at, export_at}
+use Rattle.wac_graph_model.specs.nodes.Options.{default_options}
+use Rattle.wac_graph_model.specs.meaning.Means.{Means}
+use Rattle.wac_graph_model.specs.nodes.Steps.{IsEmpty, instance_node}
+use Rattle.wac_graph_model.specs.nodes.Stays.{IsAliasBy, IsArgumentBy}
+use Rattle.wac_graph_model.specs.declared.causes.errors.EncodeError.{EncodeError}
+use Rattle.wac_graph_model.specs.declared.causes.errors.EncodeError.TheVariants as error
 
 -- The bytes are those of items that mean such a graph, encoded with such options.
 abbrev pub Compose : List ℕ → (EncodeOptions → Type 0) → (Graph → Type 0) → Type 0

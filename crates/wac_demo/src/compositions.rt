@@ -1,17 +1,16 @@
 //! The compositions that the program prints.
 
 ghost use Rattle.std.specs.Prelude.{codes, IfOk, IsErr};
-ghost use Rattle.wac_shapes.specs.Named.{named_pairs};
-ghost use Rattle.wac_nodes.specs.Graph.{Graph};
-ghost use Rattle.wac_nodes.specs.Steps.{IsEmpty};
+ghost use Rattle.wac_types_shapes.specs.shapes.Named.{named_pairs};
+ghost use Rattle.wac_graph_model.specs.nodes.Graph.{Graph};
+ghost use Rattle.wac_graph_model.specs.nodes.Steps.{IsEmpty};
 ghost use Rattle.wac_demo.specs.Composed.{AreDefault, Compose, IsCycle, IsFunction, IsReadme, IsPlugged, IsPlainFunction, IsEmptyPackage, NameProcessor, RefusesCycle};
-ghost use Rattle.wac_nodes.specs.Stays.{Stays};
+ghost use Rattle.wac_graph_model.specs.nodes.Stays.{Stays};
 
 use anyhow::Result;
 use std::alloc::Global;
-use wac_causes::EncodeError;
 use wac_graph::{CompositionGraph, plug};
-use wac_nodes::{EncodeOptions, PackageId, Processor};
+use wac_graph_model::{EncodeError, EncodeOptions, PackageId, Processor};
 use wac_types::{FuncType, Interface, ItemKind, World};
 
 /// The bytes of a component without sections.

@@ -36,8 +36,8 @@ use Rattle.wac_edges.specs.Edge.{node_number, alias_edge}
 use Rattle.std.proofs.Common.{◌++◌, length, take, drop, map, Contains}
 use Rattle.std.proofs.Math.Seq.{take-append_seam}
 use Rattle.wac_edges.specs.declared.records.Firsts.{Firsts}
-use Rattle.wac_edges.specs.Records.{Table, HasEdge, AreListed, edge_at, list_at, first_at}
-use Rattle.wac_edges.specs.Aliases.{triple_cmp, place, first, is_number, is_first, is_among, is_noted, is_crowded, AreNoted}
+use Rattle.wac_edges.specs.private.Records.{Table, HasEdge, AreListed, edge_at, list_at, first_at}
+use Rattle.wac_edges.specs.private.Aliases.{triple_cmp, place, first, is_number, is_first, is_among, is_noted, is_crowded, AreNoted}
 use Rattle.wac_edges.specs.declared.edges.End.TheVariants.{Outgoing}
 use Rattle.slab.proofs.SlabLemmas.{Contains-cons, Contains-cons_cases}
 use Rattle.wac_edges.proofs.EdgeLemmas.{same_node}

@@ -5,7 +5,7 @@ use Rattle.std.proofs.lemmas.Map.Steps.{length-le_from_distinct_below}
 use Rattle.wac_edges.specs.declared.node.NodeId.{NodeId}
 use Rattle.wac_edges.specs.Edge.{is_left, node_number}
 use Rattle.wac_edges.specs.Order.{Edges, IsEdge, Leads, IsOnCycle, IsStuck}
-use Rattle.wac_edges.specs.Ready.{is_set}
+use Rattle.wac_edges.specs.private.Ready.{is_set}
 
 -- each node of the list has an edge to the next, and all are left
 abbrev Chain : Edges → List Bool → ℕ → List ℕ → Type 0

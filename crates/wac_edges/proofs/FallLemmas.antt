@@ -6,8 +6,8 @@ use Rattle.slab.specs.Slab.{Slab, get}
 use Rattle.wac_edges.specs.declared.edges.Edge.{Edge}
 use Rattle.wac_edges.specs.declared.records.Record.{Record}
 use Rattle.wac_edges.specs.Order.{Edges}
-use Rattle.wac_edges.specs.Ready.{AllRise}
-use Rattle.wac_edges.specs.Records.{Table, HasEdge, RiseUnless, edge_at}
+use Rattle.wac_edges.specs.private.Ready.{AllRise}
+use Rattle.wac_edges.specs.private.Records.{Table, HasEdge, RiseUnless, edge_at}
 use Rattle.wac_edges.proofs.SetLemmas.{the_set, in_table}
 
 -- an empty table

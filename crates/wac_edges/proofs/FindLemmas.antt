@@ -2,7 +2,7 @@
 use Rattle.std.proofs.Common.{◌≡◌, ℕ, List, [], ◌∷◌, Contains, Some, sym, ap, subst, inl, inr, refl, arith}
 use Rattle.slab.proofs.SlabLemmas.{Contains-cons, Contains-cons_cases}
 use Rattle.wac_edges.specs.declared.edges.Edge.{Edge}
-use Rattle.wac_edges.specs.Records.{Table, edge_at}
+use Rattle.wac_edges.specs.private.Records.{Table, edge_at}
 
 -- these are keys with their edges, and each key of the edge is among them
 pub record AreLeft (t : Table) (edge : Edge) (xs : List (ℕ × Edge)) : Type 0 where

@@ -14,3 +14,4 @@ pub mod AliasLemmas
 pub mod RisingLemmas
 pub mod FallLemmas
 pub mod CountLemmas
+pub mod lemmas

@@ -3,7 +3,7 @@ use Rattle.std.proofs.Common.{◌≡◌, ℕ, suc, ◌<◌, ◌==◌, if◌then�
 use Rattle.std.proofs.Math.Path.{fun_ext}
 use Rattle.std.proofs.lemmas.Bool.{ne_eqb}
 use Rattle.std.proofs.lemmas.Bool.Decides.{eqb_tells}
-use Rattle.wac_edges.specs.Records.{Place, AreLinked, updated, changed, begun_by}
+use Rattle.wac_edges.specs.private.Records.{Place, AreLinked, updated, changed, begun_by}
 use Rattle.wac_edges.proofs.WrittenOrder.{eqb_same}
 
 -- ---- other values at one number

@@ -12,7 +12,7 @@ use Rattle.wac_edges.specs.declared.edges.End.{End}
 use Rattle.wac_edges.specs.declared.edges.Edge.{Edge}
 use Rattle.wac_edges.specs.declared.records.Record.{Record}
 use Rattle.wac_edges.specs.declared.records.Firsts.{Firsts}
-use Rattle.wac_edges.specs.Records.{Table, Place, AreLinked, AreListed, HasEdge, IsList, list_from, list_at, links_at, number_at, first_at, place, places, edge_at}
+use Rattle.wac_edges.specs.private.Records.{Table, Place, AreLinked, AreListed, HasEdge, IsList, list_from, list_at, links_at, number_at, first_at, place, places, edge_at}
 use Rattle.wac_edges.proofs.TableLemmas.{is_there}
 
 -- ---- lists of keys with edges

@@ -6,7 +6,7 @@ use Rattle.std.proofs.Math.Path.{fun_ext}
 use Rattle.wac_edges.specs.declared.node.NodeId.{NodeId}
 use Rattle.wac_edges.specs.Edge.{is_left}
 use Rattle.wac_edges.specs.Order.{without}
-use Rattle.wac_edges.specs.Ready.{is_set}
+use Rattle.wac_edges.specs.private.Ready.{is_set}
 
 pub flag_after : (flags : List Bool) (n m : ℕ) → is_set (slice_set flags n false) m ≡ (is_set flags m && not (eqb m n))
 flag_after [] n m = refl

@@ -15,7 +15,7 @@ use Rattle.wac_edges.specs.declared.node.NodeId.{NodeId}
 use Rattle.wac_edges.specs.Edge.{is_left, node_number, IsBlocked, IsFree}
 use Rattle.wac_edges.specs.declared.edges.Edge.{Edge}
 use Rattle.wac_edges.specs.Order.{Edges, IsLowestReady, IsStuck}
-use Rattle.wac_edges.specs.Ready.{leading, leads_to, incoming, AreCounted, IsLowestFree, is_left_with, is_set, one, stands}
+use Rattle.wac_edges.specs.private.Ready.{leading, leads_to, incoming, AreCounted, IsLowestFree, is_left_with, is_set, one, stands}
 use Rattle.wac_edges.proofs.CountLemmas.{incoming_none, incoming_some}
 use Rattle.wac_edges.proofs.OrderLemmas.{flag_after}
 use Rattle.wac_edges.proofs.CycleLemmas.{within}

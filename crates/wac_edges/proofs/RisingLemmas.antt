@@ -7,7 +7,7 @@ use Rattle.std.proofs.lemmas.Bool.Decides.{nat_tests}
 use Rattle.wac_edges.specs.declared.node.NodeId.{NodeId}
 use Rattle.wac_edges.specs.Edge.{is_left, node_number}
 use Rattle.wac_edges.specs.Order.{Edges, IsLowestReady, without}
-use Rattle.wac_edges.specs.Ready.{AllRise, is_set}
+use Rattle.wac_edges.specs.private.Ready.{AllRise, is_set}
 use Rattle.wac_edges.proofs.CycleLemmas.{within}
 
 -- those that are left from number k on

@@ -10,7 +10,7 @@ use Rattle.wac_edges.specs.declared.edges.Edge.{Edge}
 use Rattle.wac_edges.specs.declared.records.Links.{Links}
 use Rattle.wac_edges.specs.declared.records.Record.{Record}
 use Rattle.wac_edges.specs.declared.records.Firsts.{Firsts}
-use Rattle.wac_edges.specs.Records.{Table, Place, AreLinked, AreListed, updated, changed, begun_by, opposite, links_at, number_at, with_links, with_next, with_previous, first_of, first_at, place, places}
+use Rattle.wac_edges.specs.private.Records.{Table, Place, AreLinked, AreListed, updated, changed, begun_by, opposite, links_at, number_at, with_links, with_next, with_previous, first_of, first_at, place, places}
 use Rattle.wac_edges.proofs.LinkLemmas.{updated_here, updated_there, unlinked, linked, before_all}
 
 -- ---- what is seen of a record that changes

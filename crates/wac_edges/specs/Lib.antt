@@ -1,6 +1,4 @@
+pub mod cycles
 pub mod Edge
 pub mod Order
-pub mod Ends
-pub mod Records
-pub mod Aliases
-pub mod Ready
+pub mod private

@@ -3,7 +3,7 @@ ghost use Rattle.std.specs.Prelude.{◌≡◌, ◌≢◌, ◌↔◌, ◌⊎◌, 
 ghost use Rattle.std.specs.Bool.{OnTrue, OnFalse};
 ghost use Rattle.wac_edges.specs.declared.node.NodeId.{NodeId as AnId};
 ghost use Rattle.wac_edges.specs.Edge.{node_number, alias_edge};
-ghost use Rattle.wac_edges.specs.Aliases.{place, first, is_noted, is_among, is_crowded};
+ghost use Rattle.wac_edges.specs.private.Aliases.{place, first, is_noted, is_among, is_crowded};
 
 use crate::edges::{Edge, Label};
 use crate::walk::Walk;
@@ -26,7 +26,7 @@ const NEAR: usize = 8;
 
 /// A clone has the same aliases. `clone` is `Err(AllocError)` if out of memory.
 impl Clone for Aliases {
-    ghost use Rattle.wac_edges.specs.Aliases.{AreAlike};
+    ghost use Rattle.wac_edges.specs.private.Aliases.{AreAlike};
 
     ghost is_clone = { AreAlike };
 

@@ -5,12 +5,13 @@ ghost use Rattle.std.specs.FinSet as set;
 ghost use Rattle.wac_edges.specs.declared.edges.Edge.{Edge as AnEdge};
 ghost use Rattle.wac_edges.specs.declared.node.NodeId.{NodeId as AnId};
 ghost use Rattle.wac_edges.specs.Edge.{node_number, edge_cmp, alias_edge, argument_edge};
-ghost use Rattle.wac_edges.specs.Ends.{at_end, AreAt, HasLabel, LeadsTo};
+ghost use Rattle.wac_edges.specs.private.Ends.{at_end, AreAt, HasLabel, LeadsTo};
 ghost use Rattle.wac_edges.specs.Order.{IsAcyclic, IsEdge, IsLowestOnCycle};
-ghost use Rattle.wac_cycles.specs.Cycles.{IsStep};
-ghost use Rattle.wac_edges.specs.Ready.{AllRise, AreCounted, leads_from, one};
+ghost use Rattle.wac_edges.specs.cycles.Cycles.{IsStep};
+ghost use Rattle.wac_edges.specs.private.Ready.{AllRise, AreCounted, leads_from, one};
 
 use crate::aliases::{Aliases, first_alias, forget_alias, is_crowded, mark, note, note_all};
+use crate::cycles::cycles::{add_step, empty_sets, lowest_on_cycle};
 use crate::node::NodeId;
 use crate::records::{Firsts, MOST, Record, all_rise, find, make_firsts, put, take};
 use crate::walk::{Walk, records_at};
@@ -18,7 +19,6 @@ use slab::Slab;
 use std::alloc::{AllocError, Global};
 use std::collections::BTreeSet;
 use std::marker::Model;
-use wac_cycles::cycles::{add_step, empty_sets, lowest_on_cycle};
 
 /// The meaning of an edge.
 #[derive(Clone, Copy, PartialEq, Eq)]
@@ -93,8 +93,8 @@ impl Model for Edges {
     ghost coded = { set.code edge_code };
 
     ghost use Rattle.slab.specs.Slab.{get};
-    ghost use Rattle.wac_edges.specs.Records.{all_edges, AreListed, RiseUnless};
-    ghost use Rattle.wac_edges.specs.Aliases.{AreNoted};
+    ghost use Rattle.wac_edges.specs.private.Records.{all_edges, AreListed, RiseUnless};
+    ghost use Rattle.wac_edges.specs.private.Aliases.{AreNoted};
 
     ghost view = { λ a. set.from_list (all_edges a.records.slots) };
 

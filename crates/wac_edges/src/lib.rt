@@ -2,6 +2,7 @@
 #![tactic(auto)]
 
 mod aliases;
+pub mod cycles;
 pub mod edges;
 pub mod node;
 pub mod order;

@@ -6,7 +6,7 @@ ghost use Rattle.wac_edges.specs.Edge.{is_left};
 ghost use Rattle.wac_edges.specs.declared.node.NodeId.{NodeId as AnId};
 ghost use Rattle.std.specs.Bool.{OnTrue, OnFalse};
 ghost use Rattle.wac_edges.specs.Order.{Edges, Writes, IsOnCycle};
-ghost use Rattle.wac_edges.specs.Ready.{leading, AreReady, AllRise, IsLowestFree, is_left_with, is_set};
+ghost use Rattle.wac_edges.specs.private.Ready.{leading, AreReady, AllRise, IsLowestFree, is_left_with, is_set};
 
 use crate::edges::{Edges, End};
 use crate::node::NodeId;

@@ -5,7 +5,7 @@ ghost use Rattle.std.specs.Option.{option_map, ForNone, ForSome};
 ghost use Rattle.slab.specs.Slab.{get, ContainsKey, HasRoomFor};
 ghost use Rattle.wac_edges.specs.declared.edges.Edge.{Edge as AnEdge};
 ghost use Rattle.wac_edges.specs.declared.edges.End.{End as AnEnd};
-ghost use Rattle.wac_edges.specs.Records.{AreLinked, AreListed, HasEdge, links_at, number_at, with_links, with_next, with_previous, places, first_at, edge_at, opposite, updated, changed, begun_by};
+ghost use Rattle.wac_edges.specs.private.Records.{AreLinked, AreListed, HasEdge, links_at, number_at, with_links, with_next, with_previous, places, first_at, edge_at, opposite, updated, changed, begun_by};
 
 use crate::edges::{Edge, End};
 use crate::walk::records_at;

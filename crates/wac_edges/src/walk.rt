@@ -1,7 +1,7 @@
 //! Iteration over the edges at one end of a node.
 ghost use Rattle.std.specs.Prelude.{◌≡◌, ◌+◌, ◌<◌, ◌^◌, length, map};
 ghost use Rattle.slab.specs.Slab.{get};
-ghost use Rattle.wac_edges.specs.Records.{AreListed, list_at, first_at};
+ghost use Rattle.wac_edges.specs.private.Records.{AreListed, list_at, first_at};
 
 use crate::edges::{Edge, End};
 use crate::records::{Firsts, Record, first};
@@ -23,7 +23,7 @@ impl<'a> Model for Records<'a> {
     ghost Value = { List (ℕ × Edge) };
 
     ghost use Rattle.slab.specs.Slab.{get};
-    ghost use Rattle.wac_edges.specs.Records.{IsList, list_at};
+    ghost use Rattle.wac_edges.specs.private.Records.{IsList, list_at};
 
     ghost view = { λ s. list_at s.table.now s.end s.here };
 
@@ -78,7 +78,7 @@ pub struct Walk<'a> {
 }
 
 impl<'a> Model for Walk<'a> {
-    ghost use Rattle.wac_edges.specs.Ends.{Walked};
+    ghost use Rattle.wac_edges.specs.private.Ends.{Walked};
 
     ghost Value = { Walked };
 
@@ -112,7 +112,7 @@ impl<'a> Iterator for Walk<'a> {
     type Item = Edge;
 
     ghost use Rattle.std.specs.Iterator.{item_count};
-    ghost use Rattle.wac_edges.specs.Ends.{Gives};
+    ghost use Rattle.wac_edges.specs.private.Ends.{Gives};
 
     ghost next_gives = { Gives };
 

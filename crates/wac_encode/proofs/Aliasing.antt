@@ -2,22 +2,22 @@
 use Rattle.std.specs.Prelude.{ℕ, zero, suc, ◌≡◌, ◌⊎◌, true, false, List, [], ◌∷◌, ◌++◌, Option, Some, None, slice_get, length}
 use Rattle.std.proofs.Common.{refl, ap, ◌∙◌, sym, inl, inr, drop}
 use Rattle.std.proofs.lemmas.List.{append-nil}
-use Rattle.wac_primitives.specs.Name.{Name, option_case}
-use Rattle.wac_shapes.specs.Named.{NoNameTwice}
-use Rattle.wac_shapes.proofs.Loops.{drop_at}
-use Rattle.wac_shapes.proofs.Names.{find_name-at}
-use Rattle.wac_shapes.specs.declared.component.DefinedTypeId.{DefinedTypeId}
-use Rattle.wac_shapes.specs.declared.component.Interface.{Interface}
-use Rattle.wac_shapes.specs.declared.component.InterfaceId.{InterfaceId}
-use Rattle.wac_shapes.specs.declared.component.ItemKind.{ItemKind}
-use Rattle.wac_shapes.specs.declared.component.ItemKind.TheVariants as kind
-use Rattle.wac_shapes.specs.declared.component.ResourceId.{ResourceId}
-use Rattle.wac_shapes.specs.declared.component.ValueType.{ValueType}
-use Rattle.wac_shapes.specs.declared.component.ValueType.TheVariants as val
-use Rattle.wac_shapes.specs.declared.component.«Type».TheVariants as ty
-use Rattle.wac_collection.specs.Aliases.{value_resolved}
-use Rattle.wac_collection.specs.Bound.{Bindings, own_name}
-use Rattle.wac_collection.specs.Collection.{Collection, IsWellFormed, item_at, size}
+use Rattle.wac_types_shapes.specs.primitives.Name.{Name, option_case}
+use Rattle.wac_types_shapes.specs.shapes.Named.{NoNameTwice}
+use Rattle.wac_types_shapes.proofs.lemmas.shapes.Loops.{drop_at}
+use Rattle.wac_types_shapes.proofs.lemmas.shapes.Names.{find_name-at}
+use Rattle.wac_types_shapes.specs.declared.shapes.component.DefinedTypeId.{DefinedTypeId}
+use Rattle.wac_types_shapes.specs.declared.shapes.component.Interface.{Interface}
+use Rattle.wac_types_shapes.specs.declared.shapes.component.InterfaceId.{InterfaceId}
+use Rattle.wac_types_shapes.specs.declared.shapes.component.ItemKind.{ItemKind}
+use Rattle.wac_types_shapes.specs.declared.shapes.component.ItemKind.TheVariants as kind
+use Rattle.wac_types_shapes.specs.declared.shapes.component.ResourceId.{ResourceId}
+use Rattle.wac_types_shapes.specs.declared.shapes.component.ValueType.{ValueType}
+use Rattle.wac_types_shapes.specs.declared.shapes.component.ValueType.TheVariants as val
+use Rattle.wac_types_shapes.specs.declared.shapes.component.«Type».TheVariants as ty
+use Rattle.wac_types_collection.specs.collection.Aliases.{value_resolved}
+use Rattle.wac_types_collection.specs.collection.Bound.{Bindings, own_name}
+use Rattle.wac_types_collection.specs.collection.Collection.{Collection, IsWellFormed, item_at, size}
 use Rattle.wac_binary.specs.Unfold.{Bound}
 use Rattle.wac_stacks.specs.Good.{IsHeld}
 use Rattle.wac_stacks.specs.Instances.{Exports, ExportsEnd, BindsInstance}

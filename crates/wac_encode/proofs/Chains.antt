@@ -1,13 +1,13 @@
 -- Chains of levels, step by step.
 use Rattle.std.specs.Prelude.{ℕ, zero, suc, ◌+◌, ◌≤◌, ◌≡◌, true, false, List, [], ◌∷◌, ◌++◌, length, Some, None, slice_get, Err}
 use Rattle.std.proofs.Common.{sym, subst}
-use Rattle.wac_primitives.specs.Name.{Name}
-use Rattle.wac_shapes.specs.Named.{named_pairs}
-use Rattle.wac_shapes.specs.declared.component.InterfaceId.{InterfaceId}
-use Rattle.wac_shapes.specs.declared.component.ItemKind.{ItemKind}
-use Rattle.wac_shapes.specs.declared.component.«Type».TheVariants as ty
-use Rattle.wac_collection.specs.Collection.{Collection, IsWellFormed, IsBefore, holds_type, interface_exports, size}
-use Rattle.wac_collection.proofs.Growth.{type_before}
+use Rattle.wac_types_shapes.specs.primitives.Name.{Name}
+use Rattle.wac_types_shapes.specs.shapes.Named.{named_pairs}
+use Rattle.wac_types_shapes.specs.declared.shapes.component.InterfaceId.{InterfaceId}
+use Rattle.wac_types_shapes.specs.declared.shapes.component.ItemKind.{ItemKind}
+use Rattle.wac_types_shapes.specs.declared.shapes.component.«Type».TheVariants as ty
+use Rattle.wac_types_collection.specs.collection.Collection.{Collection, IsWellFormed, IsBefore, holds_type, interface_exports, size}
+use Rattle.wac_types_collection.proofs.lemmas.collection.Growth.{type_before}
 use Rattle.wac_binary.specs.Items.{Decl}
 use Rattle.wac_scopes.specs.declared.encodable.Encodable.TheVariants.{Instance}
 use Rattle.wac_scopes.specs.declared.fault.EncodeFault.{EncodeFault}

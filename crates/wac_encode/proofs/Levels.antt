@@ -2,15 +2,15 @@
 use Rattle.std.specs.Prelude.{ℕ, zero, suc, ◌+◌, ◌<◌, ◌≤◌, ◌≡◌, true, List, [], ◌∷◌, ◌++◌, length, Option, Some, None, slice_get, take, Err}
 use Rattle.std.proofs.Common.{refl, ap, ◌∙◌, sym, subst, arith, inl, inr, nat_lt}
 use Rattle.std.proofs.lemmas.List.Sorted.{IsPermutation-sym}
-use Rattle.wac_primitives.specs.Name.{Name, option_case}
-use Rattle.wac_shapes.specs.Named.{named_pairs}
-use Rattle.wac_shapes.specs.declared.component.Interface.{Interface}
-use Rattle.wac_shapes.specs.declared.component.InterfaceId.{InterfaceId}
-use Rattle.wac_shapes.specs.declared.component.ItemKind.{ItemKind}
-use Rattle.wac_shapes.specs.declared.component.ItemKind.TheVariants as kind
-use Rattle.wac_shapes.specs.declared.component.«Type».TheVariants as ty
-use Rattle.wac_collection.specs.Collection.{Collection, IsWellFormed, IsBefore, holds_type, interface_exports, item_at, size}
-use Rattle.wac_collection.proofs.Growth.{type_within}
+use Rattle.wac_types_shapes.specs.primitives.Name.{Name, option_case}
+use Rattle.wac_types_shapes.specs.shapes.Named.{named_pairs}
+use Rattle.wac_types_shapes.specs.declared.shapes.component.Interface.{Interface}
+use Rattle.wac_types_shapes.specs.declared.shapes.component.InterfaceId.{InterfaceId}
+use Rattle.wac_types_shapes.specs.declared.shapes.component.ItemKind.{ItemKind}
+use Rattle.wac_types_shapes.specs.declared.shapes.component.ItemKind.TheVariants as kind
+use Rattle.wac_types_shapes.specs.declared.shapes.component.«Type».TheVariants as ty
+use Rattle.wac_types_collection.specs.collection.Collection.{Collection, IsWellFormed, IsBefore, holds_type, interface_exports, item_at, size}
+use Rattle.wac_types_collection.proofs.lemmas.collection.Growth.{type_within}
 use Rattle.wac_binary.specs.Items.{instance_def, Decl, decls}
 use Rattle.wac_binary.specs.declared.sorts.Sort.TheVariants as sort
 use Rattle.wac_binary.specs.Indexes.{space}

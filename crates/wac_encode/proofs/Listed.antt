@@ -1,24 +1,24 @@
 -- Interfaces, item by item.
 use Rattle.std.specs.Prelude.{ℕ, zero, suc, ◌+◌, ◌≤◌, ◌≡◌, Bool, true, List, [], ◌∷◌, ◌++◌, length, map, Option, Some, None, slice_get, Err}
 use Rattle.std.proofs.Common.{refl, ap, ◌∙◌, sym, subst, take, add-one, arith}
-use Rattle.wac_primitives.specs.Name.{Name, find_name}
-use Rattle.wac_shapes.specs.Named.{NoNameTwice}
-use Rattle.wac_shapes.proofs.Names.{take_at, none_before}
-use Rattle.wac_shapes.specs.declared.component.DefinedTypeId.{DefinedTypeId}
-use Rattle.wac_shapes.specs.declared.component.FuncTypeId.{FuncTypeId}
-use Rattle.wac_shapes.specs.declared.component.Interface.{Interface}
-use Rattle.wac_shapes.specs.declared.component.InterfaceId.{InterfaceId}
-use Rattle.wac_shapes.specs.declared.component.WorldId.{WorldId}
-use Rattle.wac_shapes.specs.declared.component.ItemKind.{ItemKind}
-use Rattle.wac_shapes.specs.declared.component.ItemKind.TheVariants as kind
-use Rattle.wac_primitives.specs.declared.component.PrimitiveType.{PrimitiveType}
-use Rattle.wac_shapes.specs.declared.component.ValueType.{ValueType}
-use Rattle.wac_shapes.specs.declared.component.ValueType.TheVariants as val
-use Rattle.wac_shapes.specs.declared.component.«Type».TheVariants as ty
-use Rattle.wac_primitives.specs.Tree.{exported, Tree, absent, primitive, resource, function, instance, component, type_equal, function_item, instance_item}
-use Rattle.wac_collection.specs.Collection.{Collection, IsWellFormed, item_at}
-use Rattle.wac_collection.specs.Aliases.{value_resolved}
-use Rattle.wac_collection.specs.Bound.{Bindings, inside_interface}
+use Rattle.wac_types_shapes.specs.primitives.Name.{Name, find_name}
+use Rattle.wac_types_shapes.specs.shapes.Named.{NoNameTwice}
+use Rattle.wac_types_shapes.proofs.lemmas.shapes.Names.{take_at, none_before}
+use Rattle.wac_types_shapes.specs.declared.shapes.component.DefinedTypeId.{DefinedTypeId}
+use Rattle.wac_types_shapes.specs.declared.shapes.component.FuncTypeId.{FuncTypeId}
+use Rattle.wac_types_shapes.specs.declared.shapes.component.Interface.{Interface}
+use Rattle.wac_types_shapes.specs.declared.shapes.component.InterfaceId.{InterfaceId}
+use Rattle.wac_types_shapes.specs.declared.shapes.component.WorldId.{WorldId}
+use Rattle.wac_types_shapes.specs.declared.shapes.component.ItemKind.{ItemKind}
+use Rattle.wac_types_shapes.specs.declared.shapes.component.ItemKind.TheVariants as kind
+use Rattle.wac_types_shapes.specs.declared.primitives.component.PrimitiveType.{PrimitiveType}
+use Rattle.wac_types_shapes.specs.declared.shapes.component.ValueType.{ValueType}
+use Rattle.wac_types_shapes.specs.declared.shapes.component.ValueType.TheVariants as val
+use Rattle.wac_types_shapes.specs.declared.shapes.component.«Type».TheVariants as ty
+use Rattle.wac_types_shapes.specs.primitives.Tree.{exported, Tree, absent, primitive, resource, function, instance, component, type_equal, function_item, instance_item}
+use Rattle.wac_types_collection.specs.collection.Collection.{Collection, IsWellFormed, item_at}
+use Rattle.wac_types_collection.specs.collection.Aliases.{value_resolved}
+use Rattle.wac_types_collection.specs.collection.Bound.{Bindings, inside_interface}
 use Rattle.wac_binary.specs.HasMeaning.{ImportNothing, IsFree, IsValue, IsFunction, IsInstance, IsComponent, IsType}
 use Rattle.wac_binary.specs.Items.{TypeDef, Decl, decls, core_type_decl, type_decl, alias_decl, import_decl, export_decl}
 use Rattle.wac_binary.specs.Unfold.{Scope as Env, with_item}

@@ -1,13 +1,13 @@
 -- What each item of an interface adds to a scope, under what is held. Private functions alone cite this.
 use Rattle.std.specs.Prelude.{◌≡◌, true, List, ◌∷◌}
-use Rattle.wac_primitives.specs.Name.{Name}
-use Rattle.wac_shapes.specs.Kinds.{kind_type}
-use Rattle.wac_shapes.specs.declared.component.Interface.{Interface}
-use Rattle.wac_shapes.specs.declared.component.InterfaceId.{InterfaceId}
-use Rattle.wac_shapes.specs.declared.component.ItemKind.{ItemKind}
-use Rattle.wac_primitives.specs.Tree.{exported, Tree}
-use Rattle.wac_collection.specs.Collection.{Collection, holds_type}
-use Rattle.wac_collection.specs.Bound.{Bindings, inside_interface}
+use Rattle.wac_types_shapes.specs.primitives.Name.{Name}
+use Rattle.wac_types_shapes.specs.shapes.Kinds.{kind_type}
+use Rattle.wac_types_shapes.specs.declared.shapes.component.Interface.{Interface}
+use Rattle.wac_types_shapes.specs.declared.shapes.component.InterfaceId.{InterfaceId}
+use Rattle.wac_types_shapes.specs.declared.shapes.component.ItemKind.{ItemKind}
+use Rattle.wac_types_shapes.specs.primitives.Tree.{exported, Tree}
+use Rattle.wac_types_collection.specs.collection.Collection.{Collection, holds_type}
+use Rattle.wac_types_collection.specs.collection.Bound.{Bindings, inside_interface}
 use Rattle.wac_binary.specs.HasMeaning.{ImportNothing}
 use Rattle.wac_binary.specs.Items.{Decl, decls}
 use Rattle.wac_scopes.specs.declared.fault.EncodeFault.{EncodeFault}

@@ -1,17 +1,17 @@
 //! The writer of types, and what it takes from the writer of definitions and of the sorts of interfaces.
 
 ghost use Rattle.std.specs.Prelude.{◌≡◌, true, IfOk};
-ghost use Rattle.wac_collection.specs.Collection.{HasFunc, HasInterface, holds_value};
-ghost use Rattle.wac_collection.specs.Aliases.{value_resolved};
+ghost use Rattle.wac_types_collection.specs.collection.Collection.{HasFunc, HasInterface, holds_value};
+ghost use Rattle.wac_types_collection.specs.collection.Aliases.{value_resolved};
 ghost use Rattle.wac_defining.specs.Written.{Says, IsByRecord, PartOf, WritesFor, IsRefused, IsOfFunc, AddsHeldFunc, IsFuncAt, IsFuncRefused};
 ghost use Rattle.wac_sorting.specs.Sorts.{lists_plain};
 
 use std::alloc::AllocError;
 use wac_binary::ComponentValType;
-use wac_collection::{FuncTypeId, InterfaceId, Types, ValueType};
 use wac_defining::DefinitionEncoder;
 use wac_scopes::{EncodeFault, Scope};
 use wac_sorting::Worlds;
+use wac_types_collection::{FuncTypeId, InterfaceId, Types, ValueType};
 
 /// Writes types of a collection into open scopes.
 #[derive(Clone, Copy)]

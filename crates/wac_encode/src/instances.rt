@@ -1,8 +1,8 @@
 //! The instance type of an interface in a scope, and the definitions that an instance lists.
 
 ghost use Rattle.std.specs.Prelude.{◌≡◌, true, IfOk};
-ghost use Rattle.wac_shapes.specs.declared.component.ItemKind.TheVariants as kind;
-ghost use Rattle.wac_collection.specs.Collection.{HasInterface};
+ghost use Rattle.wac_types_shapes.specs.declared.shapes.component.ItemKind.TheVariants as kind;
+ghost use Rattle.wac_types_collection.specs.collection.Collection.{HasInterface};
 ghost use Rattle.wac_defining.specs.Written.{WritesFor};
 ghost use Rattle.wac_sorting.specs.Worlds.{SayWorlds};
 ghost use Rattle.wac_encode.specs.Listing.{NeededBy};
@@ -11,9 +11,9 @@ ghost use Rattle.wac_encode.specs.Instances.{AddsHeldInterface, IsInterfaceAt, I
 
 use crate::encoder::TypeEncoder;
 use std::alloc::AllocError;
-use wac_collection::{DefinedTypeId, InterfaceId, ItemKind, Named, Text};
 use wac_planning::listed_definition;
 use wac_scopes::{EncodeFault, Scope, step_law, still_law};
+use wac_types_collection::{DefinedTypeId, InterfaceId, ItemKind, Named, Text};
 
 impl<'a> TypeEncoder<'a> {
     /// Writes a held interface as an instance type, where it is not written yet, behind the aliases of what its items are made of and an

@@ -1,12 +1,12 @@
 //! The writer of interfaces.
 
 ghost use Rattle.std.specs.Prelude.{◌≡◌, ◌<◌, true, None, Some, IsSome, IfOk, OnOk, length, slice_get};
-ghost use Rattle.wac_shapes.specs.declared.component.InterfaceId.{InterfaceId as AnId};
-ghost use Rattle.wac_shapes.specs.declared.component.ItemKind.TheVariants as kind;
-ghost use Rattle.wac_shapes.specs.declared.component.ValueType.TheVariants as val;
-ghost use Rattle.wac_shapes.specs.declared.component.«Type».TheVariants as ty;
-ghost use Rattle.wac_collection.specs.Collection.{HasFunc, HasWorld, holds_value};
-ghost use Rattle.wac_collection.specs.Aliases.{value_resolved};
+ghost use Rattle.wac_types_shapes.specs.declared.shapes.component.InterfaceId.{InterfaceId as AnId};
+ghost use Rattle.wac_types_shapes.specs.declared.shapes.component.ItemKind.TheVariants as kind;
+ghost use Rattle.wac_types_shapes.specs.declared.shapes.component.ValueType.TheVariants as val;
+ghost use Rattle.wac_types_shapes.specs.declared.shapes.component.«Type».TheVariants as ty;
+ghost use Rattle.wac_types_collection.specs.collection.Collection.{HasFunc, HasWorld, holds_value};
+ghost use Rattle.wac_types_collection.specs.collection.Aliases.{value_resolved};
 ghost use Rattle.wac_scopes.specs.declared.encodable.Encodable.TheVariants.{Instance};
 ghost use Rattle.wac_listing.specs.Made.{interface_of};
 ghost use Rattle.wac_scopes.specs.Contents.{ContentFits, IsOpenType, and_export};
@@ -17,11 +17,11 @@ ghost use Rattle.wac_encode.specs.Items.{ListsHeld, CanClose, CanList, nothing_i
 ghost use Rattle.wac_encode.specs.Levels.{ListsBy, described_by};
 
 use crate::encoder::TypeEncoder;
-use wac_builder::{ComponentValType, InstanceType};
-use wac_collection::{
+use wac_binary::{ComponentValType, InstanceType};
+use wac_scopes::{Encodable, EncodeFault, Scope, WriteFault, alias_law, step_law, still_law};
+use wac_types_collection::{
     DefinedTypeId, FuncTypeId, InterfaceId, ItemKind, PrimitiveType, Type, ValueType, WorldId,
 };
-use wac_scopes::{Encodable, EncodeFault, Scope, WriteFault, alias_law, step_law, still_law};
 
 impl<'a> TypeEncoder<'a> {
     /// Lists a primitive as a type item.

@@ -1,7 +1,7 @@
 //! What is open while interfaces inside interfaces are written.
 
-use wac_collection::{InterfaceId, ItemKind};
 use wac_scopes::Scope;
+use wac_types_collection::{InterfaceId, ItemKind};
 
 /// An interface that is being written: its items before a position are listed in its scope.
 #[derive(Drop)]

@@ -4,12 +4,12 @@
 //! a list, so that no chain of interfaces in interfaces is too long.
 
 ghost use Rattle.std.specs.Prelude.{◌≡◌, ◌<◌, ◌+◌, ◌⊎◌, ℕ, List, Some, true, false, None, IfOk, OnOk, IsSome, Ok as Answers, Err as Refused, length, slice_get};
-ghost use Rattle.wac_shapes.specs.declared.component.InterfaceId.{InterfaceId as AnInterface};
-ghost use Rattle.wac_shapes.specs.declared.component.ItemKind.{ItemKind as AnyItem};
-ghost use Rattle.wac_shapes.specs.declared.component.«Type».TheVariants as ty;
-ghost use Rattle.wac_shapes.specs.Named.{named_pairs};
-ghost use Rattle.wac_shapes.specs.declared.component.DefinedTypeId.{DefinedTypeId as AnId};
-ghost use Rattle.wac_collection.specs.Collection.{HasInterface, interface_exports};
+ghost use Rattle.wac_types_shapes.specs.declared.shapes.component.InterfaceId.{InterfaceId as AnInterface};
+ghost use Rattle.wac_types_shapes.specs.declared.shapes.component.ItemKind.{ItemKind as AnyItem};
+ghost use Rattle.wac_types_shapes.specs.declared.shapes.component.«Type».TheVariants as ty;
+ghost use Rattle.wac_types_shapes.specs.shapes.Named.{named_pairs};
+ghost use Rattle.wac_types_shapes.specs.declared.shapes.component.DefinedTypeId.{DefinedTypeId as AnId};
+ghost use Rattle.wac_types_collection.specs.collection.Collection.{HasInterface, interface_exports};
 ghost use Rattle.wac_scopes.specs.declared.fault.EncodeFault.TheVariants.{OutOfMemory};
 ghost use Rattle.wac_scopes.specs.declared.encodable.Encodable.TheVariants.{Instance};
 ghost use Rattle.wac_scopes.specs.Contents.{IsOpenType};
@@ -27,12 +27,12 @@ use crate::encoder::TypeEncoder;
 use crate::interfaces::{entry_of, export_interface, instance_type};
 use crate::level::{Level, Next};
 use std::alloc::AllocError;
-use wac_builder::InstanceType;
-use wac_collection::{DefinedTypeId, InterfaceId, ItemKind};
+use wac_binary::InstanceType;
 use wac_listing::interface_of;
 use wac_planning::Plan;
 use wac_scopes::{EncodeFault, Scope, closing_law, listing_law, step_law, still_law};
 use wac_sorting::item_order;
+use wac_types_collection::{DefinedTypeId, InterfaceId, ItemKind};
 
 impl<'a> TypeEncoder<'a> {
     /// Opens a level for an interface at a place over a scope, from which it takes these definitions.

@@ -1,9 +1,9 @@
 //! What an interface's instance type takes from the scope around it.
 
 ghost use Rattle.std.specs.Prelude.{◌≡◌, ◌<◌, IfOk, OnOk, OnErr, IsSome, Some, length, slice_get};
-ghost use Rattle.wac_shapes.specs.declared.component.DefinedTypeId.{DefinedTypeId as AnyId};
-ghost use Rattle.wac_shapes.specs.declared.component.InterfaceId.{InterfaceId as AnInterface};
-ghost use Rattle.wac_collection.specs.Collection.{HasDefined, HasInterface};
+ghost use Rattle.wac_types_shapes.specs.declared.shapes.component.DefinedTypeId.{DefinedTypeId as AnyId};
+ghost use Rattle.wac_types_shapes.specs.declared.shapes.component.InterfaceId.{InterfaceId as AnInterface};
+ghost use Rattle.wac_types_collection.specs.collection.Collection.{HasDefined, HasInterface};
 ghost use Rattle.wac_scopes.specs.Scoped.{IsAsBefore, listed_at, value_index};
 ghost use Rattle.wac_encode.specs.Listing.{AliasesFor, AllAliased, IsAliasRefused};
 ghost use Rattle.wac_planning.specs.Plans.{IsOneOf, AreOfItems};
@@ -12,11 +12,11 @@ ghost use Rattle.wac_defining.specs.Tasks.{AliasesOne, IsOneAliasRefused};
 
 use crate::encoder::TypeEncoder;
 use std::alloc::AllocError;
-use wac_builder::InstanceType;
-use wac_collection::{DefinedTypeId, InterfaceId};
+use wac_binary::InstanceType;
 use wac_defining::DefinitionEncoder;
 use wac_listing::definitions_of;
 use wac_scopes::{Encodable, EncodeFault, Scope, step_law, still_law};
+use wac_types_collection::{DefinedTypeId, InterfaceId};
 
 impl<'a> TypeEncoder<'a> {
     /// Aliases a definition where it is listed and not written yet, as `DefinitionEncoder::alias_one` does.

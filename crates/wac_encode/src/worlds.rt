@@ -1,17 +1,17 @@
 //! The component types of worlds where type items of these are listed.
 
 ghost use Rattle.std.specs.Prelude.{◌≡◌, true, IfOk};
-ghost use Rattle.wac_shapes.specs.declared.component.ItemKind.TheVariants as kind;
-ghost use Rattle.wac_shapes.specs.declared.component.«Type».TheVariants as ty;
-ghost use Rattle.wac_collection.specs.Collection.{HasWorld};
+ghost use Rattle.wac_types_shapes.specs.declared.shapes.component.ItemKind.TheVariants as kind;
+ghost use Rattle.wac_types_shapes.specs.declared.shapes.component.«Type».TheVariants as ty;
+ghost use Rattle.wac_types_collection.specs.collection.Collection.{HasWorld};
 ghost use Rattle.wac_defining.specs.Written.{WritesFor};
 ghost use Rattle.wac_sorting.specs.Worlds.{is_written, SayWorlds};
 ghost use Rattle.wac_encode.specs.Listing.{NeededBy};
 ghost use Rattle.wac_encode.specs.Worlds.{AddsHeldWorld, IsWorldTypeAt, IsWorldTypeRefused};
 
 use crate::encoder::TypeEncoder;
-use wac_collection::WorldId;
 use wac_scopes::{EncodeFault, Scope, step_law, still_law};
+use wac_types_collection::WorldId;
 
 impl<'a> TypeEncoder<'a> {
     /// Writes the component type of a held world, where it is not written in the scope yet, and answers its type index.

@@ -1,7 +1,7 @@
 -- An item that is added by a builder leaves a state right.
 use Rattle.std.specs.Prelude.{◌≡◌, List, [], ◌∷◌, ◌++◌, Result, Ok, OnOk}
 use Rattle.std.proofs.Common.{ap, ◌∙◌, sym, subst}
-use Rattle.wac_collection.specs.Collection.{Collection}
+use Rattle.wac_types_collection.specs.collection.Collection.{Collection}
 use Rattle.wac_binary.specs.Items.{Item}
 use Rattle.wac_state.specs.declared.state.State.{State}
 use Rattle.wac_state.specs.Root.{IsRight, items, with_component, with_items}

@@ -1,3 +1,4 @@
 pub mod StillOpen
 pub mod Saying
 pub mod Added
+pub mod lemmas

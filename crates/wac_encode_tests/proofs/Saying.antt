@@ -1,7 +1,7 @@
 -- What is written ahead says its worlds, also as an encoder holds it.
 use Rattle.std.specs.Prelude.{◌≡◌}
 use Rattle.std.proofs.Common.{subst, sym}
-use Rattle.wac_collection.specs.Collection.{Collection}
+use Rattle.wac_types_collection.specs.collection.Collection.{Collection}
 use Rattle.wac_sorting.specs.declared.worlds.Worlds.{Worlds}
 use Rattle.wac_sorting.specs.Worlds.{SayWorlds}
 use Rattle.wac_worlds.specs.Nested.{AreWorlds}

@@ -1,7 +1,7 @@
 -- What is written leaves the root the root, and a type a type.
 use Rattle.std.specs.Prelude.{◌≡◌, List}
 use Rattle.std.proofs.Common.{sym, subst}
-use Rattle.wac_primitives.specs.Name.{Name}
+use Rattle.wac_types_shapes.specs.primitives.Name.{Name}
 use Rattle.wac_binary.specs.declared.sorts.Description.{Description}
 use Rattle.wac_binary.specs.Items.{ModuleDecl}
 use Rattle.wac_scopes.specs.declared.encodable.Encodable.{Encodable}

@@ -7,12 +7,12 @@ use crate::rows::Row::{
 };
 use crate::rows::{Item, Items, Row, component};
 use std::process::Abort;
-use wac_builder::ComponentBuilder;
-use wac_collection::Types;
+use wac_binary::ComponentBuilder;
 use wac_encode::Worlds;
 use wac_root::RootEncoder;
 use wac_scopes::{Encodable, EncodeFault, Scope, rooted_law};
-use wac_shapes::{ItemKind, PrimitiveType, Type};
+use wac_types_collection::Types;
+use wac_types_shapes::{ItemKind, PrimitiveType, Type};
 
 const ORDERED: &[u8] = &[
     0x00, 0x61, 0x73, 0x6d, 0x0d, 0x00, 0x01, 0x00, // the preamble

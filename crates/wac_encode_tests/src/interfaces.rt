@@ -1,6 +1,6 @@
 //! Interfaces that are written as instance types.
 
-ghost use Rattle.wac_collection.specs.Collection.{HasInterface};
+ghost use Rattle.wac_types_collection.specs.collection.Collection.{HasInterface};
 
 use crate::rows::Row::{
     Alias, Enumeration, Func, Instance, List, Optional, Own, Pair, Primitive, Resource, TypeOf,
@@ -8,11 +8,11 @@ use crate::rows::Row::{
 };
 use crate::rows::{Items, Row, assert_row};
 use std::process::Abort;
-use wac_builder::{ComponentBuilder, Description, InstanceType};
-use wac_collection::Types;
+use wac_binary::{ComponentBuilder, Description, InstanceType};
 use wac_encode::TypeEncoder;
 use wac_scopes::{Encodable, EncodeFault, Scope, WriteFault};
-use wac_shapes::{InterfaceId, PrimitiveType, Type};
+use wac_types_collection::Types;
+use wac_types_shapes::{InterfaceId, PrimitiveType, Type};
 use wac_worlds::worlds_inside;
 
 const NAMED: &[u8] = &[

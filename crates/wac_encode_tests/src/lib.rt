@@ -4,6 +4,7 @@
 
 #[cfg(test)]
 mod definitions;
+mod examples;
 #[cfg(test)]
 mod imports;
 #[cfg(test)]

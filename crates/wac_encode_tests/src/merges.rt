@@ -1,7 +1,7 @@
 //! Imports of a merge that are written.
 
 ghost use Rattle.std.specs.Prelude.{◌≡◌, true, IfOk};
-ghost use Rattle.wac_entries.specs.Bindings.{AreHeld};
+ghost use Rattle.wac_merge_classes.specs.entries.Bindings.{AreHeld};
 
 use crate::modules::Extern;
 use crate::rows::Row::{
@@ -11,9 +11,9 @@ use crate::rows::{Item, Items, Row, assert_row};
 use std::alloc::Global;
 use std::process::Abort;
 use wac_binary::Sort;
-use wac_collection::{ItemKind, PrimitiveType, Types};
-use wac_importing::{WrittenImports, write_imports};
+use wac_graph_encode::{WrittenImports, write_imports};
 use wac_merge::{MergeFault, TypeAggregator};
+use wac_types_collection::{ItemKind, PrimitiveType, Types};
 
 // An aggregator that is asked for these.
 fn aggregated(

@@ -3,9 +3,9 @@
 use crate::rows::assert_row;
 use std::alloc::Global;
 use std::process::Abort;
-use wac_builder::ComponentBuilder;
-use wac_collection::{CoreExtern, CoreFuncType, CoreRefType, CoreType, ModuleType};
+use wac_binary::ComponentBuilder;
 use wac_modules::module_type;
+use wac_types_collection::{CoreExtern, CoreFuncType, CoreRefType, CoreType, ModuleType};
 
 /// What a core module imports or exports.
 #[derive(Clone, Copy)]

@@ -3,8 +3,8 @@
 use crate::interfaces::{Refused, Written, assert_refused, assert_written, imported};
 use crate::rows::Row::{Component, Enumeration, Func, Instance, Resource, TypeOf};
 use std::process::Abort;
-use wac_collection::Types;
-use wac_shapes::{Interface, InterfaceId, ItemKind, Type};
+use wac_types_collection::Types;
+use wac_types_shapes::{Interface, InterfaceId, ItemKind, Type};
 
 const USES_AROUND: &[u8] = &[
     0x00, 0x61, 0x73, 0x6d, 0x0d, 0x00, 0x01, 0x00, // the preamble

@@ -6,11 +6,11 @@ use crate::rows::Row::{Alias, Enumeration, Func};
 use crate::rows::{Items, component};
 use std::alloc::Global;
 use std::process::Abort;
-use wac_builder::{ComponentBuilder, EntityType, MemoryType, ModuleType, Sort};
+use wac_binary::{ComponentBuilder, EntityType, MemoryType, ModuleType, Sort};
 use wac_encode::{TypeEncoder, Worlds};
 use wac_root::RootEncoder;
 use wac_scopes::{Encodable, EncodeFault, Scope};
-use wac_shapes::{DefinedTypeId, Type};
+use wac_types_shapes::{DefinedTypeId, Type};
 
 const FUNCTION: &[u8] = &[
     0x00, 0x61, 0x73, 0x6d, 0x0d, 0x00, 0x01, 0x00, // the preamble

@@ -3,10 +3,10 @@
 use crate::modules::{Extern, core_module};
 use std::alloc::Global;
 use std::process::Abort;
-use wac_builder::ComponentBuilder;
-use wac_collection::Types;
+use wac_binary::ComponentBuilder;
 use wac_scopes::{Encodable, Scope};
-use wac_shapes::{
+use wac_types_collection::Types;
+use wac_types_shapes::{
     DefinedType, DefinedTypeId, Enum, FuncType, FuncTypeId, Interface, InterfaceId, ItemKind,
     PrimitiveType, Record, Resource, ResourceId, Type, ValueType, World, WorldId,
 };

@@ -1,9 +1,9 @@
 //! What is recorded in an open scope.
 
 use std::process::Abort;
-use wac_builder::{ComponentValType, DefinedType, InstanceType};
+use wac_binary::{ComponentValType, DefinedType, InstanceType};
 use wac_scopes::{Encodable, Scope};
-use wac_shapes::{DefinedTypeId, PrimitiveType, ResourceId, ValueType};
+use wac_types_shapes::{DefinedTypeId, PrimitiveType, ResourceId, ValueType};
 
 const BYTE: ComponentValType = ComponentValType::Primitive(PrimitiveType::U8);
 

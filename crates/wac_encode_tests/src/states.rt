@@ -1,6 +1,6 @@
 //! Types and definitions that are written into a root by hand.
 ghost use Rattle.std.specs.Prelude.{◌<◌};
-ghost use Rattle.wac_collection.specs.Collection.{Collection};
+ghost use Rattle.wac_types_collection.specs.collection.Collection.{Collection};
 ghost use Rattle.wac_binary.specs.HasMeaning.{HasMeaning};
 ghost use Rattle.wac_binary.specs.Indexes.{space, indexes};
 ghost use Rattle.wac_binary.specs.declared.sorts.Sort.TheVariants as s;
@@ -12,10 +12,10 @@ use crate::rows::Row::{
 use crate::rows::{Items, Row, assert_row};
 use std::alloc::Global;
 use std::process::Abort;
-use wac_builder::{ComponentValType, Sort};
+use wac_binary::{ComponentValType, Sort};
 use wac_scopes::{EncodeFault, WriteFault};
-use wac_shapes::{ItemKind, PrimitiveType, Type};
 use wac_state::{State, TypeEncoder};
+use wac_types_shapes::{ItemKind, PrimitiveType, Type};
 
 /// What is written of the item at a place, with what is answered; or what is added beside it.
 #[derive(Clone, Copy)]

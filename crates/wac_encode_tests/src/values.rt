@@ -7,10 +7,10 @@ use crate::rows::Row::{
 use crate::rows::{Items, Row, assert_row};
 use std::alloc::Global;
 use std::process::Abort;
-use wac_builder::{ComponentBuilder, ComponentValType, Description, InstanceType};
+use wac_binary::{ComponentBuilder, ComponentValType, Description, InstanceType};
 use wac_encode::{TypeEncoder, Worlds};
 use wac_scopes::{Encodable, EncodeFault, Scope, WriteFault};
-use wac_shapes::{DefinedTypeId, PrimitiveType, Type, ValueType};
+use wac_types_shapes::{DefinedTypeId, PrimitiveType, Type, ValueType};
 
 const INTERFACE: &[u8] = &[
     0x00, 0x61, 0x73, 0x6d, 0x0d, 0x00, 0x01, 0x00, // the preamble

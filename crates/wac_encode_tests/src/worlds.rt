@@ -1,6 +1,6 @@
 //! Worlds that are written as component types, imported as components and as types, and defined.
 
-ghost use Rattle.wac_collection.specs.Collection.{HasWorld};
+ghost use Rattle.wac_types_collection.specs.collection.Collection.{HasWorld};
 ghost use Rattle.wac_scopes.specs.Contents.{IsRoot};
 ghost use Rattle.wac_scopes.specs.Rooted.{IsRightRoot};
 
@@ -10,11 +10,11 @@ use crate::rows::Row::{
 use crate::rows::{Items, Row, assert_row, component};
 use std::alloc::Global;
 use std::process::Abort;
-use wac_builder::ComponentBuilder;
-use wac_collection::Types;
+use wac_binary::ComponentBuilder;
 use wac_components::ComponentEncoder;
 use wac_scopes::{Encodable, EncodeFault, Scope, WriteFault, rooted_law};
-use wac_shapes::{Type, WorldId};
+use wac_types_collection::Types;
+use wac_types_shapes::{Type, WorldId};
 use wac_worlds::{WorldEncoder, worlds_inside};
 
 const NOTHING: &[u8] = &[

@@ -5,23 +5,23 @@ use Rattle.std.specs.Str.{bytes_eq}
 use Rattle.std.specs.Option.{option_map}
 use Rattle.std.specs.Result.{IsErrAnd}
 use Rattle.slab.specs.Slab.{get}
-use Rattle.wac_primitives.specs.Name.{Name}
-use Rattle.wac_shapes.specs.Named.{named_at}
-use Rattle.wac_collection.specs.Collection.{item_at}
-use Rattle.wac_collection.specs.declared.collection.Held.{Held}
-use Rattle.wac_shapes.specs.declared.component.Interface.{Interface}
-use Rattle.wac_shapes.specs.declared.component.InterfaceId.{InterfaceId}
-use Rattle.wac_shapes.specs.declared.component.ItemKind.{ItemKind}
-use Rattle.wac_shapes.specs.declared.component.ItemKind.TheVariants as item
-use Rattle.wac_nodes.specs.declared.node.Node.{Node}
+use Rattle.wac_types_shapes.specs.primitives.Name.{Name}
+use Rattle.wac_types_shapes.specs.shapes.Named.{named_at}
+use Rattle.wac_types_collection.specs.collection.Collection.{item_at}
+use Rattle.wac_types_collection.specs.declared.collection.collection.Held.{Held}
+use Rattle.wac_types_shapes.specs.declared.shapes.component.Interface.{Interface}
+use Rattle.wac_types_shapes.specs.declared.shapes.component.InterfaceId.{InterfaceId}
+use Rattle.wac_types_shapes.specs.declared.shapes.component.ItemKind.{ItemKind}
+use Rattle.wac_types_shapes.specs.declared.shapes.component.ItemKind.TheVariants as item
+use Rattle.wac_graph_model.specs.declared.nodes.node.Node.{Node}
 use Rattle.wac_edges.specs.declared.node.NodeId.{NodeId}
-use Rattle.wac_nodes.specs.Graph.{GraphNode, node_at, interface_of}
-use Rattle.wac_nodes.specs.Nodes.{node_of}
-use Rattle.wac_nodes.specs.Steps.{IsFreeImport, export_named}
-use Rattle.wac_nodes.proofs.NodeLemmas.{get-nodes_of}
-use Rattle.wac_fields.specs.Fields.{Fields, graph_of, Invariant}
-use Rattle.wac_fields.proofs.AliasLemmas.{exports_are, interface_there}
-use Rattle.wac_fields.proofs.ImportLemmas.{imported_already}
+use Rattle.wac_graph_model.specs.nodes.Graph.{GraphNode, node_at, interface_of}
+use Rattle.wac_graph_model.specs.nodes.Nodes.{node_of}
+use Rattle.wac_graph_model.specs.nodes.Steps.{IsFreeImport, export_named}
+use Rattle.wac_graph_model.proofs.lemmas.nodes.NodeLemmas.{get-nodes_of}
+use Rattle.wac_graph_fields.specs.private.Fields.{Fields, graph_of, Invariant}
+use Rattle.wac_graph_fields.proofs.AliasLemmas.{exports_are, interface_there}
+use Rattle.wac_graph_fields.proofs.ImportLemmas.{imported_already}
 
 -- what a `?` hands on
 pub handed_on : {A E : Type 0} (P : Result A E → Type 0) (r : Result A E) (e : E) → IsErrAnd r (λ y. y ≡ e) → P (Err e) → P r

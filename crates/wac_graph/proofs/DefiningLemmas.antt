@@ -5,21 +5,21 @@ use Rattle.std.specs.FinMap as map
 use Rattle.std.specs.FinSet as set
 use Rattle.std.specs.Option.{option_map}
 use Rattle.slab.specs.Slab.{Slab, get}
-use Rattle.wac_shapes.specs.declared.component.«Type».{«Type» as AnyType}
-use Rattle.wac_shapes.specs.declared.component.«Type».TheVariants as ty
-use Rattle.wac_shapes.specs.declared.component.ResourceId.{ResourceId}
+use Rattle.wac_types_shapes.specs.declared.shapes.component.«Type».{«Type» as AnyType}
+use Rattle.wac_types_shapes.specs.declared.shapes.component.«Type».TheVariants as ty
+use Rattle.wac_types_shapes.specs.declared.shapes.component.ResourceId.{ResourceId}
 use Rattle.wac_edges.specs.declared.edges.Edge.{Edge}
 use Rattle.wac_edges.specs.Order.{Edges}
-use Rattle.wac_nodes.specs.declared.node.Node.{Node}
-use Rattle.wac_nodes.specs.Nodes.{node_of, nodes_of}
-use Rattle.wac_nodes.specs.Definitions.{IsResource}
-use Rattle.wac_nodes.proofs.NodeLemmas.{get-nodes_of}
-use Rattle.wac_fields.specs.Lost.{is_again}
-use Rattle.wac_fields.specs.declared.lost.Lost.{Lost}
-use Rattle.wac_fields.specs.Stored.{AreHeld}
-use Rattle.wac_fields.proofs.GraphLemmas.{defined_held, vacant_bare}
-use Rattle.wac_fields.specs.Fields.{Fields, Names, graph_of, Invariant}
-use Rattle.wac_fields.proofs.InvariantLemmas.{invariant_exports, invariant_more}
+use Rattle.wac_graph_model.specs.declared.nodes.node.Node.{Node}
+use Rattle.wac_graph_model.specs.nodes.Nodes.{node_of, nodes_of}
+use Rattle.wac_graph_model.specs.nodes.Definitions.{IsResource}
+use Rattle.wac_graph_model.proofs.lemmas.nodes.NodeLemmas.{get-nodes_of}
+use Rattle.wac_graph_fields.specs.private.Lost.{is_again}
+use Rattle.wac_graph_fields.specs.declared.lost.Lost.{Lost}
+use Rattle.wac_graph_fields.specs.private.Stored.{AreHeld}
+use Rattle.wac_graph_fields.proofs.GraphLemmas.{defined_held, vacant_bare}
+use Rattle.wac_graph_fields.specs.private.Fields.{Fields, Names, graph_of, Invariant}
+use Rattle.wac_graph_fields.proofs.InvariantLemmas.{invariant_exports, invariant_more}
 
 -- a type that is no resource
 pub no_resource : (t : AnyType) → ((r : ResourceId) → t ≡ ty.Resource r → ⊥) → IsResource t → ⊥

@@ -1,14 +1,14 @@
 -- What fits the import of a name fits it where it is.
 use Rattle.std.proofs.Common.{◌≡◌, ℕ, subst, Option, Some, None, IfSome, IsSomeAnd}
-use Rattle.wac_primitives.specs.Name.{Name}
-use Rattle.wac_shapes.specs.declared.component.ItemKind.{ItemKind}
-use Rattle.wac_subtyping.specs.Subtype.{IsSubtype}
+use Rattle.wac_types_shapes.specs.primitives.Name.{Name}
+use Rattle.wac_types_shapes.specs.declared.shapes.component.ItemKind.{ItemKind}
+use Rattle.wac_types_collection.specs.subtyping.Subtype.{IsSubtype}
 use Rattle.wac_edges.specs.declared.node.NodeId.{NodeId}
-use Rattle.wac_nodes.specs.Graph as graph
-use Rattle.wac_nodes.specs.Graph.{Graph, GraphNode, node_at, IsUnsatisfied}
-use Rattle.wac_nodes.specs.Steps.{import_named}
-use Rattle.wac_fields.specs.Arguments.{HasImport, Fits}
-use Rattle.wac_plugging.specs.Positions.{FitsImport}
+use Rattle.wac_graph_model.specs.nodes.Graph as graph
+use Rattle.wac_graph_model.specs.nodes.Graph.{Graph, GraphNode, node_at, IsUnsatisfied}
+use Rattle.wac_graph_model.specs.nodes.Steps.{import_named}
+use Rattle.wac_graph_fields.specs.private.Arguments.{HasImport, Fits}
+use Rattle.wac_graph.specs.private.plugs.Positions.{FitsImport}
 
 pub fits_named : (g : Graph) (id argument : NodeId) (name : Name) (position : ℕ) (kind : ItemKind) → HasImport g id name position kind → IsUnsatisfied g id position → FitsImport g id name argument → Fits g id position kind argument
 fits_named g id argument name position kind import unset fits = split (node_at g id) import fits where

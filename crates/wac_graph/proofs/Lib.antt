@@ -7,3 +7,4 @@ mod OpenLemmas
 mod PositionLemmas
 pub mod ConflictFreeLemmas
 pub mod WantedAskedLemmas
+pub mod lemmas

@@ -11,24 +11,24 @@ use Rattle.std.proofs.lemmas.List.{drop_all}
 use Rattle.std.proofs.lemmas.List.Folds.{list_any_at}
 use Rattle.slab.specs.Slab.{get, entries, entries_from}
 use Rattle.slab.proofs.SlabLemmas.{Contains-entries}
-use Rattle.wac_primitives.specs.Name.{Name}
-use Rattle.wac_shapes.specs.declared.component.ItemKind.{ItemKind}
+use Rattle.wac_types_shapes.specs.primitives.Name.{Name}
+use Rattle.wac_types_shapes.specs.declared.shapes.component.ItemKind.{ItemKind}
 use Rattle.wac_edges.specs.declared.edges.Edge.{Edge}
 use Rattle.wac_edges.specs.declared.node.NodeId.{NodeId}
 use Rattle.wac_edges.specs.Edge.{edge_cmp, argument_edge, node_number}
 use Rattle.wac_edges.proofs.EdgeLemmas.{edge_cmp_total}
-use Rattle.wac_nodes.specs.declared.node.Node.{Node}
-use Rattle.wac_nodes.specs.Graph as graph
-use Rattle.wac_nodes.specs.Graph.{Graph, GraphNode, Kind, imports_of, IsArgumentOf, IsUnsatisfied}
-use Rattle.wac_nodes.specs.Nodes.{node_of, kind_of}
-use Rattle.wac_nodes.specs.Gives.{GivesNode}
-use Rattle.wac_nodes.specs.Asked.{is_argument}
-use Rattle.wac_meaning.proofs.AskedLemmas.{satisfied as set_by_edge}
-use Rattle.wac_fields.specs.Fields.{Fields, graph_of, Invariant}
+use Rattle.wac_graph_model.specs.declared.nodes.node.Node.{Node}
+use Rattle.wac_graph_model.specs.nodes.Graph as graph
+use Rattle.wac_graph_model.specs.nodes.Graph.{Graph, GraphNode, Kind, imports_of, IsArgumentOf, IsUnsatisfied}
+use Rattle.wac_graph_model.specs.nodes.Nodes.{node_of, kind_of}
+use Rattle.wac_graph_model.specs.nodes.Gives.{GivesNode}
+use Rattle.wac_graph_model.specs.nodes.Asked.{is_argument}
+use Rattle.wac_graph_model.proofs.lemmas.meaning.AskedLemmas.{satisfied as set_by_edge}
+use Rattle.wac_graph_fields.specs.private.Fields.{Fields, graph_of, Invariant}
 use Rattle.wac_graph.specs.Listed.{AreNodes, node_ids, AreSet, AreArguments, instance_imports, imports_by}
-use Rattle.wac_graph.specs.Left.{with_id, id_of, argument_at, set_row, set_rows, set_from, listed_in, arguments_left}
-use Rattle.wac_writing.proofs.EncodingLemmas.{gives_node, node_is}
-use Rattle.wac_writing.proofs.ImportRows.{at_drop, edge_is, entries_of, entries_are}
+use Rattle.wac_graph.specs.private.Left.{with_id, id_of, argument_at, set_row, set_rows, set_from, listed_in, arguments_left}
+use Rattle.wac_graph_reader.proofs.lemmas.writing.EncodingLemmas.{gives_node, node_is}
+use Rattle.wac_graph_reader.proofs.lemmas.writing.ImportRows.{at_drop, edge_is, entries_of, entries_are}
 
 -- the first edge that passes a test
 found_in : (p : Edge → Bool) (es : List Edge) (e : Edge) → find p es ≡ Some e → Contains es e × (p e ≡ true)

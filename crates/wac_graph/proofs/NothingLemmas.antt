@@ -1,22 +1,22 @@
 -- No entries have a merge, whatever types there are, and it is the same over all of them.
 use Rattle.std.proofs.Common.{◌≡◌, ℕ, List, [], map, Some, ap, sym, refl, subst, ◌∙◌}
 use Rattle.std.specs.Prelude.{slice_get}
-use Rattle.wac_cycles.specs.Cycles.{Path, step, further}
-use Rattle.wac_primitives.specs.Name.{Name}
-use Rattle.wac_shapes.specs.declared.component.InterfaceId.{InterfaceId}
-use Rattle.wac_collection.specs.Collection.{Collection, interface_exports}
-use Rattle.wac_entries.specs.Classes.{Entry, by_names, class_names}
-use Rattle.wac_terms.specs.ClassOrder.{RestsOn, by_use, by_resource, grouped}
-use Rattle.wac_terms.specs.Merge.{Merged, IsMerge, names_behind}
-use Rattle.wac_uses.specs.United.{listed_by}
-use Rattle.wac_terms.specs.NoDisagreement.{HasNoDisagreement}
+use Rattle.wac_edges.specs.cycles.Cycles.{Path, step, further}
+use Rattle.wac_types_shapes.specs.primitives.Name.{Name}
+use Rattle.wac_types_shapes.specs.declared.shapes.component.InterfaceId.{InterfaceId}
+use Rattle.wac_types_collection.specs.collection.Collection.{Collection, interface_exports}
+use Rattle.wac_merge_classes.specs.entries.Classes.{Entry, by_names, class_names}
+use Rattle.wac_merge_classes.specs.terms.ClassOrder.{RestsOn, by_use, by_resource, grouped}
+use Rattle.wac_merge_classes.specs.terms.Merge.{Merged, IsMerge, names_behind}
+use Rattle.wac_merge_unions.specs.uses.United.{listed_by}
+use Rattle.wac_merge_classes.specs.terms.NoDisagreement.{HasNoDisagreement}
 use Rattle.wac_merge.specs.Listed.{AreListedInOrder, Unites, as_import, inside, united_interfaces}
-use Rattle.wac_terms.specs.Faults.{HasNoCircle}
-use Rattle.wac_agreement.proofs.OrderLaws.{arranges_alike}
-use Rattle.wac_nodes.specs.Graph.{Graph}
-use Rattle.wac_nodes.specs.Entries.{asked_entries, to_merge}
-use Rattle.wac_nodes.specs.OuterImports.{outer_entries}
-use Rattle.wac_causes.specs.Cause.{HasMerge}
+use Rattle.wac_merge_classes.specs.terms.Faults.{HasNoCircle}
+use Rattle.wac_merge_agreement.proofs.lemmas.agreement.OrderLaws.{arranges_alike}
+use Rattle.wac_graph_model.specs.nodes.Graph.{Graph}
+use Rattle.wac_graph_model.specs.nodes.Entries.{asked_entries, to_merge}
+use Rattle.wac_graph_model.specs.nodes.OuterImports.{outer_entries}
+use Rattle.wac_graph_model.specs.causes.Cause.{HasMerge}
 
 -- there is no class
 no_class : (k : ℕ) (class : Name) → slice_get (class_names by_names []) k ≡ Some class → ⊥

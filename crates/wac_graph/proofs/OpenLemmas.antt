@@ -4,13 +4,13 @@ use Rattle.std.specs.List.{flat_map}
 use Rattle.std.specs.FinMap as finite
 use Rattle.std.proofs.lemmas.List.{append-nil, take_more}
 use Rattle.std.proofs.lemmas.List.Concat.{flat_map-append}
-use Rattle.wac_collection.specs.Collection.{Collection}
-use Rattle.wac_nodes.specs.Asked.{Entry}
-use Rattle.wac_nodes.specs.Entries.{with_used}
-use Rattle.wac_nodes.specs.Graph.{Graph}
-use Rattle.wac_fields.specs.EntriesLeft.{AsksAlike, all_with_used, all_asked_by, asked_at}
-use Rattle.wac_fields.proofs.EntryLists.{stands_through, stands_more}
-use Rattle.wac_reading.specs.Seen.{number_where_any, open_at, open_numbers}
+use Rattle.wac_types_collection.specs.collection.Collection.{Collection}
+use Rattle.wac_graph_model.specs.nodes.Asked.{Entry}
+use Rattle.wac_graph_model.specs.nodes.Entries.{with_used}
+use Rattle.wac_graph_model.specs.nodes.Graph.{Graph}
+use Rattle.wac_graph_fields.specs.private.EntriesLeft.{AsksAlike, all_with_used, all_asked_by, asked_at}
+use Rattle.wac_graph_fields.proofs.EntryLists.{stands_through, stands_more}
+use Rattle.wac_graph_reader.specs.private.reading.Seen.{number_where_any, open_at, open_numbers}
 
 module _ (g : Graph) where
   -- what a node asks for, where it is asked only if there is any

@@ -4,27 +4,27 @@ use Rattle.std.specs.Prelude.{slice_get, IsSomeAnd, IfOk}
 use Rattle.std.specs.Option.{option_map}
 use Rattle.std.specs.FinSet as set
 use Rattle.slab.specs.Slab.{get}
-use Rattle.wac_primitives.specs.Name.{Name, same_name}
-use Rattle.wac_shapes.specs.Named.{named_at}
-use Rattle.wac_shapes.proofs.Names.{same_name-true}
-use Rattle.wac_collection.specs.Collection.{item_at}
-use Rattle.wac_shapes.specs.declared.component.Interface.{Interface}
-use Rattle.wac_shapes.specs.declared.component.InterfaceId.{InterfaceId}
-use Rattle.wac_shapes.specs.declared.component.ItemKind.{ItemKind}
-use Rattle.wac_shapes.specs.declared.component.ItemKind.TheVariants as item
-use Rattle.wac_subtyping.specs.Subtype.{IsSubtype}
+use Rattle.wac_types_shapes.specs.primitives.Name.{Name, same_name}
+use Rattle.wac_types_shapes.specs.shapes.Named.{named_at}
+use Rattle.wac_types_shapes.proofs.lemmas.shapes.Names.{same_name-true}
+use Rattle.wac_types_collection.specs.collection.Collection.{item_at}
+use Rattle.wac_types_shapes.specs.declared.shapes.component.Interface.{Interface}
+use Rattle.wac_types_shapes.specs.declared.shapes.component.InterfaceId.{InterfaceId}
+use Rattle.wac_types_shapes.specs.declared.shapes.component.ItemKind.{ItemKind}
+use Rattle.wac_types_shapes.specs.declared.shapes.component.ItemKind.TheVariants as item
+use Rattle.wac_types_collection.specs.subtyping.Subtype.{IsSubtype}
 use Rattle.wac_edges.specs.declared.node.NodeId.{NodeId}
 use Rattle.wac_edges.specs.Edge.{argument_edge}
-use Rattle.wac_nodes.specs.declared.node.Node.{Node}
-use Rattle.wac_nodes.specs.Graph as graph
-use Rattle.wac_nodes.specs.Graph.{Graph, GraphNode, node_at, interface_of, imports_of, IsArgumentOf, IsUnsatisfied}
-use Rattle.wac_nodes.specs.Nodes.{node_of}
-use Rattle.wac_nodes.specs.Steps.{SetsArgument, SetsOn, GivesArgument, import_named, export_named}
-use Rattle.wac_nodes.proofs.NodeLemmas.{get-nodes_of}
-use Rattle.wac_fields.specs.Arguments.{HasImport}
-use Rattle.wac_fields.specs.Fields.{Fields, graph_of}
-use Rattle.wac_fields.proofs.AliasLemmas.{exports_are}
-use Rattle.wac_plugging.specs.Positions.{FitsImport, HasExport, HasNamed}
+use Rattle.wac_graph_model.specs.declared.nodes.node.Node.{Node}
+use Rattle.wac_graph_model.specs.nodes.Graph as graph
+use Rattle.wac_graph_model.specs.nodes.Graph.{Graph, GraphNode, node_at, interface_of, imports_of, IsArgumentOf, IsUnsatisfied}
+use Rattle.wac_graph_model.specs.nodes.Nodes.{node_of}
+use Rattle.wac_graph_model.specs.nodes.Steps.{SetsArgument, SetsOn, GivesArgument, import_named, export_named}
+use Rattle.wac_graph_model.proofs.lemmas.nodes.NodeLemmas.{get-nodes_of}
+use Rattle.wac_graph_fields.specs.private.Arguments.{HasImport}
+use Rattle.wac_graph_fields.specs.private.Fields.{Fields, graph_of}
+use Rattle.wac_graph_fields.proofs.AliasLemmas.{exports_are}
+use Rattle.wac_graph.specs.private.plugs.Positions.{FitsImport, HasExport, HasNamed}
 
 some_pair : {A : Type 0} (i p : ℕ) (x y : A) → ◌≡◌ {A = Option (ℕ × A)} (Some (i, x)) (Some (p, y)) → (i ≡ p) × (x ≡ y)
 some_pair {A} i p x y h = let w : ◌≡◌ {A = ℕ × A} (i, x) (p, y) = cc in (ap (λ (e : ℕ × A). e.0) w, ap (λ (e : ℕ × A). e.1) w)

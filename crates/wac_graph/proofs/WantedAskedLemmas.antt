@@ -5,15 +5,15 @@ use Rattle.std.specs.Prelude.{IsSomeAnd}
 use Rattle.std.specs.List.{flat_map}
 use Rattle.std.specs.FinMap as finite
 use Rattle.std.proofs.lemmas.List.{append-nil}
-use Rattle.wac_primitives.specs.Name.{Name}
+use Rattle.wac_types_shapes.specs.primitives.Name.{Name}
 use Rattle.wac_edges.specs.declared.node.NodeId.{NodeId}
 use Rattle.wac_edges.specs.Edge.{node_number}
-use Rattle.wac_nodes.specs.Asked.{asked_by, imported_by}
-use Rattle.wac_nodes.specs.Entries.{asked_entries, once, with_used}
-use Rattle.wac_nodes.specs.Graph as graph
-use Rattle.wac_nodes.specs.Graph.{Graph, GraphNode, Kind, node_at, IsImportOf}
-use Rattle.wac_fields.specs.EntriesLeft.{imported_at, all_imported_by}
-use Rattle.wac_causes.specs.TypeFaults.{wanted_by, wanted_at, wanted_entries}
+use Rattle.wac_graph_model.specs.nodes.Asked.{asked_by, imported_by}
+use Rattle.wac_graph_model.specs.nodes.Entries.{asked_entries, once, with_used}
+use Rattle.wac_graph_model.specs.nodes.Graph as graph
+use Rattle.wac_graph_model.specs.nodes.Graph.{Graph, GraphNode, Kind, node_at, IsImportOf}
+use Rattle.wac_graph_fields.specs.private.EntriesLeft.{imported_at, all_imported_by}
+use Rattle.wac_graph_model.specs.causes.TypeFaults.{wanted_by, wanted_at, wanted_entries}
 
 -- the node is a definition
 abbrev pub IsDefinition : Graph → NodeId → Type 0

@@ -1,3 +1,3 @@
-pub mod Inside
+pub mod plugs
 pub mod Listed
-pub mod Left
+pub mod private

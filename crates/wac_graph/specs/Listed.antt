@@ -2,16 +2,16 @@
 use Rattle.std.specs.Prelude.{ℕ, suc, ◌≡◌, ◌⊎◌, List, [], ◌∷◌, ◌++◌, map, Option, Some, None}
 use Rattle.std.specs.List.{AllByRecursion}
 use Rattle.std.specs.FinMap as finite
-use Rattle.wac_primitives.specs.Name.{Name}
-use Rattle.wac_collection.specs.Package.{PackageParts}
-use Rattle.wac_shapes.specs.declared.component.ItemKind.{ItemKind}
-use Rattle.wac_nodes.specs.declared.node.Node.{Node}
+use Rattle.wac_types_shapes.specs.primitives.Name.{Name}
+use Rattle.wac_types_collection.specs.collection.Package.{PackageParts}
+use Rattle.wac_types_shapes.specs.declared.shapes.component.ItemKind.{ItemKind}
+use Rattle.wac_graph_model.specs.declared.nodes.node.Node.{Node}
 use Rattle.wac_edges.specs.declared.node.NodeId.{NodeId}
-use Rattle.wac_nodes.specs.declared.packages.PackageId.{PackageId}
-use Rattle.wac_nodes.specs.declared.packages.Slot.{Slot}
+use Rattle.wac_graph_model.specs.declared.nodes.packages.PackageId.{PackageId}
+use Rattle.wac_graph_model.specs.declared.nodes.packages.Slot.{Slot}
 use Rattle.wac_edges.specs.Edge.{node_number}
-use Rattle.wac_nodes.specs.Graph.{Graph, GraphNode, Kind, instantiation, node_at, imports_of, IsArgumentOf, IsUnsatisfied}
-use Rattle.wac_nodes.specs.Gives.{GivesNode}
+use Rattle.wac_graph_model.specs.nodes.Graph.{Graph, GraphNode, Kind, instantiation, node_at, imports_of, IsArgumentOf, IsUnsatisfied}
+use Rattle.wac_graph_model.specs.nodes.Gives.{GivesNode}
 
 -- The ids of the nodes, in order of number.
 abbrev pub node_ids : Graph → List NodeId

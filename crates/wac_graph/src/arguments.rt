@@ -3,22 +3,22 @@ ghost use Rattle.std.specs.Prelude.{◌≡◌, true, IsSome, IsTrue, OnOk, OnErr
 ghost use Rattle.std.specs.FinSet as set;
 ghost use Rattle.std.specs.Option.{option_map};
 ghost use Rattle.slab.specs.Slab.{get};
-ghost use Rattle.wac_collection.specs.Collection.{holds_type};
-ghost use Rattle.wac_shapes.specs.Kinds.{kind_type};
-ghost use Rattle.wac_shapes.specs.declared.component.ItemKind.{ItemKind as AnItem};
-ghost use Rattle.wac_fields.specs.Arguments.{HasImport, Fits, CanBeGiven, IsInstantiation};
+ghost use Rattle.wac_types_collection.specs.collection.Collection.{holds_type};
+ghost use Rattle.wac_types_shapes.specs.shapes.Kinds.{kind_type};
+ghost use Rattle.wac_types_shapes.specs.declared.shapes.component.ItemKind.{ItemKind as AnItem};
+ghost use Rattle.wac_graph_fields.specs.private.Arguments.{HasImport, Fits, CanBeGiven, IsInstantiation};
 ghost use Rattle.wac_edges.specs.Edge.{argument_edge as labelled};
-ghost use Rattle.wac_nodes.specs.Graph.{node_at, IsArgumentOf, IsUnsatisfied};
-ghost use Rattle.wac_nodes.specs.Nodes.{IsInstantiationAt, satisfied_at, node_of};
-ghost use Rattle.wac_nodes.specs.Steps.{SetsArgument, UnsetsArgument};
+ghost use Rattle.wac_graph_model.specs.nodes.Graph.{node_at, IsArgumentOf, IsUnsatisfied};
+ghost use Rattle.wac_graph_model.specs.nodes.Nodes.{IsInstantiationAt, satisfied_at, node_of};
+ghost use Rattle.wac_graph_model.specs.nodes.Steps.{SetsArgument, UnsetsArgument};
 ghost use Rattle.wac_edges.specs.declared.node.NodeId.{NodeId as AnId};
 
 use crate::graph::CompositionGraph;
 use slab::Slab;
 use std::alloc::AllocError;
 use wac_edges::edges::{Edge, Label};
-use wac_fields::unsatisfy;
-use wac_nodes::{InstantiationArgumentError, Node, NodeId, NodeKind};
+use wac_graph_fields::unsatisfy;
+use wac_graph_model::{InstantiationArgumentError, Node, NodeId, NodeKind};
 use wac_types::laws::subtyping_is_reflexive;
 use wac_types::{ItemKind, SubtypeChecker, TypeFault};
 

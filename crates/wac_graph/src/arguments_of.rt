@@ -1,11 +1,11 @@
 //! The arguments of an instantiation.
 ghost use Rattle.std.specs.Prelude.{◌≡◌, ◌∷◌, [], MatchOption};
 ghost use Rattle.wac_graph.specs.Listed.{AreArguments, instance_imports};
-ghost use Rattle.wac_graph.specs.Left.{listed_in, set_from};
+ghost use Rattle.wac_graph.specs.private.Left.{listed_in, set_from};
 
 use crate::graph::CompositionGraph;
 use std::marker::Model;
-use wac_nodes::{NodeId, NodeKind};
+use wac_graph_model::{NodeId, NodeKind};
 use wac_types::{ItemKind, Named};
 
 /// An iterator over the arguments of an instantiation.
@@ -23,9 +23,9 @@ pub struct Arguments<'a> {
 
 impl<'a> Model for Arguments<'a> {
     ghost use Rattle.std.specs.Prelude.{List};
-    ghost use Rattle.wac_primitives.specs.Name.{Name};
+    ghost use Rattle.wac_types_shapes.specs.primitives.Name.{Name};
     ghost use Rattle.wac_edges.specs.declared.node.NodeId.{NodeId};
-    ghost use Rattle.wac_graph.specs.Left.{arguments_left};
+    ghost use Rattle.wac_graph.specs.private.Left.{arguments_left};
 
     ghost Value = { List (Name × NodeId) };
 

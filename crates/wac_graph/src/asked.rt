@@ -1,12 +1,12 @@
 //! The graph's imports that are merged.
 ghost use Rattle.std.specs.Prelude.{◌≡◌, ◌++◌, [], map, IfOk, OnOk};
-ghost use Rattle.wac_nodes.specs.Entries.{asked_entries};
-ghost use Rattle.wac_reading.specs.Seen.{open_numbers};
-ghost use Rattle.wac_fields.specs.EntriesLeft.{entry_view, entries_of, IsRight, AreSettled, AsksAlike, asked_at, all_with_used, all_asked_by, all_imported_by};
+ghost use Rattle.wac_graph_model.specs.nodes.Entries.{asked_entries};
+ghost use Rattle.wac_graph_reader.specs.private.reading.Seen.{open_numbers};
+ghost use Rattle.wac_graph_fields.specs.private.EntriesLeft.{entry_view, entries_of, IsRight, AreSettled, AsksAlike, asked_at, all_with_used, all_asked_by, all_imported_by};
 
 use crate::graph::CompositionGraph;
 use std::alloc::AllocError;
-use wac_fields::{AskedEntry, Asking};
+use wac_graph_fields::{AskedEntry, Asking};
 
 impl CompositionGraph {
     /// Returns the graph's imports, each after the interfaces that it uses, without repeated instances.

@@ -1,13 +1,13 @@
 //! Checks of names that are imported or exported, and look-ups of exports.
 ghost use Rattle.std.specs.Prelude.{◌≡◌, IfErr, IfOk, IfSome, IsSome, OnOk, Err, None, Some};
 ghost use Rattle.wac_edges.specs.declared.node.NodeId.{NodeId as AnId};
-ghost use Rattle.wac_nodes.specs.ExternName.{IsExportName, IsImportName};
-ghost use Rattle.wac_nodes.specs.Graph.{export_at, interface_of, node_at};
-ghost use Rattle.wac_nodes.specs.Steps.{Aliases, Exports, Imports, IsFreeImport, export_named};
-ghost use Rattle.wac_shapes.specs.declared.component.ItemKind.{ItemKind as AnItem};
+ghost use Rattle.wac_graph_model.specs.nodes.ExternName.{IsExportName, IsImportName};
+ghost use Rattle.wac_graph_model.specs.nodes.Graph.{export_at, interface_of, node_at};
+ghost use Rattle.wac_graph_model.specs.nodes.Steps.{Aliases, Exports, Imports, IsFreeImport, export_named};
+ghost use Rattle.wac_types_shapes.specs.declared.shapes.component.ItemKind.{ItemKind as AnItem};
 
 use crate::graph::CompositionGraph;
-use wac_nodes::{AliasError, ExportError, ImportError, NodeId, export_fault, import_fault};
+use wac_graph_model::{AliasError, ExportError, ImportError, NodeId, export_fault, import_fault};
 use wac_types::ItemKind;
 
 impl CompositionGraph {

@@ -2,14 +2,14 @@
 ghost use Rattle.std.specs.Prelude.{◌≡◌, ◌≤◌, IfOk, length, string_bytes, vec_capacity};
 ghost use Rattle.std.specs.List.{AllZip};
 ghost use Rattle.slab.specs.Slab.{IsSlotClone};
-ghost use Rattle.wac_nodes.specs.Clones.{IsNodeClone};
+ghost use Rattle.wac_graph_model.specs.private.nodes.Clones.{IsNodeClone};
 
 use crate::graph::CompositionGraph;
 use indexmap::IndexMap;
 use slab::Slab;
 use std::alloc::AllocError;
 use wac_edges::edges::Edges;
-use wac_nodes::{Node, NodeId, PackageId, Slot};
+use wac_graph_model::{Node, NodeId, PackageId, Slot};
 use wac_types::{PackageKey, Types};
 
 impl CompositionGraph {

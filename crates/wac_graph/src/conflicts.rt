@@ -2,22 +2,21 @@
 ghost use Rattle.std.specs.Prelude.{◌≡◌, ◌<◌, ℕ, OnOk, IfOk, IfErr, IfSome, IfNone, Some, length};
 ghost use Rattle.std.specs.BTreeSet as positions;
 ghost use Rattle.std.specs.Ordering.{nat_cmp};
-ghost use Rattle.wac_primitives.specs.Name.{Name as AName};
-ghost use Rattle.wac_keys.specs.Key.{Key};
-ghost use Rattle.wac_causes.specs.Cause.{IsConflict, IsFirstConflict, HasNoConflict, cause_of, conflict as conflict_cause};
-ghost use Rattle.wac_causes.specs.Search.{Clashes, IsFirstOf, IsLowest, IsRefused};
+ghost use Rattle.wac_types_shapes.specs.primitives.Name.{Name as AName};
+ghost use Rattle.wac_types_shapes.specs.keys.Key.{Key};
+ghost use Rattle.wac_graph_model.specs.causes.Cause.{IsConflict, IsFirstConflict, HasNoConflict, cause_of, conflict as conflict_cause};
+ghost use Rattle.wac_graph_model.specs.private.causes.Search.{Clashes, IsFirstOf, IsLowest, IsRefused};
 ghost use Rattle.wac_edges.specs.Edge.{node_number};
-ghost use Rattle.wac_nodes.specs.Nodes.{names_of};
+ghost use Rattle.wac_graph_model.specs.nodes.Nodes.{names_of};
 ghost use Rattle.wac_edges.specs.Order.{IsAcyclic};
-ghost use Rattle.wac_nodes.specs.declared.options.EncodeOptions.{EncodeOptions as Asked};
+ghost use Rattle.wac_graph_model.specs.declared.nodes.options.EncodeOptions.{EncodeOptions as Asked};
 ghost use Rattle.wac_edges.specs.declared.node.NodeId.{NodeId as AnId};
 
 use crate::graph::CompositionGraph;
 use indexmap::IndexMap;
 use std::alloc::AllocError;
 use std::collections::BTreeSet;
-use wac_causes::EncodeError;
-use wac_nodes::{NodeId, NodeKind};
+use wac_graph_model::{EncodeError, NodeId, NodeKind};
 use wac_types::{ItemKind, Named};
 
 impl CompositionGraph {

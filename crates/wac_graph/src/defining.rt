@@ -1,15 +1,15 @@
 //! Definitions of types.
 ghost use Rattle.std.specs.Prelude.{◌≡◌, true, IfOk, MatchResult, OnErr, Ok, Err, string_bytes};
-ghost use Rattle.wac_collection.specs.Collection.{holds_type};
-ghost use Rattle.wac_fields.specs.Definable.{IsDefinable};
-ghost use Rattle.wac_nodes.specs.Definitions.{definition_node};
-ghost use Rattle.wac_nodes.specs.Nodes.{node_of};
-ghost use Rattle.wac_nodes.specs.Steps.{Defines};
+ghost use Rattle.wac_types_collection.specs.collection.Collection.{holds_type};
+ghost use Rattle.wac_graph_fields.specs.private.Definable.{IsDefinable};
+ghost use Rattle.wac_graph_model.specs.nodes.Definitions.{definition_node};
+ghost use Rattle.wac_graph_model.specs.nodes.Nodes.{node_of};
+ghost use Rattle.wac_graph_model.specs.nodes.Steps.{Defines};
 
 use crate::graph::CompositionGraph;
 use std::alloc::AllocError;
-use wac_fields::{add_dependencies, is_defined};
-use wac_nodes::{DefineTypeError, Node, NodeId, import_fault};
+use wac_graph_fields::{add_dependencies, is_defined};
+use wac_graph_model::{DefineTypeError, Node, NodeId, import_fault};
 use wac_types::Type;
 
 impl CompositionGraph {

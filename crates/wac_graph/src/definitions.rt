@@ -1,21 +1,21 @@
 //! Whether encoding supports the graph's definitions.
 ghost use Rattle.std.specs.Prelude.{◌≡◌, true, false, Ok as Answers, IfSome, IsSomeAnd};
-ghost use Rattle.wac_causes.specs.NotYet.{AllDefinable};
-ghost use Rattle.wac_collection.specs.Collection.{holds_type};
-ghost use Rattle.wac_shapes.specs.Kinds.{kind_type};
+ghost use Rattle.wac_graph_model.specs.causes.NotYet.{AllDefinable};
+ghost use Rattle.wac_types_collection.specs.collection.Collection.{holds_type};
+ghost use Rattle.wac_types_shapes.specs.shapes.Kinds.{kind_type};
 ghost use Rattle.wac_edges.specs.Edge.{node_number};
 ghost use Rattle.wac_edges.specs.declared.node.NodeId.{NodeId as AnId};
 ghost use Rattle.wac_importable.specs.Looked.{AreFree};
-ghost use Rattle.wac_meaning.specs.Importable.{IsDefinableKind};
-ghost use Rattle.wac_nodes.specs.Graph.{node_at, definition};
-ghost use Rattle.wac_nodes.specs.Nodes.{kind_of};
+ghost use Rattle.wac_graph_model.specs.meaning.Importable.{IsDefinableKind};
+ghost use Rattle.wac_graph_model.specs.nodes.Graph.{node_at, definition};
+ghost use Rattle.wac_graph_model.specs.nodes.Nodes.{kind_of};
 
 use crate::graph::CompositionGraph;
 use std::alloc::AllocError;
+use wac_graph_model::{Node, NodeKind};
 use wac_importable::is_definable;
-use wac_nodes::{Node, NodeKind};
-use wac_reach::Reached;
 use wac_types::Types;
+use wac_types_collection::Reached;
 
 impl CompositionGraph {
     /// Whether the type of every definition is supported. `defined` says whether there is any definition.

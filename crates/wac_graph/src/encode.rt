@@ -2,31 +2,28 @@
 ghost use Rattle.std.specs.Prelude.{◌≡◌, true, false, IsSomeAnd, IsTrue, OnOk, IfOk, IfErr, IfSome, List};
 ghost use Rattle.wac_binary.specs.Bytes.{bytes_of};
 ghost use Rattle.wac_binary.specs.Items.{Item as AnItem};
-ghost use Rattle.wac_meaning.specs.Means.{Means};
-ghost use Rattle.wac_meaning.specs.Beginning.{Begins};
-ghost use Rattle.wac_meaning.specs.MergedImports.{merged_imports};
-ghost use Rattle.wac_places.specs.Places.{IsMergedFor, ArePlaced};
+ghost use Rattle.wac_graph_model.specs.meaning.Means.{Means};
+ghost use Rattle.wac_graph_model.specs.private.meaning.Beginning.{Begins};
+ghost use Rattle.wac_graph_model.specs.private.meaning.MergedImports.{merged_imports};
+ghost use Rattle.wac_graph_encode.specs.private.places.Places.{IsMergedFor, ArePlaced};
 ghost use Rattle.std.specs.Result.{IsErrAnd};
-ghost use Rattle.wac_causes.specs.Cause.{AnswersFor, Cause, cause_of, HasMerge, HasNoConflict, Stands};
-ghost use Rattle.wac_causes.specs.OuterNames.{export_names, import_names};
-ghost use Rattle.wac_causes.specs.NotYet.{AllDefinable, AllImportable, IsNotYet};
-ghost use Rattle.wac_causes.specs.TypeFaults.{HasNoTypeFault};
+ghost use Rattle.wac_graph_model.specs.causes.Cause.{AnswersFor, Cause, cause_of, HasMerge, HasNoConflict, Stands};
+ghost use Rattle.wac_graph_model.specs.causes.OuterNames.{export_names, import_names};
+ghost use Rattle.wac_graph_model.specs.causes.NotYet.{AllDefinable, AllImportable, IsNotYet};
+ghost use Rattle.wac_graph_model.specs.causes.TypeFaults.{HasNoTypeFault};
 ghost use Rattle.wac_edges.specs.Order.{IsAcyclic};
 ghost use Rattle.wac_edges.specs.declared.node.NodeId.{NodeId as AnId};
-ghost use Rattle.wac_nodes.specs.Graph.{node_at, definition};
-ghost use Rattle.wac_nodes.specs.declared.options.EncodeOptions.{EncodeOptions as Asked};
-ghost use Rattle.wac_validation.specs.Valid.{AreValid};
-ghost use Rattle.wac_writing.specs.Refused.{IsRefusedBefore};
+ghost use Rattle.wac_graph_model.specs.nodes.Graph.{node_at, definition};
+ghost use Rattle.wac_graph_model.specs.declared.nodes.options.EncodeOptions.{EncodeOptions as Asked};
+ghost use Rattle.wac_names.specs.validation.Valid.{AreValid};
+ghost use Rattle.wac_graph_reader.specs.private.writing.Refused.{IsRefusedBefore};
 
 use crate::graph::CompositionGraph;
-use wac_builder::ComponentBuilder;
-use wac_causes::EncodeError;
-use wac_encoding::write;
-use wac_importing::WrittenImports;
+use wac_binary::ComponentBuilder;
+use wac_graph_encode::{ImportPlaces, WrittenImports, write};
+use wac_graph_model::{EncodeError, EncodeOptions};
 use wac_merge::TypeAggregator;
 use wac_merge::laws::{class_laws, fault_law, order_law};
-use wac_nodes::EncodeOptions;
-use wac_places::ImportPlaces;
 
 impl CompositionGraph {
     /// Encodes the graph as one component and returns its bytes.

@@ -3,21 +3,21 @@ ghost use Rattle.std.specs.Prelude.{◌≡◌, ◌==◌, ◌↔◌, ℕ, true, I
 ghost use Rattle.std.specs.Option.{option_map};
 ghost use Rattle.slab.specs.Slab.{ContainsKey};
 ghost use Rattle.semver.specs.Identifiers.{parts_of};
-ghost use Rattle.wac_collection.specs.Collection.{IsWellFormed, holds_type, resource_mentions, func_mentions, defined_mentions, with_resource, with_func, with_defined, with_interface, with_world, with_module};
-ghost use Rattle.wac_shapes.specs.Kinds.{kind_type};
-ghost use Rattle.wac_primitives.specs.Name.{Name as AName};
-ghost use Rattle.wac_collection.specs.Package.{HoldsPackage, with_instance_of, package_fault};
-ghost use Rattle.wac_collection.specs.Uses.{AnswersBy, mention_fault, interface_fault, world_fault};
-ghost use Rattle.wac_subtyping.specs.TreeLaws.{GrowthKeepsTrees};
-ghost use Rattle.wac_shapes.specs.declared.component.«Type».TheVariants.{World as world_type};
-ghost use Rattle.wac_nodes.specs.Graph.{node_at, package_at, export_at, import_name, IsRegistered, IsAliasOf, IsSourceOf};
+ghost use Rattle.wac_types_collection.specs.collection.Collection.{IsWellFormed, holds_type, resource_mentions, func_mentions, defined_mentions, with_resource, with_func, with_defined, with_interface, with_world, with_module};
+ghost use Rattle.wac_types_shapes.specs.shapes.Kinds.{kind_type};
+ghost use Rattle.wac_types_shapes.specs.primitives.Name.{Name as AName};
+ghost use Rattle.wac_types_collection.specs.collection.Package.{HoldsPackage, with_instance_of, package_fault};
+ghost use Rattle.wac_types_collection.specs.collection.Uses.{AnswersBy, mention_fault, interface_fault, world_fault};
+ghost use Rattle.wac_types_collection.specs.subtyping.TreeLaws.{GrowthKeepsTrees};
+ghost use Rattle.wac_types_shapes.specs.declared.shapes.component.«Type».TheVariants.{World as world_type};
+ghost use Rattle.wac_graph_model.specs.nodes.Graph.{node_at, package_at, export_at, import_name, IsRegistered, IsAliasOf, IsSourceOf};
 ghost use Rattle.wac_edges.specs.declared.node.NodeId.{NodeId as AnId};
-ghost use Rattle.wac_nodes.specs.Sound.{IsSound};
-ghost use Rattle.wac_nodes.specs.Steps.{IsEmpty, Adds, Registers, Imports, Instantiates, Aliases, SetsArgument, UnsetsArgument, SetsName, Exports, Unexports};
-ghost use Rattle.wac_nodes.specs.TakenOut.{without, taken_at};
-ghost use Rattle.wac_nodes.specs.Nodes.{names_of};
-ghost use Rattle.wac_fields.specs.Renamed.{Renames, with_name, with_export_name};
-ghost use Rattle.wac_plugging.specs.Positions.{HasExport};
+ghost use Rattle.wac_graph_model.specs.nodes.Sound.{IsSound};
+ghost use Rattle.wac_graph_model.specs.nodes.Steps.{IsEmpty, Adds, Registers, Imports, Instantiates, Aliases, SetsArgument, UnsetsArgument, SetsName, Exports, Unexports};
+ghost use Rattle.wac_graph_model.specs.nodes.TakenOut.{without, taken_at};
+ghost use Rattle.wac_graph_model.specs.nodes.Nodes.{names_of};
+ghost use Rattle.wac_graph_fields.specs.private.Renamed.{Renames, with_name, with_export_name};
+ghost use Rattle.wac_graph.specs.private.plugs.Positions.{HasExport};
 
 use indexmap::IndexMap;
 use semver::Version;
@@ -27,9 +27,9 @@ use std::collections::BTreeSet;
 use std::marker::Model;
 use std::ops::Index;
 use wac_edges::edges::{Edge, Edges, Label};
-use wac_encoding::package_in_slots;
-use wac_fields::{Lost, next_id, put_package};
-use wac_nodes::{
+use wac_graph_encode::package_in_slots;
+use wac_graph_fields::{Lost, next_id, put_package};
+use wac_graph_model::{
     AliasError, BorrowedPackageKey, ExportError, ImportError, InstantiationArgumentError, Node,
     NodeId, NodeKind, PackageId, RegisterPackageError, Slot, UnexportError,
 };
@@ -103,7 +103,7 @@ impl Drop for CompositionGraph {
 }
 
 impl Model for CompositionGraph {
-    ghost use Rattle.wac_nodes.specs.Graph.{Graph};
+    ghost use Rattle.wac_graph_model.specs.nodes.Graph.{Graph};
     ghost use Rattle.std.specs.Coded.{codes};
     ghost use Rattle.std.specs.FinMap as map;
 
@@ -111,8 +111,8 @@ impl Model for CompositionGraph {
 
     ghost coded = { Prim.hlevel (codes, map.code) };
 
-    ghost use Rattle.wac_fields.specs.Fields.{graph_of, Invariant};
-    ghost use Rattle.wac_graph.specs.Inside.{fields_of};
+    ghost use Rattle.wac_graph_fields.specs.private.Fields.{graph_of, Invariant};
+    ghost use Rattle.wac_graph.specs.private.Inside.{fields_of};
 
     ghost view = { λ s. graph_of (fields_of s) };
 
@@ -512,7 +512,7 @@ impl CompositionGraph {
 impl Index<NodeId> for CompositionGraph {
     type Output = Node;
 
-    ghost use Rattle.wac_nodes.specs.Gives.{HasNode, GivesNode};
+    ghost use Rattle.wac_graph_model.specs.nodes.Gives.{HasNode, GivesNode};
 
     ghost can_index = { HasNode };
 
@@ -527,7 +527,7 @@ impl Index<NodeId> for CompositionGraph {
 impl Index<PackageId> for CompositionGraph {
     type Output = Package;
 
-    ghost use Rattle.wac_nodes.specs.Gives.{HasPackage, GivesPackage};
+    ghost use Rattle.wac_graph_model.specs.nodes.Gives.{HasPackage, GivesPackage};
 
     ghost can_index = { HasPackage };
 

@@ -1,12 +1,12 @@
 //! The implicit and explicit imports of a graph.
 ghost use Rattle.std.specs.Prelude.{◌≡◌, ◌<◌, ◌-◌, ◌+◌, ◌∷◌, [], IfSome, MatchOption, Some, None};
 ghost use Rattle.wac_edges.specs.Edge.{node_number};
-ghost use Rattle.wac_nodes.specs.Imports.{asked_rows};
-ghost use Rattle.wac_fields.specs.ImportsLeft.{instantiations_left, nodes_left};
+ghost use Rattle.wac_graph_model.specs.nodes.Imports.{asked_rows};
+ghost use Rattle.wac_graph_fields.specs.private.ImportsLeft.{instantiations_left, nodes_left};
 
 use crate::graph::CompositionGraph;
 use std::marker::Model;
-use wac_nodes::NodeId;
+use wac_graph_model::NodeId;
 use wac_types::ItemKind;
 
 /// An iterator over the imports of a graph: name, type, and the node of an explicit import.
@@ -26,10 +26,10 @@ pub struct Imports<'a> {
 
 impl<'a> Model for Imports<'a> {
     ghost use Rattle.std.specs.Prelude.{List, Option};
-    ghost use Rattle.wac_primitives.specs.Name.{Name};
-    ghost use Rattle.wac_shapes.specs.declared.component.ItemKind.{ItemKind};
+    ghost use Rattle.wac_types_shapes.specs.primitives.Name.{Name};
+    ghost use Rattle.wac_types_shapes.specs.declared.shapes.component.ItemKind.{ItemKind};
     ghost use Rattle.wac_edges.specs.declared.node.NodeId.{NodeId};
-    ghost use Rattle.wac_fields.specs.ImportsLeft.{left};
+    ghost use Rattle.wac_graph_fields.specs.private.ImportsLeft.{left};
 
     ghost Value = { List (Name × ItemKind × Option NodeId) };
 

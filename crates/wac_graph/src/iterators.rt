@@ -1,12 +1,12 @@
 //! Iterators over the nodes and packages of a graph.
 ghost use Rattle.std.specs.Prelude.{◌≡◌, ◌<◌, ◌+◌, ◌∷◌, [], IfSome, MatchOption, length};
 ghost use Rattle.wac_graph.specs.Listed.{AreNodes, node_ids, packages};
-ghost use Rattle.wac_graph.specs.Left.{packages_left};
+ghost use Rattle.wac_graph.specs.private.Left.{packages_left};
 
 use crate::graph::CompositionGraph;
 use slab::Iter;
 use std::marker::Model;
-use wac_nodes::{Node, NodeId, PackageId, Slot};
+use wac_graph_model::{Node, NodeId, PackageId, Slot};
 use wac_types::Package;
 
 /// An iterator over the nodes of a graph with their ids. It is returned by [`CompositionGraph::nodes`].
@@ -18,8 +18,8 @@ pub struct Nodes<'a> {
 impl<'a> Model for Nodes<'a> {
     ghost use Rattle.std.specs.Prelude.{List, map};
     ghost use Rattle.wac_edges.specs.declared.node.NodeId.{NodeId};
-    ghost use Rattle.wac_nodes.specs.declared.node.Node.{Node};
-    ghost use Rattle.wac_graph.specs.Left.{with_id};
+    ghost use Rattle.wac_graph_model.specs.declared.nodes.node.Node.{Node};
+    ghost use Rattle.wac_graph.specs.private.Left.{with_id};
 
     ghost Value = { List (NodeId × Node) };
 
@@ -50,7 +50,7 @@ pub struct NodeIds<'a> {
 impl<'a> Model for NodeIds<'a> {
     ghost use Rattle.std.specs.Prelude.{List, map};
     ghost use Rattle.wac_edges.specs.declared.node.NodeId.{NodeId};
-    ghost use Rattle.wac_graph.specs.Left.{id_of};
+    ghost use Rattle.wac_graph.specs.private.Left.{id_of};
 
     ghost Value = { List NodeId };
 
@@ -82,9 +82,9 @@ pub struct Packages<'a> {
 
 impl<'a> Model for Packages<'a> {
     ghost use Rattle.std.specs.Prelude.{List};
-    ghost use Rattle.wac_collection.specs.Package.{PackageParts};
-    ghost use Rattle.wac_nodes.specs.declared.packages.PackageId.{PackageId};
-    ghost use Rattle.wac_graph.specs.Left.{packages_left};
+    ghost use Rattle.wac_types_collection.specs.collection.Package.{PackageParts};
+    ghost use Rattle.wac_graph_model.specs.declared.nodes.packages.PackageId.{PackageId};
+    ghost use Rattle.wac_graph.specs.private.Left.{packages_left};
 
     ghost Value = { List (PackageId × PackageParts) };
 

@@ -43,6 +43,7 @@ mod iterators;
 mod lookups;
 mod merging;
 mod plugging;
+mod plugs;
 mod positions;
 mod removing;
 mod validating;
@@ -50,21 +51,21 @@ mod wanted;
 mod wiring;
 mod writing;
 
+pub use crate::plugs::{PlugError, PlugFault};
 pub use arguments_of::Arguments;
 pub use graph::CompositionGraph;
 pub use imports::Imports;
 pub use iterators::{NodeIds, Nodes, Packages};
 pub use plugging::plug;
-pub use wac_causes::EncodeError;
+pub use wac_graph_model::nodes::laws;
+pub use wac_graph_model::{
+    AliasError, DefineTypeError, EncodeError, EncodeOptions, ExportError, ImportError,
+    InstantiationArgumentError, Node, NodeId, NodeKind, PackageId, Processor, RegisterPackageError,
+    UnexportError, one_export_answer,
+};
 pub use wac_merge::MergeFault;
 pub use wac_names::NameFault;
-pub use wac_nodes::{
-    AliasError, DefineTypeError, EncodeOptions, ExportError, ImportError,
-    InstantiationArgumentError, Node, NodeId, NodeKind, PackageId, Processor, RegisterPackageError,
-    UnexportError, laws, one_export_answer,
-};
-pub use wac_plugging::{PlugError, PlugFault};
+pub use wac_names::validation::ValidationFault;
 pub use wac_scopes::{EncodeFault, WriteFault};
 pub use wac_state::{State, TypeEncoder};
 pub use wac_types as types;
-pub use wac_validation::ValidationFault;

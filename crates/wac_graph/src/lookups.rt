@@ -1,13 +1,13 @@
 //! The graph as encoding reads it.
 ghost use Rattle.std.specs.Prelude.{◌≡◌, ◌∷◌, [], IsSomeAnd, IfSome, MatchOption, None, Some};
 ghost use Rattle.wac_edges.specs.Edge.{node_number};
-ghost use Rattle.wac_fields.specs.ImportsLeft.{node_left};
-ghost use Rattle.wac_nodes.specs.Graph.{node_at, package_at, imports_of, instantiation};
-ghost use Rattle.wac_nodes.specs.Imports.{node_rows};
+ghost use Rattle.wac_graph_fields.specs.private.ImportsLeft.{node_left};
+ghost use Rattle.wac_graph_model.specs.nodes.Graph.{node_at, package_at, imports_of, instantiation};
+ghost use Rattle.wac_graph_model.specs.nodes.Imports.{node_rows};
 
 use crate::graph::CompositionGraph;
-use wac_encoding::GraphReader;
-use wac_nodes::PackageId;
+use wac_graph_encode::GraphReader;
+use wac_graph_model::PackageId;
 use wac_types::{ItemKind, Named, Package};
 
 impl CompositionGraph {

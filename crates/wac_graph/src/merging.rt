@@ -2,25 +2,24 @@
 ghost use Rattle.std.specs.Prelude.{◌≡◌, [], map, IfErr, IfOk, OnOk, string_bytes};
 ghost use Rattle.std.specs.List.{AllByRecursion};
 ghost use Rattle.wac_merge.specs.Aggregate.{IsFault};
-ghost use Rattle.wac_entries.specs.Classes.{by_names};
-ghost use Rattle.wac_terms.specs.Faults.{Disagrees};
-ghost use Rattle.wac_causes.specs.Cause.{HasMerge, HasNoConflict};
-ghost use Rattle.wac_nodes.specs.Entries.{asked_entries, to_merge};
-ghost use Rattle.wac_fields.specs.EntriesLeft.{entry_view, IsHeldKind};
+ghost use Rattle.wac_merge_classes.specs.entries.Classes.{by_names};
+ghost use Rattle.wac_merge_classes.specs.terms.Faults.{Disagrees};
+ghost use Rattle.wac_graph_model.specs.causes.Cause.{HasMerge, HasNoConflict};
+ghost use Rattle.wac_graph_model.specs.nodes.Entries.{asked_entries, to_merge};
+ghost use Rattle.wac_graph_fields.specs.private.EntriesLeft.{entry_view, IsHeldKind};
 ghost use Rattle.wac_edges.specs.Order.{IsAcyclic};
-ghost use Rattle.wac_causes.specs.Search.{IsRefused};
-ghost use Rattle.wac_places.specs.Places.{IsMergedFor};
-ghost use Rattle.wac_reading.specs.Seen.{open_numbers};
-ghost use Rattle.wac_nodes.specs.declared.options.EncodeOptions.{EncodeOptions as Asked};
+ghost use Rattle.wac_graph_model.specs.private.causes.Search.{IsRefused};
+ghost use Rattle.wac_graph_encode.specs.private.places.Places.{IsMergedFor};
+ghost use Rattle.wac_graph_reader.specs.private.reading.Seen.{open_numbers};
+ghost use Rattle.wac_graph_model.specs.declared.nodes.options.EncodeOptions.{EncodeOptions as Asked};
 
 use crate::graph::CompositionGraph;
 use std::alloc::AllocError;
-use wac_causes::EncodeError;
-use wac_fields::AskedEntry;
+use wac_graph_encode::places::exports_law;
+use wac_graph_fields::AskedEntry;
+use wac_graph_model::{EncodeError, NodeId};
 use wac_merge::laws::listed_law;
 use wac_merge::{MergeFault, TypeAggregator};
-use wac_nodes::NodeId;
-use wac_places::exports_law;
 use wac_types::Types;
 
 impl CompositionGraph {

@@ -1,22 +1,22 @@
 //! Plugging components into a socket component.
 ghost use Rattle.std.specs.Prelude.{◌≡◌, ◌⊎◌, ℕ, List, [], Some, IsSome, IfOk, IfErr, IfSome, slice_get, Ok, Err};
-ghost use Rattle.wac_nodes.specs.Graph.{package_at};
-ghost use Rattle.wac_nodes.specs.declared.errors.AliasError.{AliasError as AnAliasFault};
-ghost use Rattle.wac_nodes.specs.declared.errors.ExportError.{ExportError as AnExportFault};
-ghost use Rattle.wac_nodes.specs.declared.errors.InstantiationArgumentError.{InstantiationArgumentError as AFault};
-ghost use Rattle.wac_nodes.specs.declared.packages.PackageId.{PackageId as AnId};
-ghost use Rattle.wac_shapes.specs.Named.{NoNameTwice, names_of};
-ghost use Rattle.wac_plugging.specs.Fitting.{IsNodeOf};
-ghost use Rattle.wac_plugging.specs.Matching.{Match, AreMatchesOf, AreAllMatches, imports_of_package, exports_of_package};
-ghost use Rattle.wac_plugging.specs.Naming.{PlugsNamed, PlugsAllNamed};
-ghost use Rattle.wac_plugging.specs.Outcome.{IsMatchedTwice, IsAlreadyPassed, IsFirstRefused, IsExportRefused};
-ghost use Rattle.wac_plugging.specs.Plugging.{InOrder, PlugsAll, PlugsIn, Keeps, has_any};
-ghost use Rattle.wac_plugging.specs.Tracks.{AreFirsts};
+ghost use Rattle.wac_graph_model.specs.nodes.Graph.{package_at};
+ghost use Rattle.wac_graph_model.specs.declared.nodes.errors.AliasError.{AliasError as AnAliasFault};
+ghost use Rattle.wac_graph_model.specs.declared.nodes.errors.ExportError.{ExportError as AnExportFault};
+ghost use Rattle.wac_graph_model.specs.declared.nodes.errors.InstantiationArgumentError.{InstantiationArgumentError as AFault};
+ghost use Rattle.wac_graph_model.specs.declared.nodes.packages.PackageId.{PackageId as AnId};
+ghost use Rattle.wac_types_shapes.specs.shapes.Named.{NoNameTwice, names_of};
+ghost use Rattle.wac_graph.specs.private.plugs.Fitting.{IsNodeOf};
+ghost use Rattle.wac_graph.specs.plugs.Matching.{Match, AreMatchesOf, AreAllMatches, imports_of_package, exports_of_package};
+ghost use Rattle.wac_graph.specs.private.plugs.Naming.{PlugsNamed, PlugsAllNamed};
+ghost use Rattle.wac_graph.specs.plugs.Outcome.{IsMatchedTwice, IsAlreadyPassed, IsFirstRefused, IsExportRefused};
+ghost use Rattle.wac_graph.specs.plugs.Plugging.{InOrder, PlugsAll, PlugsIn, Keeps, has_any};
+ghost use Rattle.wac_graph.specs.private.plugs.Tracks.{AreFirsts};
 
 use crate::graph::CompositionGraph;
+use crate::plugs::{PlugError, PlugFault, find_matches};
 use crate::wiring::{pass_on_all, plug_in};
-use wac_nodes::{NodeId, PackageId, one_export_answer};
-use wac_plugging::{PlugError, PlugFault, find_matches};
+use wac_graph_model::{NodeId, PackageId, one_export_answer};
 use wac_types::Named;
 
 /// Plugs in one plug. Returns whether any of its exports matches.

@@ -1,16 +1,16 @@
 //! Aliases and arguments by position, without looking up names.
 ghost use Rattle.std.specs.Prelude.{◌≡◌, IsSome, IfOk, IfErr, OnErr, Ok, Err};
-ghost use Rattle.wac_primitives.specs.Name.{Name as AName};
-ghost use Rattle.wac_shapes.specs.declared.component.ItemKind.{ItemKind as AnItem};
-ghost use Rattle.wac_fields.specs.Arguments.{HasImport};
-ghost use Rattle.wac_plugging.specs.Positions.{FitsImport, HasExport, HasNamed};
+ghost use Rattle.wac_types_shapes.specs.primitives.Name.{Name as AName};
+ghost use Rattle.wac_types_shapes.specs.declared.shapes.component.ItemKind.{ItemKind as AnItem};
+ghost use Rattle.wac_graph_fields.specs.private.Arguments.{HasImport};
+ghost use Rattle.wac_graph.specs.private.plugs.Positions.{FitsImport, HasExport, HasNamed};
 ghost use Rattle.wac_edges.specs.declared.node.NodeId.{NodeId as AnId};
-ghost use Rattle.wac_nodes.specs.Graph.{node_at};
-ghost use Rattle.wac_nodes.specs.Steps.{Aliases, SetsArgument};
+ghost use Rattle.wac_graph_model.specs.nodes.Graph.{node_at};
+ghost use Rattle.wac_graph_model.specs.nodes.Steps.{Aliases, SetsArgument};
 
 use crate::graph::CompositionGraph;
 use std::alloc::AllocError;
-use wac_nodes::{InstantiationArgumentError, NodeId, NodeKind};
+use wac_graph_model::{InstantiationArgumentError, NodeId, NodeKind};
 use wac_types::ItemKind;
 
 impl CompositionGraph {

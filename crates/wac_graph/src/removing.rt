@@ -1,14 +1,14 @@
 //! Removing nodes and packages.
 ghost use Rattle.std.specs.Prelude.{IsSome};
-ghost use Rattle.wac_nodes.specs.Graph.{node_at, package_at};
-ghost use Rattle.wac_fields.specs.Removal.{Removes};
-ghost use Rattle.wac_fields.specs.Unregistering.{Unregisters};
-ghost use Rattle.wac_fields.specs.Taking.{AreLeft};
+ghost use Rattle.wac_graph_model.specs.nodes.Graph.{node_at, package_at};
+ghost use Rattle.wac_graph_fields.specs.Removal.{Removes};
+ghost use Rattle.wac_graph_fields.specs.Unregistering.{Unregisters};
+ghost use Rattle.wac_graph_fields.specs.private.Taking.{AreLeft};
 
 use crate::graph::CompositionGraph;
 use indexmap::IndexMap;
-use wac_fields::{take_lost, take_nodes, take_owned, take_owned_exports, take_package};
-use wac_nodes::{NodeId, NodeKind, PackageId};
+use wac_graph_fields::{take_lost, take_nodes, take_owned, take_owned_exports, take_package};
+use wac_graph_model::{NodeId, NodeKind, PackageId};
 
 impl CompositionGraph {
     /// Removes a node and all that depends on it: its aliases, its dependent definitions, and what depends on these.

@@ -1,17 +1,16 @@
 //! Validation of the names of imports and exports.
 ghost use Rattle.std.specs.Prelude.{◌≡◌, true, IfErr, IsTrue, OnOk};
-ghost use Rattle.wac_causes.specs.OuterNames.{written_exports};
-ghost use Rattle.wac_causes.specs.Search.{NamesFault};
-ghost use Rattle.wac_validation.specs.FirstFault.{Fault, IsFirstFault};
-ghost use Rattle.wac_validation.specs.Valid.{AreValid};
-ghost use Rattle.wac_places.specs.Places.{names_of};
+ghost use Rattle.wac_graph_model.specs.causes.OuterNames.{written_exports};
+ghost use Rattle.wac_graph_model.specs.private.causes.Search.{NamesFault};
+ghost use Rattle.wac_names.specs.validation.FirstFault.{Fault, IsFirstFault};
+ghost use Rattle.wac_names.specs.validation.Valid.{AreValid};
+ghost use Rattle.wac_graph_encode.specs.private.places.Places.{names_of};
 
 use crate::graph::CompositionGraph;
-use wac_causes::EncodeError;
+use wac_graph_encode::import_names;
+use wac_graph_model::{EncodeError, NodeId};
 use wac_merge::TypeAggregator;
-use wac_nodes::NodeId;
-use wac_places::import_names;
-use wac_validation::{one_answer, validate};
+use wac_names::validation::{one_answer, validate};
 
 impl CompositionGraph {
     /// Checks that the names of the component's imports and exports are valid together, if `asked` is true.

@@ -1,23 +1,22 @@
 //! Whether the types that nodes need have an encoding.
 ghost use Rattle.std.specs.Prelude.{◌≡◌, ◌++◌, [], false, map, IfErr, IfOk, IsSomeAnd, OnOk};
-ghost use Rattle.wac_fields.specs.EntriesLeft.{entry_view, entries_of, IsRight, IsHeldKind, AreSettled, AsksAlike, all_with_used};
-ghost use Rattle.wac_causes.specs.Cause.{HasMerge, HasNoConflict};
-ghost use Rattle.wac_causes.specs.Search.{IsRefused};
-ghost use Rattle.wac_causes.specs.TypeFaults.{wanted_at, wanted_entries as wanted_of, role_of, role_of_kind, IsEntryFault, HasNoTypeFault};
+ghost use Rattle.wac_graph_fields.specs.private.EntriesLeft.{entry_view, entries_of, IsRight, IsHeldKind, AreSettled, AsksAlike, all_with_used};
+ghost use Rattle.wac_graph_model.specs.causes.Cause.{HasMerge, HasNoConflict};
+ghost use Rattle.wac_graph_model.specs.private.causes.Search.{IsRefused};
+ghost use Rattle.wac_graph_model.specs.causes.TypeFaults.{wanted_at, wanted_entries as wanted_of, role_of, role_of_kind, IsEntryFault, HasNoTypeFault};
 ghost use Rattle.wac_edges.specs.Edge.{node_number};
 ghost use Rattle.wac_edges.specs.Order.{IsAcyclic};
 ghost use Rattle.wac_edges.specs.declared.node.NodeId.{NodeId as AnId};
-ghost use Rattle.wac_nodes.specs.Entries.{asked_entries};
-ghost use Rattle.wac_nodes.specs.Graph.{node_at, definition};
-ghost use Rattle.wac_nodes.specs.Nodes.{kind_of};
-ghost use Rattle.wac_nodes.specs.declared.options.EncodeOptions.{EncodeOptions as Asked};
+ghost use Rattle.wac_graph_model.specs.nodes.Entries.{asked_entries};
+ghost use Rattle.wac_graph_model.specs.nodes.Graph.{node_at, definition};
+ghost use Rattle.wac_graph_model.specs.nodes.Nodes.{kind_of};
+ghost use Rattle.wac_graph_model.specs.declared.nodes.options.EncodeOptions.{EncodeOptions as Asked};
 ghost use Rattle.wac_writable.specs.Faults.{IsLowest};
 
 use crate::graph::CompositionGraph;
 use std::alloc::AllocError;
-use wac_causes::EncodeError;
-use wac_fields::{AskedEntry, Asking};
-use wac_nodes::{NodeId, NodeKind};
+use wac_graph_fields::{AskedEntry, Asking};
+use wac_graph_model::{EncodeError, NodeId, NodeKind};
 use wac_scopes::WriteFault;
 use wac_writable::{Role, lowest_fault};
 

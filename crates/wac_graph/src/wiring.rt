@@ -1,20 +1,20 @@
 //! The changes of a graph by plugging.
 ghost use Rattle.std.specs.Prelude.{◌≡◌, true, IsSome, OnOk};
-ghost use Rattle.wac_collection.specs.Collection.{holds_type, world_exports};
-ghost use Rattle.wac_shapes.specs.Named.{NoNameTwice, names_of};
-ghost use Rattle.wac_shapes.specs.declared.component.«Type».TheVariants.{World as world_type};
-ghost use Rattle.wac_nodes.specs.Graph.{node_at, package_at};
-ghost use Rattle.wac_nodes.specs.Steps.{Instantiates};
-ghost use Rattle.wac_plugging.specs.Fitting.{AllFit, IsPair, node_imports};
-ghost use Rattle.wac_plugging.specs.Matching.{Match, exports_of_package};
-ghost use Rattle.wac_plugging.specs.Pairs.{matches_at, AreWithin};
-ghost use Rattle.wac_plugging.specs.Plugging.{InOrder, Wires, PlugsIn, PassesOn, Keeps};
+ghost use Rattle.wac_types_collection.specs.collection.Collection.{holds_type, world_exports};
+ghost use Rattle.wac_types_shapes.specs.shapes.Named.{NoNameTwice, names_of};
+ghost use Rattle.wac_types_shapes.specs.declared.shapes.component.«Type».TheVariants.{World as world_type};
+ghost use Rattle.wac_graph_model.specs.nodes.Graph.{node_at, package_at};
+ghost use Rattle.wac_graph_model.specs.nodes.Steps.{Instantiates};
+ghost use Rattle.wac_graph.specs.private.plugs.Fitting.{AllFit, IsPair, node_imports};
+ghost use Rattle.wac_graph.specs.plugs.Matching.{Match, exports_of_package};
+ghost use Rattle.wac_graph.specs.private.plugs.Pairs.{matches_at, AreWithin};
+ghost use Rattle.wac_graph.specs.plugs.Plugging.{InOrder, Wires, PlugsIn, PassesOn, Keeps};
 
 use crate::graph::CompositionGraph;
+use crate::plugs::{Pair, PlugError};
 use crate::positions::{alias_export_at, set_argument_at};
 use std::alloc::AllocError;
-use wac_nodes::{NodeId, PackageId};
-use wac_plugging::{Pair, PlugError};
+use wac_graph_model::{NodeId, PackageId};
 use wac_types::WorldId;
 
 impl CompositionGraph {

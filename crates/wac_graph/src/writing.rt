@@ -1,14 +1,14 @@
 //! Writing the graph's imports.
 ghost use Rattle.std.specs.Prelude.{◌≡◌, ◌⊎◌, IfErr, IfNone, IfOk, IfSome};
-ghost use Rattle.wac_causes.specs.NotYet.{AllImportable};
-ghost use Rattle.wac_causes.specs.declared.errors.EncodeError.TheVariants as error;
-ghost use Rattle.wac_meaning.specs.Beginning.{Begins};
-ghost use Rattle.wac_meaning.specs.MergedImports.{merged_imports, AreOfSorts};
-ghost use Rattle.wac_places.specs.Places.{IsMergedFor};
+ghost use Rattle.wac_graph_model.specs.causes.NotYet.{AllImportable};
+ghost use Rattle.wac_graph_model.specs.declared.causes.errors.EncodeError.TheVariants as error;
+ghost use Rattle.wac_graph_model.specs.private.meaning.Beginning.{Begins};
+ghost use Rattle.wac_graph_model.specs.private.meaning.MergedImports.{merged_imports, AreOfSorts};
+ghost use Rattle.wac_graph_encode.specs.private.places.Places.{IsMergedFor};
 
 use crate::graph::CompositionGraph;
-use wac_causes::EncodeError;
-use wac_importing::{WrittenImports, write_imports};
+use wac_graph_encode::{WrittenImports, write_imports};
+use wac_graph_model::EncodeError;
 use wac_merge::TypeAggregator;
 use wac_merge::laws::{class_laws, order_law};
 

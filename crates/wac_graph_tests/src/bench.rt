@@ -1,20 +1,19 @@
 // Calls on a graph as the rows of a table, each with what it answers.
 ghost use Rattle.std.specs.Prelude.{IsSome};
-ghost use Rattle.wac_nodes.specs.Graph.{node_at};
+ghost use Rattle.wac_graph_model.specs.nodes.Graph.{node_at};
 
 use crate::parts::{self, encode, function, instance, package_name};
 use std::alloc::{AllocError, Global};
 use std::fmt::Display;
 use std::process::Abort;
-use wac_causes::EncodeError;
 use wac_graph::CompositionGraph;
+use wac_graph_model::{EncodeError, EncodeOptions, NodeId, NodeKind, PackageId, Processor};
 use wac_merge::MergeFault;
-use wac_nodes::{EncodeOptions, NodeId, NodeKind, PackageId, Processor};
+use wac_names::validation::ValidationFault;
 use wac_types::{
     CoreExtern, CoreFuncType, DefinedType, Enum, ItemKind, ModuleType, PrimitiveType, Type,
     ValueType, WorldId,
 };
-use wac_validation::ValidationFault;
 
 const PREAMBLE: &str = "0061736d0d000100";
 

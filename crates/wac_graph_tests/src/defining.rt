@@ -11,7 +11,7 @@ use crate::tables::Want::{Parts, Text, Unexportable};
 use crate::tables::{Calls, Case, Made, Row};
 use std::process::Abort;
 use wac_graph::CompositionGraph;
-use wac_nodes::{DefineTypeError, EncodeOptions, NodeId};
+use wac_graph_model::{DefineTypeError, EncodeOptions, NodeId};
 use wac_types::Type;
 
 /// Defines a type. Where memory was refused nothing changed: made again the call answers as if it had not been refused.

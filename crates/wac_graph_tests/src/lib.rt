@@ -13,6 +13,7 @@ mod bench;
 mod defining;
 #[cfg(test)]
 mod encoding;
+mod examples;
 #[cfg(test)]
 mod imported;
 #[cfg(test)]

@@ -1,8 +1,8 @@
 // Names of imports and exports, each with the fault that it is refused by.
 use crate::parts::{assert_row, export, function, import};
 use wac_graph::CompositionGraph;
+use wac_graph_model::{ExportError, ImportError, NodeId};
 use wac_names::NameFault;
-use wac_nodes::{ExportError, ImportError, NodeId};
 
 const IMPORTS: &[(&str, NameFault)] = &[
     ("", NameFault::Empty),

@@ -3,7 +3,7 @@ use crate::parts::register;
 use semver::Version;
 use std::process::Abort;
 use wac_graph::CompositionGraph;
-use wac_nodes::PackageId;
+use wac_graph_model::PackageId;
 
 // The package that is found, which has the name that is asked for.
 fn found(

@@ -3,11 +3,10 @@ use semver::Version;
 use std::alloc::{AllocError, Global};
 use std::fmt::Display;
 use std::process::Abort;
-use wac_causes::EncodeError;
 use wac_graph::CompositionGraph;
-use wac_nodes::{
-    DefineTypeError, EncodeOptions, ExportError, ImportError, InstantiationArgumentError, NodeId,
-    PackageId, RegisterPackageError, UnexportError,
+use wac_graph_model::{
+    DefineTypeError, EncodeError, EncodeOptions, ExportError, ImportError,
+    InstantiationArgumentError, NodeId, PackageId, RegisterPackageError, UnexportError,
 };
 use wac_types::{
     DefinedType, FuncType, Interface, InterfaceId, ItemKind, ModuleType, Type, ValueType, World,

@@ -1,14 +1,14 @@
 // Sockets and plugs as the rows of a table, each with what `plug` answers and which nodes it makes.
 ghost use Rattle.std.specs.Prelude.{◌≡◌, ℕ, Some, IsSome, slice_get};
-ghost use Rattle.wac_nodes.specs.Graph.{package_at};
-ghost use Rattle.wac_nodes.specs.declared.packages.PackageId.{PackageId as AnId};
+ghost use Rattle.wac_graph_model.specs.nodes.Graph.{package_at};
+ghost use Rattle.wac_graph_model.specs.declared.nodes.packages.PackageId.{PackageId as AnId};
 
 use crate::parts::{assert_displayed, assert_row, package_name};
 use crate::tables::Row::{Func, Instance};
 use crate::tables::{Item, Made, Row, Want, assert_encoded};
 use std::process::Abort;
 use wac_graph::{CompositionGraph, PlugError, PlugFault, plug};
-use wac_nodes::{ExportError, Node, NodeKind, PackageId};
+use wac_graph_model::{ExportError, Node, NodeKind, PackageId};
 
 // The second of two plugs.
 #[derive(Clone, Copy)]

@@ -8,15 +8,14 @@ use crate::redefined::REDEFINED;
 use crate::writable::{DEPENDENCIES, WRITABLE};
 use std::alloc::Global;
 use std::process::Abort;
-use wac_causes::EncodeError;
 use wac_graph::CompositionGraph;
-use wac_nodes::{EncodeOptions, NodeId, PackageId};
+use wac_graph_model::{EncodeError, EncodeOptions, NodeId, PackageId};
+use wac_names::validation::ValidationFault;
 use wac_scopes::WriteFault;
 use wac_types::{
     DefinedType, Enum, InterfaceId, ItemKind, ModuleType, PrimitiveType, Record, Resource,
     ResourceId, Type, ValueType,
 };
-use wac_validation::ValidationFault;
 
 const PREAMBLE: &str = "0061736d0d000100";
 

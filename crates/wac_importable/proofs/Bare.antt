@@ -3,24 +3,24 @@ use Rattle.std.proofs.Common.{◌≡◌, ℕ, zero, suc, true, List, [], ◌∷�
 use Rattle.std.proofs.Math.Path.{fun_ext}
 use Rattle.std.specs.Prelude.{slice_get, length}
 use Rattle.std.specs.List.{AllByRecursion}
-use Rattle.wac_primitives.specs.Name.{Name, option_case}
-use Rattle.wac_shapes.specs.declared.component.DefinedType.{DefinedType}
-use Rattle.wac_shapes.specs.declared.component.DefinedType.TheVariants as def
-use Rattle.wac_shapes.specs.declared.component.ValueType.{ValueType}
-use Rattle.wac_shapes.specs.declared.component.ValueType.TheVariants as val
-use Rattle.wac_shapes.specs.declared.component.«Type».TheVariants as ty
-use Rattle.wac_collection.specs.declared.collection.Held.{Held}
-use Rattle.wac_primitives.specs.Tree.{Leaf, TypeTree, Tree, absent, primitive, record_of, variant_of, list_of, fixed_list_of, tuple_of, flags_of, enum_of, option_of, result_of, stream_of, future_of, function, moved}
-use Rattle.wac_collection.specs.Collection.{Collection, IsWellFormed, IsValueBefore, AreBefore, AddedBefore, size, value_types, defined_values, holds_value}
-use Rattle.wac_collection.specs.Aliases.{target_of, value_resolved, value_resolved_in}
-use Rattle.wac_collection.specs.Held.{part_at, option_tree, defined_tree, of_held, step}
-use Rattle.wac_collection.specs.Bound.{Bindings, by_place, held_tree}
-use Rattle.wac_subtyping.specs.Subtype.{type_tree}
-use Rattle.wac_collection.proofs.Growth.{type_within, value_more, type_before}
-use Rattle.wac_subtyping.proofs.Unfolding.{defined_same, unfolded_step, unfolded_is}
-use Rattle.wac_subtyping.proofs.Trees.{aliases_agree}
+use Rattle.wac_types_shapes.specs.primitives.Name.{Name, option_case}
+use Rattle.wac_types_shapes.specs.declared.shapes.component.DefinedType.{DefinedType}
+use Rattle.wac_types_shapes.specs.declared.shapes.component.DefinedType.TheVariants as def
+use Rattle.wac_types_shapes.specs.declared.shapes.component.ValueType.{ValueType}
+use Rattle.wac_types_shapes.specs.declared.shapes.component.ValueType.TheVariants as val
+use Rattle.wac_types_shapes.specs.declared.shapes.component.«Type».TheVariants as ty
+use Rattle.wac_types_collection.specs.declared.collection.collection.Held.{Held}
+use Rattle.wac_types_shapes.specs.primitives.Tree.{Leaf, TypeTree, Tree, absent, primitive, record_of, variant_of, list_of, fixed_list_of, tuple_of, flags_of, enum_of, option_of, result_of, stream_of, future_of, function, moved}
+use Rattle.wac_types_collection.specs.collection.Collection.{Collection, IsWellFormed, IsValueBefore, AreBefore, AddedBefore, size, value_types, defined_values, holds_value}
+use Rattle.wac_types_collection.specs.collection.Aliases.{target_of, value_resolved, value_resolved_in}
+use Rattle.wac_types_collection.specs.collection.Held.{part_at, option_tree, defined_tree, of_held, step}
+use Rattle.wac_types_collection.specs.collection.Bound.{Bindings, by_place, held_tree}
+use Rattle.wac_types_collection.specs.subtyping.Subtype.{type_tree}
+use Rattle.wac_types_collection.proofs.lemmas.collection.Growth.{type_within, value_more, type_before}
+use Rattle.wac_types_collection.proofs.lemmas.subtyping.Unfolding.{defined_same, unfolded_step, unfolded_is}
+use Rattle.wac_types_collection.proofs.lemmas.subtyping.Trees.{aliases_agree}
 use Rattle.wac_stacks.specs.Good.{IsHeld}
-use Rattle.wac_meaning.specs.Importable.{HasNoHandle}
+use Rattle.wac_graph_model.specs.meaning.Importable.{HasNoHandle}
 use Rattle.wac_importable.proofs.Handles.{tree, Free, free_defined, own_handle, borrow_handle, value_step}
 
 -- the tree of a value type or a function type, but for resources

@@ -1,17 +1,17 @@
 -- A type that is defined so far is no fault to the writer of definitions, and what it writes defines the type.
 use Rattle.std.proofs.Common.{◌≡◌, ℕ, true, List, [], ◌∷◌, refl, ap, ◌∙◌, sym, subst, Option, Some, None}
 use Rattle.std.specs.List.{AllByRecursion}
-use Rattle.wac_primitives.specs.Name.{Name}
-use Rattle.wac_shapes.specs.declared.component.InterfaceId.{InterfaceId}
-use Rattle.wac_shapes.specs.declared.component.ItemKind.TheVariants as kind
-use Rattle.wac_shapes.specs.declared.component.ValueType.{ValueType}
-use Rattle.wac_shapes.specs.declared.component.ValueType.TheVariants as val
-use Rattle.wac_shapes.specs.declared.component.WorldId.{WorldId}
-use Rattle.wac_shapes.specs.declared.component.«Type».{«Type» as AnyType}
-use Rattle.wac_shapes.specs.declared.component.«Type».TheVariants as ty
-use Rattle.wac_primitives.specs.Tree.{Tree}
-use Rattle.wac_collection.specs.Aliases.{value_resolved}
-use Rattle.wac_collection.specs.Collection.{Collection, IsWellFormed, holds_type}
+use Rattle.wac_types_shapes.specs.primitives.Name.{Name}
+use Rattle.wac_types_shapes.specs.declared.shapes.component.InterfaceId.{InterfaceId}
+use Rattle.wac_types_shapes.specs.declared.shapes.component.ItemKind.TheVariants as kind
+use Rattle.wac_types_shapes.specs.declared.shapes.component.ValueType.{ValueType}
+use Rattle.wac_types_shapes.specs.declared.shapes.component.ValueType.TheVariants as val
+use Rattle.wac_types_shapes.specs.declared.shapes.component.WorldId.{WorldId}
+use Rattle.wac_types_shapes.specs.declared.shapes.component.«Type».{«Type» as AnyType}
+use Rattle.wac_types_shapes.specs.declared.shapes.component.«Type».TheVariants as ty
+use Rattle.wac_types_shapes.specs.primitives.Tree.{Tree}
+use Rattle.wac_types_collection.specs.collection.Aliases.{value_resolved}
+use Rattle.wac_types_collection.specs.collection.Collection.{Collection, IsWellFormed, holds_type}
 use Rattle.wac_binary.specs.declared.sorts.Sort.TheVariants as sort
 use Rattle.wac_binary.specs.Items.{Item, type_item, alias_item, export_alias}
 use Rattle.wac_binary.specs.Meaning.{written}
@@ -24,9 +24,9 @@ use Rattle.wac_sorting.specs.declared.worlds.Worlds.{Worlds}
 use Rattle.wac_root.specs.Importing.{IsImportedOnce, NamesImportedValue}
 use Rattle.wac_root.specs.Defining.{defined_thing, NamesDefinition, WritesDefinition, WritesOnce, IsDefinitionFault}
 use Rattle.wac_root.specs.Defining.{IsDefinable as IsWritable}
-use Rattle.wac_meaning.specs.Definition.{definition_tree}
-use Rattle.wac_meaning.specs.Importable.{IsDefinableKind}
-use Rattle.wac_meaning.specs.Writing.{IsTypeAlone}
+use Rattle.wac_graph_model.specs.meaning.Definition.{definition_tree}
+use Rattle.wac_graph_model.specs.meaning.Importable.{IsDefinableKind}
+use Rattle.wac_graph_model.specs.private.meaning.Writing.{IsTypeAlone}
 use Rattle.wac_importable.specs.Defined.{definition_thing, DefinesType}
 use Rattle.wac_importable.specs.Looked.{IsOfValues}
 use Rattle.wac_importable.specs.Holders.{IsAhead}

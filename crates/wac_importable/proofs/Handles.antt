@@ -2,33 +2,33 @@
 use Rattle.std.proofs.Common.{◌≡◌, ℕ, zero, suc, true, List, [], ◌∷◌, map, refl, ap, ◌∙◌, sym, subst, arith, Option, Some, None, inl, inr}
 use Rattle.std.specs.Prelude.{length, nat_lt, slice_get}
 use Rattle.std.specs.List.{AllByRecursion}
-use Rattle.wac_primitives.specs.Name.{Name, option_case}
-use Rattle.wac_shapes.specs.declared.component.DefinedType.{DefinedType}
-use Rattle.wac_shapes.specs.declared.component.DefinedType.TheVariants as def
-use Rattle.wac_shapes.specs.declared.component.FuncType.{FuncType}
-use Rattle.wac_shapes.specs.declared.component.FuncTypeId.{FuncTypeId}
-use Rattle.wac_shapes.specs.declared.component.Resource.{Resource}
-use Rattle.wac_shapes.specs.declared.component.ResourceId.{ResourceId}
-use Rattle.wac_shapes.specs.declared.component.ValueType.{ValueType}
-use Rattle.wac_shapes.specs.declared.component.ValueType.TheVariants as val
-use Rattle.wac_shapes.specs.declared.component.«Type».{«Type» as AnyType}
-use Rattle.wac_shapes.specs.declared.component.«Type».TheVariants as ty
-use Rattle.wac_collection.specs.declared.collection.Held.{Held}
-use Rattle.wac_primitives.specs.Tree.{TypeTree, absent, own, borrow, type_equal}
-use Rattle.wac_collection.specs.Collection.{Collection, IsWellFormed, IsValueBefore, AreBefore, AddedBefore, size, seconds, and_maybe, case_values, func_values, defined_values, value_types, func_mentions, defined_mentions, holds_type, holds_value, item_at, item_of}
-use Rattle.wac_collection.specs.Aliases.{target_of, value_resolved, value_resolved_in}
-use Rattle.wac_collection.specs.Held.{resolved, part_at, option_tree, defined_tree, func_tree, of_held, step, unfolded}
-use Rattle.wac_collection.proofs.Ends.{end_is_held}
-use Rattle.wac_subtyping.specs.Subtype.{by_name, held_name, resource_names, type_tree}
-use Rattle.wac_collection.proofs.Growth.{map_all, type_within, value_more, type_before}
-use Rattle.wac_subtyping.proofs.Unfolding.{unfolded_step, unfolded_is}
-use Rattle.wac_subtyping.proofs.Trees.{aliases_agree, resolved_held}
-use Rattle.wac_reach.specs.Reach.{IsIn, mentions, Reaches, at_once, further}
-use Rattle.wac_reach.proofs.Reaching.{mentioned_held}
+use Rattle.wac_types_shapes.specs.primitives.Name.{Name, option_case}
+use Rattle.wac_types_shapes.specs.declared.shapes.component.DefinedType.{DefinedType}
+use Rattle.wac_types_shapes.specs.declared.shapes.component.DefinedType.TheVariants as def
+use Rattle.wac_types_shapes.specs.declared.shapes.component.FuncType.{FuncType}
+use Rattle.wac_types_shapes.specs.declared.shapes.component.FuncTypeId.{FuncTypeId}
+use Rattle.wac_types_shapes.specs.declared.shapes.component.Resource.{Resource}
+use Rattle.wac_types_shapes.specs.declared.shapes.component.ResourceId.{ResourceId}
+use Rattle.wac_types_shapes.specs.declared.shapes.component.ValueType.{ValueType}
+use Rattle.wac_types_shapes.specs.declared.shapes.component.ValueType.TheVariants as val
+use Rattle.wac_types_shapes.specs.declared.shapes.component.«Type».{«Type» as AnyType}
+use Rattle.wac_types_shapes.specs.declared.shapes.component.«Type».TheVariants as ty
+use Rattle.wac_types_collection.specs.declared.collection.collection.Held.{Held}
+use Rattle.wac_types_shapes.specs.primitives.Tree.{TypeTree, absent, own, borrow, type_equal}
+use Rattle.wac_types_collection.specs.collection.Collection.{Collection, IsWellFormed, IsValueBefore, AreBefore, AddedBefore, size, seconds, and_maybe, case_values, func_values, defined_values, value_types, func_mentions, defined_mentions, holds_type, holds_value, item_at, item_of}
+use Rattle.wac_types_collection.specs.collection.Aliases.{target_of, value_resolved, value_resolved_in}
+use Rattle.wac_types_collection.specs.collection.Held.{resolved, part_at, option_tree, defined_tree, func_tree, of_held, step, unfolded}
+use Rattle.wac_types_collection.proofs.lemmas.collection.Ends.{end_is_held}
+use Rattle.wac_types_collection.specs.subtyping.Subtype.{by_name, held_name, resource_names, type_tree}
+use Rattle.wac_types_collection.proofs.lemmas.collection.Growth.{map_all, type_within, value_more, type_before}
+use Rattle.wac_types_collection.proofs.lemmas.subtyping.Unfolding.{unfolded_step, unfolded_is}
+use Rattle.wac_types_collection.proofs.lemmas.subtyping.Trees.{aliases_agree, resolved_held}
+use Rattle.wac_types_collection.specs.reach.Reach.{IsIn, mentions, Reaches, at_once, further}
+use Rattle.wac_types_collection.proofs.lemmas.reach.Reaching.{mentioned_held}
 use Rattle.wac_listing.specs.Made.{MadeOf, itself, part}
 use Rattle.wac_listing.proofs.Reached.{part-in}
 use Rattle.wac_defining.specs.Written.{IsHandle, HasHandle, PartOf, IsOfFunc}
-use Rattle.wac_meaning.specs.Importable.{HasNoHandle, IsDefinable}
+use Rattle.wac_graph_model.specs.meaning.Importable.{HasNoHandle, IsDefinable}
 use Rattle.wac_importable.specs.Looked.{IsOfValues}
 
 pub there_free : {L : Type 0} (t : TypeTree L) → IsDefinable (type_equal t) → HasNoHandle t

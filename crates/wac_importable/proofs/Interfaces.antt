@@ -2,24 +2,24 @@
 use Rattle.std.proofs.Common.{◌≡◌, ◌≤◌, ℕ, zero, suc, true, false, length, List, [], ◌∷◌, refl, ap, ◌∙◌, sym, subst, Option, Some, None, IsSome}
 use Rattle.std.specs.Prelude.{slice_get}
 use Rattle.std.proofs.Math.Path.{fun_ext}
-use Rattle.wac_primitives.specs.Name.{Name, option_case}
-use Rattle.wac_shapes.specs.declared.component.Interface.{Interface}
-use Rattle.wac_shapes.specs.declared.component.InterfaceId.{InterfaceId}
-use Rattle.wac_shapes.specs.declared.component.ItemKind.{ItemKind}
-use Rattle.wac_shapes.specs.declared.component.ItemKind.TheVariants as kind
-use Rattle.wac_shapes.specs.declared.component.«Type».TheVariants as ty
-use Rattle.wac_primitives.specs.Tree.{Leaf, Tree, absent, imported, exported, component, instance_item}
-use Rattle.wac_collection.specs.Collection.{Collection, IsWellFormed, item_at}
-use Rattle.wac_collection.specs.Held.{items_under}
-use Rattle.wac_collection.specs.Bound.{Bindings, first_bound, held_tree}
+use Rattle.wac_types_shapes.specs.primitives.Name.{Name, option_case}
+use Rattle.wac_types_shapes.specs.declared.shapes.component.Interface.{Interface}
+use Rattle.wac_types_shapes.specs.declared.shapes.component.InterfaceId.{InterfaceId}
+use Rattle.wac_types_shapes.specs.declared.shapes.component.ItemKind.{ItemKind}
+use Rattle.wac_types_shapes.specs.declared.shapes.component.ItemKind.TheVariants as kind
+use Rattle.wac_types_shapes.specs.declared.shapes.component.«Type».TheVariants as ty
+use Rattle.wac_types_shapes.specs.primitives.Tree.{Leaf, Tree, absent, imported, exported, component, instance_item}
+use Rattle.wac_types_collection.specs.collection.Collection.{Collection, IsWellFormed, item_at}
+use Rattle.wac_types_collection.specs.collection.Held.{items_under}
+use Rattle.wac_types_collection.specs.collection.Bound.{Bindings, first_bound, held_tree}
 use Rattle.wac_scopes.specs.declared.fault.WriteFault.{WriteFault}
 use Rattle.wac_stacks.specs.Good.{nothing_bound}
 use Rattle.wac_root.specs.Components.{held_under_id, component_tree}
 use Rattle.wac_root.specs.Defining.{IsDefinitionFault}
 use Rattle.wac_root.specs.Defining.{IsDefinable as IsWritable}
-use Rattle.wac_nodes.specs.Entries.{under_id}
-use Rattle.wac_meaning.specs.Definition.{definition_tree, uses_of, reached_to, reached, as_imports, listed, cut_imports}
-use Rattle.wac_meaning.specs.Importable.{IsPlainTo, IsDefinableKind}
+use Rattle.wac_graph_model.specs.nodes.Entries.{under_id}
+use Rattle.wac_graph_model.specs.meaning.Definition.{definition_tree, uses_of, reached_to, reached, as_imports, listed, cut_imports}
+use Rattle.wac_graph_model.specs.meaning.Importable.{IsPlainTo, IsDefinableKind}
 use Rattle.wac_sorting.specs.declared.worlds.Worlds.{Worlds}
 use Rattle.wac_worlds.specs.Nested.{AllWritten}
 use Rattle.wac_worlds.proofs.Each.{none-long}

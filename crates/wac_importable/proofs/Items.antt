@@ -1,32 +1,32 @@
 -- Which items are plain, and which are imported so far.
 use Rattle.std.proofs.Common.{◌≡◌, ℕ, zero, suc, Bool, true, false, cond, List, [], ◌∷◌, refl, ap, ◌∙◌, sym, subst, Option, Some, None, ◌⊎◌, inl, inr}
 use Rattle.std.specs.Prelude.{slice_get}
-use Rattle.wac_primitives.specs.Name.{Name, same_name, find_name, option_case}
-use Rattle.wac_shapes.specs.Named.{NoNameTwice}
-use Rattle.wac_shapes.proofs.Names.{same_name-true, same_name-refl, found_at}
-use Rattle.wac_shapes.specs.declared.component.FuncType.{FuncType}
-use Rattle.wac_shapes.specs.declared.component.FuncTypeId.{FuncTypeId}
-use Rattle.wac_shapes.specs.declared.component.Interface.{Interface}
-use Rattle.wac_shapes.specs.declared.component.InterfaceId.{InterfaceId}
-use Rattle.wac_shapes.specs.declared.component.ItemKind.{ItemKind}
-use Rattle.wac_shapes.specs.declared.component.ItemKind.TheVariants as kind
-use Rattle.wac_shapes.specs.declared.component.ModuleTypeId.{ModuleTypeId}
-use Rattle.wac_shapes.specs.declared.core_types.ModuleType.{ModuleType}
-use Rattle.wac_shapes.specs.declared.component.ValueType.{ValueType}
-use Rattle.wac_shapes.specs.declared.component.World.{World}
-use Rattle.wac_shapes.specs.declared.component.WorldId.{WorldId}
-use Rattle.wac_shapes.specs.declared.component.«Type».{«Type» as AnyType}
-use Rattle.wac_shapes.specs.declared.component.«Type».TheVariants as ty
-use Rattle.wac_collection.specs.declared.collection.Held.{Held}
-use Rattle.wac_primitives.specs.Tree.{TypeTree, absent, resource, instance, component, type_equal, instance_item, component_item, module_item}
-use Rattle.wac_collection.specs.Collection.{Collection, IsWellFormed, AddedBefore, size, holds_type, item_at, item_of}
-use Rattle.wac_collection.specs.Held.{resolved, func_tree, interface_tree, world_tree, module_tree, of_held, unfolded}
-use Rattle.wac_subtyping.specs.Subtype.{IsPlain, by_name, resource_names, type_tree, kind_tree, listed_in}
-use Rattle.wac_collection.proofs.Growth.{type_before}
-use Rattle.wac_subtyping.proofs.Unfolding.{unfolded_step, type_step, held_item}
-use Rattle.wac_comparison.proofs.Subtyping.{func_plain}
-use Rattle.wac_comparison.proofs.Values.{value_plain as value_tree_plain}
-use Rattle.wac_meaning.specs.Importable.{HasNoHandle, IsPlainItem, IsPlainWhereThere, IsImportable, IsImportableKind, IsDefinable, IsDefinableKind}
+use Rattle.wac_types_shapes.specs.primitives.Name.{Name, same_name, find_name, option_case}
+use Rattle.wac_types_shapes.specs.shapes.Named.{NoNameTwice}
+use Rattle.wac_types_shapes.proofs.lemmas.shapes.Names.{same_name-true, same_name-refl, found_at}
+use Rattle.wac_types_shapes.specs.declared.shapes.component.FuncType.{FuncType}
+use Rattle.wac_types_shapes.specs.declared.shapes.component.FuncTypeId.{FuncTypeId}
+use Rattle.wac_types_shapes.specs.declared.shapes.component.Interface.{Interface}
+use Rattle.wac_types_shapes.specs.declared.shapes.component.InterfaceId.{InterfaceId}
+use Rattle.wac_types_shapes.specs.declared.shapes.component.ItemKind.{ItemKind}
+use Rattle.wac_types_shapes.specs.declared.shapes.component.ItemKind.TheVariants as kind
+use Rattle.wac_types_shapes.specs.declared.shapes.component.ModuleTypeId.{ModuleTypeId}
+use Rattle.wac_types_shapes.specs.declared.shapes.core_types.ModuleType.{ModuleType}
+use Rattle.wac_types_shapes.specs.declared.shapes.component.ValueType.{ValueType}
+use Rattle.wac_types_shapes.specs.declared.shapes.component.World.{World}
+use Rattle.wac_types_shapes.specs.declared.shapes.component.WorldId.{WorldId}
+use Rattle.wac_types_shapes.specs.declared.shapes.component.«Type».{«Type» as AnyType}
+use Rattle.wac_types_shapes.specs.declared.shapes.component.«Type».TheVariants as ty
+use Rattle.wac_types_collection.specs.declared.collection.collection.Held.{Held}
+use Rattle.wac_types_shapes.specs.primitives.Tree.{TypeTree, absent, resource, instance, component, type_equal, instance_item, component_item, module_item}
+use Rattle.wac_types_collection.specs.collection.Collection.{Collection, IsWellFormed, AddedBefore, size, holds_type, item_at, item_of}
+use Rattle.wac_types_collection.specs.collection.Held.{resolved, func_tree, interface_tree, world_tree, module_tree, of_held, unfolded}
+use Rattle.wac_types_collection.specs.subtyping.Subtype.{IsPlain, by_name, resource_names, type_tree, kind_tree, listed_in}
+use Rattle.wac_types_collection.proofs.lemmas.collection.Growth.{type_before}
+use Rattle.wac_types_collection.proofs.lemmas.subtyping.Unfolding.{unfolded_step, type_step, held_item}
+use Rattle.wac_types.proofs.lemmas.comparison.Subtyping.{func_plain}
+use Rattle.wac_types.proofs.lemmas.comparison.Values.{value_plain as value_tree_plain}
+use Rattle.wac_graph_model.specs.meaning.Importable.{HasNoHandle, IsPlainItem, IsPlainWhereThere, IsImportable, IsImportableKind, IsDefinable, IsDefinableKind}
 use Rattle.wac_importable.specs.Looked.{IsOfValues, ArePlain, ListsPlain}
 use Rattle.wac_importable.proofs.Handles.{there_free, free_reached, reached_none}
 

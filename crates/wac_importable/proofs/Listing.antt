@@ -1,36 +1,36 @@
 -- What an import lists of value types is what each item of its class lists, and an instance exports it.
 use Rattle.std.proofs.Common.{◌≡◌, ℕ, true, List, [], ◌∷◌, ◌++◌, refl, ap, ◌∙◌, sym, subst, Option, Some, None}
 use Rattle.std.specs.Prelude.{slice_get}
-use Rattle.wac_primitives.specs.Name.{Name, option_case}
-use Rattle.wac_shapes.specs.Kinds.{kind_type}
-use Rattle.wac_shapes.specs.declared.component.DefinedTypeId.{DefinedTypeId}
-use Rattle.wac_shapes.specs.declared.component.FuncType.{FuncType}
-use Rattle.wac_shapes.specs.declared.component.Interface.{Interface}
-use Rattle.wac_shapes.specs.declared.component.InterfaceId.{InterfaceId}
-use Rattle.wac_shapes.specs.declared.component.ItemKind.{ItemKind}
-use Rattle.wac_shapes.specs.declared.component.ItemKind.TheVariants as kind
-use Rattle.wac_shapes.specs.declared.component.World.{World}
-use Rattle.wac_shapes.specs.declared.component.ValueType.{ValueType}
-use Rattle.wac_shapes.specs.declared.component.ValueType.TheVariants as val
-use Rattle.wac_shapes.specs.declared.component.«Type».{«Type» as AnyType}
-use Rattle.wac_shapes.specs.declared.component.«Type».TheVariants as ty
-use Rattle.wac_shapes.specs.declared.core_types.ModuleType.{ModuleType}
-use Rattle.wac_primitives.specs.Tree.{Side, Place, Leaf, TypeTree, Tree, named, absent, resource, type_equal, instance_item, moved, taken_from, taken_at, items_in}
-use Rattle.wac_collection.specs.declared.collection.Held.{Held}
-use Rattle.wac_collection.specs.Collection.{Collection, IsWellFormed, holds_type, holds_value, interface_exports}
-use Rattle.wac_collection.specs.Aliases.{value_resolved}
-use Rattle.wac_collection.specs.Held.{resolved, of_held, func_tree, interface_tree, world_tree, module_tree, unfolded}
-use Rattle.wac_collection.specs.Bound.{Bindings, held_tree, held_item}
-use Rattle.wac_collection.proofs.Ends.{end_is_held}
-use Rattle.wac_subtyping.specs.Subtype.{Sub, by_name, resource_names, type_tree, IsSubtype}
-use Rattle.wac_subtyping.proofs.Unfolding.{type_step}
+use Rattle.wac_types_shapes.specs.primitives.Name.{Name, option_case}
+use Rattle.wac_types_shapes.specs.shapes.Kinds.{kind_type}
+use Rattle.wac_types_shapes.specs.declared.shapes.component.DefinedTypeId.{DefinedTypeId}
+use Rattle.wac_types_shapes.specs.declared.shapes.component.FuncType.{FuncType}
+use Rattle.wac_types_shapes.specs.declared.shapes.component.Interface.{Interface}
+use Rattle.wac_types_shapes.specs.declared.shapes.component.InterfaceId.{InterfaceId}
+use Rattle.wac_types_shapes.specs.declared.shapes.component.ItemKind.{ItemKind}
+use Rattle.wac_types_shapes.specs.declared.shapes.component.ItemKind.TheVariants as kind
+use Rattle.wac_types_shapes.specs.declared.shapes.component.World.{World}
+use Rattle.wac_types_shapes.specs.declared.shapes.component.ValueType.{ValueType}
+use Rattle.wac_types_shapes.specs.declared.shapes.component.ValueType.TheVariants as val
+use Rattle.wac_types_shapes.specs.declared.shapes.component.«Type».{«Type» as AnyType}
+use Rattle.wac_types_shapes.specs.declared.shapes.component.«Type».TheVariants as ty
+use Rattle.wac_types_shapes.specs.declared.shapes.core_types.ModuleType.{ModuleType}
+use Rattle.wac_types_shapes.specs.primitives.Tree.{Side, Place, Leaf, TypeTree, Tree, named, absent, resource, type_equal, instance_item, moved, taken_from, taken_at, items_in}
+use Rattle.wac_types_collection.specs.declared.collection.collection.Held.{Held}
+use Rattle.wac_types_collection.specs.collection.Collection.{Collection, IsWellFormed, holds_type, holds_value, interface_exports}
+use Rattle.wac_types_collection.specs.collection.Aliases.{value_resolved}
+use Rattle.wac_types_collection.specs.collection.Held.{resolved, of_held, func_tree, interface_tree, world_tree, module_tree, unfolded}
+use Rattle.wac_types_collection.specs.collection.Bound.{Bindings, held_tree, held_item}
+use Rattle.wac_types_collection.proofs.lemmas.collection.Ends.{end_is_held}
+use Rattle.wac_types_collection.specs.subtyping.Subtype.{Sub, by_name, resource_names, type_tree, IsSubtype}
+use Rattle.wac_types_collection.proofs.lemmas.subtyping.Unfolding.{type_step}
 use Rattle.wac_binary.specs.HasMeaning.{IsValue}
 use Rattle.wac_binary.specs.Unfold.{Bound, bound_type}
 use Rattle.wac_stacks.specs.Good.{IsHeld, nothing_bound}
 use Rattle.wac_stacks.specs.Instances.{Exports, HoldsValue}
-use Rattle.wac_meaning.specs.Importable.{HasNoHandle, IsImportableKind}
-use Rattle.wac_meaning.specs.MergedImports.{ExportsOnce}
-use Rattle.wac_meaning.proofs.MergedCover.{value_exported, exports_sub, instance_sub, type_item_sub}
+use Rattle.wac_graph_model.specs.meaning.Importable.{HasNoHandle, IsImportableKind}
+use Rattle.wac_graph_model.specs.private.meaning.MergedImports.{ExportsOnce}
+use Rattle.wac_graph_model.proofs.lemmas.meaning.MergedCover.{value_exported, exports_sub, instance_sub, type_item_sub}
 use Rattle.wac_worlds.proofs.TypesInside.{exports-named}
 use Rattle.wac_importable.proofs.Bare.{bare, moved_bare, free_tree, free_held, end_tree}
 use Rattle.wac_importable.proofs.Handles.{tree}

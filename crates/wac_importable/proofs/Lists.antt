@@ -2,12 +2,12 @@
 use Rattle.std.proofs.Common.{◌≡◌, ℕ, ◌+◌, ◌≤◌, List, [], ◌∷◌, ◌++◌, take, length, ap, ◌∙◌, sym, subst, add-one, Some, ◌⊎◌, inl, inr}
 use Rattle.std.specs.Prelude.{slice_get}
 use Rattle.std.proofs.lemmas.List.{take_all}
-use Rattle.wac_shapes.proofs.Names.{take_at}
-use Rattle.wac_shapes.specs.declared.component.ResourceId.{ResourceId}
-use Rattle.wac_shapes.specs.declared.component.«Type».{«Type» as AnyType}
-use Rattle.wac_shapes.specs.declared.component.«Type».TheVariants as ty
-use Rattle.wac_reach.specs.Reach.{IsIn}
-use Rattle.wac_reach.proofs.Lists.{in_at}
+use Rattle.wac_types_shapes.proofs.lemmas.shapes.Names.{take_at}
+use Rattle.wac_types_shapes.specs.declared.shapes.component.ResourceId.{ResourceId}
+use Rattle.wac_types_shapes.specs.declared.shapes.component.«Type».{«Type» as AnyType}
+use Rattle.wac_types_shapes.specs.declared.shapes.component.«Type».TheVariants as ty
+use Rattle.wac_types_collection.specs.reach.Reach.{IsIn}
+use Rattle.wac_types_collection.proofs.lemmas.reach.Lists.{in_at}
 use Rattle.wac_importable.specs.Looked.{HasNoResource}
 
 in_push : (t : AnyType) (xs : List AnyType) (y : AnyType) → IsIn t (xs ++ y ∷ []) → IsIn t xs ⊎ (t ≡ y)

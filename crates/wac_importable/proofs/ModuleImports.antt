@@ -1,13 +1,13 @@
 -- A core module that is imported behind its type.
 use Rattle.std.proofs.Common.{◌≡◌, ℕ, List, [], ◌∷◌, ◌++◌, length, map, refl, ap, ◌∙◌, sym, subst, arith, Some}
-use Rattle.wac_primitives.specs.Name.{Name}
-use Rattle.wac_shapes.specs.declared.component.ItemKind.TheVariants as kind
-use Rattle.wac_shapes.specs.declared.component.ModuleTypeId.{ModuleTypeId}
-use Rattle.wac_shapes.specs.declared.component.«Type».TheVariants as ty
-use Rattle.wac_shapes.specs.declared.core_types.ModuleType.{ModuleType}
-use Rattle.wac_primitives.specs.Tree.{Tree, module_item}
-use Rattle.wac_collection.specs.Collection.{Collection, item_at}
-use Rattle.wac_collection.specs.Bound.{held_tree}
+use Rattle.wac_types_shapes.specs.primitives.Name.{Name}
+use Rattle.wac_types_shapes.specs.declared.shapes.component.ItemKind.TheVariants as kind
+use Rattle.wac_types_shapes.specs.declared.shapes.component.ModuleTypeId.{ModuleTypeId}
+use Rattle.wac_types_shapes.specs.declared.shapes.component.«Type».TheVariants as ty
+use Rattle.wac_types_shapes.specs.declared.shapes.core_types.ModuleType.{ModuleType}
+use Rattle.wac_types_shapes.specs.primitives.Tree.{Tree, module_item}
+use Rattle.wac_types_collection.specs.collection.Collection.{Collection, item_at}
+use Rattle.wac_types_collection.specs.collection.Bound.{held_tree}
 use Rattle.wac_binary.specs.declared.sorts.Description.TheVariants as e
 use Rattle.wac_binary.specs.declared.sorts.Sort.TheVariants as s
 use Rattle.wac_binary.specs.Items.{ModuleDecl, core_type}
@@ -24,7 +24,7 @@ use Rattle.wac_stacks.specs.Laws.{Follows}
 use Rattle.wac_stacks.specs.Modules.{HoldsModule}
 use Rattle.wac_scopes.specs.Scoped.{opened, root_of, IsNewInRoot, AddsModule, RootImportsModule}
 use Rattle.wac_root.specs.Importing.{ImportsHeld}
-use Rattle.wac_meaning.proofs.MeaningLemmas.{meaning-push, indexes-push}
+use Rattle.wac_graph_model.proofs.lemmas.meaning.MeaningLemmas.{meaning-push, indexes-push}
 use Rattle.wac_importable.specs.Modules.{WritesModule}
 
 -- ---- a core module type more in the root

@@ -1,24 +1,24 @@
 -- What is inside of interfaces and worlds that list plain items.
 use Rattle.std.proofs.Common.{◌≡◌, ℕ, zero, suc, true, List, [], ◌∷◌, refl, ◌∙◌, sym, subst, Some, ◌⊎◌, inl, inr}
 use Rattle.std.specs.Prelude.{slice_get}
-use Rattle.wac_primitives.specs.Name.{Name}
-use Rattle.wac_shapes.specs.Named.{NoNameTwice}
-use Rattle.wac_shapes.specs.Kinds.{kind_type}
-use Rattle.wac_shapes.specs.declared.component.InterfaceId.{InterfaceId}
-use Rattle.wac_shapes.specs.declared.component.ItemKind.{ItemKind}
-use Rattle.wac_shapes.specs.declared.component.ItemKind.TheVariants as kind
-use Rattle.wac_shapes.specs.declared.component.WorldId.{WorldId}
-use Rattle.wac_shapes.specs.declared.component.«Type».{«Type» as AnyType}
-use Rattle.wac_shapes.specs.declared.component.«Type».TheVariants as ty
-use Rattle.wac_collection.specs.Collection.{Collection, IsWellFormed, IsBefore, size, holds_type, world_imports, world_exports}
-use Rattle.wac_subtyping.specs.Subtype.{type_tree, kind_tree}
-use Rattle.wac_collection.proofs.Growth.{type_before}
-use Rattle.wac_reach.specs.Reach.{IsIn}
-use Rattle.wac_reach.proofs.Lists.{in_at}
+use Rattle.wac_types_shapes.specs.primitives.Name.{Name}
+use Rattle.wac_types_shapes.specs.shapes.Named.{NoNameTwice}
+use Rattle.wac_types_shapes.specs.shapes.Kinds.{kind_type}
+use Rattle.wac_types_shapes.specs.declared.shapes.component.InterfaceId.{InterfaceId}
+use Rattle.wac_types_shapes.specs.declared.shapes.component.ItemKind.{ItemKind}
+use Rattle.wac_types_shapes.specs.declared.shapes.component.ItemKind.TheVariants as kind
+use Rattle.wac_types_shapes.specs.declared.shapes.component.WorldId.{WorldId}
+use Rattle.wac_types_shapes.specs.declared.shapes.component.«Type».{«Type» as AnyType}
+use Rattle.wac_types_shapes.specs.declared.shapes.component.«Type».TheVariants as ty
+use Rattle.wac_types_collection.specs.collection.Collection.{Collection, IsWellFormed, IsBefore, size, holds_type, world_imports, world_exports}
+use Rattle.wac_types_collection.specs.subtyping.Subtype.{type_tree, kind_tree}
+use Rattle.wac_types_collection.proofs.lemmas.collection.Growth.{type_before}
+use Rattle.wac_types_collection.specs.reach.Reach.{IsIn}
+use Rattle.wac_types_collection.proofs.lemmas.reach.Lists.{in_at}
 use Rattle.wac_worlds.specs.Nested.{type_inside, listed_in, IsInsideBy, IsInside, IsHolder, NamesOnce, AreTypesInside}
 use Rattle.wac_worlds.proofs.Earlier.{by-inside, inside-type, EachItem, of-left, of-right, of-both, world-there, inside-further, inside-one, each-inside, holder-first, listed-earlier}
 use Rattle.wac_worlds.proofs.TypesInside.{listed-held, inside-holder, holder-held, exports-named, imports-named, outside-named}
-use Rattle.wac_meaning.specs.Importable.{HasNoHandle, IsPlainItem, IsPlainTo, IsImportableKind}
+use Rattle.wac_graph_model.specs.meaning.Importable.{HasNoHandle, IsPlainItem, IsPlainTo, IsImportableKind}
 use Rattle.wac_importable.specs.Looked.{IsOfValues, IsPlainAlone, ArePlain, ListsPlainAlone, ListPlainAlone, ListsOther, ArePlainInside, IsHeldBy, IsPlainDeep, ListsPlain}
 use Rattle.wac_importable.proofs.Items.{plain_value, type_not_plain, interface_there, instance_importable, interface_importable, interface_plain, plain_interface, importable_instance, importable_interface, module_importable, plain_importable, func_importable, component_importable, importable_component, world_type_importable, importable_world_type, world_plain, plain_world}
 

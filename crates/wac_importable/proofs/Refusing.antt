@@ -3,20 +3,20 @@ use Rattle.std.proofs.Common.{◌≡◌, ◌<◌, ℕ, zero, suc, ◌++◌, leng
 use Rattle.std.specs.Prelude.{slice_get}
 use Rattle.std.proofs.lemmas.Option.{slice_get_within}
 use Rattle.std.proofs.lemmas.List.Sorted.{IsPermutation-sym}
-use Rattle.wac_primitives.specs.Name.{Name}
-use Rattle.wac_shapes.specs.Kinds.{kind_type}
-use Rattle.wac_shapes.specs.declared.component.Interface.{Interface}
-use Rattle.wac_shapes.specs.declared.component.InterfaceId.{InterfaceId}
-use Rattle.wac_shapes.specs.declared.component.ItemKind.{ItemKind}
-use Rattle.wac_shapes.specs.declared.component.ItemKind.TheVariants as kind
-use Rattle.wac_shapes.specs.declared.component.ModuleTypeId.{ModuleTypeId}
-use Rattle.wac_shapes.specs.declared.component.WorldId.{WorldId}
-use Rattle.wac_shapes.specs.declared.component.«Type».{«Type» as AnyType}
-use Rattle.wac_shapes.specs.declared.component.«Type».TheVariants as ty
-use Rattle.wac_primitives.specs.Tree.{Side, imported, exported}
-use Rattle.wac_collection.specs.Collection.{Collection, IsWellFormed, holds_type, item_at, interface_exports}
-use Rattle.wac_subtyping.specs.Subtype.{kind_tree}
-use Rattle.wac_subtyping.proofs.Unfolding.{held_item}
+use Rattle.wac_types_shapes.specs.primitives.Name.{Name}
+use Rattle.wac_types_shapes.specs.shapes.Kinds.{kind_type}
+use Rattle.wac_types_shapes.specs.declared.shapes.component.Interface.{Interface}
+use Rattle.wac_types_shapes.specs.declared.shapes.component.InterfaceId.{InterfaceId}
+use Rattle.wac_types_shapes.specs.declared.shapes.component.ItemKind.{ItemKind}
+use Rattle.wac_types_shapes.specs.declared.shapes.component.ItemKind.TheVariants as kind
+use Rattle.wac_types_shapes.specs.declared.shapes.component.ModuleTypeId.{ModuleTypeId}
+use Rattle.wac_types_shapes.specs.declared.shapes.component.WorldId.{WorldId}
+use Rattle.wac_types_shapes.specs.declared.shapes.component.«Type».{«Type» as AnyType}
+use Rattle.wac_types_shapes.specs.declared.shapes.component.«Type».TheVariants as ty
+use Rattle.wac_types_shapes.specs.primitives.Tree.{Side, imported, exported}
+use Rattle.wac_types_collection.specs.collection.Collection.{Collection, IsWellFormed, holds_type, item_at, interface_exports}
+use Rattle.wac_types_collection.specs.subtyping.Subtype.{kind_tree}
+use Rattle.wac_types_collection.proofs.lemmas.subtyping.Unfolding.{held_item}
 use Rattle.wac_scopes.specs.declared.fault.WriteFault.{WriteFault}
 use Rattle.wac_scopes.specs.declared.fault.EncodeFault.{EncodeFault}
 use Rattle.wac_scopes.specs.declared.fault.EncodeFault.TheVariants as fault
@@ -28,7 +28,7 @@ use Rattle.wac_sorting.specs.Sorts.{lists_plain}
 use Rattle.wac_encode.specs.Listing.{IsFaultIn, IsRefusedTo}
 use Rattle.wac_root.specs.Importing.{is_importable, IsImportFault}
 use Rattle.wac_sorting.proofs.Ordered.{stands-there}
-use Rattle.wac_meaning.specs.Importable.{IsPlainItem}
+use Rattle.wac_graph_model.specs.meaning.Importable.{IsPlainItem}
 use Rattle.wac_worlds.specs.Declaring.{IsItemFault, IsSideStopped}
 use Rattle.wac_worlds.specs.Worlds.{is_plain_world, IsStoppedBehind, IsWorldRefused}
 use Rattle.wac_worlds.specs.Nested.{type_inside, listed_in, IsInside, AllWritten}

@@ -2,23 +2,23 @@
 use Rattle.std.proofs.Common.{◌≡◌, suc, not, List, [], ◌∷◌, ◌++◌, filter, length, refl, ap, ◌∙◌, sym, Option, Some}
 use Rattle.std.specs.Prelude.{slice_get}
 use Rattle.std.proofs.lemmas.List.{append-nil}
-use Rattle.wac_primitives.specs.Name.{Name, option_case, first_some}
-use Rattle.wac_shapes.specs.declared.component.InterfaceId.{InterfaceId}
-use Rattle.wac_shapes.specs.declared.component.ItemKind.{ItemKind}
-use Rattle.wac_shapes.specs.declared.component.ItemKind.TheVariants as kind
-use Rattle.wac_shapes.specs.declared.component.UsedType.{UsedType}
-use Rattle.wac_shapes.specs.declared.component.World.{World}
-use Rattle.wac_shapes.specs.declared.component.WorldId.{WorldId}
-use Rattle.wac_shapes.specs.declared.component.«Type».TheVariants as ty
-use Rattle.wac_primitives.specs.Tree.{Tree, absent, imported, exported, component, component_item}
-use Rattle.wac_collection.specs.Collection.{Collection, IsWellFormed, item_at}
-use Rattle.wac_collection.specs.Held.{items_under, of_held, world_tree}
-use Rattle.wac_collection.specs.Bound.{first_bound, bound_by_imports, bound_in_world, by_place, held_tree}
-use Rattle.wac_subtyping.proofs.Unfolding.{unfolded_step, held_item}
+use Rattle.wac_types_shapes.specs.primitives.Name.{Name, option_case, first_some}
+use Rattle.wac_types_shapes.specs.declared.shapes.component.InterfaceId.{InterfaceId}
+use Rattle.wac_types_shapes.specs.declared.shapes.component.ItemKind.{ItemKind}
+use Rattle.wac_types_shapes.specs.declared.shapes.component.ItemKind.TheVariants as kind
+use Rattle.wac_types_shapes.specs.declared.shapes.component.UsedType.{UsedType}
+use Rattle.wac_types_shapes.specs.declared.shapes.component.World.{World}
+use Rattle.wac_types_shapes.specs.declared.shapes.component.WorldId.{WorldId}
+use Rattle.wac_types_shapes.specs.declared.shapes.component.«Type».TheVariants as ty
+use Rattle.wac_types_shapes.specs.primitives.Tree.{Tree, absent, imported, exported, component, component_item}
+use Rattle.wac_types_collection.specs.collection.Collection.{Collection, IsWellFormed, item_at}
+use Rattle.wac_types_collection.specs.collection.Held.{items_under, of_held, world_tree}
+use Rattle.wac_types_collection.specs.collection.Bound.{first_bound, bound_by_imports, bound_in_world, by_place, held_tree}
+use Rattle.wac_types_collection.proofs.lemmas.subtyping.Unfolding.{unfolded_step, held_item}
 use Rattle.wac_stacks.specs.Good.{nothing_bound}
 use Rattle.wac_root.specs.Components.{world_component_tree}
-use Rattle.wac_meaning.specs.Definition.{definition_tree, reached, as_imports, listed, cut_imports, listed_interfaces, uses_of_listed, is_among, unlisted, completed_world, world_definition}
-use Rattle.wac_meaning.specs.Importable.{IsDefinableKind}
+use Rattle.wac_graph_model.specs.meaning.Definition.{definition_tree, reached, as_imports, listed, cut_imports, listed_interfaces, uses_of_listed, is_among, unlisted, completed_world, world_definition}
+use Rattle.wac_graph_model.specs.meaning.Importable.{IsDefinableKind}
 use Rattle.wac_importable.specs.Looked.{UseNothing}
 use Rattle.wac_importable.proofs.Interfaces.{none_reached}
 use Rattle.wac_importable.proofs.Worlds.{world_is_held}

@@ -1,18 +1,18 @@
 -- Which worlds are defined so far.
 use Rattle.std.proofs.Common.{◌≡◌, ◌<◌, ◌≤◌, true, ℕ, arith, length, List, [], ◌∷◌, refl, ap, ◌∙◌, sym, subst, Option, Some, IsSome}
 use Rattle.std.specs.Prelude.{slice_get}
-use Rattle.wac_primitives.specs.Name.{Name, option_case}
-use Rattle.wac_shapes.specs.declared.component.Interface.{Interface}
-use Rattle.wac_shapes.specs.declared.component.InterfaceId.{InterfaceId}
-use Rattle.wac_shapes.specs.declared.component.ItemKind.{ItemKind}
-use Rattle.wac_shapes.specs.declared.component.ItemKind.TheVariants as kind
-use Rattle.wac_shapes.specs.declared.component.World.{World}
-use Rattle.wac_shapes.specs.declared.component.WorldId.{WorldId}
-use Rattle.wac_shapes.specs.declared.component.«Type».TheVariants as ty
+use Rattle.wac_types_shapes.specs.primitives.Name.{Name, option_case}
+use Rattle.wac_types_shapes.specs.declared.shapes.component.Interface.{Interface}
+use Rattle.wac_types_shapes.specs.declared.shapes.component.InterfaceId.{InterfaceId}
+use Rattle.wac_types_shapes.specs.declared.shapes.component.ItemKind.{ItemKind}
+use Rattle.wac_types_shapes.specs.declared.shapes.component.ItemKind.TheVariants as kind
+use Rattle.wac_types_shapes.specs.declared.shapes.component.World.{World}
+use Rattle.wac_types_shapes.specs.declared.shapes.component.WorldId.{WorldId}
+use Rattle.wac_types_shapes.specs.declared.shapes.component.«Type».TheVariants as ty
 use Rattle.std.proofs.lemmas.Option.{slice_get_within}
-use Rattle.wac_collection.specs.Collection.{Collection, IsWellFormed, holds_type, item_at, world_imports, world_exports}
-use Rattle.wac_subtyping.proofs.Unfolding.{held_item}
-use Rattle.wac_meaning.specs.Importable.{UsesNothing, IsPlainTo, IsDefinableItem, IsDefinableKind}
+use Rattle.wac_types_collection.specs.collection.Collection.{Collection, IsWellFormed, holds_type, item_at, world_imports, world_exports}
+use Rattle.wac_types_collection.proofs.lemmas.subtyping.Unfolding.{held_item}
+use Rattle.wac_graph_model.specs.meaning.Importable.{UsesNothing, IsPlainTo, IsDefinableItem, IsDefinableKind}
 use Rattle.wac_components.specs.Definitions.{IsDefinableWorld}
 use Rattle.wac_importable.specs.Looked.{HasPlainItems, UseNothing}
 use Rattle.wac_importable.proofs.Interfaces.{the_id}

@@ -1,10 +1,10 @@
 -- A definition as it is written into the root of a component.
 use Rattle.std.specs.Prelude.{ℕ, ◌≡◌, List, [], ◌∷◌, ◌++◌}
-use Rattle.wac_primitives.specs.Name.{Name}
-use Rattle.wac_shapes.specs.declared.component.«Type».{«Type» as AnyType}
-use Rattle.wac_shapes.specs.declared.component.«Type».TheVariants as ty
-use Rattle.wac_collection.specs.Aliases.{value_resolved}
-use Rattle.wac_collection.specs.Collection.{Collection}
+use Rattle.wac_types_shapes.specs.primitives.Name.{Name}
+use Rattle.wac_types_shapes.specs.declared.shapes.component.«Type».{«Type» as AnyType}
+use Rattle.wac_types_shapes.specs.declared.shapes.component.«Type».TheVariants as ty
+use Rattle.wac_types_collection.specs.collection.Aliases.{value_resolved}
+use Rattle.wac_types_collection.specs.collection.Collection.{Collection}
 use Rattle.wac_binary.specs.declared.sorts.Sort.TheVariants as sort
 use Rattle.wac_binary.specs.Items.{Item, export_item}
 use Rattle.wac_binary.specs.Indexes.{space, indexes}
@@ -12,8 +12,8 @@ use Rattle.wac_binary.specs.Meaning.{Thing, written}
 use Rattle.wac_scopes.specs.declared.scope.Scope.{Scope}
 use Rattle.wac_scopes.specs.Rooted.{thing_listed}
 use Rattle.wac_scopes.specs.Scoped.{listing, root_of}
-use Rattle.wac_meaning.specs.Definition.{definition_tree}
-use Rattle.wac_meaning.specs.Writing.{WritesType}
+use Rattle.wac_graph_model.specs.meaning.Definition.{definition_tree}
+use Rattle.wac_graph_model.specs.private.meaning.Writing.{WritesType}
 
 -- what a definition is in a root: where an instance lists a value type, aliases followed to the end, the instance's export; else the type itself
 abbrev pub definition_thing : Collection → Scope → AnyType → Thing

@@ -1,18 +1,18 @@
 -- What is looked at before imports are written.
 use Rattle.std.specs.Prelude.{ℕ, ◌≡◌, ◌⊎◌, List, Some, slice_get}
-use Rattle.wac_primitives.specs.Name.{Name}
-use Rattle.wac_shapes.specs.declared.component.ItemKind.{ItemKind}
-use Rattle.wac_shapes.specs.declared.component.ItemKind.TheVariants as kind
-use Rattle.wac_shapes.specs.declared.component.ResourceId.{ResourceId}
-use Rattle.wac_shapes.specs.declared.component.WorldId.{WorldId}
-use Rattle.wac_shapes.specs.declared.component.«Type».{«Type» as AnyType}
-use Rattle.wac_shapes.specs.declared.component.«Type».TheVariants as ty
-use Rattle.wac_collection.specs.Collection.{Collection}
-use Rattle.wac_reach.specs.Reach.{IsIn, AreClosed}
-use Rattle.wac_subtyping.specs.Subtype.{type_tree, kind_tree}
+use Rattle.wac_types_shapes.specs.primitives.Name.{Name}
+use Rattle.wac_types_shapes.specs.declared.shapes.component.ItemKind.{ItemKind}
+use Rattle.wac_types_shapes.specs.declared.shapes.component.ItemKind.TheVariants as kind
+use Rattle.wac_types_shapes.specs.declared.shapes.component.ResourceId.{ResourceId}
+use Rattle.wac_types_shapes.specs.declared.shapes.component.WorldId.{WorldId}
+use Rattle.wac_types_shapes.specs.declared.shapes.component.«Type».{«Type» as AnyType}
+use Rattle.wac_types_shapes.specs.declared.shapes.component.«Type».TheVariants as ty
+use Rattle.wac_types_collection.specs.collection.Collection.{Collection}
+use Rattle.wac_types_collection.specs.reach.Reach.{IsIn, AreClosed}
+use Rattle.wac_types_collection.specs.subtyping.Subtype.{type_tree, kind_tree}
 use Rattle.wac_worlds.specs.Nested.{listed_in, IsInside}
 use Rattle.wac_importable.specs.Holders.{holders_of}
-use Rattle.wac_meaning.specs.Importable.{HasNoHandle, IsPlainItem, IsImportableKind, UsesNothing}
+use Rattle.wac_graph_model.specs.meaning.Importable.{HasNoHandle, IsPlainItem, IsImportableKind, UsesNothing}
 
 -- a value type or a function type
 abbrev pub IsOfValues : AnyType → Type 0

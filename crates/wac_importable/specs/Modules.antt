@@ -1,12 +1,12 @@
 -- Core modules that the root imports.
 use Rattle.std.specs.Prelude.{ℕ, ◌≡◌, ◌⊎◌, Some, Result, Ok, Err}
-use Rattle.wac_primitives.specs.Name.{Name}
-use Rattle.wac_shapes.specs.declared.component.ItemKind.{ItemKind}
-use Rattle.wac_shapes.specs.declared.component.ItemKind.TheVariants as kind
-use Rattle.wac_shapes.specs.declared.component.ModuleTypeId.{ModuleTypeId}
-use Rattle.wac_shapes.specs.declared.component.«Type».TheVariants as ty
-use Rattle.wac_shapes.specs.declared.core_types.ModuleType.{ModuleType}
-use Rattle.wac_collection.specs.Collection.{Collection, item_at}
+use Rattle.wac_types_shapes.specs.primitives.Name.{Name}
+use Rattle.wac_types_shapes.specs.declared.shapes.component.ItemKind.{ItemKind}
+use Rattle.wac_types_shapes.specs.declared.shapes.component.ItemKind.TheVariants as kind
+use Rattle.wac_types_shapes.specs.declared.shapes.component.ModuleTypeId.{ModuleTypeId}
+use Rattle.wac_types_shapes.specs.declared.shapes.component.«Type».TheVariants as ty
+use Rattle.wac_types_shapes.specs.declared.shapes.core_types.ModuleType.{ModuleType}
+use Rattle.wac_types_collection.specs.collection.Collection.{Collection, item_at}
 use Rattle.wac_binary.specs.declared.sorts.Description.TheVariants as e
 use Rattle.wac_binary.specs.declared.sorts.Sort.TheVariants as s
 use Rattle.wac_binary.specs.Fits.{ModuleFits}

@@ -1,12 +1,12 @@
 //! The writer of definitions.
 
 ghost use Rattle.std.specs.Prelude.{◌≡◌, true, IfOk, OnOk};
-ghost use Rattle.wac_shapes.specs.declared.component.ItemKind.TheVariants as kind;
-ghost use Rattle.wac_shapes.specs.declared.component.WorldId.{WorldId as AnyWorld};
-ghost use Rattle.wac_shapes.specs.declared.component.«Type».{«Type» as AnyType};
-ghost use Rattle.wac_shapes.specs.declared.component.«Type».TheVariants as sort;
-ghost use Rattle.wac_collection.specs.Collection.{holds_type};
-ghost use Rattle.wac_meaning.specs.Importable.{IsDefinableKind};
+ghost use Rattle.wac_types_shapes.specs.declared.shapes.component.ItemKind.TheVariants as kind;
+ghost use Rattle.wac_types_shapes.specs.declared.shapes.component.WorldId.{WorldId as AnyWorld};
+ghost use Rattle.wac_types_shapes.specs.declared.shapes.component.«Type».{«Type» as AnyType};
+ghost use Rattle.wac_types_shapes.specs.declared.shapes.component.«Type».TheVariants as sort;
+ghost use Rattle.wac_types_collection.specs.collection.Collection.{holds_type};
+ghost use Rattle.wac_graph_model.specs.meaning.Importable.{IsDefinableKind};
 ghost use Rattle.wac_scopes.specs.Contents.{items_of};
 ghost use Rattle.wac_scopes.specs.Rooted.{IsRightRoot};
 ghost use Rattle.wac_scopes.specs.Scoped.{listing};
@@ -15,11 +15,11 @@ ghost use Rattle.wac_importable.specs.Defined.{definition_thing, DefinesType};
 ghost use Rattle.wac_importable.specs.Holders.{IsAhead};
 
 use wac_binary::BinaryFault;
-use wac_collection::{Type, Types, WorldId};
 use wac_components::ComponentEncoder;
 use wac_encode::Worlds;
 use wac_root::RootEncoder;
 use wac_scopes::{EncodeFault, Scope};
+use wac_types_collection::{Type, Types, WorldId};
 use wac_worlds::worlds_inside;
 
 /// Writes a definition of a held type behind what stands in the root: the types that it is made of, as far as none of them is recorded

@@ -4,7 +4,7 @@ ghost use Rattle.std.specs.Prelude.{◌≡◌, IfOk};
 ghost use Rattle.wac_importable.specs.Holders.{holder_of as holder_that, holders_of as holders_that};
 
 use std::alloc::{AllocError, Global};
-use wac_collection::{ItemKind, Named, Type};
+use wac_types_collection::{ItemKind, Named, Type};
 
 /// The interface or the world of an item: of an instance or a component, or of its type.
 pub(crate) fn holder_of(item: ItemKind) -> Option<Type>

@@ -1,22 +1,21 @@
 //! Which imports and definitions can be written so far.
 
 ghost use Rattle.std.specs.Prelude.{◌≡◌, ◌<◌, ℕ, true, false, List, Some, Ok as Answers, length, take, slice_get};
-ghost use Rattle.wac_shapes.specs.Kinds.{kind_type};
-ghost use Rattle.wac_shapes.specs.declared.component.ItemKind.{ItemKind as AnyItem};
-ghost use Rattle.wac_shapes.specs.declared.component.ItemKind.TheVariants as kind;
-ghost use Rattle.wac_shapes.specs.declared.component.«Type».TheVariants as ty;
-ghost use Rattle.wac_collection.specs.Collection.{HasInterface, HasWorld, holds_type};
-ghost use Rattle.wac_subtyping.specs.Subtype.{type_tree};
-ghost use Rattle.wac_shapes.specs.declared.component.«Type».{«Type» as AnyType};
+ghost use Rattle.wac_types_shapes.specs.shapes.Kinds.{kind_type};
+ghost use Rattle.wac_types_shapes.specs.declared.shapes.component.ItemKind.{ItemKind as AnyItem};
+ghost use Rattle.wac_types_shapes.specs.declared.shapes.component.ItemKind.TheVariants as kind;
+ghost use Rattle.wac_types_shapes.specs.declared.shapes.component.«Type».TheVariants as ty;
+ghost use Rattle.wac_types_collection.specs.collection.Collection.{HasInterface, HasWorld, holds_type};
+ghost use Rattle.wac_types_collection.specs.subtyping.Subtype.{type_tree};
+ghost use Rattle.wac_types_shapes.specs.declared.shapes.component.«Type».{«Type» as AnyType};
 ghost use Rattle.wac_worlds.specs.Nested.{IsHolder};
-ghost use Rattle.wac_meaning.specs.Importable.{HasNoHandle, IsImportableKind, UsesNothing, IsDefinableKind};
+ghost use Rattle.wac_graph_model.specs.meaning.Importable.{HasNoHandle, IsImportableKind, UsesNothing, IsDefinableKind};
 ghost use Rattle.wac_importable.specs.Holders.{holder_of as holder_that};
 ghost use Rattle.wac_importable.specs.Looked.{IsOfValues, HasNoResource, IsPlainAlone, ArePlainAlone, ListsPlainAlone, ListPlainAlone, ListsOther, ArePlainInside, HavePlainItems, IsHeldBy, AreFree, UseNothing, ListsPlain, AreImportable, HasNotYet};
 
 use crate::holders::{holder_of, holders_of};
 use std::alloc::AllocError;
-use wac_collection::{InterfaceId, ItemKind, Named, Type, Types, WorldId};
-use wac_reach::Reached;
+use wac_types_collection::{InterfaceId, ItemKind, Named, Reached, Type, Types, WorldId};
 use wac_worlds::types_inside;
 
 /// Whether a held value type or function type is made of no handle. What types reach that were looked at before is known to be free of

@@ -1,17 +1,17 @@
 //! Core modules that are imported.
 
 ghost use Rattle.std.specs.Prelude.{◌≡◌, true, IfOk};
-ghost use Rattle.wac_shapes.specs.declared.component.ItemKind.TheVariants as kind;
-ghost use Rattle.wac_shapes.specs.declared.component.«Type».TheVariants as ty;
-ghost use Rattle.wac_collection.specs.Collection.{holds_type};
+ghost use Rattle.wac_types_shapes.specs.declared.shapes.component.ItemKind.TheVariants as kind;
+ghost use Rattle.wac_types_shapes.specs.declared.shapes.component.«Type».TheVariants as ty;
+ghost use Rattle.wac_types_collection.specs.collection.Collection.{holds_type};
 ghost use Rattle.wac_scopes.specs.Contents.{IsRoot};
 ghost use Rattle.wac_root.specs.Importing.{ImportsHeld};
 ghost use Rattle.wac_importable.specs.Modules.{WritesModule, IsModuleNotImported};
 
 use std::alloc::Global;
-use wac_collection::{ModuleTypeId, Types};
 use wac_modules::module_type;
 use wac_scopes::{EncodeFault, Scope, module_law, step_law};
+use wac_types_collection::{ModuleTypeId, Types};
 
 /// Imports a core module of a held type into the root, behind that type, and answers the module's index.
 ///

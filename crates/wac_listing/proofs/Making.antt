@@ -1,35 +1,35 @@
 -- What is found is what items are made of.
 use Rattle.std.specs.Prelude.{slice_get, Result, Ok, Err, IfOk, OnOk}
 use Rattle.std.specs.List.{IsDistinct}
-use Rattle.wac_reach.proofs.Universe.{types_of, found_few}
+use Rattle.wac_types_collection.proofs.lemmas.reach.Universe.{types_of, found_few}
 use Rattle.std.proofs.lemmas.Option.{slice_get-get_or}
 use Rattle.std.proofs.Common.{append_assoc, get_or, add-one, ℕ, zero, suc, ◌+◌, ◌<◌, ◌≤◌, ◌≡◌, ◌⊎◌, inl, inr, ◌∙◌, nat_lt, true, List, [], ◌∷◌, ◌++◌, drop, take, Option, Some, None, length, refl, ap, sym, subst, arith}
 use Rattle.std.specs.Option.{option_map}
 use Rattle.std.proofs.lemmas.List.{append-nil}
 use Rattle.std.proofs.lemmas.List.Sums.{fold-append}
-use Rattle.wac_shapes.proofs.Names.{take_at}
+use Rattle.wac_types_shapes.proofs.lemmas.shapes.Names.{take_at}
 use Rattle.indexmap.specs.IndexSet.{insert_key}
-use Rattle.wac_primitives.specs.Name.{Name, option_case}
-use Rattle.wac_shapes.specs.Kinds.{kind_type}
-use Rattle.wac_shapes.specs.contracts.component.TypePartialEq.TheImpl as TypeEq
-use Rattle.wac_shapes.specs.declared.component.DefinedType.{DefinedType}
-use Rattle.wac_shapes.specs.declared.component.DefinedTypeId.{DefinedTypeId}
-use Rattle.wac_shapes.specs.declared.component.FuncType.{FuncType}
-use Rattle.wac_shapes.specs.declared.component.Interface.{Interface}
-use Rattle.wac_shapes.specs.declared.component.InterfaceId.{InterfaceId}
-use Rattle.wac_shapes.specs.declared.component.ItemKind.{ItemKind}
-use Rattle.wac_shapes.specs.declared.component.ItemKind.TheVariants as kind
-use Rattle.wac_shapes.specs.declared.component.ValueType.{ValueType}
-use Rattle.wac_shapes.specs.declared.component.ValueType.TheVariants as val
-use Rattle.wac_shapes.specs.declared.component.«Type».{«Type» as AnyType}
-use Rattle.wac_shapes.specs.declared.component.«Type».TheVariants as ty
-use Rattle.wac_collection.specs.Collection.{Collection, IsWellFormed, HasDefined, and_maybe, func_values, func_mentions, holds_type, holds_value, item_at, seconds, used_types, kind_types, value_types, interface_exports, interface_mentions, defined_mentions}
-use Rattle.wac_collection.specs.Aliases.{value_resolved}
-use Rattle.wac_collection.proofs.Ends.{end_is_held}
-use Rattle.wac_reach.specs.Reach.{IsIn}
-use Rattle.wac_reach.specs.Found.{with_all}
-use Rattle.wac_reach.proofs.Lists.{in_at, at_in, in_right, all_old, all_new, all_only, all_grown}
-use Rattle.wac_reach.proofs.Reaching.{mentioned_held}
+use Rattle.wac_types_shapes.specs.primitives.Name.{Name, option_case}
+use Rattle.wac_types_shapes.specs.shapes.Kinds.{kind_type}
+use Rattle.wac_types_shapes.specs.contracts.shapes.component.TypePartialEq.TheImpl as TypeEq
+use Rattle.wac_types_shapes.specs.declared.shapes.component.DefinedType.{DefinedType}
+use Rattle.wac_types_shapes.specs.declared.shapes.component.DefinedTypeId.{DefinedTypeId}
+use Rattle.wac_types_shapes.specs.declared.shapes.component.FuncType.{FuncType}
+use Rattle.wac_types_shapes.specs.declared.shapes.component.Interface.{Interface}
+use Rattle.wac_types_shapes.specs.declared.shapes.component.InterfaceId.{InterfaceId}
+use Rattle.wac_types_shapes.specs.declared.shapes.component.ItemKind.{ItemKind}
+use Rattle.wac_types_shapes.specs.declared.shapes.component.ItemKind.TheVariants as kind
+use Rattle.wac_types_shapes.specs.declared.shapes.component.ValueType.{ValueType}
+use Rattle.wac_types_shapes.specs.declared.shapes.component.ValueType.TheVariants as val
+use Rattle.wac_types_shapes.specs.declared.shapes.component.«Type».{«Type» as AnyType}
+use Rattle.wac_types_shapes.specs.declared.shapes.component.«Type».TheVariants as ty
+use Rattle.wac_types_collection.specs.collection.Collection.{Collection, IsWellFormed, HasDefined, and_maybe, func_values, func_mentions, holds_type, holds_value, item_at, seconds, used_types, kind_types, value_types, interface_exports, interface_mentions, defined_mentions}
+use Rattle.wac_types_collection.specs.collection.Aliases.{value_resolved}
+use Rattle.wac_types_collection.proofs.lemmas.collection.Ends.{end_is_held}
+use Rattle.wac_types_collection.specs.reach.Reach.{IsIn}
+use Rattle.wac_types_collection.specs.private.reach.Found.{with_all}
+use Rattle.wac_types_collection.proofs.lemmas.reach.Lists.{in_at, at_in, in_right, all_old, all_new, all_only, all_grown}
+use Rattle.wac_types_collection.proofs.lemmas.reach.Reaching.{mentioned_held}
 use Rattle.wac_listing.specs.Made.{parts, MadeOf, itself, part, interface_of, item_values, IsItemIn, listed, nested, OneItemIsMadeOf, AreMadeOf}
 use Rattle.wac_listing.specs.Found.{somes, and_end, ends, with_ends, func_ends, item_ends, items_ends, found_ends, definition_in, definitions_in}
 use Rattle.wac_listing.proofs.Grown.{same-place, lower-place, below-or-last}

@@ -1,19 +1,19 @@
 -- Items that are no instances.
 use Rattle.std.specs.Prelude.{slice_get}
 use Rattle.std.proofs.Common.{ℕ, zero, suc, ◌≡◌, ◌∙◌, Bool, true, false, if◌then◌else◌, List, [], ◌∷◌, Some, None, refl, ap, sym, subst}
-use Rattle.wac_primitives.specs.Name.{Name}
-use Rattle.wac_shapes.specs.declared.component.DefinedTypeId.{DefinedTypeId}
-use Rattle.wac_shapes.specs.declared.component.Interface.{Interface}
-use Rattle.wac_shapes.specs.declared.component.InterfaceId.{InterfaceId}
-use Rattle.wac_shapes.specs.declared.component.ItemKind.{ItemKind}
-use Rattle.wac_shapes.specs.declared.component.ItemKind.TheVariants as kind
-use Rattle.wac_shapes.specs.declared.component.ValueType.TheVariants as val
-use Rattle.wac_shapes.specs.declared.component.«Type».{«Type» as AnyType}
-use Rattle.wac_shapes.specs.declared.component.«Type».TheVariants as ty
-use Rattle.wac_collection.specs.Collection.{Collection, HasDefined, item_at}
-use Rattle.wac_collection.specs.Aliases.{value_resolved}
-use Rattle.wac_reach.specs.Reach.{IsIn}
-use Rattle.wac_reach.proofs.Lists.{in_at, at_in}
+use Rattle.wac_types_shapes.specs.primitives.Name.{Name}
+use Rattle.wac_types_shapes.specs.declared.shapes.component.DefinedTypeId.{DefinedTypeId}
+use Rattle.wac_types_shapes.specs.declared.shapes.component.Interface.{Interface}
+use Rattle.wac_types_shapes.specs.declared.shapes.component.InterfaceId.{InterfaceId}
+use Rattle.wac_types_shapes.specs.declared.shapes.component.ItemKind.{ItemKind}
+use Rattle.wac_types_shapes.specs.declared.shapes.component.ItemKind.TheVariants as kind
+use Rattle.wac_types_shapes.specs.declared.shapes.component.ValueType.TheVariants as val
+use Rattle.wac_types_shapes.specs.declared.shapes.component.«Type».{«Type» as AnyType}
+use Rattle.wac_types_shapes.specs.declared.shapes.component.«Type».TheVariants as ty
+use Rattle.wac_types_collection.specs.collection.Collection.{Collection, HasDefined, item_at}
+use Rattle.wac_types_collection.specs.collection.Aliases.{value_resolved}
+use Rattle.wac_types_collection.specs.reach.Reach.{IsIn}
+use Rattle.wac_types_collection.proofs.lemmas.reach.Lists.{in_at, at_in}
 use Rattle.wac_listing.specs.Made.{MadeOf, itself, part, IsItemIn, listed, own_items, OneItemIsMadeOf, AreMadeOf}
 use Rattle.wac_listing.specs.Order.{listed as listed_by, is_value_type}
 use Rattle.wac_listing.specs.Before.{IsAt, AreReached}

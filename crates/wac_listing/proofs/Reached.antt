@@ -1,24 +1,24 @@
 -- What an interface reaches.
 use Rattle.std.specs.Prelude.{slice_get, ◌↔◌}
 use Rattle.std.proofs.Common.{ℕ, zero, suc, ◌≡◌, inl, inr, true, List, [], ◌∷◌, Option, Some, None, length, nat_lt, refl, ap, sym, subst, arith}
-use Rattle.wac_primitives.specs.Name.{Name, option_case}
-use Rattle.wac_shapes.specs.Kinds.{kind_type}
-use Rattle.wac_shapes.specs.declared.component.DefinedType.{DefinedType}
-use Rattle.wac_shapes.specs.declared.component.DefinedType.TheVariants as def
-use Rattle.wac_shapes.specs.declared.component.DefinedTypeId.{DefinedTypeId}
-use Rattle.wac_shapes.specs.declared.component.Interface.{Interface}
-use Rattle.wac_shapes.specs.declared.component.InterfaceId.{InterfaceId}
-use Rattle.wac_shapes.specs.declared.component.ItemKind.{ItemKind}
-use Rattle.wac_shapes.specs.declared.component.ItemKind.TheVariants as kind
-use Rattle.wac_shapes.specs.declared.component.ValueType.{ValueType}
-use Rattle.wac_shapes.specs.declared.component.ValueType.TheVariants as val
-use Rattle.wac_shapes.specs.declared.component.«Type».{«Type» as AnyType}
-use Rattle.wac_shapes.specs.declared.component.«Type».TheVariants as ty
-use Rattle.wac_collection.specs.Collection.{Collection, IsWellFormed, HasDefined, holds_type, item_at, kind_types, used_types, value_types, interface_mentions, defined_mentions, size}
-use Rattle.wac_collection.specs.Aliases.{aliased, value_resolved, value_resolved_in}
-use Rattle.wac_reach.specs.Reach.{IsIn, mentions, Reaches, at_once, further}
-use Rattle.wac_reach.proofs.Lists.{in_right, in_at, at_in}
-use Rattle.wac_reach.proofs.Reaching.{mentioned_held}
+use Rattle.wac_types_shapes.specs.primitives.Name.{Name, option_case}
+use Rattle.wac_types_shapes.specs.shapes.Kinds.{kind_type}
+use Rattle.wac_types_shapes.specs.declared.shapes.component.DefinedType.{DefinedType}
+use Rattle.wac_types_shapes.specs.declared.shapes.component.DefinedType.TheVariants as def
+use Rattle.wac_types_shapes.specs.declared.shapes.component.DefinedTypeId.{DefinedTypeId}
+use Rattle.wac_types_shapes.specs.declared.shapes.component.Interface.{Interface}
+use Rattle.wac_types_shapes.specs.declared.shapes.component.InterfaceId.{InterfaceId}
+use Rattle.wac_types_shapes.specs.declared.shapes.component.ItemKind.{ItemKind}
+use Rattle.wac_types_shapes.specs.declared.shapes.component.ItemKind.TheVariants as kind
+use Rattle.wac_types_shapes.specs.declared.shapes.component.ValueType.{ValueType}
+use Rattle.wac_types_shapes.specs.declared.shapes.component.ValueType.TheVariants as val
+use Rattle.wac_types_shapes.specs.declared.shapes.component.«Type».{«Type» as AnyType}
+use Rattle.wac_types_shapes.specs.declared.shapes.component.«Type».TheVariants as ty
+use Rattle.wac_types_collection.specs.collection.Collection.{Collection, IsWellFormed, HasDefined, holds_type, item_at, kind_types, used_types, value_types, interface_mentions, defined_mentions, size}
+use Rattle.wac_types_collection.specs.collection.Aliases.{aliased, value_resolved, value_resolved_in}
+use Rattle.wac_types_collection.specs.reach.Reach.{IsIn, mentions, Reaches, at_once, further}
+use Rattle.wac_types_collection.proofs.lemmas.reach.Lists.{in_right, in_at, at_in}
+use Rattle.wac_types_collection.proofs.lemmas.reach.Reaching.{mentioned_held}
 use Rattle.wac_listing.specs.Made.{parts}
 use Rattle.wac_listing.specs.Order.{definition, listed, Lists}
 use Rattle.wac_listing.specs.Before.{IsAt, HasPartAt, AreReached}

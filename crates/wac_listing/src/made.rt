@@ -1,16 +1,16 @@
 //! The definitions that the items of an interface are made of.
 
 ghost use Rattle.std.specs.Prelude.{◌≡◌, ◌∷◌, ℕ, [], List, Some, true, IfOk, OnOk, slice_get};
-ghost use Rattle.wac_shapes.specs.declared.component.DefinedType.{DefinedType as AnyDefined};
-ghost use Rattle.wac_shapes.specs.declared.component.DefinedTypeId.{DefinedTypeId as AnId};
-ghost use Rattle.wac_shapes.specs.declared.component.Interface.{Interface as AnInterface};
-ghost use Rattle.wac_shapes.specs.declared.component.ItemKind.{ItemKind as AnyItem};
-ghost use Rattle.wac_shapes.specs.declared.component.ValueType.TheVariants as val;
-ghost use Rattle.wac_shapes.specs.declared.component.«Type».TheVariants as ty;
-ghost use Rattle.wac_shapes.specs.Kinds.{kind_type};
-ghost use Rattle.wac_collection.specs.Collection.{HasDefined, HasInterface, and_maybe, holds_type, item_at, seconds};
-ghost use Rattle.wac_reach.specs.Found.{with_all};
-ghost use Rattle.wac_reach.specs.Reach.{IsIn};
+ghost use Rattle.wac_types_shapes.specs.declared.shapes.component.DefinedType.{DefinedType as AnyDefined};
+ghost use Rattle.wac_types_shapes.specs.declared.shapes.component.DefinedTypeId.{DefinedTypeId as AnId};
+ghost use Rattle.wac_types_shapes.specs.declared.shapes.component.Interface.{Interface as AnInterface};
+ghost use Rattle.wac_types_shapes.specs.declared.shapes.component.ItemKind.{ItemKind as AnyItem};
+ghost use Rattle.wac_types_shapes.specs.declared.shapes.component.ValueType.TheVariants as val;
+ghost use Rattle.wac_types_shapes.specs.declared.shapes.component.«Type».TheVariants as ty;
+ghost use Rattle.wac_types_shapes.specs.shapes.Kinds.{kind_type};
+ghost use Rattle.wac_types_collection.specs.collection.Collection.{HasDefined, HasInterface, and_maybe, holds_type, item_at, seconds};
+ghost use Rattle.wac_types_collection.specs.private.reach.Found.{with_all};
+ghost use Rattle.wac_types_collection.specs.reach.Reach.{IsIn};
 ghost use Rattle.wac_listing.specs.Made.{AreMadeOf, interface_of as interface_that, own_items, parts};
 ghost use Rattle.wac_listing.specs.Found.{somes, with_ends, func_ends, item_ends, items_ends, found_ends, definition_in as definition_that, definitions_in, is_among, items_among};
 
@@ -19,10 +19,9 @@ use crate::places::is_value_type;
 use indexmap::IndexSet;
 use std::alloc::{AllocError, Global};
 use std::hash::BuildHasherDefault;
-use wac_collection::{
-    DefinedTypeId, FuncType, InterfaceId, ItemKind, Named, Type, Types, ValueType,
+use wac_types_collection::{
+    DefinedTypeId, FuncType, InterfaceId, ItemKind, Named, Type, TypeSet, Types, ValueType,
 };
-use wac_reach::TypeSet;
 
 /// The interface whose instance type an item is written with: that of an instance, and that of which it is a type item.
 pub fn interface_of(item: ItemKind) -> Option<InterfaceId>

@@ -1,20 +1,19 @@
 //! Type items of value types, each behind those that it mentions.
 
 ghost use Rattle.std.specs.Prelude.{◌≡◌, ◌+◌, ◌<◌, ◌^◌, ℕ, List, Some, true, IfOk, length, slice_get};
-ghost use Rattle.wac_shapes.specs.declared.component.ItemKind.{ItemKind as AnyItem};
-ghost use Rattle.wac_shapes.specs.Kinds.{kind_type};
-ghost use Rattle.wac_collection.specs.Collection.{holds_type};
+ghost use Rattle.wac_types_shapes.specs.declared.shapes.component.ItemKind.{ItemKind as AnyItem};
+ghost use Rattle.wac_types_shapes.specs.shapes.Kinds.{kind_type};
+ghost use Rattle.wac_types_collection.specs.collection.Collection.{holds_type};
 ghost use Rattle.wac_listing.specs.Order.{AreOrdered};
 ghost use Rattle.wac_listing.specs.Before.{AreReached, items_of};
 
 use crate::made::{Among, found_among};
 use crate::places::Places;
 use std::alloc::{AllocError, Global};
-use wac_collection::{ItemKind, Named, Types};
 use wac_edges::edges::Edges;
 use wac_edges::node::NodeId;
 use wac_edges::order::order;
-use wac_reach::Reached;
+use wac_types_collection::{ItemKind, Named, Reached, Types};
 
 /// The positions of the type items of value types among these items in the order in which they are written: the next is always the first
 /// listed one of those left that mentions none of those left. An item mentions another where its definition is made of that which the

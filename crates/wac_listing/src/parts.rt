@@ -4,7 +4,7 @@ ghost use Rattle.std.specs.Prelude.{◌≡◌, ◌+◌, ◌<◌, ◌^◌, ◌∷
 ghost use Rattle.std.specs.Option.{OnSome};
 ghost use Rattle.wac_listing.specs.Made.{parts, some_of, second_of, some_second_of};
 
-use wac_collection::{DefinedType, Named, Sequence, ValueType};
+use wac_types_collection::{DefinedType, Named, Sequence, ValueType};
 
 /// The part of a definition at a position, where there is one. A part that may be missing holds nothing where it is.
 pub fn part_at(definition: &DefinedType, index: usize) -> Option<Option<ValueType>>

@@ -2,23 +2,22 @@
 
 ghost use Rattle.std.specs.Prelude.{◌≡◌, ◌≢◌, ◌+◌, ◌<◌, ◌^◌, ◌⊎◌, ℕ, Option, Some, IfSome, IfNone, IfOk, OnOk, length, slice_get};
 ghost use Rattle.std.specs.Option.{unwrap_or};
-ghost use Rattle.wac_shapes.specs.declared.component.DefinedTypeId.{DefinedTypeId as AnyDefinedId};
-ghost use Rattle.wac_shapes.specs.declared.component.ValueType.{ValueType as AnyValue};
-ghost use Rattle.wac_shapes.specs.declared.component.ValueType.TheVariants as val;
-ghost use Rattle.wac_shapes.specs.declared.component.«Type».TheVariants as ty;
-ghost use Rattle.wac_collection.specs.Aliases.{value_resolved};
+ghost use Rattle.wac_types_shapes.specs.declared.shapes.component.DefinedTypeId.{DefinedTypeId as AnyDefinedId};
+ghost use Rattle.wac_types_shapes.specs.declared.shapes.component.ValueType.{ValueType as AnyValue};
+ghost use Rattle.wac_types_shapes.specs.declared.shapes.component.ValueType.TheVariants as val;
+ghost use Rattle.wac_types_shapes.specs.declared.shapes.component.«Type».TheVariants as ty;
+ghost use Rattle.wac_types_collection.specs.collection.Aliases.{value_resolved};
 ghost use Rattle.wac_edges.specs.declared.node.NodeId.{NodeId as AnId};
 ghost use Rattle.wac_edges.specs.Order.{IsEdge};
-ghost use Rattle.wac_reach.specs.Reach.{IsIn};
+ghost use Rattle.wac_types_collection.specs.reach.Reach.{IsIn};
 ghost use Rattle.wac_listing.specs.Order.{definition as definition_of, listed as listed_by, is_value_type as type_item};
 ghost use Rattle.wac_listing.specs.Before.{IsAt, AreReached, AreSound, AreKept, HasEdge, AreNamed, HaveItems, HasPartAt, EndsAt, HavePart, HaveDefinitions, flags};
 
 use crate::parts::part_at;
 use std::alloc::AllocError;
-use wac_collection::{DefinedTypeId, ItemKind, Named, Type, Types, ValueType};
 use wac_edges::edges::{Edge, Edges, Label};
 use wac_edges::node::NodeId;
-use wac_reach::Reached;
+use wac_types_collection::{DefinedTypeId, ItemKind, Named, Reached, Type, Types, ValueType};
 
 /// Items and the definitions that they are made of, as nodes: each definition by its position among the types that are reached, and
 /// each item by its own, behind these.

@@ -1,13 +1,13 @@
 -- What is asked for is held, also with one more entry.
 use Rattle.std.proofs.Common.{◌≡◌, true, List, [], ◌∷◌, ◌++◌, slice_get, inl, inr, ap, sym, ◌∙◌}
-use Rattle.wac_primitives.specs.Name.{Name}
-use Rattle.wac_collection.specs.Collection.{Collection, holds_type}
-use Rattle.wac_shapes.specs.Kinds.{kind_type}
-use Rattle.wac_shapes.specs.declared.component.ItemKind.{ItemKind}
+use Rattle.wac_types_shapes.specs.primitives.Name.{Name}
+use Rattle.wac_types_collection.specs.collection.Collection.{Collection, holds_type}
+use Rattle.wac_types_shapes.specs.shapes.Kinds.{kind_type}
+use Rattle.wac_types_shapes.specs.declared.shapes.component.ItemKind.{ItemKind}
 use Rattle.wac_merge.specs.Aggregate.{Aggregate, unmerged}
-use Rattle.wac_entries.specs.Bindings.{AreHeld}
-use Rattle.wac_entries.specs.Classes.{Entry}
-use Rattle.wac_entries.proofs.Lists.{push-cases}
+use Rattle.wac_merge_classes.specs.entries.Bindings.{AreHeld}
+use Rattle.wac_merge_classes.specs.entries.Classes.{Entry}
+use Rattle.wac_merge_classes.proofs.lemmas.entries.Lists.{push-cases}
 
 pub held-push : (c : Collection) (es : List Entry) (a : Aggregate) (n : Name) (k : ItemKind) → AreHeld c es → holds_type c (kind_type k) ≡ true
     → a ≡ unmerged (es ++ record { name = n; kind = k } ∷ []) → AreHeld c a.entries

@@ -5,7 +5,7 @@ use crate::graphs::{Parts, refused};
 use crate::types::function;
 use anyhow::Result;
 use std::alloc::Global;
-use wac_nodes::NodeId;
+use wac_graph_model::NodeId;
 
 /// An instance, the alias of its export, and an instance that is given it.
 #[derive(Clone, Copy)]

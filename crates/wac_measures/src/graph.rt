@@ -3,7 +3,7 @@
 use crate::types::Collection;
 use anyhow::Result;
 use std::alloc::Global;
-use wac_nodes::{NodeId, PackageId};
+use wac_graph_model::{NodeId, PackageId};
 use wac_types::ItemKind;
 
 /// A composition graph. A call that is refused answers none, and carries no error with its text, since what is measured is the

@@ -6,7 +6,7 @@ use crate::graph::Graph;
 use crate::types::{BOOL, STRING, U32, all_numbered, function, numbered, tuples};
 use anyhow::{Result, bail};
 use std::alloc::Global;
-use wac_nodes::{NodeId, PackageId};
+use wac_graph_model::{NodeId, PackageId};
 use wac_types::{ItemKind, ValueType};
 
 /// How many arguments each instance of a fan is given.

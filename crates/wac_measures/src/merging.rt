@@ -2,7 +2,7 @@
 //! instances of which each uses the resource of the one before, and what is nested.
 
 ghost use Rattle.std.specs.Prelude.{◌≡◌, IfOk, IfSome, true};
-ghost use Rattle.wac_entries.specs.Bindings.{AreHeld};
+ghost use Rattle.wac_merge_classes.specs.entries.Bindings.{AreHeld};
 
 use crate::nesting::{circle, doubled, nested};
 use crate::times::{Shown, Workload};

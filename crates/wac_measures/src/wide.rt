@@ -6,7 +6,7 @@ use crate::graphs::refused;
 use crate::types::{numbered, records, versioned};
 use anyhow::Result;
 use std::alloc::Global;
-use wac_nodes::PackageId;
+use wac_graph_model::PackageId;
 
 /// Registers the package of a number, with an import of its own.
 fn register<G: Graph>(alloc: Global, graph: &mut G, number: u64) -> Result<PackageId> {

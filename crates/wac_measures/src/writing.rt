@@ -5,7 +5,7 @@ use crate::times::{Shown, Times, Workload, grown, timed};
 use anyhow::Result;
 use std::alloc::Global;
 use std::time::Duration;
-use wac_builder::{BinaryFault, ComponentBuilder, Description, FuncType, InstanceType};
+use wac_binary::{BinaryFault, ComponentBuilder, Description, FuncType, InstanceType};
 
 /// How often each is written, so that the least and the median of the times say more than one does.
 const ROUNDS: usize = 41;

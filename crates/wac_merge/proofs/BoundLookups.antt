@@ -2,15 +2,15 @@
 use Rattle.std.proofs.Common.{◌≡◌, ℕ, suc, Bool, true, false, List, [], ◌∷◌, Option, Some, None, refl, sym, ◌∙◌}
 use Rattle.std.specs.Prelude.{◌↔◌}
 use Rattle.std.proofs.lemmas.Bool.{false≢true}
-use Rattle.wac_primitives.specs.Name.{Name, option_case}
-use Rattle.wac_collection.specs.Collection.{Collection}
-use Rattle.wac_shapes.specs.declared.component.ResourceId.{ResourceId}
-use Rattle.wac_entries.specs.Binding.{binding_from, class_binds}
-use Rattle.wac_entries.specs.Bindings.{AreBindings, ClassBindings}
-use Rattle.wac_entries.specs.Classes.{Entry, by_names, class_names}
-use Rattle.wac_terms.specs.Merge.{Merged, bound_resource}
-use Rattle.wac_terms.proofs.Found.{no_some}
-use Rattle.wac_unions.specs.MergedScope.{BindsUnder, IsBoundAs}
+use Rattle.wac_types_shapes.specs.primitives.Name.{Name, option_case}
+use Rattle.wac_types_collection.specs.collection.Collection.{Collection}
+use Rattle.wac_types_shapes.specs.declared.shapes.component.ResourceId.{ResourceId}
+use Rattle.wac_merge_classes.specs.entries.Binding.{binding_from, class_binds}
+use Rattle.wac_merge_classes.specs.entries.Bindings.{AreBindings, ClassBindings}
+use Rattle.wac_merge_classes.specs.entries.Classes.{Entry, by_names, class_names}
+use Rattle.wac_merge_classes.specs.terms.Merge.{Merged, bound_resource}
+use Rattle.wac_merge_classes.proofs.lemmas.terms.Found.{no_some}
+use Rattle.wac_merge_imports.specs.unions.MergedScope.{BindsUnder, IsBoundAs}
 
 -- ---- bindings are those of a collection in which classes bind the same
 module _ (c m : Collection) (es : List Entry) (same : (class : Name) (r : ResourceId) → class_binds by_names m es class r ≡ class_binds by_names c es class r) where

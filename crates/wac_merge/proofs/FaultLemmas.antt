@@ -4,21 +4,21 @@ use Rattle.std.specs.Prelude.{slice_get, IfErr}
 use Rattle.std.specs.List.{AllByRecursion}
 use Rattle.std.specs.Option.{MatchOption}
 use Rattle.std.specs.Result.{IsErrAnd}
-use Rattle.wac_primitives.specs.Name.{Name}
-use Rattle.wac_primitives.specs.Tree.{TypeTree, absent, instance, instance_item}
-use Rattle.wac_subtyping.specs.Called.{Called}
-use Rattle.wac_collection.specs.Collection.{Collection, interface_exports}
-use Rattle.wac_shapes.specs.declared.component.ItemKind.{ItemKind}
-use Rattle.wac_shapes.specs.declared.component.ItemKind.TheVariants as kind
-use Rattle.wac_shapes.specs.declared.component.InterfaceId.{InterfaceId}
-use Rattle.wac_terms.specs.declared.fault.MergeFault.{MergeFault}
-use Rattle.wac_terms.specs.declared.fault.MergeFault.TheVariants as merge
-use Rattle.wac_entries.specs.Classes.{Entry, by_names, class_names, canonical}
-use Rattle.wac_entries.specs.Agreement.{compared, AreInstances, AgreesAt, IsDisagreement, LeadsApart, here, below, joined}
-use Rattle.wac_terms.specs.ClassOrder.{IsOnCircle, RestsOn, by_use, by_resource}
-use Rattle.wac_cycles.specs.Cycles.{Path, step, further}
-use Rattle.wac_terms.specs.NoDisagreement.{HasNoDisagreement}
-use Rattle.wac_terms.specs.Faults.{HasNoCircle, Disagrees, UseEachOther, Fault, disagree, use_each_other, HasFault, fault_of}
+use Rattle.wac_types_shapes.specs.primitives.Name.{Name}
+use Rattle.wac_types_shapes.specs.primitives.Tree.{TypeTree, absent, instance, instance_item}
+use Rattle.wac_types_collection.specs.subtyping.Called.{Called}
+use Rattle.wac_types_collection.specs.collection.Collection.{Collection, interface_exports}
+use Rattle.wac_types_shapes.specs.declared.shapes.component.ItemKind.{ItemKind}
+use Rattle.wac_types_shapes.specs.declared.shapes.component.ItemKind.TheVariants as kind
+use Rattle.wac_types_shapes.specs.declared.shapes.component.InterfaceId.{InterfaceId}
+use Rattle.wac_merge_classes.specs.declared.terms.fault.MergeFault.{MergeFault}
+use Rattle.wac_merge_classes.specs.declared.terms.fault.MergeFault.TheVariants as merge
+use Rattle.wac_merge_classes.specs.entries.Classes.{Entry, by_names, class_names, canonical}
+use Rattle.wac_merge_classes.specs.entries.Agreement.{compared, AreInstances, AgreesAt, IsDisagreement, LeadsApart, here, below, joined}
+use Rattle.wac_merge_classes.specs.terms.ClassOrder.{IsOnCircle, RestsOn, by_use, by_resource}
+use Rattle.wac_edges.specs.cycles.Cycles.{Path, step, further}
+use Rattle.wac_merge_classes.specs.terms.NoDisagreement.{HasNoDisagreement}
+use Rattle.wac_merge_classes.specs.terms.Faults.{HasNoCircle, Disagrees, UseEachOther, Fault, disagree, use_each_other, HasFault, fault_of}
 use Rattle.wac_merge.specs.Aggregate.{IsFault}
 
 pub same_some : {A : Type 0} (o : Option A) (x y : A) → o ≡ Some x → o ≡ Some y → x ≡ y

@@ -1,12 +1,12 @@
 -- Links generate the classes.
 use Rattle.std.proofs.Common.{◌≡◌, ℕ, true, ◌&&◌, List, slice_get, Some, sym, ap, ◌∙◌, subst, inl, inr}
 use Rattle.std.proofs.lemmas.Bool.{and_from, and_parts}
-use Rattle.wac_primitives.specs.Name.{Name, same_name}
-use Rattle.wac_shapes.proofs.Names.{same_name-true, same_name-refl}
-use Rattle.wac_entries.specs.Classes.{Entry, NameRules, by_names, is_instance, names_instance, same_class, IsLink, one_name, one_track, IsLinked, link, chain, ClassLaws}
-use Rattle.wac_entries.proofs.Canonical.{canonical-alike}
-use Rattle.wac_entries.proofs.Lists.{any-at, any-found}
-use Rattle.wac_entries.proofs.ClassFacts.{class-parts, class-from, class-refl, class-of_same, class-sym, class-trans}
+use Rattle.wac_types_shapes.specs.primitives.Name.{Name, same_name}
+use Rattle.wac_types_shapes.proofs.lemmas.shapes.Names.{same_name-true, same_name-refl}
+use Rattle.wac_merge_classes.specs.entries.Classes.{Entry, NameRules, by_names, is_instance, names_instance, same_class, IsLink, one_name, one_track, IsLinked, link, chain, ClassLaws}
+use Rattle.wac_merge_classes.proofs.lemmas.entries.Canonical.{canonical-alike}
+use Rattle.wac_merge_classes.proofs.lemmas.entries.Lists.{any-at, any-found}
+use Rattle.wac_merge_classes.proofs.lemmas.entries.ClassFacts.{class-parts, class-from, class-refl, class-of_same, class-sym, class-trans}
 
 module _ (rules : NameRules) (es : List Entry) where
   -- an instance's name names an instance

@@ -3,22 +3,22 @@ use Rattle.std.proofs.Common.{◌≡◌, inl, inr, ℕ, zero, suc, Bool, true, f
 use Rattle.std.specs.Prelude.{◌⊎◌}
 use Rattle.std.specs.List.{AllByRecursion}
 use Rattle.std.proofs.lemmas.Bool.{cases_Bool, false≢true}
-use Rattle.wac_primitives.specs.Name.{Name, find_name, same_name}
-use Rattle.wac_shapes.proofs.Names.{same_name-true}
-use Rattle.wac_shapes.specs.declared.component.Interface.{Interface}
-use Rattle.wac_shapes.specs.declared.component.InterfaceId.{InterfaceId}
-use Rattle.wac_shapes.specs.declared.component.ItemKind.{ItemKind}
-use Rattle.wac_shapes.specs.declared.component.ItemKind.TheVariants as kind
-use Rattle.wac_primitives.specs.declared.component.PrimitiveType.TheVariants as primitive
-use Rattle.wac_shapes.specs.declared.component.ValueType.TheVariants as val
-use Rattle.wac_shapes.specs.declared.component.«Type».TheVariants as ty
-use Rattle.wac_collection.specs.Collection.{Collection, interface_exports, item_at}
-use Rattle.wac_collection.specs.declared.collection.Held.{Held}
-use Rattle.wac_entries.specs.Classes.{Entry, by_names, members}
-use Rattle.wac_terms.specs.Merge.{Merged, names_behind}
-use Rattle.wac_terms.proofs.Found.{no_some, some_same}
+use Rattle.wac_types_shapes.specs.primitives.Name.{Name, find_name, same_name}
+use Rattle.wac_types_shapes.proofs.lemmas.shapes.Names.{same_name-true}
+use Rattle.wac_types_shapes.specs.declared.shapes.component.Interface.{Interface}
+use Rattle.wac_types_shapes.specs.declared.shapes.component.InterfaceId.{InterfaceId}
+use Rattle.wac_types_shapes.specs.declared.shapes.component.ItemKind.{ItemKind}
+use Rattle.wac_types_shapes.specs.declared.shapes.component.ItemKind.TheVariants as kind
+use Rattle.wac_types_shapes.specs.declared.primitives.component.PrimitiveType.TheVariants as primitive
+use Rattle.wac_types_shapes.specs.declared.shapes.component.ValueType.TheVariants as val
+use Rattle.wac_types_shapes.specs.declared.shapes.component.«Type».TheVariants as ty
+use Rattle.wac_types_collection.specs.collection.Collection.{Collection, interface_exports, item_at}
+use Rattle.wac_types_collection.specs.declared.collection.collection.Held.{Held}
+use Rattle.wac_merge_classes.specs.entries.Classes.{Entry, by_names, members}
+use Rattle.wac_merge_classes.specs.terms.Merge.{Merged, names_behind}
+use Rattle.wac_merge_classes.proofs.lemmas.terms.Found.{no_some, some_same}
 use Rattle.wac_merge.specs.Listed.{AreListedInOrder, Unites, as_import, inside, interface_in, united_interfaces}
-use Rattle.wac_uses.specs.United.{listed_by}
+use Rattle.wac_merge_unions.specs.uses.United.{listed_by}
 
 -- a type item, a byte
 abbrev byte_type : Name → Name × ItemKind

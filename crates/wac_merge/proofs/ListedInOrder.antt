@@ -6,42 +6,42 @@ use Rattle.std.specs.Option.{MatchOption}
 use Rattle.std.proofs.lemmas.Bool.{and_parts, false≢true}
 use Rattle.std.proofs.lemmas.List.{append_assoc, append-nil}
 use Rattle.std.proofs.lemmas.Option.{MatchOption-at_some, slice_get_within}
-use Rattle.wac_primitives.specs.Name.{Name, find_name, option_case, same_name}
-use Rattle.wac_shapes.proofs.Names.{same_name-true}
-use Rattle.wac_shapes.specs.declared.component.Interface.{Interface}
-use Rattle.wac_shapes.specs.declared.component.InterfaceId.{InterfaceId}
-use Rattle.wac_shapes.specs.declared.component.ResourceId.{ResourceId}
-use Rattle.wac_shapes.specs.declared.component.UsedType.{UsedType}
-use Rattle.wac_shapes.specs.declared.component.ItemKind.{ItemKind}
-use Rattle.wac_shapes.specs.declared.component.ItemKind.TheVariants as kind
-use Rattle.wac_shapes.specs.declared.component.«Type».{«Type» as AnyType}
-use Rattle.wac_shapes.specs.declared.component.«Type».TheVariants as ty
-use Rattle.wac_collection.specs.Collection.{Collection, interface_exports, item_at}
-use Rattle.wac_subtyping.specs.Subtype.{IsSubtype}
-use Rattle.wac_entries.specs.Classes.{Entry, by_names, canonical, class_names, is_instance, members, names_instance, same_class}
-use Rattle.wac_entries.proofs.Canonical.{members-alike}
-use Rattle.wac_entries.proofs.ClassFacts.{class-refl}
-use Rattle.wac_entries.proofs.Lists.{any-found, some-at}
-use Rattle.wac_terms.specs.Became.{became, whole_in}
-use Rattle.wac_terms.specs.Merge.{IsMerge, Merged, names_behind}
-use Rattle.wac_terms.specs.Unions.{IsExport, IsInner, instances_in, listed_under, part, part_lists, united}
-use Rattle.wac_terms.specs.Writing.{IsWrittenAs, IsWrittenExport, written_at}
-use Rattle.wac_terms.specs.declared.parts.Export.{Export}
-use Rattle.wac_terms.specs.declared.parts.Part.{Part}
-use Rattle.wac_terms.specs.declared.parts.Union.{Union}
-use Rattle.wac_terms.proofs.Found.{get_map, no_some, one_some, some_same}
-use Rattle.wac_fitting.proofs.MergedBindingsClasses.{filter-has}
-use Rattle.wac_trees.proofs.UnionTreesOwn.{zip_none, zip_some}
-use Rattle.wac_trees.proofs.UnionTreesParts.{all_at, zip_map}
-use Rattle.wac_trees.proofs.UnionTreesWritten.{written_name, written_other, written_own}
-use Rattle.wac_uses.specs.KeptUses.{instances}
-use Rattle.wac_uses.specs.United.{instances_of, listed_by}
-use Rattle.wac_uses.specs.Using.{IsKindUsing, IsUsing, uses_among}
-use Rattle.wac_uses.proofs.ClassFolds.{mapped_at}
-use Rattle.wac_uses.proofs.NestedBinds.{exports-named, found-using, using-instance, using-there}
-use Rattle.wac_unions.specs.MergedClasses.{class_roots, with_root}
-use Rattle.wac_unions.specs.OneId.{HasOneIdEach}
-use Rattle.wac_agreement.proofs.OrderLaws.{at_in, in_contains, order_each}
+use Rattle.wac_types_shapes.specs.primitives.Name.{Name, find_name, option_case, same_name}
+use Rattle.wac_types_shapes.proofs.lemmas.shapes.Names.{same_name-true}
+use Rattle.wac_types_shapes.specs.declared.shapes.component.Interface.{Interface}
+use Rattle.wac_types_shapes.specs.declared.shapes.component.InterfaceId.{InterfaceId}
+use Rattle.wac_types_shapes.specs.declared.shapes.component.ResourceId.{ResourceId}
+use Rattle.wac_types_shapes.specs.declared.shapes.component.UsedType.{UsedType}
+use Rattle.wac_types_shapes.specs.declared.shapes.component.ItemKind.{ItemKind}
+use Rattle.wac_types_shapes.specs.declared.shapes.component.ItemKind.TheVariants as kind
+use Rattle.wac_types_shapes.specs.declared.shapes.component.«Type».{«Type» as AnyType}
+use Rattle.wac_types_shapes.specs.declared.shapes.component.«Type».TheVariants as ty
+use Rattle.wac_types_collection.specs.collection.Collection.{Collection, interface_exports, item_at}
+use Rattle.wac_types_collection.specs.subtyping.Subtype.{IsSubtype}
+use Rattle.wac_merge_classes.specs.entries.Classes.{Entry, by_names, canonical, class_names, is_instance, members, names_instance, same_class}
+use Rattle.wac_merge_classes.proofs.lemmas.entries.Canonical.{members-alike}
+use Rattle.wac_merge_classes.proofs.lemmas.entries.ClassFacts.{class-refl}
+use Rattle.wac_merge_classes.proofs.lemmas.entries.Lists.{any-found, some-at}
+use Rattle.wac_merge_classes.specs.terms.Became.{became, whole_in}
+use Rattle.wac_merge_classes.specs.terms.Merge.{IsMerge, Merged, names_behind}
+use Rattle.wac_merge_classes.specs.terms.Unions.{IsExport, IsInner, instances_in, listed_under, part, part_lists, united}
+use Rattle.wac_merge_classes.specs.terms.Writing.{IsWrittenAs, IsWrittenExport, written_at}
+use Rattle.wac_merge_classes.specs.declared.terms.parts.Export.{Export}
+use Rattle.wac_merge_classes.specs.declared.terms.parts.Part.{Part}
+use Rattle.wac_merge_classes.specs.declared.terms.parts.Union.{Union}
+use Rattle.wac_merge_classes.proofs.lemmas.terms.Found.{get_map, no_some, one_some, some_same}
+use Rattle.wac_merge_imports.proofs.lemmas.fitting.MergedBindingsClasses.{filter-has}
+use Rattle.wac_merge_trees.proofs.lemmas.trees.UnionTreesOwn.{zip_none, zip_some}
+use Rattle.wac_merge_trees.proofs.lemmas.trees.UnionTreesParts.{all_at, zip_map}
+use Rattle.wac_merge_trees.proofs.lemmas.trees.UnionTreesWritten.{written_name, written_other, written_own}
+use Rattle.wac_merge_unions.specs.uses.KeptUses.{instances}
+use Rattle.wac_merge_unions.specs.uses.United.{instances_of, listed_by}
+use Rattle.wac_merge_unions.specs.uses.Using.{IsKindUsing, IsUsing, uses_among}
+use Rattle.wac_merge_unions.proofs.lemmas.uses.ClassFolds.{mapped_at}
+use Rattle.wac_merge_unions.proofs.lemmas.uses.NestedBinds.{exports-named, found-using, using-instance, using-there}
+use Rattle.wac_merge_imports.specs.unions.MergedClasses.{class_roots, with_root}
+use Rattle.wac_merge_imports.specs.unions.OneId.{HasOneIdEach}
+use Rattle.wac_merge_agreement.proofs.lemmas.agreement.OrderLaws.{at_in, in_contains, order_each}
 use Rattle.wac_merge.specs.Listed.{AreListedInOrder, Unites, as_import, inside, interface_in, united_interfaces}
 use Rattle.wac_merge.proofs.OrderOnce.{order_only}
 use Rattle.wac_merge.proofs.UsedBefore.{canonical-class, instances-alike}

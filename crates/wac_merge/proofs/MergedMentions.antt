@@ -1,18 +1,18 @@
 -- The imports of a finished merge mention what stands before them.
 use Rattle.std.proofs.Common.{List, subst, arith}
 use Rattle.std.proofs.lemmas.Option.{slice_get_within}
-use Rattle.wac_primitives.specs.Tree.{Leaf, Tree}
-use Rattle.wac_collection.specs.Collection.{Collection}
-use Rattle.wac_entries.specs.Classes.{Entry, by_names, class_names}
-use Rattle.wac_entries.proofs.Lists.{some-at}
-use Rattle.wac_terms.specs.ClassOrder.{Mentions, begins_at}
-use Rattle.wac_terms.specs.Merge.{IsMerge, Merged}
-use Rattle.wac_terms.specs.NoDisagreement.{HasNoDisagreement}
-use Rattle.wac_agreement.proofs.OrderLaws.{order_each}
-use Rattle.wac_terms.specs.Faults.{HasNoCircle}
+use Rattle.wac_types_shapes.specs.primitives.Tree.{Leaf, Tree}
+use Rattle.wac_types_collection.specs.collection.Collection.{Collection}
+use Rattle.wac_merge_classes.specs.entries.Classes.{Entry, by_names, class_names}
+use Rattle.wac_merge_classes.proofs.lemmas.entries.Lists.{some-at}
+use Rattle.wac_merge_classes.specs.terms.ClassOrder.{Mentions, begins_at}
+use Rattle.wac_merge_classes.specs.terms.Merge.{IsMerge, Merged}
+use Rattle.wac_merge_classes.specs.terms.NoDisagreement.{HasNoDisagreement}
+use Rattle.wac_merge_agreement.proofs.lemmas.agreement.OrderLaws.{order_each}
+use Rattle.wac_merge_classes.specs.terms.Faults.{HasNoCircle}
 use Rattle.wac_merge.specs.MergedPlaces.{MentionsBefore}
 use Rattle.wac_merge.proofs.OrderMentions.{merged_mentions}
-use Rattle.wac_agreement.proofs.RestLinks.{contains_at}
+use Rattle.wac_merge_agreement.proofs.lemmas.agreement.RestLinks.{contains_at}
 
 pub imports_mention : (c : Collection) (es : List Entry) (m : Merged) → HasNoDisagreement by_names c es → HasNoCircle by_names c es → IsMerge by_names c es m → MentionsBefore by_names m
 imports_mention c es m agree ends is p j e at h =

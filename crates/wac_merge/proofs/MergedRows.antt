@@ -3,28 +3,28 @@ use Rattle.std.specs.Prelude.{ℕ, zero, suc, ◌≡◌, ◌≢◌, Bool, true, 
 use Rattle.std.specs.List.{AllByRecursion}
 use Rattle.std.proofs.Common.{subst, arith}
 use Rattle.wac_names.specs.Track.{Track, whole, major}
-use Rattle.wac_primitives.specs.Name.{Name, same_name}
-use Rattle.wac_primitives.specs.Tree.{Tree, TypeTree, imported, exported, position, named, own, absent, fresh, function, function_item, type_equal, resource, instance, instance_item, items_in, type_in}
-use Rattle.wac_collection.specs.Held.{part_at}
-use Rattle.wac_collection.specs.Bound.{held_tree, held_item}
-use Rattle.wac_collection.specs.Collection.{Collection}
-use Rattle.wac_collection.specs.declared.collection.Held.{Held}
-use Rattle.wac_shapes.specs.declared.component.Resource.{Resource}
-use Rattle.wac_shapes.specs.declared.component.FuncType.{FuncType}
-use Rattle.wac_shapes.specs.declared.component.Interface.{Interface}
-use Rattle.wac_shapes.specs.declared.component.UsedType.{UsedType}
-use Rattle.wac_shapes.specs.declared.component.ItemKind.{ItemKind}
-use Rattle.wac_shapes.specs.declared.component.ItemKind.TheVariants as kind
-use Rattle.wac_shapes.specs.declared.component.ValueType.{ValueType}
-use Rattle.wac_shapes.specs.declared.component.ValueType.TheVariants as val
-use Rattle.wac_shapes.specs.declared.component.«Type».TheVariants as ty
-use Rattle.wac_subtyping.specs.Subtype.{Sub, same, instances, instance_items, IsSubtype, type_tree, kind_tree}
-use Rattle.wac_entries.specs.Classes.{Entry, NameRules, is_instance, class_names, canonical, members}
-use Rattle.wac_entries.specs.Binding.{binding_class, class_binds, root_bindings}
-use Rattle.wac_terms.specs.Union.{union, merged}
-use Rattle.wac_entries.specs.Agreement.{compared}
-use Rattle.wac_terms.specs.ClassOrder.{grouped, RestsOn, by_use, by_resource, IsWrittenOrder, done, new, leaves, none}
-use Rattle.wac_terms.specs.Merge.{Merged, IsMerge, IsListed, class_id, position_in, bound_resource}
+use Rattle.wac_types_shapes.specs.primitives.Name.{Name, same_name}
+use Rattle.wac_types_shapes.specs.primitives.Tree.{Tree, TypeTree, imported, exported, position, named, own, absent, fresh, function, function_item, type_equal, resource, instance, instance_item, items_in, type_in}
+use Rattle.wac_types_collection.specs.collection.Held.{part_at}
+use Rattle.wac_types_collection.specs.collection.Bound.{held_tree, held_item}
+use Rattle.wac_types_collection.specs.collection.Collection.{Collection}
+use Rattle.wac_types_collection.specs.declared.collection.collection.Held.{Held}
+use Rattle.wac_types_shapes.specs.declared.shapes.component.Resource.{Resource}
+use Rattle.wac_types_shapes.specs.declared.shapes.component.FuncType.{FuncType}
+use Rattle.wac_types_shapes.specs.declared.shapes.component.Interface.{Interface}
+use Rattle.wac_types_shapes.specs.declared.shapes.component.UsedType.{UsedType}
+use Rattle.wac_types_shapes.specs.declared.shapes.component.ItemKind.{ItemKind}
+use Rattle.wac_types_shapes.specs.declared.shapes.component.ItemKind.TheVariants as kind
+use Rattle.wac_types_shapes.specs.declared.shapes.component.ValueType.{ValueType}
+use Rattle.wac_types_shapes.specs.declared.shapes.component.ValueType.TheVariants as val
+use Rattle.wac_types_shapes.specs.declared.shapes.component.«Type».TheVariants as ty
+use Rattle.wac_types_collection.specs.subtyping.Subtype.{Sub, same, instances, instance_items, IsSubtype, type_tree, kind_tree}
+use Rattle.wac_merge_classes.specs.entries.Classes.{Entry, NameRules, is_instance, class_names, canonical, members}
+use Rattle.wac_merge_classes.specs.entries.Binding.{binding_class, class_binds, root_bindings}
+use Rattle.wac_merge_classes.specs.terms.Union.{union, merged}
+use Rattle.wac_merge_classes.specs.entries.Agreement.{compared}
+use Rattle.wac_merge_classes.specs.terms.ClassOrder.{grouped, RestsOn, by_use, by_resource, IsWrittenOrder, done, new, leaves, none}
+use Rattle.wac_merge_classes.specs.terms.Merge.{Merged, IsMerge, IsListed, class_id, position_in, bound_resource}
 
 -- names of one number are labels; of two, an interface and its version on one track
 abbrev simple_track : Name → Track

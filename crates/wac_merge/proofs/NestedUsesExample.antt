@@ -6,25 +6,25 @@ use Rattle.semver.specs.Parse.{digits_from, scan}
 use Rattle.wac_names.specs.Text.{after, before, has}
 use Rattle.wac_names.specs.Track.{parts_piece, series}
 use Rattle.wac_names.specs.Reading.{is_interface_name, is_label, is_lower_label, is_package, read_track, read_version, version_piece}
-use Rattle.wac_primitives.specs.Name.{Name, find_name, same_name}
-use Rattle.wac_shapes.proofs.Names.{same_name-true}
-use Rattle.wac_shapes.specs.declared.component.Interface.{Interface}
-use Rattle.wac_shapes.specs.declared.component.InterfaceId.{InterfaceId}
-use Rattle.wac_shapes.specs.declared.component.ItemKind.{ItemKind}
-use Rattle.wac_shapes.specs.declared.component.ItemKind.TheVariants as kind
-use Rattle.wac_primitives.specs.declared.component.PrimitiveType.TheVariants as primitive
-use Rattle.wac_shapes.specs.declared.component.UsedType.{UsedType}
-use Rattle.wac_shapes.specs.declared.component.ValueType.TheVariants as val
-use Rattle.wac_shapes.specs.declared.component.«Type».TheVariants as ty
-use Rattle.wac_collection.specs.Collection.{Collection, item_at}
-use Rattle.wac_collection.specs.declared.collection.Held.{Held}
-use Rattle.wac_entries.specs.Classes.{Entry, by_names, is_instance, members}
-use Rattle.wac_terms.specs.Merge.{Merged}
-use Rattle.wac_terms.proofs.Found.{no_some, some_same}
-use Rattle.wac_uses.specs.KeptUses.{AreKept, IsFirstKept, KeepsUses, StandsIn, as_import, inside, instances, uses_of}
-use Rattle.wac_uses.specs.United.{instances_of, listed_by}
-use Rattle.wac_uses.specs.Using.{kept_uses}
-use Rattle.wac_uses.proofs.FirstKept.{kept-first}
+use Rattle.wac_types_shapes.specs.primitives.Name.{Name, find_name, same_name}
+use Rattle.wac_types_shapes.proofs.lemmas.shapes.Names.{same_name-true}
+use Rattle.wac_types_shapes.specs.declared.shapes.component.Interface.{Interface}
+use Rattle.wac_types_shapes.specs.declared.shapes.component.InterfaceId.{InterfaceId}
+use Rattle.wac_types_shapes.specs.declared.shapes.component.ItemKind.{ItemKind}
+use Rattle.wac_types_shapes.specs.declared.shapes.component.ItemKind.TheVariants as kind
+use Rattle.wac_types_shapes.specs.declared.primitives.component.PrimitiveType.TheVariants as primitive
+use Rattle.wac_types_shapes.specs.declared.shapes.component.UsedType.{UsedType}
+use Rattle.wac_types_shapes.specs.declared.shapes.component.ValueType.TheVariants as val
+use Rattle.wac_types_shapes.specs.declared.shapes.component.«Type».TheVariants as ty
+use Rattle.wac_types_collection.specs.collection.Collection.{Collection, item_at}
+use Rattle.wac_types_collection.specs.declared.collection.collection.Held.{Held}
+use Rattle.wac_merge_classes.specs.entries.Classes.{Entry, by_names, is_instance, members}
+use Rattle.wac_merge_classes.specs.terms.Merge.{Merged}
+use Rattle.wac_merge_classes.proofs.lemmas.terms.Found.{no_some, some_same}
+use Rattle.wac_merge_unions.specs.uses.KeptUses.{AreKept, IsFirstKept, KeepsUses, StandsIn, as_import, inside, instances, uses_of}
+use Rattle.wac_merge_unions.specs.uses.United.{instances_of, listed_by}
+use Rattle.wac_merge_unions.specs.uses.Using.{kept_uses}
+use Rattle.wac_merge_unions.proofs.lemmas.uses.FirstKept.{kept-first}
 
 abbrev id : ℕ → InterfaceId
 id i = record { 0 = i }

@@ -6,28 +6,28 @@ use Rattle.std.specs.declared.cmp.Ordering.{Ordering}
 use Rattle.std.specs.declared.cmp.Ordering.TheVariants.{Less, Equal, Greater}
 use Rattle.std.proofs.lemmas.Bool.{cases_Bool, eq-eqb, eqb-true, false≢true}
 use Rattle.std.proofs.lemmas.Cmp.{ranked}
-use Rattle.wac_primitives.specs.Name.{Name}
-use Rattle.wac_primitives.specs.Tree.{Leaf, Tree, absent, fresh, type_equal, instance, instance_item}
-use Rattle.wac_collection.specs.Collection.{Collection}
-use Rattle.wac_shapes.specs.declared.component.ResourceId.{ResourceId}
-use Rattle.wac_shapes.specs.declared.component.«Type».TheVariants as ty
-use Rattle.wac_shapes.specs.declared.component.ItemKind.{ItemKind}
-use Rattle.wac_shapes.specs.declared.component.ItemKind.TheVariants as kind
-use Rattle.wac_entries.specs.Binding.{class_binds, root_bindings}
-use Rattle.wac_entries.specs.Classes.{Entry, by_names, class_names, members, same_class}
-use Rattle.wac_terms.specs.ClassOrder.{IsWrittenOrder, Mentions, RestsOn, begins_at, by_resource, in_instance, in_instance_item}
-use Rattle.wac_terms.specs.Merge.{position_in}
-use Rattle.wac_terms.specs.NoDisagreement.{HasNoDisagreement}
-use Rattle.wac_terms.specs.Union.{member_tree, merged, union, union_all}
-use Rattle.wac_terms.proofs.Found.{at-filter, no_some, some_same}
-use Rattle.wac_terms.specs.Faults.{HasNoCircle}
-use Rattle.wac_agreement.specs.Order.{IsOnce}
-use Rattle.wac_agreement.proofs.OrderLaws.{contains_in, in_at, order_each, order_once}
+use Rattle.wac_types_shapes.specs.primitives.Name.{Name}
+use Rattle.wac_types_shapes.specs.primitives.Tree.{Leaf, Tree, absent, fresh, type_equal, instance, instance_item}
+use Rattle.wac_types_collection.specs.collection.Collection.{Collection}
+use Rattle.wac_types_shapes.specs.declared.shapes.component.ResourceId.{ResourceId}
+use Rattle.wac_types_shapes.specs.declared.shapes.component.«Type».TheVariants as ty
+use Rattle.wac_types_shapes.specs.declared.shapes.component.ItemKind.{ItemKind}
+use Rattle.wac_types_shapes.specs.declared.shapes.component.ItemKind.TheVariants as kind
+use Rattle.wac_merge_classes.specs.entries.Binding.{class_binds, root_bindings}
+use Rattle.wac_merge_classes.specs.entries.Classes.{Entry, by_names, class_names, members, same_class}
+use Rattle.wac_merge_classes.specs.terms.ClassOrder.{IsWrittenOrder, Mentions, RestsOn, begins_at, by_resource, in_instance, in_instance_item}
+use Rattle.wac_merge_classes.specs.terms.Merge.{position_in}
+use Rattle.wac_merge_classes.specs.terms.NoDisagreement.{HasNoDisagreement}
+use Rattle.wac_merge_classes.specs.terms.Union.{member_tree, merged, union, union_all}
+use Rattle.wac_merge_classes.proofs.lemmas.terms.Found.{at-filter, no_some, some_same}
+use Rattle.wac_merge_classes.specs.terms.Faults.{HasNoCircle}
+use Rattle.wac_merge_agreement.specs.private.agreement.Order.{IsOnce}
+use Rattle.wac_merge_agreement.proofs.lemmas.agreement.OrderLaws.{contains_in, in_at, order_each, order_once}
 use Rattle.wac_merge.proofs.OrderOnce.{order_rests}
-use Rattle.wac_agreement.proofs.Resting.{BindsNothing, IsNoResource, class_none, holding, member_resource, same_member, same_member_instance}
-use Rattle.wac_agreement.proofs.RestCircles.{member_quiet, rests_low}
-use Rattle.wac_agreement.proofs.RestLinks.{at_contains, contains_at}
-use Rattle.wac_agreement.proofs.RestKinds.{all_nothing}
+use Rattle.wac_merge_agreement.proofs.lemmas.agreement.Resting.{BindsNothing, IsNoResource, class_none, holding, member_resource, same_member, same_member_instance}
+use Rattle.wac_merge_agreement.proofs.lemmas.agreement.RestCircles.{member_quiet, rests_low}
+use Rattle.wac_merge_agreement.proofs.lemmas.agreement.RestLinks.{at_contains, contains_at}
+use Rattle.wac_merge_agreement.proofs.lemmas.agreement.RestKinds.{all_nothing}
 
 -- ---- what a union mentions one of its parts does
 module _ (P : Leaf → Type 0) where

@@ -1,11 +1,11 @@
 -- The written order is the only one, and each class stands in it behind those that it rests on.
 use Rattle.std.proofs.Common.{◌≡◌, ℕ, ◌<◌, List, [], ◌∷◌, ◌++◌, length, slice_get, Some, Contains, refl, ap, sym, ◌∙◌, subst, ◌⊎◌, inl, inr, arith}
-use Rattle.wac_collection.specs.Collection.{Collection}
-use Rattle.wac_entries.specs.Classes.{Entry, by_names, class_names}
-use Rattle.wac_entries.proofs.Lists.{at-push, push-cases}
-use Rattle.wac_terms.specs.ClassOrder.{Arranges, done, there, new, Selects, none, takes, leaves, RestsOn, IsWrittenOrder, grouped}
-use Rattle.wac_agreement.proofs.KeySets.{In}
-use Rattle.wac_agreement.proofs.OrderLaws.{arranges_each, in_at, in_grouped}
+use Rattle.wac_types_collection.specs.collection.Collection.{Collection}
+use Rattle.wac_merge_classes.specs.entries.Classes.{Entry, by_names, class_names}
+use Rattle.wac_merge_classes.proofs.lemmas.entries.Lists.{at-push, push-cases}
+use Rattle.wac_merge_classes.specs.terms.ClassOrder.{Arranges, done, there, new, Selects, none, takes, leaves, RestsOn, IsWrittenOrder, grouped}
+use Rattle.wac_merge_agreement.proofs.lemmas.agreement.KeySets.{In}
+use Rattle.wac_merge_agreement.proofs.lemmas.agreement.OrderLaws.{arranges_each, in_at, in_grouped}
 use Rattle.std.proofs.lemmas.Option.{slice_get_within}
 
 -- ---- what is selected is one list

@@ -5,23 +5,23 @@ use Rattle.std.specs.Borrow.{Bor}
 use Rattle.std.specs.Global.{Global}
 use Rattle.std.specs.Option.{option_map}
 use Rattle.std.specs.declared.string.String.{String}
-use Rattle.wac_primitives.specs.Name.{Name, same_name}
-use Rattle.wac_shapes.specs.Named.{named_at}
-use Rattle.wac_shapes.specs.declared.component.ItemKind.{ItemKind}
-use Rattle.wac_shapes.specs.declared.component.ResourceId.{ResourceId}
-use Rattle.wac_shapes.proofs.Names.{same_name-from, same_name-true}
-use Rattle.wac_collection.specs.Collection.{Collection}
-use Rattle.wac_primitives.specs.Tree.{Place}
-use Rattle.wac_entries.specs.Binding.{binding_class}
-use Rattle.wac_entries.specs.Bindings.{ClassBindings, first_in}
-use Rattle.wac_subtyping.specs.CalledViews.{path_view}
-use Rattle.wac_entries.specs.Classes.{Entry, by_names, canonical, class_names}
-use Rattle.wac_entries.proofs.Lists.{some-at}
-use Rattle.wac_terms.specs.Merge.{IsMerge, Merged, import_entries, import_under}
-use Rattle.wac_terms.proofs.Found.{no_some, some_same}
-use Rattle.wac_agreement.proofs.OrderLaws.{order_each}
-use Rattle.wac_agreement.proofs.RestCircles.{number_low}
-use Rattle.wac_agreement.proofs.RestLinks.{at_contains}
+use Rattle.wac_types_shapes.specs.primitives.Name.{Name, same_name}
+use Rattle.wac_types_shapes.specs.shapes.Named.{named_at}
+use Rattle.wac_types_shapes.specs.declared.shapes.component.ItemKind.{ItemKind}
+use Rattle.wac_types_shapes.specs.declared.shapes.component.ResourceId.{ResourceId}
+use Rattle.wac_types_shapes.proofs.lemmas.shapes.Names.{same_name-from, same_name-true}
+use Rattle.wac_types_collection.specs.collection.Collection.{Collection}
+use Rattle.wac_types_shapes.specs.primitives.Tree.{Place}
+use Rattle.wac_merge_classes.specs.entries.Binding.{binding_class}
+use Rattle.wac_merge_classes.specs.entries.Bindings.{ClassBindings, first_in}
+use Rattle.wac_types_collection.specs.subtyping.CalledViews.{path_view}
+use Rattle.wac_merge_classes.specs.entries.Classes.{Entry, by_names, canonical, class_names}
+use Rattle.wac_merge_classes.proofs.lemmas.entries.Lists.{some-at}
+use Rattle.wac_merge_classes.specs.terms.Merge.{IsMerge, Merged, import_entries, import_under}
+use Rattle.wac_merge_classes.proofs.lemmas.terms.Found.{no_some, some_same}
+use Rattle.wac_merge_agreement.proofs.lemmas.agreement.OrderLaws.{order_each}
+use Rattle.wac_merge_agreement.proofs.lemmas.agreement.RestCircles.{number_low}
+use Rattle.wac_merge_agreement.proofs.lemmas.agreement.RestLinks.{at_contains}
 use Rattle.wac_merge.specs.Aggregate.{AreKnown}
 use Rattle.wac_merge.specs.MergedPlaces.{IsRootPlace}
 

@@ -4,32 +4,32 @@ use Rattle.std.specs.List.{AllByRecursion, list_any}
 use Rattle.std.proofs.lemmas.Bool.{and_parts, false≢true, or_left, or_right}
 use Rattle.std.proofs.lemmas.List.{take_all}
 use Rattle.std.proofs.lemmas.Option.{slice_get_within}
-use Rattle.wac_primitives.specs.Name.{Name, find_name, option_case, same_name}
-use Rattle.wac_shapes.proofs.Names.{same_name-refl, same_name-true}
-use Rattle.wac_shapes.specs.declared.component.Interface.{Interface}
-use Rattle.wac_shapes.specs.declared.component.InterfaceId.{InterfaceId}
-use Rattle.wac_shapes.specs.declared.component.UsedType.{UsedType}
-use Rattle.wac_shapes.specs.declared.component.ItemKind.{ItemKind}
-use Rattle.wac_shapes.specs.declared.component.ItemKind.TheVariants as kind
-use Rattle.wac_shapes.specs.declared.component.«Type».{«Type» as AnyType}
-use Rattle.wac_collection.specs.Collection.{Collection, item_at}
-use Rattle.wac_collection.specs.Uses.{is_there, is_type_item, is_used_by_id, name_there}
-use Rattle.wac_primitives.specs.Tree.{TypeTree, instance_item}
-use Rattle.wac_subtyping.specs.Subtype.{IsSubtype, Sub, by_name, kind_tree}
-use Rattle.wac_subtyping.specs.TreeLaws.{IsDeepEnough}
-use Rattle.wac_entries.specs.Classes.{Entry, by_names, canonical, class_names, imported_as, is_asked, is_instance, members, names_instance, names_of_classes, same_class, same_track}
-use Rattle.wac_entries.proofs.Canonical.{canonical-alike, class_name-asked, members-alike}
-use Rattle.wac_entries.proofs.ClassFacts.{class-parts, class-refl, class-sym, class-trans, same_track-from}
-use Rattle.wac_entries.proofs.ClassPaths.{newest-class}
-use Rattle.wac_entries.proofs.Lists.{any-at, any-found, some-at}
-use Rattle.wac_entries.proofs.Numbers.{has_prior}
-use Rattle.wac_terms.specs.ClassOrder.{by_use}
-use Rattle.wac_terms.specs.Merge.{IsListed, IsMerge, Merged, first_entry_id, import_under, is_on_track}
-use Rattle.wac_terms.proofs.Found.{one_some}
-use Rattle.wac_uses.specs.KeptUses.{imported_interface, instance_of, of_interface}
-use Rattle.wac_unions.proofs.AssembledKinds.{the-instance}
-use Rattle.wac_unions.proofs.ListedTypes.{listed-type}
-use Rattle.wac_agreement.proofs.OrderLaws.{at_in, in_contains, order_each}
+use Rattle.wac_types_shapes.specs.primitives.Name.{Name, find_name, option_case, same_name}
+use Rattle.wac_types_shapes.proofs.lemmas.shapes.Names.{same_name-refl, same_name-true}
+use Rattle.wac_types_shapes.specs.declared.shapes.component.Interface.{Interface}
+use Rattle.wac_types_shapes.specs.declared.shapes.component.InterfaceId.{InterfaceId}
+use Rattle.wac_types_shapes.specs.declared.shapes.component.UsedType.{UsedType}
+use Rattle.wac_types_shapes.specs.declared.shapes.component.ItemKind.{ItemKind}
+use Rattle.wac_types_shapes.specs.declared.shapes.component.ItemKind.TheVariants as kind
+use Rattle.wac_types_shapes.specs.declared.shapes.component.«Type».{«Type» as AnyType}
+use Rattle.wac_types_collection.specs.collection.Collection.{Collection, item_at}
+use Rattle.wac_types_collection.specs.collection.Uses.{is_there, is_type_item, is_used_by_id, name_there}
+use Rattle.wac_types_shapes.specs.primitives.Tree.{TypeTree, instance_item}
+use Rattle.wac_types_collection.specs.subtyping.Subtype.{IsSubtype, Sub, by_name, kind_tree}
+use Rattle.wac_types_collection.specs.subtyping.TreeLaws.{IsDeepEnough}
+use Rattle.wac_merge_classes.specs.entries.Classes.{Entry, by_names, canonical, class_names, imported_as, is_asked, is_instance, members, names_instance, names_of_classes, same_class, same_track}
+use Rattle.wac_merge_classes.proofs.lemmas.entries.Canonical.{canonical-alike, class_name-asked, members-alike}
+use Rattle.wac_merge_classes.proofs.lemmas.entries.ClassFacts.{class-parts, class-refl, class-sym, class-trans, same_track-from}
+use Rattle.wac_merge_classes.proofs.lemmas.entries.ClassPaths.{newest-class}
+use Rattle.wac_merge_classes.proofs.lemmas.entries.Lists.{any-at, any-found, some-at}
+use Rattle.wac_merge_classes.proofs.lemmas.entries.Numbers.{has_prior}
+use Rattle.wac_merge_classes.specs.terms.ClassOrder.{by_use}
+use Rattle.wac_merge_classes.specs.terms.Merge.{IsListed, IsMerge, Merged, first_entry_id, import_under, is_on_track}
+use Rattle.wac_merge_classes.proofs.lemmas.terms.Found.{one_some}
+use Rattle.wac_merge_unions.specs.uses.KeptUses.{imported_interface, instance_of, of_interface}
+use Rattle.wac_merge_imports.proofs.lemmas.unions.AssembledKinds.{the-instance}
+use Rattle.wac_merge_imports.proofs.lemmas.unions.ListedTypes.{listed-type}
+use Rattle.wac_merge_agreement.proofs.lemmas.agreement.OrderLaws.{at_in, in_contains, order_each}
 use Rattle.wac_merge.proofs.OrderOnce.{order_rests}
 
 -- what is found by a name among imports: one that stands at a position

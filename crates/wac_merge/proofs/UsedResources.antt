@@ -2,40 +2,40 @@
 use Rattle.std.proofs.Common.{◌≡◌, ℕ, zero, suc, Bool, true, false, cond, List, [], ◌∷◌, map, slice_get, Option, Some, None, refl, sym, ap, ◌∙◌, subst, arith}
 use Rattle.std.proofs.lemmas.Bool.{eq-eqb, false≢true}
 use Rattle.std.proofs.lemmas.Option.{MatchOption-at_some, slice_get_within}
-use Rattle.wac_primitives.specs.Name.{Name, find_name, first_some, option_case}
-use Rattle.wac_shapes.specs.declared.component.Interface.{Interface}
-use Rattle.wac_shapes.specs.declared.component.InterfaceId.{InterfaceId}
-use Rattle.wac_shapes.specs.declared.component.ItemKind.{ItemKind}
-use Rattle.wac_shapes.specs.declared.component.ItemKind.TheVariants as kind
-use Rattle.wac_shapes.specs.declared.component.ResourceId.{ResourceId}
-use Rattle.wac_shapes.specs.declared.component.UsedType.{UsedType}
-use Rattle.wac_shapes.specs.declared.component.«Type».TheVariants as ty
-use Rattle.wac_collection.specs.Bound.{is_alias, own_name}
-use Rattle.wac_collection.specs.Collection.{Collection, IsWellFormed, interface_exports, item_at}
-use Rattle.wac_collection.specs.Held.{resolved}
-use Rattle.wac_primitives.specs.Tree.{Place, named}
-use Rattle.wac_collection.specs.Uses.{is_listed_as_used, name_there, same_type_item, used_item}
-use Rattle.wac_entries.specs.Binding.{first_binds, kind_binds}
-use Rattle.wac_entries.specs.Bindings.{first_in, path_in}
-use Rattle.wac_entries.specs.Classes.{Entry, by_names, class_names, is_instance, members, same_class, same_track}
-use Rattle.wac_entries.proofs.ClassFacts.{class-sym, class-trans, one-position}
-use Rattle.wac_entries.proofs.Lists.{some-at}
-use Rattle.wac_terms.specs.Became.{became, became_in_class, became_outside, became_to, new_at, or_itself, own_in, own_of_part}
-use Rattle.wac_terms.specs.Merge.{IsMerge, Merged}
-use Rattle.wac_terms.specs.Unions.{IsExport, listed_under, part, part_lists}
-use Rattle.wac_terms.specs.Writing.{IsAliasOf, IsWrittenAs, IsWrittenExport, written_at}
-use Rattle.wac_terms.specs.declared.parts.Export.{Export}
-use Rattle.wac_terms.specs.declared.parts.Part.{Part}
-use Rattle.wac_terms.proofs.Found.{get_map, no_some, one_some, some_same}
-use Rattle.wac_fitting.proofs.FittingParts.{written-alias}
-use Rattle.wac_trees.proofs.UnionTreesOwn.{alias_resolved, end_alias, end_source, zip_at}
-use Rattle.wac_trees.proofs.UnionTreesParts.{contains_at}
-use Rattle.wac_trees.proofs.UnionTreesWritten.{written_name, written_other, written_own}
-use Rattle.wac_uses.specs.KeptUses.{of_interface}
-use Rattle.wac_uses.specs.United.{instances_of}
-use Rattle.wac_uses.proofs.ClassFolds.{mapped_at}
-use Rattle.wac_unions.specs.OneId.{HasOneIdEach}
-use Rattle.wac_unions.proofs.AssembledKinds.{the-instance}
+use Rattle.wac_types_shapes.specs.primitives.Name.{Name, find_name, first_some, option_case}
+use Rattle.wac_types_shapes.specs.declared.shapes.component.Interface.{Interface}
+use Rattle.wac_types_shapes.specs.declared.shapes.component.InterfaceId.{InterfaceId}
+use Rattle.wac_types_shapes.specs.declared.shapes.component.ItemKind.{ItemKind}
+use Rattle.wac_types_shapes.specs.declared.shapes.component.ItemKind.TheVariants as kind
+use Rattle.wac_types_shapes.specs.declared.shapes.component.ResourceId.{ResourceId}
+use Rattle.wac_types_shapes.specs.declared.shapes.component.UsedType.{UsedType}
+use Rattle.wac_types_shapes.specs.declared.shapes.component.«Type».TheVariants as ty
+use Rattle.wac_types_collection.specs.collection.Bound.{is_alias, own_name}
+use Rattle.wac_types_collection.specs.collection.Collection.{Collection, IsWellFormed, interface_exports, item_at}
+use Rattle.wac_types_collection.specs.collection.Held.{resolved}
+use Rattle.wac_types_shapes.specs.primitives.Tree.{Place, named}
+use Rattle.wac_types_collection.specs.collection.Uses.{is_listed_as_used, name_there, same_type_item, used_item}
+use Rattle.wac_merge_classes.specs.entries.Binding.{first_binds, kind_binds}
+use Rattle.wac_merge_classes.specs.entries.Bindings.{first_in, path_in}
+use Rattle.wac_merge_classes.specs.entries.Classes.{Entry, by_names, class_names, is_instance, members, same_class, same_track}
+use Rattle.wac_merge_classes.proofs.lemmas.entries.ClassFacts.{class-sym, class-trans, one-position}
+use Rattle.wac_merge_classes.proofs.lemmas.entries.Lists.{some-at}
+use Rattle.wac_merge_classes.specs.terms.Became.{became, became_in_class, became_outside, became_to, new_at, or_itself, own_in, own_of_part}
+use Rattle.wac_merge_classes.specs.terms.Merge.{IsMerge, Merged}
+use Rattle.wac_merge_classes.specs.terms.Unions.{IsExport, listed_under, part, part_lists}
+use Rattle.wac_merge_classes.specs.terms.Writing.{IsAliasOf, IsWrittenAs, IsWrittenExport, written_at}
+use Rattle.wac_merge_classes.specs.declared.terms.parts.Export.{Export}
+use Rattle.wac_merge_classes.specs.declared.terms.parts.Part.{Part}
+use Rattle.wac_merge_classes.proofs.lemmas.terms.Found.{get_map, no_some, one_some, some_same}
+use Rattle.wac_merge_imports.proofs.lemmas.fitting.FittingParts.{written-alias}
+use Rattle.wac_merge_trees.proofs.lemmas.trees.UnionTreesOwn.{alias_resolved, end_alias, end_source, zip_at}
+use Rattle.wac_merge_trees.proofs.lemmas.trees.UnionTreesParts.{contains_at}
+use Rattle.wac_merge_trees.proofs.lemmas.trees.UnionTreesWritten.{written_name, written_other, written_own}
+use Rattle.wac_merge_unions.specs.uses.KeptUses.{of_interface}
+use Rattle.wac_merge_unions.specs.uses.United.{instances_of}
+use Rattle.wac_merge_unions.proofs.lemmas.uses.ClassFolds.{mapped_at}
+use Rattle.wac_merge_imports.specs.unions.OneId.{HasOneIdEach}
+use Rattle.wac_merge_imports.proofs.lemmas.unions.AssembledKinds.{the-instance}
 use Rattle.wac_merge.specs.Listed.{united_interfaces}
 use Rattle.wac_merge.specs.UsedResources.{BindsResource, ListsResource}
 use Rattle.wac_merge.proofs.ListedInOrder.{AreAll, IsPartOf, IsUnionOf, as-instance, bare-exports, exports-are, first-instances, first-is, members-like, of-class, type-listed, zip-back}

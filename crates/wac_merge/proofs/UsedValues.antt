@@ -3,42 +3,42 @@ use Rattle.std.proofs.Common.{◌≡◌, inl, inr, ℕ, zero, suc, Bool, true, f
 use Rattle.std.specs.List.{AllZip}
 use Rattle.std.proofs.lemmas.Bool.{cases_Bool, eq-eqb, false≢true}
 use Rattle.std.proofs.lemmas.Option.{MatchOption-at_some}
-use Rattle.wac_primitives.specs.Name.{Name, find_name, option_case, same_name}
-use Rattle.wac_shapes.proofs.Names.{same_name-true}
-use Rattle.wac_shapes.specs.declared.component.DefinedType.{DefinedType}
-use Rattle.wac_shapes.specs.declared.component.DefinedType.TheVariants as def
-use Rattle.wac_shapes.specs.declared.component.DefinedTypeId.{DefinedTypeId}
-use Rattle.wac_shapes.specs.declared.component.Interface.{Interface}
-use Rattle.wac_shapes.specs.declared.component.InterfaceId.{InterfaceId}
-use Rattle.wac_shapes.specs.declared.component.ItemKind.{ItemKind}
-use Rattle.wac_shapes.specs.declared.component.ItemKind.TheVariants as kind
-use Rattle.wac_shapes.specs.declared.component.ResourceId.{ResourceId}
-use Rattle.wac_shapes.specs.declared.component.UsedType.{UsedType}
-use Rattle.wac_shapes.specs.declared.component.ValueType.{ValueType}
-use Rattle.wac_shapes.specs.declared.component.ValueType.TheVariants as val
-use Rattle.wac_shapes.specs.declared.component.«Type».TheVariants as ty
-use Rattle.wac_collection.specs.Aliases.{aliased, handle_resolved, target_of, value_resolved, value_resolved_in}
-use Rattle.wac_collection.specs.Collection.{Collection, IsWellFormed, holds_value, interface_exports, item_at, size}
-use Rattle.wac_collection.specs.Uses.{is_listed_as_used, name_there, primitive_number, same_type_item, same_value, used_item}
-use Rattle.wac_collection.proofs.Chains.{value_ends}
-use Rattle.wac_collection.proofs.Ends.{end_no_alias}
-use Rattle.wac_entries.specs.Classes.{Entry, by_names, is_instance, members}
-use Rattle.wac_terms.specs.Became.{became}
-use Rattle.wac_terms.specs.Merge.{IsMerge, Merged}
-use Rattle.wac_terms.specs.Unions.{IsExport, listed_under, part}
-use Rattle.wac_terms.specs.Values.{definition, listed_value}
-use Rattle.wac_terms.specs.Writing.{IsWrittenAs, IsWrittenExport, written_at}
-use Rattle.wac_terms.specs.declared.parts.Export.{Export}
-use Rattle.wac_terms.specs.declared.parts.Part.{Part}
-use Rattle.wac_terms.proofs.Found.{get_map, no_some, one_some, some_same}
-use Rattle.wac_trees.proofs.UnionTreesOwn.{found_place}
-use Rattle.wac_trees.proofs.UnionTreesParts.{at_contains, contains_at}
-use Rattle.wac_trees.proofs.UnionTreesWritten.{written_name, written_other, written_own}
-use Rattle.wac_uses.specs.KeptUses.{of_interface}
-use Rattle.wac_uses.specs.United.{instances_of, listed_by}
-use Rattle.wac_values.specs.NamedTypes.{ListsOne, named_type}
-use Rattle.wac_renaming.specs.MadeOf.{other_name}
-use Rattle.wac_unions.specs.OneId.{Became, HasOneIdEach, another, at_end, in_union, kind_values}
+use Rattle.wac_types_shapes.specs.primitives.Name.{Name, find_name, option_case, same_name}
+use Rattle.wac_types_shapes.proofs.lemmas.shapes.Names.{same_name-true}
+use Rattle.wac_types_shapes.specs.declared.shapes.component.DefinedType.{DefinedType}
+use Rattle.wac_types_shapes.specs.declared.shapes.component.DefinedType.TheVariants as def
+use Rattle.wac_types_shapes.specs.declared.shapes.component.DefinedTypeId.{DefinedTypeId}
+use Rattle.wac_types_shapes.specs.declared.shapes.component.Interface.{Interface}
+use Rattle.wac_types_shapes.specs.declared.shapes.component.InterfaceId.{InterfaceId}
+use Rattle.wac_types_shapes.specs.declared.shapes.component.ItemKind.{ItemKind}
+use Rattle.wac_types_shapes.specs.declared.shapes.component.ItemKind.TheVariants as kind
+use Rattle.wac_types_shapes.specs.declared.shapes.component.ResourceId.{ResourceId}
+use Rattle.wac_types_shapes.specs.declared.shapes.component.UsedType.{UsedType}
+use Rattle.wac_types_shapes.specs.declared.shapes.component.ValueType.{ValueType}
+use Rattle.wac_types_shapes.specs.declared.shapes.component.ValueType.TheVariants as val
+use Rattle.wac_types_shapes.specs.declared.shapes.component.«Type».TheVariants as ty
+use Rattle.wac_types_collection.specs.collection.Aliases.{aliased, handle_resolved, target_of, value_resolved, value_resolved_in}
+use Rattle.wac_types_collection.specs.collection.Collection.{Collection, IsWellFormed, holds_value, interface_exports, item_at, size}
+use Rattle.wac_types_collection.specs.collection.Uses.{is_listed_as_used, name_there, primitive_number, same_type_item, same_value, used_item}
+use Rattle.wac_types_collection.proofs.lemmas.collection.Chains.{value_ends}
+use Rattle.wac_types_collection.proofs.lemmas.collection.Ends.{end_no_alias}
+use Rattle.wac_merge_classes.specs.entries.Classes.{Entry, by_names, is_instance, members}
+use Rattle.wac_merge_classes.specs.terms.Became.{became}
+use Rattle.wac_merge_classes.specs.terms.Merge.{IsMerge, Merged}
+use Rattle.wac_merge_classes.specs.terms.Unions.{IsExport, listed_under, part}
+use Rattle.wac_merge_classes.specs.terms.Values.{definition, listed_value}
+use Rattle.wac_merge_classes.specs.terms.Writing.{IsWrittenAs, IsWrittenExport, written_at}
+use Rattle.wac_merge_classes.specs.declared.terms.parts.Export.{Export}
+use Rattle.wac_merge_classes.specs.declared.terms.parts.Part.{Part}
+use Rattle.wac_merge_classes.proofs.lemmas.terms.Found.{get_map, no_some, one_some, some_same}
+use Rattle.wac_merge_trees.proofs.lemmas.trees.UnionTreesOwn.{found_place}
+use Rattle.wac_merge_trees.proofs.lemmas.trees.UnionTreesParts.{at_contains, contains_at}
+use Rattle.wac_merge_trees.proofs.lemmas.trees.UnionTreesWritten.{written_name, written_other, written_own}
+use Rattle.wac_merge_unions.specs.uses.KeptUses.{of_interface}
+use Rattle.wac_merge_unions.specs.uses.United.{instances_of, listed_by}
+use Rattle.wac_merge_resources.specs.values.NamedTypes.{ListsOne, named_type}
+use Rattle.wac_merge_resources.specs.renaming.MadeOf.{other_name}
+use Rattle.wac_merge_imports.specs.unions.OneId.{Became, HasOneIdEach, another, at_end, in_union, kind_values}
 use Rattle.wac_merge.specs.Listed.{united_interfaces}
 use Rattle.wac_merge.specs.UsedValues.{ListsDefinition}
 use Rattle.wac_merge.proofs.ListedInOrder.{AreAll, IsPartOf, IsUnionOf, as-instance, bare-exports, before, exports-are, first-instances, first-is, members-like, of-class, type-listed, zip-back}

@@ -1,13 +1,13 @@
 -- What an aggregator holds.
 use Rattle.std.specs.Prelude.{ℕ, ◌≡◌, Bool, false, List, [], ◌⊎◌, IsSome, Some, slice_get}
-use Rattle.wac_primitives.specs.Name.{Name}
-use Rattle.wac_collection.specs.Collection.{Collection, empty}
-use Rattle.wac_entries.specs.Bindings.{AreBindings, AreHeld, ClassBindings}
-use Rattle.wac_entries.specs.Classes.{AreClasses, Entry, by_names, canonical, class_names}
-use Rattle.wac_terms.specs.Faults.{Fault, HasFault, fault_of}
-use Rattle.wac_terms.specs.Merge.{Merged, import_under}
-use Rattle.wac_terms.specs.declared.fault.MergeFault.{MergeFault}
-use Rattle.wac_terms.specs.declared.fault.MergeFault.TheVariants.{OutOfMemory}
+use Rattle.wac_types_shapes.specs.primitives.Name.{Name}
+use Rattle.wac_types_collection.specs.collection.Collection.{Collection, empty}
+use Rattle.wac_merge_classes.specs.entries.Bindings.{AreBindings, AreHeld, ClassBindings}
+use Rattle.wac_merge_classes.specs.entries.Classes.{AreClasses, Entry, by_names, canonical, class_names}
+use Rattle.wac_merge_classes.specs.terms.Faults.{Fault, HasFault, fault_of}
+use Rattle.wac_merge_classes.specs.terms.Merge.{Merged, import_under}
+use Rattle.wac_merge_classes.specs.declared.terms.fault.MergeFault.{MergeFault}
+use Rattle.wac_merge_classes.specs.declared.terms.fault.MergeFault.TheVariants.{OutOfMemory}
 
 -- The entries, whether they were merged, and the merge, which is empty until then.
 pub record Aggregate : Type 0 where

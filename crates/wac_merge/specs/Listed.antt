@@ -1,15 +1,15 @@
 -- What the interfaces of a merge export: those of imports, of instances inside them, and interfaces as type items.
 use Rattle.std.specs.Prelude.{ℕ, ◌≡◌, List, [], ◌∷◌, map, Option, Some, None, slice_get}
-use Rattle.wac_primitives.specs.Name.{Name, find_name}
-use Rattle.wac_shapes.specs.declared.component.Interface.{Interface}
-use Rattle.wac_shapes.specs.declared.component.InterfaceId.{InterfaceId}
-use Rattle.wac_shapes.specs.declared.component.ItemKind.{ItemKind}
-use Rattle.wac_shapes.specs.declared.component.ItemKind.TheVariants as kind
-use Rattle.wac_shapes.specs.declared.component.«Type».TheVariants as ty
-use Rattle.wac_collection.specs.Collection.{Collection, interface_exports, item_at}
-use Rattle.wac_entries.specs.Classes.{Entry, NameRules, members}
-use Rattle.wac_terms.specs.Merge.{Merged, names_behind}
-use Rattle.wac_uses.specs.United.{instances_of, listed_by}
+use Rattle.wac_types_shapes.specs.primitives.Name.{Name, find_name}
+use Rattle.wac_types_shapes.specs.declared.shapes.component.Interface.{Interface}
+use Rattle.wac_types_shapes.specs.declared.shapes.component.InterfaceId.{InterfaceId}
+use Rattle.wac_types_shapes.specs.declared.shapes.component.ItemKind.{ItemKind}
+use Rattle.wac_types_shapes.specs.declared.shapes.component.ItemKind.TheVariants as kind
+use Rattle.wac_types_shapes.specs.declared.shapes.component.«Type».TheVariants as ty
+use Rattle.wac_types_collection.specs.collection.Collection.{Collection, interface_exports, item_at}
+use Rattle.wac_merge_classes.specs.entries.Classes.{Entry, NameRules, members}
+use Rattle.wac_merge_classes.specs.terms.Merge.{Merged, names_behind}
+use Rattle.wac_merge_unions.specs.uses.United.{instances_of, listed_by}
 
 -- The interface of an instance, or of a type item.
 abbrev pub interface_in : ItemKind → Option InterfaceId

@@ -1,13 +1,13 @@
 -- Which merged imports bind the resources that others mention, and which import binds a resource of the entries.
 use Rattle.std.specs.Prelude.{ℕ, ◌≡◌, ◌≤◌, List, [], ◌∷◌, Some, slice_get}
-use Rattle.wac_primitives.specs.Name.{Name}
-use Rattle.wac_shapes.specs.declared.component.ResourceId.{ResourceId}
-use Rattle.wac_collection.specs.Bound.{held_item}
-use Rattle.wac_primitives.specs.Tree.{Place, imported, position}
-use Rattle.wac_entries.specs.Binding.{binding_class, root_bindings}
-use Rattle.wac_entries.specs.Classes.{Entry, NameRules, canonical, class_names}
-use Rattle.wac_terms.specs.ClassOrder.{Mentions, begins_at}
-use Rattle.wac_terms.specs.Merge.{Merged}
+use Rattle.wac_types_shapes.specs.primitives.Name.{Name}
+use Rattle.wac_types_shapes.specs.declared.shapes.component.ResourceId.{ResourceId}
+use Rattle.wac_types_collection.specs.collection.Bound.{held_item}
+use Rattle.wac_types_shapes.specs.primitives.Tree.{Place, imported, position}
+use Rattle.wac_merge_classes.specs.entries.Binding.{binding_class, root_bindings}
+use Rattle.wac_merge_classes.specs.entries.Classes.{Entry, NameRules, canonical, class_names}
+use Rattle.wac_merge_classes.specs.terms.ClassOrder.{Mentions, begins_at}
+use Rattle.wac_merge_classes.specs.terms.Merge.{Merged}
 
 -- An import mentions no resource that a later import binds.
 abbrev pub MentionsBefore : NameRules → Merged → Type 0

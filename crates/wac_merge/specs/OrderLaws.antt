@@ -1,21 +1,21 @@
 -- The laws of the order of classes.
 use Rattle.std.specs.Prelude.{ℕ, ◌≡◌, ◌<◌, ◌↔◌, true, false, List, take, length, Some, slice_get, Contains}
-use Rattle.wac_primitives.specs.Name.{Name, find_name}
-use Rattle.wac_shapes.specs.declared.component.Interface.{Interface}
-use Rattle.wac_shapes.specs.declared.component.InterfaceId.{InterfaceId}
-use Rattle.wac_shapes.specs.declared.component.ItemKind.TheVariants as kind
-use Rattle.wac_shapes.specs.declared.component.UsedType.{UsedType}
-use Rattle.wac_shapes.specs.declared.component.«Type».{«Type» as AnyType}
-use Rattle.wac_collection.specs.Collection.{Collection, item_at}
-use Rattle.wac_collection.specs.Uses.{is_there, is_used_by_id, name_there}
-use Rattle.wac_subtyping.specs.Subtype.{by_name}
-use Rattle.wac_subtyping.specs.TreeLaws.{IsDeepEnough}
-use Rattle.wac_entries.specs.Classes.{Entry, by_names, class_names, members, names_instance, same_class}
-use Rattle.wac_terms.specs.ClassOrder.{IsWrittenOrder, RestsOn}
-use Rattle.wac_terms.specs.Merge.{IsMerge, Merged}
-use Rattle.wac_uses.specs.KeptUses.{imported_interface, of_interface}
-use Rattle.wac_unions.specs.OneId.{HasOneIdEach}
-use Rattle.wac_terms.specs.Faults.{HasNoCircle}
+use Rattle.wac_types_shapes.specs.primitives.Name.{Name, find_name}
+use Rattle.wac_types_shapes.specs.declared.shapes.component.Interface.{Interface}
+use Rattle.wac_types_shapes.specs.declared.shapes.component.InterfaceId.{InterfaceId}
+use Rattle.wac_types_shapes.specs.declared.shapes.component.ItemKind.TheVariants as kind
+use Rattle.wac_types_shapes.specs.declared.shapes.component.UsedType.{UsedType}
+use Rattle.wac_types_shapes.specs.declared.shapes.component.«Type».{«Type» as AnyType}
+use Rattle.wac_types_collection.specs.collection.Collection.{Collection, item_at}
+use Rattle.wac_types_collection.specs.collection.Uses.{is_there, is_used_by_id, name_there}
+use Rattle.wac_types_collection.specs.subtyping.Subtype.{by_name}
+use Rattle.wac_types_collection.specs.subtyping.TreeLaws.{IsDeepEnough}
+use Rattle.wac_merge_classes.specs.entries.Classes.{Entry, by_names, class_names, members, names_instance, same_class}
+use Rattle.wac_merge_classes.specs.terms.ClassOrder.{IsWrittenOrder, RestsOn}
+use Rattle.wac_merge_classes.specs.terms.Merge.{IsMerge, Merged}
+use Rattle.wac_merge_unions.specs.uses.KeptUses.{imported_interface, of_interface}
+use Rattle.wac_merge_imports.specs.unions.OneId.{HasOneIdEach}
+use Rattle.wac_merge_classes.specs.terms.Faults.{HasNoCircle}
 use Rattle.wac_merge.specs.Listed.{AreListedInOrder}
 
 -- The order has each class, once if no class depends on itself through others, and no other order is a written one.

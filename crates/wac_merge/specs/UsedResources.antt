@@ -1,24 +1,24 @@
 -- When a used resource is the one that is exported under its name.
 use Rattle.std.specs.Prelude.{ℕ, ◌≡◌, true, false, List, [], ◌∷◌, map, Some, None, slice_get, Contains}
-use Rattle.wac_primitives.specs.Name.{Name, find_name}
-use Rattle.wac_shapes.specs.declared.component.Interface.{Interface}
-use Rattle.wac_shapes.specs.declared.component.InterfaceId.{InterfaceId}
-use Rattle.wac_shapes.specs.declared.component.ItemKind.{ItemKind}
-use Rattle.wac_shapes.specs.declared.component.ItemKind.TheVariants as kind
-use Rattle.wac_shapes.specs.declared.component.ResourceId.{ResourceId}
-use Rattle.wac_shapes.specs.declared.component.UsedType.{UsedType}
-use Rattle.wac_shapes.specs.declared.component.«Type».TheVariants as ty
-use Rattle.wac_collection.specs.Bound.{is_alias, own_name}
-use Rattle.wac_collection.specs.Collection.{Collection, IsWellFormed, interface_exports, item_at}
-use Rattle.wac_collection.specs.Held.{resolved}
-use Rattle.wac_primitives.specs.Tree.{named}
-use Rattle.wac_collection.specs.Uses.{is_listed_as_used, name_there}
-use Rattle.wac_entries.specs.Binding.{binding_class}
-use Rattle.wac_entries.specs.Classes.{Entry, by_names, canonical, class_names, members}
-use Rattle.wac_terms.specs.Merge.{IsMerge, Merged}
-use Rattle.wac_uses.specs.KeptUses.{of_interface}
-use Rattle.wac_uses.specs.United.{listed_by}
-use Rattle.wac_unions.specs.OneId.{HasOneIdEach}
+use Rattle.wac_types_shapes.specs.primitives.Name.{Name, find_name}
+use Rattle.wac_types_shapes.specs.declared.shapes.component.Interface.{Interface}
+use Rattle.wac_types_shapes.specs.declared.shapes.component.InterfaceId.{InterfaceId}
+use Rattle.wac_types_shapes.specs.declared.shapes.component.ItemKind.{ItemKind}
+use Rattle.wac_types_shapes.specs.declared.shapes.component.ItemKind.TheVariants as kind
+use Rattle.wac_types_shapes.specs.declared.shapes.component.ResourceId.{ResourceId}
+use Rattle.wac_types_shapes.specs.declared.shapes.component.UsedType.{UsedType}
+use Rattle.wac_types_shapes.specs.declared.shapes.component.«Type».TheVariants as ty
+use Rattle.wac_types_collection.specs.collection.Bound.{is_alias, own_name}
+use Rattle.wac_types_collection.specs.collection.Collection.{Collection, IsWellFormed, interface_exports, item_at}
+use Rattle.wac_types_collection.specs.collection.Held.{resolved}
+use Rattle.wac_types_shapes.specs.primitives.Tree.{named}
+use Rattle.wac_types_collection.specs.collection.Uses.{is_listed_as_used, name_there}
+use Rattle.wac_merge_classes.specs.entries.Binding.{binding_class}
+use Rattle.wac_merge_classes.specs.entries.Classes.{Entry, by_names, canonical, class_names, members}
+use Rattle.wac_merge_classes.specs.terms.Merge.{IsMerge, Merged}
+use Rattle.wac_merge_unions.specs.uses.KeptUses.{of_interface}
+use Rattle.wac_merge_unions.specs.uses.United.{listed_by}
+use Rattle.wac_merge_imports.specs.unions.OneId.{HasOneIdEach}
 use Rattle.wac_merge.specs.Listed.{united_interfaces}
 
 -- The import is an instance that exports a under this name, as an alias.

@@ -1,22 +1,22 @@
 -- When a used value type is the one that is exported under its name.
 use Rattle.std.specs.Prelude.{ℕ, ◌≡◌, true, List, map, Some, slice_get, Contains}
-use Rattle.wac_primitives.specs.Name.{Name, find_name}
-use Rattle.wac_shapes.specs.declared.component.DefinedType.{DefinedType}
-use Rattle.wac_shapes.specs.declared.component.DefinedTypeId.{DefinedTypeId}
-use Rattle.wac_shapes.specs.declared.component.InterfaceId.{InterfaceId}
-use Rattle.wac_shapes.specs.declared.component.ItemKind.{ItemKind}
-use Rattle.wac_shapes.specs.declared.component.ItemKind.TheVariants as kind
-use Rattle.wac_shapes.specs.declared.component.UsedType.{UsedType}
-use Rattle.wac_shapes.specs.declared.component.ValueType.TheVariants as val
-use Rattle.wac_shapes.specs.declared.component.«Type».TheVariants as ty
-use Rattle.wac_collection.specs.Collection.{Collection, IsWellFormed, interface_exports, item_at}
-use Rattle.wac_collection.specs.Uses.{is_listed_as_used, name_there}
-use Rattle.wac_entries.specs.Classes.{Entry, by_names, members}
-use Rattle.wac_terms.specs.Merge.{IsMerge, Merged}
-use Rattle.wac_terms.specs.Values.{listed_value}
-use Rattle.wac_uses.specs.KeptUses.{of_interface}
-use Rattle.wac_uses.specs.United.{listed_by}
-use Rattle.wac_unions.specs.OneId.{HasOneIdEach}
+use Rattle.wac_types_shapes.specs.primitives.Name.{Name, find_name}
+use Rattle.wac_types_shapes.specs.declared.shapes.component.DefinedType.{DefinedType}
+use Rattle.wac_types_shapes.specs.declared.shapes.component.DefinedTypeId.{DefinedTypeId}
+use Rattle.wac_types_shapes.specs.declared.shapes.component.InterfaceId.{InterfaceId}
+use Rattle.wac_types_shapes.specs.declared.shapes.component.ItemKind.{ItemKind}
+use Rattle.wac_types_shapes.specs.declared.shapes.component.ItemKind.TheVariants as kind
+use Rattle.wac_types_shapes.specs.declared.shapes.component.UsedType.{UsedType}
+use Rattle.wac_types_shapes.specs.declared.shapes.component.ValueType.TheVariants as val
+use Rattle.wac_types_shapes.specs.declared.shapes.component.«Type».TheVariants as ty
+use Rattle.wac_types_collection.specs.collection.Collection.{Collection, IsWellFormed, interface_exports, item_at}
+use Rattle.wac_types_collection.specs.collection.Uses.{is_listed_as_used, name_there}
+use Rattle.wac_merge_classes.specs.entries.Classes.{Entry, by_names, members}
+use Rattle.wac_merge_classes.specs.terms.Merge.{IsMerge, Merged}
+use Rattle.wac_merge_classes.specs.terms.Values.{listed_value}
+use Rattle.wac_merge_unions.specs.uses.KeptUses.{of_interface}
+use Rattle.wac_merge_unions.specs.uses.United.{listed_by}
+use Rattle.wac_merge_imports.specs.unions.OneId.{HasOneIdEach}
 use Rattle.wac_merge.specs.Listed.{united_interfaces}
 
 -- The import is an instance that exports the definition a under this name.

@@ -2,40 +2,40 @@
 ghost use Rattle.std.specs.Prelude.{Contains, ℕ, ◌≡◌, ◌<◌, ◌∷◌, ◌++◌, ◌⊎◌, ◌↔◌, [], length, slice_get, IfOk, IfErr, IfSome, OnOk, None, Some, true};
 ghost use Rattle.std.specs.Option.{MatchOption};
 ghost use Rattle.std.specs.Result.{IsErrAnd};
-ghost use Rattle.wac_collection.specs.Collection.{holds_type, IsKeptBy};
-ghost use Rattle.wac_shapes.specs.Kinds.{kind_type};
-ghost use Rattle.wac_primitives.specs.Name.{Name as AName};
+ghost use Rattle.wac_types_collection.specs.collection.Collection.{holds_type, IsKeptBy};
+ghost use Rattle.wac_types_shapes.specs.shapes.Kinds.{kind_type};
+ghost use Rattle.wac_types_shapes.specs.primitives.Name.{Name as AName};
 ghost use Rattle.wac_merge.specs.Aggregate.{IsFault, unmerged};
 ghost use Rattle.wac_merge.specs.MergedPlaces.{IsRootPlace, MentionsBefore};
-ghost use Rattle.wac_entries.specs.Binding.{binding_class};
-ghost use Rattle.wac_subtyping.specs.CalledViews.{path_view};
-ghost use Rattle.wac_entries.specs.Agreement.{AllMembersAgree};
-ghost use Rattle.wac_entries.specs.Bindings.{AreBindings, AreHeld};
-ghost use Rattle.wac_terms.specs.ClassOrder.{IsWrittenOrder};
-ghost use Rattle.wac_entries.specs.Classes.{AreClasses, by_names, canonical, class_names, imported_as};
-ghost use Rattle.wac_terms.specs.Faults.{Fault as AFault, HasFault, HasNoCircle, fault_of, use_each_other};
-ghost use Rattle.wac_terms.specs.NoDisagreement.{HasNoDisagreement};
-ghost use Rattle.wac_terms.specs.Merge.{IsMerge, bound_resource, import_entries, listed_resource, own_resource};
-ghost use Rattle.wac_unions.specs.MergedScope.{BindsAsClasses, BindsUnder, IsBoundAs};
-ghost use Rattle.wac_unions.specs.OneId.{HasOneIdEach};
-ghost use Rattle.wac_uses.specs.KeptUses.{KeepsUses};
-ghost use Rattle.wac_subtyping.specs.TreeLaws.{KeepsTrees};
-ghost use Rattle.wac_shapes.specs.declared.component.ResourceId.{ResourceId as AResource};
+ghost use Rattle.wac_merge_classes.specs.entries.Binding.{binding_class};
+ghost use Rattle.wac_types_collection.specs.subtyping.CalledViews.{path_view};
+ghost use Rattle.wac_merge_classes.specs.entries.Agreement.{AllMembersAgree};
+ghost use Rattle.wac_merge_classes.specs.entries.Bindings.{AreBindings, AreHeld};
+ghost use Rattle.wac_merge_classes.specs.terms.ClassOrder.{IsWrittenOrder};
+ghost use Rattle.wac_merge_classes.specs.entries.Classes.{AreClasses, by_names, canonical, class_names, imported_as};
+ghost use Rattle.wac_merge_classes.specs.terms.Faults.{Fault as AFault, HasFault, HasNoCircle, fault_of, use_each_other};
+ghost use Rattle.wac_merge_classes.specs.terms.NoDisagreement.{HasNoDisagreement};
+ghost use Rattle.wac_merge_classes.specs.terms.Merge.{IsMerge, bound_resource, import_entries, listed_resource, own_resource};
+ghost use Rattle.wac_merge_imports.specs.unions.MergedScope.{BindsAsClasses, BindsUnder, IsBoundAs};
+ghost use Rattle.wac_merge_imports.specs.unions.OneId.{HasOneIdEach};
+ghost use Rattle.wac_merge_unions.specs.uses.KeptUses.{KeepsUses};
+ghost use Rattle.wac_types_collection.specs.subtyping.TreeLaws.{KeepsTrees};
+ghost use Rattle.wac_types_shapes.specs.declared.shapes.component.ResourceId.{ResourceId as AResource};
 
 use std::alloc::{AllocError, Global};
 use std::marker::Model;
-use wac_agreement::compared::{entry_items, first_pair};
-use wac_agreement::order::written_order;
-use wac_agreement::rests::rests;
-use wac_collection::{ItemKind, Named, ResourceId, Type, Types};
-use wac_cycles::cycles::lowest_on_cycle;
-use wac_entries::bindings::Bindings;
-use wac_entries::classes::Classes;
-use wac_entries::entry::Entry;
-use wac_tables::nodes::Nodes;
-use wac_terms::fault::MergeFault;
-use wac_unions::bound::class_binds;
-use wac_unions::merged::Merged;
+use wac_edges::cycles::cycles::lowest_on_cycle;
+use wac_merge_agreement::agreement::compared::{entry_items, first_pair};
+use wac_merge_agreement::agreement::order::written_order;
+use wac_merge_agreement::agreement::rests::rests;
+use wac_merge_classes::entries::bindings::Bindings;
+use wac_merge_classes::entries::classes::Classes;
+use wac_merge_classes::entries::entry::Entry;
+use wac_merge_classes::terms::fault::MergeFault;
+use wac_merge_imports::unions::bound::class_binds;
+use wac_merge_imports::unions::merged::Merged;
+use wac_merge_tables::tables::nodes::Nodes;
+use wac_types_collection::{ItemKind, Named, ResourceId, Type, Types};
 
 /// The classes of entries, what the classes bind, and the merge.
 #[derive(Drop)]
@@ -67,7 +67,7 @@ impl Drop for TypeAggregator {
 
 impl Model for TypeAggregator {
     ghost use Rattle.std.specs.Prelude.{is_some, IfSome};
-    ghost use Rattle.wac_primitives.specs.Name.{option_case};
+    ghost use Rattle.wac_types_shapes.specs.primitives.Name.{option_case};
     ghost use Rattle.wac_merge.specs.Aggregate.{Aggregate, AreKnown, nothing};
 
     ghost Value = { Aggregate };

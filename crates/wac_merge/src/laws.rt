@@ -1,6 +1,6 @@
 //! Laws of classes, faults and the order of imports. Each is brought by a call, for proofs only.
-ghost use Rattle.wac_entries.specs.Classes.{ClassLaws};
-ghost use Rattle.wac_terms.specs.Faults.{OneFault};
+ghost use Rattle.wac_merge_classes.specs.entries.Classes.{ClassLaws};
+ghost use Rattle.wac_merge_classes.specs.terms.Faults.{OneFault};
 ghost use Rattle.wac_merge.specs.OrderLaws.{ListedLaw, OrderLaw, RestsLaw, UsedLaw};
 ghost use Rattle.wac_merge.specs.UsedResources.{UsedResourceLaw};
 ghost use Rattle.wac_merge.specs.UsedValues.{UsedValueLaw};

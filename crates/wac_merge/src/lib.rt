@@ -23,4 +23,4 @@ mod aggregator;
 pub mod laws;
 
 pub use aggregator::TypeAggregator;
-pub use wac_terms::fault::MergeFault;
+pub use wac_merge_classes::terms::fault::MergeFault;

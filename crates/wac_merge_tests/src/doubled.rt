@@ -7,8 +7,8 @@ use crate::rows::Row::{Instance, Plain, TypeOf};
 use crate::rows::{Items, Row};
 use std::alloc::Global;
 use std::process::Abort;
+use wac_merge_unions::uniting::unions::Unions;
 use wac_types::{Interface, InterfaceId, ItemKind, Type, Types};
-use wac_uniting::unions::Unions;
 
 const DOUBLED: &[Case] = &[
     Case {

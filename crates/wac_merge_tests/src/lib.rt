@@ -5,6 +5,7 @@
 
 #[cfg(test)]
 mod doubled;
+mod examples;
 #[cfg(test)]
 mod listed;
 #[cfg(test)]

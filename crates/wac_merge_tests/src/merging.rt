@@ -1,6 +1,6 @@
 //! Which imports are one, which do not agree, and where resources are bound.
 ghost use Rattle.std.specs.Prelude.{◌≡◌, true, IfOk};
-ghost use Rattle.wac_entries.specs.Bindings.{AreHeld};
+ghost use Rattle.wac_merge_classes.specs.entries.Bindings.{AreHeld};
 
 use crate::merged::Check::{Bound, Canonical, Differ, Imports, Lists, Resource, Unbound};
 use crate::merged::{Case, assert_merged};

@@ -1,14 +1,14 @@
 //! One named type is bound by one class, under one name.
-ghost use Rattle.wac_entries.specs.Bindings.{AreHeld};
+ghost use Rattle.wac_merge_classes.specs.entries.Bindings.{AreHeld};
 
 use crate::rows::Row::{Alias, Enumeration, Instance};
 use crate::rows::{Item, Items, Row, assert_row};
 use std::alloc::Global;
 use std::process::Abort;
-use wac_entries::classes::Classes;
-use wac_entries::entry::Entry;
+use wac_merge_classes::entries::classes::Classes;
+use wac_merge_classes::entries::entry::Entry;
+use wac_merge_resources::values::bindings::value_bindings;
 use wac_types::{ItemKind, Types};
-use wac_values::bindings::value_bindings;
 
 // The entries that are asked for.
 fn asked_entries(

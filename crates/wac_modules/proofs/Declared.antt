@@ -5,7 +5,7 @@ use Rattle.std.specs.List.{flat_map}
 use Rattle.std.specs.Result.{IsErrAnd}
 use Rattle.std.proofs.lemmas.List.{append-nil, length-append, take_all}
 use Rattle.std.proofs.lemmas.Grind.{flat_map-append}
-use Rattle.wac_shapes.proofs.Names.{take_at}
+use Rattle.wac_types_shapes.proofs.lemmas.shapes.Names.{take_at}
 use Rattle.wac_binary.specs.Items.{ModuleDecl, module_import, module_func, module_export}
 use Rattle.wac_binary.specs.Bytes.{module_decl_bytes}
 use Rattle.wac_binary.specs.Indexes.{function_types}

@@ -2,17 +2,17 @@
 use Rattle.std.proofs.Common.{◌≡◌, ℕ, ◌+◌, ◌<◌, Bool, true, false, cond, List, [], ◌∷◌, ◌++◌, length, refl, ap, ◌∙◌, sym, subst, arith, Some, None}
 use Rattle.std.proofs.Math.Path.{fun_ext}
 use Rattle.std.proofs.lemmas.List.{length-append}
-use Rattle.wac_primitives.specs.Name.{Name, same_name, find_name, option_case}
-use Rattle.wac_shapes.specs.Named.{NoNameTwice}
-use Rattle.wac_shapes.specs.Imports.{Pair, find_import, NoImportTwice}
-use Rattle.wac_primitives.specs.Core.{CoreItem, no_item, core_function, core_tag}
-use Rattle.wac_shapes.proofs.Names.{same_name-true, same_name-refl}
-use Rattle.wac_primitives.specs.declared.core_types.CoreType.{CoreType}
-use Rattle.wac_shapes.specs.declared.core_types.CoreExtern.{CoreExtern}
-use Rattle.wac_shapes.specs.declared.core_types.CoreExtern.TheVariants as core
-use Rattle.wac_shapes.specs.declared.core_types.ModuleType.{ModuleType}
-use Rattle.wac_primitives.specs.Tree.{module_of}
-use Rattle.wac_collection.specs.Held.{core_item as held_core_item, core_under, core_imports}
+use Rattle.wac_types_shapes.specs.primitives.Name.{Name, same_name, find_name, option_case}
+use Rattle.wac_types_shapes.specs.shapes.Named.{NoNameTwice}
+use Rattle.wac_types_shapes.specs.shapes.Imports.{Pair, find_import, NoImportTwice}
+use Rattle.wac_types_shapes.specs.primitives.Core.{CoreItem, no_item, core_function, core_tag}
+use Rattle.wac_types_shapes.proofs.lemmas.shapes.Names.{same_name-true, same_name-refl}
+use Rattle.wac_types_shapes.specs.declared.primitives.core_types.CoreType.{CoreType}
+use Rattle.wac_types_shapes.specs.declared.shapes.core_types.CoreExtern.{CoreExtern}
+use Rattle.wac_types_shapes.specs.declared.shapes.core_types.CoreExtern.TheVariants as core
+use Rattle.wac_types_shapes.specs.declared.shapes.core_types.ModuleType.{ModuleType}
+use Rattle.wac_types_shapes.specs.primitives.Tree.{module_of}
+use Rattle.wac_types_collection.specs.collection.Held.{core_item as held_core_item, core_under, core_imports}
 use Rattle.wac_binary.specs.Items.{ModuleDecl, module_import, module_export}
 use Rattle.wac_binary.specs.Indexes.{function_types}
 use Rattle.wac_binary.specs.Unfold.{Module, no_module, func_at, core_item, with_module_decl, module_after}

@@ -1,9 +1,9 @@
 -- Worked examples of what is declared of a held core module type, computed.
 use Rattle.std.specs.Prelude.{◌≡◌, [], ◌∷◌, None, false, true, refl}
-use Rattle.wac_shapes.specs.declared.core_types.CoreExtern.{CoreExtern}
-use Rattle.wac_shapes.specs.declared.core_types.CoreExtern.TheVariants as core
-use Rattle.wac_primitives.specs.declared.core_types.CoreType.TheVariants.{I32, I64}
-use Rattle.wac_shapes.specs.declared.core_types.ModuleType.{ModuleType}
+use Rattle.wac_types_shapes.specs.declared.shapes.core_types.CoreExtern.{CoreExtern}
+use Rattle.wac_types_shapes.specs.declared.shapes.core_types.CoreExtern.TheVariants as core
+use Rattle.wac_types_shapes.specs.declared.primitives.core_types.CoreType.TheVariants.{I32, I64}
+use Rattle.wac_types_shapes.specs.declared.shapes.core_types.ModuleType.{ModuleType}
 use Rattle.wac_binary.specs.declared.core_types.EntityType.TheVariants as t
 use Rattle.wac_binary.specs.Items.{module_import, module_func, module_export}
 use Rattle.wac_binary.specs.Bytes.{module_bytes}

@@ -1,12 +1,12 @@
 -- The declarations of a held core module type.
 use Rattle.std.specs.Prelude.{ℕ, ◌+◌, ◌≡◌, List, [], ◌∷◌, ◌++◌}
-use Rattle.wac_primitives.specs.Name.{Name}
-use Rattle.wac_shapes.specs.Imports.{Pair}
-use Rattle.wac_shapes.specs.declared.core_types.CoreExtern.{CoreExtern}
-use Rattle.wac_shapes.specs.declared.core_types.CoreExtern.TheVariants as core
-use Rattle.wac_shapes.specs.declared.core_types.ModuleType.{ModuleType}
-use Rattle.wac_primitives.specs.Tree.{Tree}
-use Rattle.wac_collection.specs.Held.{module_tree as held_module_tree}
+use Rattle.wac_types_shapes.specs.primitives.Name.{Name}
+use Rattle.wac_types_shapes.specs.shapes.Imports.{Pair}
+use Rattle.wac_types_shapes.specs.declared.shapes.core_types.CoreExtern.{CoreExtern}
+use Rattle.wac_types_shapes.specs.declared.shapes.core_types.CoreExtern.TheVariants as core
+use Rattle.wac_types_shapes.specs.declared.shapes.core_types.ModuleType.{ModuleType}
+use Rattle.wac_types_shapes.specs.primitives.Tree.{Tree}
+use Rattle.wac_types_collection.specs.collection.Held.{module_tree as held_module_tree}
 use Rattle.wac_binary.specs.declared.core_types.EntityType.{EntityType}
 use Rattle.wac_binary.specs.declared.core_types.EntityType.TheVariants as t
 use Rattle.wac_binary.specs.Items.{ModuleDecl, module_import, module_func, module_export}

@@ -1,7 +1,7 @@
 //! The writer of core module types.
 
 ghost use Rattle.std.specs.Prelude.{◌≡◌, ◌++◌, ◌∷◌, [], Err as Refused, IfOk, OnOk};
-ghost use Rattle.wac_shapes.specs.declared.core_types.CoreExtern.TheVariants as core;
+ghost use Rattle.wac_types_shapes.specs.declared.shapes.core_types.CoreExtern.TheVariants as core;
 ghost use Rattle.wac_binary.specs.Fits.{ModuleFits};
 ghost use Rattle.wac_binary.specs.Indexes.{function_types};
 ghost use Rattle.wac_binary.specs.Items.{module_func};
@@ -10,14 +10,14 @@ ghost use Rattle.wac_modules.specs.Declarations.{entity, type_before, import_of,
 
 use std::alloc::Global;
 use wac_binary::{BinaryFault, EntityType, GlobalType, MemoryType, TableType};
-use wac_collection::{CoreExtern, CoreFuncType, CoreRefType, CoreType, ModuleType};
+use wac_types_collection::{CoreExtern, CoreFuncType, CoreRefType, CoreType, ModuleType};
 
 /// The type of a core module as it is written: its imports in order, then its exports in order, before each function and each tag a
 /// function type of its own.
 ///
 /// Answers `TooLarge` where the declarations do not fit 32 bits, memory aside, and only there; and `OutOfMemory` where memory was
 /// refused.
-pub fn module_type(alloc: Global, held: &ModuleType) -> Result<wac_builder::ModuleType, BinaryFault>
+pub fn module_type(alloc: Global, held: &ModuleType) -> Result<wac_binary::ModuleType, BinaryFault>
     ensures declared { IfOk result (λ t. t ≡ declarations_of held.now) }
     ensures means { IfOk result (MeansModule held.now) }
     ensures fits { OnOk result (ModuleFits (declarations_of held.now)) }
@@ -25,7 +25,7 @@ pub fn module_type(alloc: Global, held: &ModuleType) -> Result<wac_builder::Modu
 {
     held.imports.law();
     held.exports.law();
-    let mut written = wac_builder::ModuleType::new(alloc);
+    let mut written = wac_binary::ModuleType::new(alloc);
     for i in 0..held.imports.len() {
         let ((source, name), item) = held.imports.entry_at(i);
         declare_import(&mut written, source, name, item)?;
@@ -40,7 +40,7 @@ pub fn module_type(alloc: Global, held: &ModuleType) -> Result<wac_builder::Modu
 
 /// Declares an import, behind the function type that it needs.
 fn declare_import(
-    written: &mut wac_builder::ModuleType,
+    written: &mut wac_binary::ModuleType,
     source: &str,
     name: &str,
     item: &CoreExtern,
@@ -54,7 +54,7 @@ fn declare_import(
 
 /// Declares an export, behind the function type that it needs.
 fn declare_export(
-    written: &mut wac_builder::ModuleType,
+    written: &mut wac_binary::ModuleType,
     name: &str,
     item: &CoreExtern,
 ) -> Result<(), BinaryFault>
@@ -67,7 +67,7 @@ fn declare_export(
 
 /// Declares the function type that an item needs, where it needs one, and answers how the item is described.
 fn entity_type(
-    written: &mut wac_builder::ModuleType,
+    written: &mut wac_binary::ModuleType,
     item: &CoreExtern,
 ) -> Result<EntityType, BinaryFault>
     ensures described { IfOk result (λ x. x ≡ entity (function_types written.old) item.now) }
@@ -100,7 +100,7 @@ fn entity_type(
 }
 
 /// Declares a function type, and answers its index.
-fn func_type(written: &mut wac_builder::ModuleType, func: &CoreFuncType) -> Result<u32, BinaryFault>
+fn func_type(written: &mut wac_binary::ModuleType, func: &CoreFuncType) -> Result<u32, BinaryFault>
     ensures index { IfOk result (λ i. i ≡ function_types written.old) }
     ensures declared { OnOk result (written.new ≡ written.old ++ module_func func.now.params func.now.results ∷ []) }
     ensures too_large { result ≡ Refused TooLarge → ModuleFits (written.old ++ module_func func.now.params func.now.results ∷ []) → ⊥ }

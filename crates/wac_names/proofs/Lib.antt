@@ -16,3 +16,4 @@ pub mod SameTrack
 pub mod KeyFacts
 pub mod VersionOrder
 pub mod Examples
+pub mod lemmas

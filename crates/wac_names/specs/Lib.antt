@@ -11,3 +11,5 @@ pub mod Name
 pub mod Clash
 pub mod Plain
 pub mod NameView
+pub mod validation
+pub mod private

@@ -32,18 +32,17 @@ mod fault;
 mod hash;
 mod kind;
 mod label;
+pub mod laws;
 mod name;
 mod reading;
 mod text;
-mod tracks;
+pub mod tracks;
+pub mod validation;
 
-pub use clashes::{clash, clash_is_symmetric};
+pub use clashes::clash;
 pub use fault::NameFault;
 pub use kind::{
     ComponentNameKind, DependencyName, HashName, InterfaceName, PackageName, UrlName, VersionRange,
 };
-pub use name::{ComponentName, one_answer};
-pub use tracks::{
-    Track, are_semver_compatible, compare_versions, keys_tell_tracks, one_track_laws, reading_laws,
-    version_laws,
-};
+pub use name::ComponentName;
+pub use tracks::are_semver_compatible;

@@ -4,9 +4,9 @@ use Rattle.std.specs.HashMap.{get, Updates}
 use Rattle.std.proofs.Common.{refl, ap, sym, subst, ◌∙◌, inl, inr, arith, get_or}
 use Rattle.std.proofs.lemmas.Bool.Decides.{nat_tests}
 use Rattle.std.proofs.lemmas.Option.{slice_get_within, slice_get-get_or, get_or_from_slice_get}
-use Rattle.wac_shapes.specs.declared.component.InterfaceId.{InterfaceId}
-use Rattle.wac_collection.proofs.Growth.{get_grown, get_where, get_new}
-use Rattle.wac_collection.specs.Collection.{Collection}
+use Rattle.wac_types_shapes.specs.declared.shapes.component.InterfaceId.{InterfaceId}
+use Rattle.wac_types_collection.proofs.lemmas.collection.Growth.{get_grown, get_where, get_new}
+use Rattle.wac_types_collection.specs.collection.Collection.{Collection}
 use Rattle.wac_scopes.specs.declared.scope.Scope.{Scope}
 use Rattle.wac_scopes.specs.Scoped.{named_at}
 use Rattle.wac_planning.specs.declared.growing.Growing.{Growing}

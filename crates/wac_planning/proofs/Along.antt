@@ -1,7 +1,7 @@
 -- Of one definition: where it has its name along places in one another, and which of them take it.
 use Rattle.std.specs.Prelude.{ℕ, ◌≡◌, ◌<◌, List, [], ◌∷◌, ◌++◌, Option, Some, None}
 use Rattle.std.proofs.Common.{refl, sym, ◌∙◌, inl, inr, arith}
-use Rattle.wac_shapes.specs.declared.component.InterfaceId.{InterfaceId}
+use Rattle.wac_types_shapes.specs.declared.shapes.component.InterfaceId.{InterfaceId}
 use Rattle.wac_planning.specs.Planning.{innermost, IsNamedAlong, IsTakenAlong, ComesFrom, IsSourceAlong, IsSourceAt, IsBehind, IsBelow}
 
 -- each place was added later than the next

@@ -4,8 +4,8 @@ use Rattle.std.specs.Option.{option_eq}
 use Rattle.std.proofs.Common.{refl, ap, sym, subst, ◌∙◌, inl, inr, arith}
 use Rattle.std.proofs.lemmas.Bool.Decides.{nat_tests}
 use Rattle.std.proofs.lemmas.Option.{slice_get_within}
-use Rattle.wac_shapes.specs.declared.component.DefinedTypeId.{DefinedTypeId}
-use Rattle.wac_shapes.specs.declared.component.InterfaceId.{InterfaceId}
+use Rattle.wac_types_shapes.specs.declared.shapes.component.DefinedTypeId.{DefinedTypeId}
+use Rattle.wac_types_shapes.specs.declared.shapes.component.InterfaceId.{InterfaceId}
 use Rattle.wac_planning.specs.declared.plan.Place.{Place}
 use Rattle.wac_planning.specs.Plans.{IsOneOf}
 use Rattle.wac_planning.specs.Planning.{innermost, IsBehind, IsTakenAt, IsOutward, IsBelow, IsSamePlace, TakesMore, TakesHere, TakesTo}

@@ -1,12 +1,12 @@
 -- What the interfaces inside an interface take from around them.
 use Rattle.std.specs.Prelude.{ℕ, ◌≡◌, ◌⊎◌, nat_eq, List, Option, Some, IsSome, slice_get}
 use Rattle.std.specs.HashMap.{get}
-use Rattle.wac_primitives.specs.Name.{Name}
-use Rattle.wac_shapes.specs.declared.component.DefinedTypeId.{DefinedTypeId}
-use Rattle.wac_shapes.specs.declared.component.InterfaceId.{InterfaceId}
-use Rattle.wac_shapes.specs.declared.component.ItemKind.{ItemKind}
-use Rattle.wac_shapes.specs.declared.component.ValueType.TheVariants as val
-use Rattle.wac_collection.specs.Collection.{Collection, HasDefined, interface_exports}
+use Rattle.wac_types_shapes.specs.primitives.Name.{Name}
+use Rattle.wac_types_shapes.specs.declared.shapes.component.DefinedTypeId.{DefinedTypeId}
+use Rattle.wac_types_shapes.specs.declared.shapes.component.InterfaceId.{InterfaceId}
+use Rattle.wac_types_shapes.specs.declared.shapes.component.ItemKind.{ItemKind}
+use Rattle.wac_types_shapes.specs.declared.shapes.component.ValueType.TheVariants as val
+use Rattle.wac_types_collection.specs.collection.Collection.{Collection, HasDefined, interface_exports}
 use Rattle.wac_listing.specs.Made.{interface_of, OneItemIsMadeOf}
 use Rattle.wac_scopes.specs.declared.scope.Scope.{Scope}
 use Rattle.wac_scopes.specs.Scoped.{named_at}

@@ -3,8 +3,8 @@
 ghost use Rattle.std.specs.Prelude.{◌≡◌, ◌<◌, ℕ, nat_eq, List, [], None, Some, IfOk, OnOk, length, slice_get};
 ghost use Rattle.std.specs.Bool.{OnTrue};
 ghost use Rattle.std.specs.HashMap.{Updates};
-ghost use Rattle.wac_shapes.specs.declared.component.DefinedTypeId.{DefinedTypeId as AnId};
-ghost use Rattle.wac_shapes.specs.declared.component.InterfaceId.{InterfaceId as AnInterface};
+ghost use Rattle.wac_types_shapes.specs.declared.shapes.component.DefinedTypeId.{DefinedTypeId as AnId};
+ghost use Rattle.wac_types_shapes.specs.declared.shapes.component.InterfaceId.{InterfaceId as AnInterface};
 ghost use Rattle.wac_planning.specs.declared.plan.Place.{Place as APlace};
 ghost use Rattle.wac_planning.specs.Planning.{source_at, innermost, IsOutward, TakesTo, TakesHere, TakesFrom, NamesFirst, AddsPlace, Renames};
 
@@ -12,8 +12,8 @@ use crate::plan::Place;
 use std::alloc::{AllocError, Global};
 use std::collections::HashMap;
 use std::hash::BuildHasherDefault;
-use wac_collection::{DefinedTypeId, InterfaceId};
 use wac_scopes::{Scope, TypeHash};
+use wac_types_collection::{DefinedTypeId, InterfaceId};
 
 /// What is done next while a plan is made.
 #[derive(Clone, Copy)]

@@ -3,7 +3,7 @@
 ghost use Rattle.std.specs.Prelude.{◌≡◌};
 ghost use Rattle.wac_planning.specs.Listed.{listed_definition as listed};
 
-use wac_collection::{DefinedTypeId, ItemKind, Type, Types, ValueType};
+use wac_types_collection::{DefinedTypeId, ItemKind, Type, Types, ValueType};
 
 /// The definition that a type item lists, aliases followed to the end.
 pub fn listed_definition(types: &Types, item: ItemKind) -> Option<DefinedTypeId>

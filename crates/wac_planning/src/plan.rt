@@ -2,7 +2,7 @@
 
 ghost use Rattle.std.specs.Prelude.{◌≡◌, ◌<◌, nat_eq, Some, IsSome, IfOk, OnOk, length, slice_get};
 ghost use Rattle.std.specs.HashMap.{Updates};
-ghost use Rattle.wac_collection.specs.Collection.{HasInterface};
+ghost use Rattle.wac_types_collection.specs.collection.Collection.{HasInterface};
 ghost use Rattle.wac_planning.specs.declared.plan.Place.{Place as APlace};
 ghost use Rattle.wac_planning.specs.Plans.{inside_at, taken_at, places_of, IsPlan};
 ghost use Rattle.wac_planning.specs.Planning.{TakesMore};
@@ -10,8 +10,8 @@ ghost use Rattle.wac_planning.specs.Planning.{TakesMore};
 use crate::planner::Planner;
 use std::alloc::AllocError;
 use std::collections::HashMap;
-use wac_collection::{DefinedTypeId, InterfaceId, Types};
 use wac_scopes::{Scope, TypeHash};
+use wac_types_collection::{DefinedTypeId, InterfaceId, Types};
 
 /// An interface at the place where it is written.
 #[derive(Drop)]

@@ -5,9 +5,9 @@
 //! that is an alias that is written, and all is linear in the items and in what is written.
 
 ghost use Rattle.std.specs.Prelude.{◌≡◌, ◌++◌, ◌∷◌, ℕ, [], List, IfOk, OnOk};
-ghost use Rattle.wac_shapes.specs.declared.component.DefinedTypeId.{DefinedTypeId as AnId};
-ghost use Rattle.wac_shapes.specs.declared.component.InterfaceId.{InterfaceId as AnInterface};
-ghost use Rattle.wac_collection.specs.Collection.{HasInterface, interface_exports};
+ghost use Rattle.wac_types_shapes.specs.declared.shapes.component.DefinedTypeId.{DefinedTypeId as AnId};
+ghost use Rattle.wac_types_shapes.specs.declared.shapes.component.InterfaceId.{InterfaceId as AnInterface};
+ghost use Rattle.wac_types_collection.specs.collection.Collection.{HasInterface, interface_exports};
 ghost use Rattle.wac_scopes.specs.declared.scope.Scope.{Scope as AScope};
 ghost use Rattle.wac_planning.specs.Plans.{places_of, IsPlan};
 ghost use Rattle.wac_planning.specs.Planning.{innermost, IsOutward, IsListedIn, IsNested, Serves, IsGrown, IsEntering, IsGoing, LeavesWaiting, TakesAll, Enters, enters, Forgets};
@@ -18,9 +18,9 @@ use crate::plan::Plan;
 use std::alloc::AllocError;
 use std::collections::HashMap;
 use std::hash::BuildHasherDefault;
-use wac_collection::{InterfaceId, Types};
 use wac_listing::{interface_of, own_definitions_of};
 use wac_scopes::Scope;
+use wac_types_collection::{InterfaceId, Types};
 
 /// Makes plans of interfaces of a collection over a scope.
 #[derive(Clone, Copy)]

@@ -1,16 +1,16 @@
 //! The writer of interfaces as component types.
 
 ghost use Rattle.std.specs.Prelude.{◌≡◌, true, IfOk};
-ghost use Rattle.wac_collection.specs.Collection.{HasInterface};
+ghost use Rattle.wac_types_collection.specs.collection.Collection.{HasInterface};
 ghost use Rattle.wac_scopes.specs.declared.encodable.Encodable.TheVariants.{Component};
 ghost use Rattle.wac_sorting.specs.Worlds.{SayWorlds};
 ghost use Rattle.wac_sorting.specs.Sorts.{lists_plain};
 ghost use Rattle.wac_root.specs.Components.{HasId, SaysComponent, WritesComponent, IsComponentRefused, IsComponent};
 
 use crate::root::RootEncoder;
-use wac_builder::ComponentType;
-use wac_collection::InterfaceId;
+use wac_binary::ComponentType;
 use wac_scopes::{Encodable, EncodeFault, Scope, closing_law, step_law};
+use wac_types_collection::InterfaceId;
 
 impl<'a> RootEncoder<'a> {
     /// Writes a held interface as a component type: its instance type, as `interface_type` writes it, and the export of an instance of

@@ -1,10 +1,10 @@
 //! The writer of definitions.
 
 ghost use Rattle.std.specs.Prelude.{◌≡◌, true, false, None, Some, Ok as Answers, IfOk, OnErr};
-ghost use Rattle.wac_shapes.specs.declared.component.ValueType.TheVariants as val;
-ghost use Rattle.wac_shapes.specs.declared.component.«Type».TheVariants as ty;
-ghost use Rattle.wac_collection.specs.Collection.{HasFunc, HasInterface, holds_type, holds_value};
-ghost use Rattle.wac_collection.specs.Aliases.{value_resolved};
+ghost use Rattle.wac_types_shapes.specs.declared.shapes.component.ValueType.TheVariants as val;
+ghost use Rattle.wac_types_shapes.specs.declared.shapes.component.«Type».TheVariants as ty;
+ghost use Rattle.wac_types_collection.specs.collection.Collection.{HasFunc, HasInterface, holds_type, holds_value};
+ghost use Rattle.wac_types_collection.specs.collection.Aliases.{value_resolved};
 ghost use Rattle.wac_scopes.specs.Scoped.{value_index};
 ghost use Rattle.wac_scopes.specs.Rooted.{IsRightRoot};
 ghost use Rattle.wac_sorting.specs.Worlds.{SayWorlds};
@@ -13,8 +13,10 @@ ghost use Rattle.wac_root.specs.Defining.{IsDefinable, WritesDefinition, WritesT
 use crate::root::RootEncoder;
 use std::alloc::AllocError;
 use wac_binary::{ComponentValType, Sort};
-use wac_collection::{DefinedTypeId, FuncTypeId, InterfaceId, PrimitiveType, Type, ValueType};
 use wac_scopes::{EncodeFault, Scope, WriteFault, alias_law, rooted_law, step_law, still_law};
+use wac_types_collection::{
+    DefinedTypeId, FuncTypeId, InterfaceId, PrimitiveType, Type, ValueType,
+};
 
 impl<'a> RootEncoder<'a> {
     /// Defines a primitive under a name.

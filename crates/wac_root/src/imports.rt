@@ -1,12 +1,12 @@
 //! The writer of imports.
 
 ghost use Rattle.std.specs.Prelude.{◌≡◌, ◌⊎◌, true, false, None, Some, Ok as Answers, Err as Refused, IfOk, OnOk, OnErr};
-ghost use Rattle.wac_shapes.specs.Kinds.{kind_type};
-ghost use Rattle.wac_shapes.specs.declared.component.ItemKind.TheVariants as kind;
-ghost use Rattle.wac_shapes.specs.declared.component.ValueType.TheVariants as val;
-ghost use Rattle.wac_shapes.specs.declared.component.«Type».TheVariants as ty;
-ghost use Rattle.wac_collection.specs.Collection.{HasFunc, HasInterface, holds_type, holds_value};
-ghost use Rattle.wac_collection.specs.Aliases.{value_resolved};
+ghost use Rattle.wac_types_shapes.specs.shapes.Kinds.{kind_type};
+ghost use Rattle.wac_types_shapes.specs.declared.shapes.component.ItemKind.TheVariants as kind;
+ghost use Rattle.wac_types_shapes.specs.declared.shapes.component.ValueType.TheVariants as val;
+ghost use Rattle.wac_types_shapes.specs.declared.shapes.component.«Type».TheVariants as ty;
+ghost use Rattle.wac_types_collection.specs.collection.Collection.{HasFunc, HasInterface, holds_type, holds_value};
+ghost use Rattle.wac_types_collection.specs.collection.Aliases.{value_resolved};
 ghost use Rattle.wac_scopes.specs.declared.fault.EncodeFault.TheVariants.{OutOfMemory};
 ghost use Rattle.wac_scopes.specs.Contents.{IsRoot};
 ghost use Rattle.wac_scopes.specs.Scoped.{value_index};
@@ -18,11 +18,12 @@ ghost use Rattle.wac_root.specs.Importing.{is_importable as importable, ImportsH
 
 use crate::root::RootEncoder;
 use std::alloc::AllocError;
-use wac_binary::{ComponentValType, listed_law};
-use wac_collection::{
+use wac_binary::ComponentValType;
+use wac_binary::laws::listed_law;
+use wac_scopes::{EncodeFault, Scope, WriteFault, alias_law, instance_law, step_law, still_law};
+use wac_types_collection::{
     DefinedTypeId, FuncTypeId, InterfaceId, ItemKind, PrimitiveType, Type, ValueType,
 };
-use wac_scopes::{EncodeFault, Scope, WriteFault, alias_law, instance_law, step_law, still_law};
 
 impl<'a> RootEncoder<'a> {
     /// Imports a function of a held function type into the root, and answers the function's index. Its type is written before, as

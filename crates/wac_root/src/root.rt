@@ -1,9 +1,9 @@
 //! The writer of a component's root, and what it takes from the writer of types.
 
 ghost use Rattle.std.specs.Prelude.{◌≡◌, ◌⊎◌, true, false, None, Ok as Answers, Err as Refused, IfOk};
-ghost use Rattle.wac_shapes.specs.declared.component.ItemKind.TheVariants as kind;
-ghost use Rattle.wac_collection.specs.Collection.{HasFunc, HasInterface, holds_value};
-ghost use Rattle.wac_collection.specs.Aliases.{value_resolved};
+ghost use Rattle.wac_types_shapes.specs.declared.shapes.component.ItemKind.TheVariants as kind;
+ghost use Rattle.wac_types_collection.specs.collection.Collection.{HasFunc, HasInterface, holds_value};
+ghost use Rattle.wac_types_collection.specs.collection.Aliases.{value_resolved};
 ghost use Rattle.wac_scopes.specs.declared.fault.EncodeFault.TheVariants.{OutOfMemory};
 ghost use Rattle.wac_defining.specs.Written.{IsByRecord, PartOf, WritesFor, IsRefused, IsOfFunc, AddsHeldFunc, IsFuncAt, IsFuncRefused};
 ghost use Rattle.wac_sorting.specs.Worlds.{SayWorlds};
@@ -12,12 +12,12 @@ ghost use Rattle.wac_sorting.specs.Sorts.{lists_plain};
 ghost use Rattle.wac_encode.specs.Instances.{AddsHeldInterface, IsInterfaceAt, IsInstanceRefused, listed_definitions};
 
 use std::alloc::AllocError;
-use wac_builder::{ComponentValType, InstanceType};
-use wac_collection::{
-    DefinedTypeId, FuncTypeId, InterfaceId, ItemKind, Named, Text, Types, ValueType,
-};
+use wac_binary::{ComponentValType, InstanceType};
 use wac_encode::{TypeEncoder, Worlds};
 use wac_scopes::{EncodeFault, Scope};
+use wac_types_collection::{
+    DefinedTypeId, FuncTypeId, InterfaceId, ItemKind, Named, Text, Types, ValueType,
+};
 
 /// Writes what the root of a component imports and defines.
 #[derive(Clone, Copy)]

@@ -1,10 +1,10 @@
 -- What is written in a scope of the code is the content of an open scope.
 use Rattle.std.specs.Prelude.{ℕ, ◌≡◌, List, [], ◌∷◌}
 use Rattle.std.proofs.Common.{refl, sym, subst}
-use Rattle.wac_primitives.specs.Name.{Name}
-use Rattle.wac_primitives.specs.Tree.{exported, named, Tree, type_equal, function_item, instance_item, component_item}
-use Rattle.wac_collection.specs.Collection.{Collection}
-use Rattle.wac_collection.specs.Bound.{Bindings}
+use Rattle.wac_types_shapes.specs.primitives.Name.{Name}
+use Rattle.wac_types_shapes.specs.primitives.Tree.{exported, named, Tree, type_equal, function_item, instance_item, component_item}
+use Rattle.wac_types_collection.specs.collection.Collection.{Collection}
+use Rattle.wac_types_collection.specs.collection.Bound.{Bindings}
 use Rattle.wac_binary.specs.declared.sorts.Description.TheVariants as e
 use Rattle.wac_binary.specs.declared.sorts.Sort.TheVariants as s
 use Rattle.wac_binary.specs.Items.{TypeDef, ModuleDecl, export_alias, outer_alias}

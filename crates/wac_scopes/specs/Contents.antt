@@ -1,6 +1,6 @@
 -- What is written in a scope of the code: the items of the root, or the declarations of a type that is open.
 use Rattle.std.specs.Prelude.{ℕ, List, [], ◌∷◌, ◌++◌}
-use Rattle.wac_primitives.specs.Name.{Name}
+use Rattle.wac_types_shapes.specs.primitives.Name.{Name}
 use Rattle.wac_binary.specs.declared.sorts.Description.{Description}
 use Rattle.wac_binary.specs.declared.sorts.Sort.TheVariants as s
 use Rattle.wac_binary.specs.Items.{TypeDef, ModuleDecl, core_type_decl, type_decl, export_decl, export_alias, outer_alias, alias_decl, Item, core_type, type_item, alias_item, import_item}

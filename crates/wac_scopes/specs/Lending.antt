@@ -2,7 +2,7 @@
 use Rattle.std.specs.Prelude.{List}
 use Rattle.std.specs.Borrow.{Lends, MutBor, Fml}
 use Rattle.wac_binary.specs.Items.{Item}
-use Rattle.wac_builder.specs.contracts.builder.ComponentBuilder.{the_row as builder_row}
+use Rattle.wac_binary.specs.contracts.builder.builder.ComponentBuilder.{the_row as builder_row}
 use Rattle.wac_scopes.specs.declared.encodable.Encodable.{Encodable}
 use Rattle.wac_scopes.specs.declared.encodable.Encodable.TheVariants.{Builder}
 use Rattle.wac_scopes.specs.declared.scope.Scope.{Scope}

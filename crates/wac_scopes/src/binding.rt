@@ -1,14 +1,14 @@
 //! What is said to stand in an open scope, and is recorded there.
 
 ghost use Rattle.std.specs.Prelude.{◌≡◌, OnOk, OnErr};
-ghost use Rattle.wac_shapes.specs.declared.component.ValueType.TheVariants as val;
-ghost use Rattle.wac_shapes.specs.declared.component.«Type».TheVariants as ty;
+ghost use Rattle.wac_types_shapes.specs.declared.shapes.component.ValueType.TheVariants as val;
+ghost use Rattle.wac_types_shapes.specs.declared.shapes.component.«Type».TheVariants as ty;
 ghost use Rattle.wac_scopes.specs.Binding.{IsUnrecorded, Records, BindsType};
 ghost use Rattle.wac_scopes.specs.Scoped.{IsAsBefore};
 
 use crate::scope::Scope;
 use std::alloc::AllocError;
-use wac_collection::{DefinedTypeId, FuncTypeId, InterfaceId, Type, ValueType, WorldId};
+use wac_types_collection::{DefinedTypeId, FuncTypeId, InterfaceId, Type, ValueType, WorldId};
 
 impl Scope {
     /// Records that a type stands at a type index under a name, where it is not recorded yet: a definition, a function type, an interface or a

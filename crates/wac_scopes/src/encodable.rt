@@ -15,7 +15,7 @@ ghost use Rattle.wac_scopes.specs.Sides.{side_of, IsOpenComponent, and_declared}
 use crate::fault::EncodeFault;
 use crate::scope::Listed;
 use crate::side::Side;
-use wac_builder::{
+use wac_binary::{
     BinaryFault, ComponentBuilder, ComponentType, DefinedType, Description, FuncType, InstanceType,
     ModuleType, Sort,
 };

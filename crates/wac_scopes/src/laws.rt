@@ -12,6 +12,6 @@ pub fn rooted_law()
     ensures listed_stays { ListedStays }
     ensures written_there { IsWrittenThere }
 {
-    wac_binary::law();
+    wac_binary::laws::law();
     root_law();
 }

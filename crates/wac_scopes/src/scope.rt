@@ -4,10 +4,10 @@ ghost use Rattle.std.specs.Prelude.{cond, ◌≡◌, ◌↔◌, true, ◌<◌, �
 ghost use Rattle.std.specs.Bool.{OnTrue};
 ghost use Rattle.std.specs.Borrow.{sem};
 ghost use Rattle.std.specs.HashMap.{spare};
-ghost use Rattle.wac_shapes.specs.declared.component.DefinedTypeId.{DefinedTypeId as AnyDefinition};
-ghost use Rattle.wac_shapes.specs.declared.component.ValueType.TheVariants as val;
-ghost use Rattle.wac_shapes.specs.declared.component.«Type».{«Type» as AnyType};
-ghost use Rattle.wac_shapes.specs.declared.component.«Type».TheVariants as ty;
+ghost use Rattle.wac_types_shapes.specs.declared.shapes.component.DefinedTypeId.{DefinedTypeId as AnyDefinition};
+ghost use Rattle.wac_types_shapes.specs.declared.shapes.component.ValueType.TheVariants as val;
+ghost use Rattle.wac_types_shapes.specs.declared.shapes.component.«Type».{«Type» as AnyType};
+ghost use Rattle.wac_types_shapes.specs.declared.shapes.component.«Type».TheVariants as ty;
 ghost use Rattle.wac_binary.specs.Fits.{Fits, TooLargeUnless};
 ghost use Rattle.wac_binary.specs.Items.{value_def, primitive_def, component_def, instance_def, decls, nested, custom, instantiate as instantiated, alias_item, export_alias, export_item};
 ghost use Rattle.wac_binary.specs.declared.sorts.Description.TheVariants as e;
@@ -28,15 +28,14 @@ use crate::side::Side;
 use std::alloc::{AllocError, Global};
 use std::collections::HashMap;
 use std::hash::BuildHasherDefault;
-use wac_builder::{
+use wac_binary::{
     BinaryFault, ComponentBuilder, ComponentType, ComponentValType, DefinedType, Description,
     FuncType, InstanceType, ModuleType, Sort,
 };
-use wac_collection::{
-    DefinedTypeId, FuncTypeId, InterfaceId, PrimitiveType, Text, ValueType, WorldId,
-};
-use wac_reach::TypeHasher;
 use wac_stacks::{listing_law, module_law, root_law, step_law};
+use wac_types_collection::{
+    DefinedTypeId, FuncTypeId, InterfaceId, PrimitiveType, Text, TypeHasher, ValueType, WorldId,
+};
 
 /// Types are hashed by their positions in a collection.
 pub type TypeHash = BuildHasherDefault<TypeHasher>;
@@ -854,7 +853,7 @@ impl Scope {
         ensures refused { OnErr result (IsAsBefore self.old self.new) }
         ensures too_large { FitsUnlessTooLarge result (Fits (items_of self.old.content ++ export_item name.now s.Type index ∷ [])) }
     {
-        wac_binary::law();
+        wac_binary::laws::law();
         rooted_law();
         self.make_room()?;
         let own = self.export(name, Sort::Type, index)?;

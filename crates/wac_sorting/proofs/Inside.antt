@@ -4,26 +4,26 @@ use Rattle.std.specs.List.{IsDistinct}
 use Rattle.std.specs.Option.{option_map}
 use Rattle.std.proofs.Common.{refl, ap, ◌∙◌, sym, subst, arith, inl, inr, nat_lt, add-one, append_assoc}
 use Rattle.std.proofs.lemmas.List.{append-nil}
-use Rattle.wac_primitives.specs.Name.{Name, option_case}
-use Rattle.wac_shapes.specs.Named.{NoNameTwice}
-use Rattle.wac_shapes.specs.contracts.component.TypePartialEq.TheImpl as TypeEq
-use Rattle.wac_shapes.proofs.Loops.{drop_at}
-use Rattle.wac_shapes.specs.declared.component.Interface.{Interface}
-use Rattle.wac_shapes.specs.declared.component.InterfaceId.{InterfaceId}
-use Rattle.wac_shapes.specs.declared.component.ItemKind.{ItemKind}
-use Rattle.wac_shapes.specs.declared.component.«Type».{«Type» as AnyType}
-use Rattle.wac_shapes.specs.declared.component.«Type».TheVariants as ty
-use Rattle.wac_collection.specs.declared.collection.Held.{Held}
-use Rattle.wac_collection.specs.Collection.{Collection, IsWellFormed, AddedBefore, IsBefore, holds_type, interface_exports, item_at, item_of, size}
-use Rattle.wac_collection.proofs.Growth.{type_before}
+use Rattle.wac_types_shapes.specs.primitives.Name.{Name, option_case}
+use Rattle.wac_types_shapes.specs.shapes.Named.{NoNameTwice}
+use Rattle.wac_types_shapes.specs.contracts.shapes.component.TypePartialEq.TheImpl as TypeEq
+use Rattle.wac_types_shapes.proofs.lemmas.shapes.Loops.{drop_at}
+use Rattle.wac_types_shapes.specs.declared.shapes.component.Interface.{Interface}
+use Rattle.wac_types_shapes.specs.declared.shapes.component.InterfaceId.{InterfaceId}
+use Rattle.wac_types_shapes.specs.declared.shapes.component.ItemKind.{ItemKind}
+use Rattle.wac_types_shapes.specs.declared.shapes.component.«Type».{«Type» as AnyType}
+use Rattle.wac_types_shapes.specs.declared.shapes.component.«Type».TheVariants as ty
+use Rattle.wac_types_collection.specs.declared.collection.collection.Held.{Held}
+use Rattle.wac_types_collection.specs.collection.Collection.{Collection, IsWellFormed, AddedBefore, IsBefore, holds_type, interface_exports, item_at, item_of, size}
+use Rattle.wac_types_collection.proofs.lemmas.collection.Growth.{type_before}
 use Rattle.wac_listing.specs.Made.{interface_of}
 use Rattle.wac_listing.proofs.Grown.{same-place, lower-place, below-or-last}
 use Rattle.wac_listing.proofs.Interfaces.{type-of}
 use Rattle.wac_listing.proofs.Listing.{exports-are, held-there, none-first, listed-before, held-items}
-use Rattle.wac_reach.specs.Found.{with_all}
-use Rattle.wac_reach.specs.Reach.{IsIn}
-use Rattle.wac_reach.proofs.Lists.{in_at, at_in, all_old, all_new, all_only, all_grown}
-use Rattle.wac_reach.proofs.Universe.{types_of, found_few}
+use Rattle.wac_types_collection.specs.private.reach.Found.{with_all}
+use Rattle.wac_types_collection.specs.reach.Reach.{IsIn}
+use Rattle.wac_types_collection.proofs.lemmas.reach.Lists.{in_at, at_in, all_old, all_new, all_only, all_grown}
+use Rattle.wac_types_collection.proofs.lemmas.reach.Universe.{types_of, found_few}
 use Rattle.wac_sorting.specs.declared.worlds.Worlds.{Worlds}
 use Rattle.wac_sorting.specs.Sorts.{is_plain, lists_plain, lists_plain_to}
 use Rattle.wac_sorting.specs.Inside.{IsInsideBy, IsInside, AreInside, are_plain_alone, lists_plain_alone, and_inside, with_inside, IsHeldInterface, PutsInside}

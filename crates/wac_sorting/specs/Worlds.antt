@@ -1,11 +1,11 @@
 -- The component types of worlds, which are written ahead: a component type sees nothing of the scope that it stands in.
 use Rattle.std.specs.Prelude.{◌≡◌, nat_eq, Bool, is_some, List, ◌∷◌, Option, Some}
 use Rattle.std.specs.HashMap.{get}
-use Rattle.wac_shapes.specs.declared.component.WorldId.{WorldId}
-use Rattle.wac_shapes.specs.declared.component.«Type».TheVariants as ty
-use Rattle.wac_primitives.specs.Tree.{Tree}
-use Rattle.wac_collection.specs.Collection.{Collection}
-use Rattle.wac_collection.specs.Bound.{Bindings}
+use Rattle.wac_types_shapes.specs.declared.shapes.component.WorldId.{WorldId}
+use Rattle.wac_types_shapes.specs.declared.shapes.component.«Type».TheVariants as ty
+use Rattle.wac_types_shapes.specs.primitives.Tree.{Tree}
+use Rattle.wac_types_collection.specs.collection.Collection.{Collection}
+use Rattle.wac_types_collection.specs.collection.Bound.{Bindings}
 use Rattle.wac_binary.specs.HasMeaning.{IsComponent}
 use Rattle.wac_binary.specs.Items.{component_def, Decl, decls}
 use Rattle.wac_stacks.specs.Scopes.{Open, Stack, next_type, with_def}

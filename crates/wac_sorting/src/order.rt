@@ -2,14 +2,14 @@
 
 ghost use Rattle.std.specs.Prelude.{◌≡◌, ◌<◌, ◌++◌, not, ℕ, Some, IfOk, OnOk, length, slice_get};
 ghost use Rattle.std.specs.List.{AllZip, filter};
-ghost use Rattle.wac_shapes.specs.Named.{named_pairs};
-ghost use Rattle.wac_shapes.specs.declared.component.Interface.{Interface as AnInterface};
-ghost use Rattle.wac_collection.specs.Collection.{HasInterface, item_at};
+ghost use Rattle.wac_types_shapes.specs.shapes.Named.{named_pairs};
+ghost use Rattle.wac_types_shapes.specs.declared.shapes.component.Interface.{Interface as AnInterface};
+ghost use Rattle.wac_types_collection.specs.collection.Collection.{HasInterface, item_at};
 ghost use Rattle.wac_sorting.specs.Order.{is_type, is_other_type, IsOrder};
 
 use std::alloc::{AllocError, Global};
-use wac_collection::{InterfaceId, ItemKind, Named, Type, Types};
 use wac_listing::type_order;
+use wac_types_collection::{InterfaceId, ItemKind, Named, Type, Types};
 
 /// The items of an interface in the order in which they are written.
 pub fn item_order(

@@ -2,17 +2,17 @@
 
 ghost use Rattle.std.specs.Prelude.{◌≡◌, ◌∷◌, [], IfOk, OnOk};
 ghost use Rattle.std.specs.Bool.{OnTrue};
-ghost use Rattle.wac_shapes.specs.declared.component.«Type».TheVariants as ty;
-ghost use Rattle.wac_collection.specs.Collection.{HasInterface};
+ghost use Rattle.wac_types_shapes.specs.declared.shapes.component.«Type».TheVariants as ty;
+ghost use Rattle.wac_types_collection.specs.collection.Collection.{HasInterface};
 ghost use Rattle.wac_sorting.specs.Sorts.{lists_plain};
-ghost use Rattle.wac_reach.specs.Found.{with_all};
+ghost use Rattle.wac_types_collection.specs.private.reach.Found.{with_all};
 ghost use Rattle.wac_sorting.specs.Inside.{AreInside, HasNoneInside, is_plain_alone, are_plain_alone, lists_plain_alone, and_inside, with_inside, IsHeldInterface, PutsInside};
 
 use crate::worlds::Worlds;
 use indexmap::IndexSet;
 use std::alloc::AllocError;
-use wac_collection::{InterfaceId, ItemKind, Named, Type, Types};
 use wac_listing::interface_of;
+use wac_types_collection::{InterfaceId, ItemKind, Named, Type, Types};
 
 /// An interface, and those inside it: of which it lists instances, or which it lists as type items, or one of those does, to any depth;
 /// each once. Linear, without recursion.

@@ -4,16 +4,15 @@
 //! written.
 
 ghost use Rattle.std.specs.Prelude.{◌≡◌, cond, nat_eq, true, None, Some, OnOk, OnErr};
-ghost use Rattle.wac_shapes.specs.declared.component.WorldId.{WorldId as AnyWorld};
-ghost use Rattle.wac_collection.specs.Collection.{Collection};
+ghost use Rattle.wac_types_shapes.specs.declared.shapes.component.WorldId.{WorldId as AnyWorld};
+ghost use Rattle.wac_types_collection.specs.collection.Collection.{Collection};
 ghost use Rattle.wac_sorting.specs.Worlds.{declarations_of, is_written as written_there, SayWorlds};
 
 use std::alloc::{AllocError, Global};
 use std::collections::HashMap;
 use std::hash::BuildHasherDefault;
-use wac_collection::WorldId;
-use wac_declarations::ComponentType;
-use wac_reach::TypeHasher;
+use wac_binary::ComponentType;
+use wac_types_collection::{TypeHasher, WorldId};
 
 /// The declarations of the component types of worlds that are written.
 #[derive(Drop)]

@@ -1,16 +1,16 @@
 -- Aliases of value types are what they end at.
 use Rattle.std.specs.Prelude.{ℕ, zero, suc, ◌≡◌, Option, Some, None}
 use Rattle.std.proofs.Common.{refl}
-use Rattle.wac_primitives.specs.Name.{option_case}
-use Rattle.wac_shapes.specs.declared.component.DefinedType.{DefinedType}
-use Rattle.wac_shapes.specs.declared.component.DefinedType.TheVariants as def
-use Rattle.wac_shapes.specs.declared.component.ValueType.{ValueType}
-use Rattle.wac_shapes.specs.declared.component.ValueType.TheVariants as val
-use Rattle.wac_shapes.specs.declared.component.«Type».TheVariants as ty
-use Rattle.wac_primitives.specs.Tree.{Tree}
-use Rattle.wac_collection.specs.Collection.{Collection, IsWellFormed, size, item_at}
-use Rattle.wac_collection.specs.Aliases.{aliased, value_resolved, value_resolved_in}
-use Rattle.wac_collection.specs.Bound.{Bindings}
+use Rattle.wac_types_shapes.specs.primitives.Name.{option_case}
+use Rattle.wac_types_shapes.specs.declared.shapes.component.DefinedType.{DefinedType}
+use Rattle.wac_types_shapes.specs.declared.shapes.component.DefinedType.TheVariants as def
+use Rattle.wac_types_shapes.specs.declared.shapes.component.ValueType.{ValueType}
+use Rattle.wac_types_shapes.specs.declared.shapes.component.ValueType.TheVariants as val
+use Rattle.wac_types_shapes.specs.declared.shapes.component.«Type».TheVariants as ty
+use Rattle.wac_types_shapes.specs.primitives.Tree.{Tree}
+use Rattle.wac_types_collection.specs.collection.Collection.{Collection, IsWellFormed, size, item_at}
+use Rattle.wac_types_collection.specs.collection.Aliases.{aliased, value_resolved, value_resolved_in}
+use Rattle.wac_types_collection.specs.collection.Bound.{Bindings}
 use Rattle.wac_stacks.specs.Good.{IsHeld}
 use Rattle.wac_stacks.specs.Laws.{IsItsEnd}
 use Rattle.wac_stacks.proofs.Values.{alias-held, alias-end}

@@ -1,9 +1,9 @@
 -- Two collections whose types are written into the same scopes.
 use Rattle.std.specs.Prelude.{◌≡◌, true, List, [], ◌∷◌}
 use Rattle.std.proofs.Common.{refl, ap, ◌∙◌, sym, subst}
-use Rattle.wac_primitives.specs.Tree.{resource}
-use Rattle.wac_collection.specs.Collection.{Collection}
-use Rattle.wac_collection.specs.Bound.{Bindings}
+use Rattle.wac_types_shapes.specs.primitives.Tree.{resource}
+use Rattle.wac_types_collection.specs.collection.Collection.{Collection}
+use Rattle.wac_types_collection.specs.collection.Bound.{Bindings}
 use Rattle.wac_binary.specs.Items.{Item}
 use Rattle.wac_binary.specs.Unfold.{Scope, scope_at}
 use Rattle.wac_stacks.specs.Scopes.{Content, root, ContentHasMeaning, Open, Stack, env, envs, scope_of}

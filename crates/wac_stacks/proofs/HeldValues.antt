@@ -1,19 +1,19 @@
 -- What is held as a value type is a value type.
 use Rattle.std.specs.Prelude.{ℕ, zero, suc, ◌≡◌, ◌≤◌, [], Option, Some, None, slice_get}
 use Rattle.std.proofs.Common.{refl, ap, ◌∙◌, sym, subst, arith}
-use Rattle.wac_primitives.specs.Name.{option_case}
-use Rattle.wac_shapes.specs.declared.component.ResourceId.{ResourceId}
-use Rattle.wac_shapes.specs.declared.component.DefinedTypeId.{DefinedTypeId}
-use Rattle.wac_shapes.specs.declared.component.DefinedType.{DefinedType}
-use Rattle.wac_shapes.specs.declared.component.DefinedType.TheVariants as def
-use Rattle.wac_shapes.specs.declared.component.ValueType.{ValueType}
-use Rattle.wac_shapes.specs.declared.component.ValueType.TheVariants as val
-use Rattle.wac_shapes.specs.declared.component.«Type».TheVariants as ty
-use Rattle.wac_collection.specs.declared.collection.Held.{Held}
-use Rattle.wac_primitives.specs.Tree.{imported, Leaf, Tree, absent, own, borrow, moved}
-use Rattle.wac_collection.specs.Collection.{Collection, IsWellFormed, IsValueBefore, AreBefore, AddedBefore, defined_mentions, item_of, item_at}
-use Rattle.wac_collection.specs.Held.{resolved}
-use Rattle.wac_collection.specs.Bound.{Bindings, held_tree}
+use Rattle.wac_types_shapes.specs.primitives.Name.{option_case}
+use Rattle.wac_types_shapes.specs.declared.shapes.component.ResourceId.{ResourceId}
+use Rattle.wac_types_shapes.specs.declared.shapes.component.DefinedTypeId.{DefinedTypeId}
+use Rattle.wac_types_shapes.specs.declared.shapes.component.DefinedType.{DefinedType}
+use Rattle.wac_types_shapes.specs.declared.shapes.component.DefinedType.TheVariants as def
+use Rattle.wac_types_shapes.specs.declared.shapes.component.ValueType.{ValueType}
+use Rattle.wac_types_shapes.specs.declared.shapes.component.ValueType.TheVariants as val
+use Rattle.wac_types_shapes.specs.declared.shapes.component.«Type».TheVariants as ty
+use Rattle.wac_types_collection.specs.declared.collection.collection.Held.{Held}
+use Rattle.wac_types_shapes.specs.primitives.Tree.{imported, Leaf, Tree, absent, own, borrow, moved}
+use Rattle.wac_types_collection.specs.collection.Collection.{Collection, IsWellFormed, IsValueBefore, AreBefore, AddedBefore, defined_mentions, item_of, item_at}
+use Rattle.wac_types_collection.specs.collection.Held.{resolved}
+use Rattle.wac_types_collection.specs.collection.Bound.{Bindings, held_tree}
 use Rattle.wac_binary.specs.HasMeaning.{IsValue}
 use Rattle.wac_stacks.specs.Good.{IsHeld, Carries}
 use Rattle.wac_stacks.specs.Instances.{HoldsValue}

@@ -2,8 +2,8 @@
 use Rattle.std.specs.Prelude.{zero, suc, ◌≡◌, true, false, [], ◌∷◌, ◌++◌, Some, None, if◌then◌else◌}
 use Rattle.std.proofs.Common.{refl, ap}
 use Rattle.std.proofs.lemmas.Bool.{eq-eqb}
-use Rattle.wac_shapes.specs.declared.component.ResourceId.{ResourceId}
-use Rattle.wac_primitives.specs.Tree.{out_by}
+use Rattle.wac_types_shapes.specs.declared.shapes.component.ResourceId.{ResourceId}
+use Rattle.wac_types_shapes.specs.primitives.Tree.{out_by}
 use Rattle.wac_binary.specs.declared.sorts.Sort.TheVariants as s
 use Rattle.wac_binary.specs.Items.{export_alias}
 use Rattle.wac_binary.specs.Meaning.{meaning}

@@ -3,20 +3,20 @@ use Rattle.std.specs.Prelude.{ℕ, zero, suc, ◌≡◌, ◌==◌, ◌&&◌, Boo
 use Rattle.std.proofs.Common.{refl, ap, ◌∙◌, sym, subst}
 use Rattle.std.proofs.Math.Path.{fun_ext}
 use Rattle.std.proofs.lemmas.Bool.{eqb-true}
-use Rattle.wac_primitives.specs.Name.{Name, same_name, find_name, option_case}
-use Rattle.wac_shapes.proofs.Names.{same_name-refl}
-use Rattle.wac_shapes.specs.declared.component.ResourceId.{ResourceId}
-use Rattle.wac_shapes.specs.declared.component.InterfaceId.{InterfaceId}
-use Rattle.wac_shapes.specs.declared.component.Interface.{Interface}
-use Rattle.wac_shapes.specs.declared.component.UsedType.{UsedType}
-use Rattle.wac_shapes.specs.declared.component.ValueType.{ValueType}
-use Rattle.wac_shapes.specs.declared.component.«Type».TheVariants as ty
-use Rattle.wac_shapes.specs.declared.component.ItemKind.{ItemKind}
-use Rattle.wac_shapes.specs.declared.component.ItemKind.TheVariants as kind
-use Rattle.wac_primitives.specs.Tree.{Side, imported, exported, Place, named, Leaf, Tree, absent, resource, fresh, type_equal, further_out, inside, moved, out_by, taken_from, items_in, type_in}
-use Rattle.wac_collection.specs.Collection.{Collection, IsWellFormed, item_at}
-use Rattle.wac_collection.specs.Held.{source_of, resolved_in, resolved, item_tree, interface_tree}
-use Rattle.wac_collection.specs.Bound.{Bindings, is_alias, own_name, inside_interface, is_here, binds_here, by_place, held_tree}
+use Rattle.wac_types_shapes.specs.primitives.Name.{Name, same_name, find_name, option_case}
+use Rattle.wac_types_shapes.proofs.lemmas.shapes.Names.{same_name-refl}
+use Rattle.wac_types_shapes.specs.declared.shapes.component.ResourceId.{ResourceId}
+use Rattle.wac_types_shapes.specs.declared.shapes.component.InterfaceId.{InterfaceId}
+use Rattle.wac_types_shapes.specs.declared.shapes.component.Interface.{Interface}
+use Rattle.wac_types_shapes.specs.declared.shapes.component.UsedType.{UsedType}
+use Rattle.wac_types_shapes.specs.declared.shapes.component.ValueType.{ValueType}
+use Rattle.wac_types_shapes.specs.declared.shapes.component.«Type».TheVariants as ty
+use Rattle.wac_types_shapes.specs.declared.shapes.component.ItemKind.{ItemKind}
+use Rattle.wac_types_shapes.specs.declared.shapes.component.ItemKind.TheVariants as kind
+use Rattle.wac_types_shapes.specs.primitives.Tree.{Side, imported, exported, Place, named, Leaf, Tree, absent, resource, fresh, type_equal, further_out, inside, moved, out_by, taken_from, items_in, type_in}
+use Rattle.wac_types_collection.specs.collection.Collection.{Collection, IsWellFormed, item_at}
+use Rattle.wac_types_collection.specs.collection.Held.{source_of, resolved_in, resolved, item_tree, interface_tree}
+use Rattle.wac_types_collection.specs.collection.Bound.{Bindings, is_alias, own_name, inside_interface, is_here, binds_here, by_place, held_tree}
 use Rattle.wac_binary.specs.Unfold.{Scope, Bound, bound_type}
 use Rattle.wac_stacks.specs.Scopes.{at_export, env, envs, bind_at, remember_at, name_at}
 use Rattle.wac_stacks.specs.Good.{Stands, IsHeld, Carries, top}

@@ -1,14 +1,14 @@
 -- Imports and exports of a type, written one by one, and the types that are opened and closed.
 use Rattle.std.specs.Prelude.{ℕ, ◌≡◌, Bool, true, false, List, [], ◌∷◌, ◌++◌, length, Option, Some, None, is_some, if◌then◌else◌}
 use Rattle.std.proofs.Common.{refl, ap, ◌∙◌, sym, subst, arith}
-use Rattle.wac_primitives.specs.Name.{Name, same_name, find_name, option_case, first_some}
-use Rattle.wac_shapes.proofs.Names.{same_name-true}
-use Rattle.wac_shapes.specs.declared.component.ResourceId.{ResourceId}
-use Rattle.wac_shapes.specs.declared.component.World.{World}
-use Rattle.wac_shapes.specs.declared.component.ItemKind.{ItemKind}
-use Rattle.wac_primitives.specs.Tree.{Side, imported, exported, Place, named, Leaf, Tree, resource, instance, component, fresh, type_equal, function_item, instance_item, component_item, module_item}
-use Rattle.wac_collection.specs.Collection.{Collection}
-use Rattle.wac_collection.specs.Bound.{Bindings, own_name, inside_interface, first_bound, bound_by_imports, bound_in_world}
+use Rattle.wac_types_shapes.specs.primitives.Name.{Name, same_name, find_name, option_case, first_some}
+use Rattle.wac_types_shapes.proofs.lemmas.shapes.Names.{same_name-true}
+use Rattle.wac_types_shapes.specs.declared.shapes.component.ResourceId.{ResourceId}
+use Rattle.wac_types_shapes.specs.declared.shapes.component.World.{World}
+use Rattle.wac_types_shapes.specs.declared.shapes.component.ItemKind.{ItemKind}
+use Rattle.wac_types_shapes.specs.primitives.Tree.{Side, imported, exported, Place, named, Leaf, Tree, resource, instance, component, fresh, type_equal, function_item, instance_item, component_item, module_item}
+use Rattle.wac_types_collection.specs.collection.Collection.{Collection}
+use Rattle.wac_types_collection.specs.collection.Bound.{Bindings, own_name, inside_interface, first_bound, bound_by_imports, bound_in_world}
 use Rattle.wac_binary.specs.declared.sorts.Description.{Description}
 use Rattle.wac_binary.specs.declared.sorts.Description.TheVariants as e
 use Rattle.wac_binary.specs.Items.{Item, Decl, decls, instance_def, component_def}

@@ -1,8 +1,8 @@
 -- What is written keeps its meaning, and so its scope, while the scopes around it grow; and one more item with a meaning leaves it one.
 use Rattle.std.specs.Prelude.{ℕ, zero, suc, ◌≡◌, ◌<◌, Bool, true, false, T, if◌then◌else◌, List, [], ◌∷◌, ◌++◌, length, Some, None}
 use Rattle.std.proofs.Common.{refl, ap, ◌∙◌, sym, subst, arith}
-use Rattle.wac_primitives.specs.Name.{Name}
-use Rattle.wac_primitives.specs.Tree.{Side, Place, Tree, absent, resource, function, instance, component, fresh, type_equal, taken_from, items_in}
+use Rattle.wac_types_shapes.specs.primitives.Name.{Name}
+use Rattle.wac_types_shapes.specs.primitives.Tree.{Side, Place, Tree, absent, resource, function, instance, component, fresh, type_equal, taken_from, items_in}
 use Rattle.wac_binary.specs.declared.sorts.Sort.TheVariants as s
 use Rattle.wac_binary.specs.declared.sorts.Description.TheVariants as e
 use Rattle.wac_binary.specs.Items.{TypeDef, decls, type_decl, alias_decl, Item, custom, core_type, nested, instantiate, alias_item, type_item, import_item, export_item, export_alias, outer_alias}

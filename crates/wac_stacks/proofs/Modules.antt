@@ -1,9 +1,9 @@
 -- Core module types in an open scope; and what is held as bindings grow.
 use Rattle.std.specs.Prelude.{ℕ, ◌≡◌, true, List, [], ◌∷◌, ◌++◌, length, slice_get}
 use Rattle.std.proofs.Common.{refl, ap, ◌∙◌, sym, subst, arith}
-use Rattle.wac_primitives.specs.Tree.{Tree}
-use Rattle.wac_collection.specs.Held.{of_held, module_tree as held_module_tree}
-use Rattle.wac_collection.specs.Bound.{held_tree}
+use Rattle.wac_types_shapes.specs.primitives.Tree.{Tree}
+use Rattle.wac_types_collection.specs.collection.Held.{of_held, module_tree as held_module_tree}
+use Rattle.wac_types_collection.specs.collection.Bound.{held_tree}
 use Rattle.wac_stacks.specs.Reads.{Reads}
 use Rattle.wac_stacks.proofs.Unfolded.{held_item}
 use Rattle.wac_binary.specs.Items.{Item, ModuleDecl, core_type_decl, core_type}

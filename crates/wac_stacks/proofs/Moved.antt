@@ -3,25 +3,25 @@ use Rattle.std.specs.Prelude.{ℕ, zero, suc, ◌≡◌, ◌&&◌, Bool, true, f
 use Rattle.std.proofs.Common.{refl, ap, ◌∙◌, sym}
 use Rattle.std.proofs.Math.Path.{fun_ext}
 use Rattle.std.proofs.Math.Dec.{eqb-suc-zero}
-use Rattle.wac_primitives.specs.Name.{Name, same_name, option_case, first_some}
-use Rattle.wac_shapes.specs.declared.component.ResourceId.{ResourceId}
-use Rattle.wac_shapes.specs.declared.component.FuncType.{FuncType}
-use Rattle.wac_shapes.specs.declared.component.DefinedType.{DefinedType}
-use Rattle.wac_shapes.specs.declared.component.DefinedType.TheVariants as def
-use Rattle.wac_shapes.specs.declared.component.Interface.{Interface}
-use Rattle.wac_shapes.specs.declared.component.World.{World}
-use Rattle.wac_shapes.specs.declared.component.UsedType.{UsedType}
-use Rattle.wac_shapes.specs.declared.component.ValueType.{ValueType}
-use Rattle.wac_shapes.specs.declared.component.ValueType.TheVariants as val
-use Rattle.wac_shapes.specs.declared.component.«Type».{«Type» as AnyType}
-use Rattle.wac_shapes.specs.declared.component.«Type».TheVariants as ty
-use Rattle.wac_shapes.specs.declared.component.ItemKind.{ItemKind}
-use Rattle.wac_shapes.specs.declared.component.ItemKind.TheVariants as kind
-use Rattle.wac_collection.specs.declared.collection.Held.{Held}
-use Rattle.wac_collection.specs.Collection.{Collection, size, item_at}
-use Rattle.wac_primitives.specs.Tree.{Side, imported, exported, Place, named, Leaf, Tree, absent, resource, primitive, own, borrow, record_of, variant_of, list_of, fixed_list_of, tuple_of, flags_of, enum_of, option_of, result_of, stream_of, future_of, function, instance, component, module_of, fresh, type_equal, function_item, instance_item, component_item, module_item, value_item, further_out, inside, moved, out_by, seen_from, taken_at, taken_from}
-use Rattle.wac_collection.specs.Held.{resolved, part_at, items_under, option_tree, defined_tree, func_tree, item_tree, of_held, listed_tree, interface_tree, world_tree, module_tree, step, unfolded_to}
-use Rattle.wac_collection.specs.Bound.{Bindings, lists_own, own_name, inside_interface, bound_by, bound_in_order, lists_type, first_bound, bound_by_imports, bound_in_world, same_side, same_path, is_here, binds_here, by_place, held_tree}
+use Rattle.wac_types_shapes.specs.primitives.Name.{Name, same_name, option_case, first_some}
+use Rattle.wac_types_shapes.specs.declared.shapes.component.ResourceId.{ResourceId}
+use Rattle.wac_types_shapes.specs.declared.shapes.component.FuncType.{FuncType}
+use Rattle.wac_types_shapes.specs.declared.shapes.component.DefinedType.{DefinedType}
+use Rattle.wac_types_shapes.specs.declared.shapes.component.DefinedType.TheVariants as def
+use Rattle.wac_types_shapes.specs.declared.shapes.component.Interface.{Interface}
+use Rattle.wac_types_shapes.specs.declared.shapes.component.World.{World}
+use Rattle.wac_types_shapes.specs.declared.shapes.component.UsedType.{UsedType}
+use Rattle.wac_types_shapes.specs.declared.shapes.component.ValueType.{ValueType}
+use Rattle.wac_types_shapes.specs.declared.shapes.component.ValueType.TheVariants as val
+use Rattle.wac_types_shapes.specs.declared.shapes.component.«Type».{«Type» as AnyType}
+use Rattle.wac_types_shapes.specs.declared.shapes.component.«Type».TheVariants as ty
+use Rattle.wac_types_shapes.specs.declared.shapes.component.ItemKind.{ItemKind}
+use Rattle.wac_types_shapes.specs.declared.shapes.component.ItemKind.TheVariants as kind
+use Rattle.wac_types_collection.specs.declared.collection.collection.Held.{Held}
+use Rattle.wac_types_collection.specs.collection.Collection.{Collection, size, item_at}
+use Rattle.wac_types_shapes.specs.primitives.Tree.{Side, imported, exported, Place, named, Leaf, Tree, absent, resource, primitive, own, borrow, record_of, variant_of, list_of, fixed_list_of, tuple_of, flags_of, enum_of, option_of, result_of, stream_of, future_of, function, instance, component, module_of, fresh, type_equal, function_item, instance_item, component_item, module_item, value_item, further_out, inside, moved, out_by, seen_from, taken_at, taken_from}
+use Rattle.wac_types_collection.specs.collection.Held.{resolved, part_at, items_under, option_tree, defined_tree, func_tree, item_tree, of_held, listed_tree, interface_tree, world_tree, module_tree, step, unfolded_to}
+use Rattle.wac_types_collection.specs.collection.Bound.{Bindings, lists_own, own_name, inside_interface, bound_by, bound_in_order, lists_type, first_bound, bound_by_imports, bound_in_world, same_side, same_path, is_here, binds_here, by_place, held_tree}
 use Rattle.wac_stacks.specs.Good.{IsHeld, Extends, Carries}
 use Rattle.wac_stacks.specs.Instances.{BindsInstance}
 

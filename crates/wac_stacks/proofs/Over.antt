@@ -1,13 +1,13 @@
 -- A scope that is opened over another, of which it knows value types.
 use Rattle.std.specs.Prelude.{◌≡◌, ◌∷◌, Option, Some, None}
 use Rattle.std.proofs.Common.{refl, ap, ◌∙◌, sym, subst}
-use Rattle.wac_primitives.specs.Name.{Name, option_case}
-use Rattle.wac_shapes.specs.declared.component.ResourceId.{ResourceId}
-use Rattle.wac_shapes.specs.declared.component.Interface.{Interface}
-use Rattle.wac_shapes.specs.declared.component.«Type».{«Type» as AnyType}
-use Rattle.wac_primitives.specs.Tree.{Tree, primitive, own, borrow, record_of, variant_of, list_of, fixed_list_of, tuple_of, flags_of, enum_of, option_of, result_of, stream_of, future_of, out_by, seen_from}
-use Rattle.wac_collection.specs.Collection.{Collection}
-use Rattle.wac_collection.specs.Bound.{Bindings, own_name, inside_interface}
+use Rattle.wac_types_shapes.specs.primitives.Name.{Name, option_case}
+use Rattle.wac_types_shapes.specs.declared.shapes.component.ResourceId.{ResourceId}
+use Rattle.wac_types_shapes.specs.declared.shapes.component.Interface.{Interface}
+use Rattle.wac_types_shapes.specs.declared.shapes.component.«Type».{«Type» as AnyType}
+use Rattle.wac_types_shapes.specs.primitives.Tree.{Tree, primitive, own, borrow, record_of, variant_of, list_of, fixed_list_of, tuple_of, flags_of, enum_of, option_of, result_of, stream_of, future_of, out_by, seen_from}
+use Rattle.wac_types_collection.specs.collection.Collection.{Collection}
+use Rattle.wac_types_collection.specs.collection.Bound.{Bindings, own_name, inside_interface}
 use Rattle.wac_binary.specs.HasMeaning.{IsValue}
 use Rattle.wac_stacks.specs.Scopes.{Where, at_type, env, envs, opening}
 use Rattle.wac_stacks.specs.Good.{IsHeld, IsOf, StandsFrom, Carries}

@@ -1,20 +1,20 @@
 -- The laws put together: an interface with a resource of its own and a function over it, as an encoder would write it.
 use Rattle.std.specs.Prelude.{◌≡◌, false, List, [], ◌∷◌, Some, None, if◌then◌else◌}
 use Rattle.std.proofs.Common.{refl, ap, ◌∙◌, sym, subst}
-use Rattle.wac_primitives.specs.Name.{Name, same_name}
-use Rattle.wac_shapes.specs.declared.component.ResourceId.{ResourceId}
-use Rattle.wac_shapes.specs.declared.component.InterfaceId.{InterfaceId}
-use Rattle.wac_shapes.specs.declared.component.FuncTypeId.{FuncTypeId}
-use Rattle.wac_shapes.specs.declared.component.FuncType.{FuncType}
-use Rattle.wac_shapes.specs.declared.component.Interface.{Interface}
-use Rattle.wac_shapes.specs.declared.component.ValueType.TheVariants as val
-use Rattle.wac_shapes.specs.declared.component.«Type».TheVariants as ty
-use Rattle.wac_shapes.specs.declared.component.ItemKind.TheVariants as kind
+use Rattle.wac_types_shapes.specs.primitives.Name.{Name, same_name}
+use Rattle.wac_types_shapes.specs.declared.shapes.component.ResourceId.{ResourceId}
+use Rattle.wac_types_shapes.specs.declared.shapes.component.InterfaceId.{InterfaceId}
+use Rattle.wac_types_shapes.specs.declared.shapes.component.FuncTypeId.{FuncTypeId}
+use Rattle.wac_types_shapes.specs.declared.shapes.component.FuncType.{FuncType}
+use Rattle.wac_types_shapes.specs.declared.shapes.component.Interface.{Interface}
+use Rattle.wac_types_shapes.specs.declared.shapes.component.ValueType.TheVariants as val
+use Rattle.wac_types_shapes.specs.declared.shapes.component.«Type».TheVariants as ty
+use Rattle.wac_types_shapes.specs.declared.shapes.component.ItemKind.TheVariants as kind
 use Rattle.wac_binary.specs.Unfold.{with_item}
 use Rattle.wac_binary.specs.HasMeaning.{IsFree}
-use Rattle.wac_primitives.specs.Tree.{exported, Tree, absent, instance, fresh, function_item, own}
-use Rattle.wac_collection.specs.Collection.{Collection, IsWellFormed, item_at}
-use Rattle.wac_collection.specs.Bound.{Bindings, own_name, inside_interface}
+use Rattle.wac_types_shapes.specs.primitives.Tree.{exported, Tree, absent, instance, fresh, function_item, own}
+use Rattle.wac_types_collection.specs.collection.Collection.{Collection, IsWellFormed, item_at}
+use Rattle.wac_types_collection.specs.collection.Bound.{Bindings, own_name, inside_interface}
 use Rattle.wac_binary.specs.declared.types.ComponentValType.TheVariants.{Index}
 use Rattle.wac_binary.specs.declared.sorts.Description.TheVariants as e
 use Rattle.wac_binary.specs.Items.{Decl, decls, TypeDef, value_def, own_def, func_def, type_decl, export_decl, instance_def}

@@ -3,19 +3,19 @@ use Rattle.std.specs.Prelude.{◌≡◌, ◌&&◌, Bool, true, false, List, [], 
 use Rattle.std.proofs.Common.{refl, ap, ◌∙◌, sym}
 use Rattle.std.proofs.Math.Path.{fun_ext}
 use Rattle.std.proofs.Math.Dec.{eqb-suc-zero}
-use Rattle.wac_primitives.specs.Name.{Name, same_name, find_name, option_case}
-use Rattle.wac_shapes.proofs.Names.{same_name-true}
-use Rattle.wac_shapes.specs.declared.component.InterfaceId.{InterfaceId}
-use Rattle.wac_shapes.specs.declared.component.WorldId.{WorldId}
-use Rattle.wac_shapes.specs.declared.component.Interface.{Interface}
-use Rattle.wac_shapes.specs.declared.component.World.{World}
-use Rattle.wac_shapes.specs.declared.component.«Type».TheVariants as ty
-use Rattle.wac_shapes.specs.declared.component.ItemKind.{ItemKind}
-use Rattle.wac_shapes.specs.declared.component.ItemKind.TheVariants as kind
-use Rattle.wac_primitives.specs.Tree.{Side, imported, exported, Place, named, Leaf, Tree, absent, instance, component, fresh, type_equal, function_item, instance_item, component_item, module_item, value_item, inside, moved}
-use Rattle.wac_collection.specs.Collection.{Collection, IsWellFormed, item_at}
-use Rattle.wac_collection.specs.Held.{resolved, items_under, item_tree, of_held, listed_tree, interface_tree, world_tree}
-use Rattle.wac_collection.specs.Bound.{Bindings, own_name, inside_interface, bound_by_imports, bound_in_world, same_side, same_path, is_here, binds_here, by_place, held_tree}
+use Rattle.wac_types_shapes.specs.primitives.Name.{Name, same_name, find_name, option_case}
+use Rattle.wac_types_shapes.proofs.lemmas.shapes.Names.{same_name-true}
+use Rattle.wac_types_shapes.specs.declared.shapes.component.InterfaceId.{InterfaceId}
+use Rattle.wac_types_shapes.specs.declared.shapes.component.WorldId.{WorldId}
+use Rattle.wac_types_shapes.specs.declared.shapes.component.Interface.{Interface}
+use Rattle.wac_types_shapes.specs.declared.shapes.component.World.{World}
+use Rattle.wac_types_shapes.specs.declared.shapes.component.«Type».TheVariants as ty
+use Rattle.wac_types_shapes.specs.declared.shapes.component.ItemKind.{ItemKind}
+use Rattle.wac_types_shapes.specs.declared.shapes.component.ItemKind.TheVariants as kind
+use Rattle.wac_types_shapes.specs.primitives.Tree.{Side, imported, exported, Place, named, Leaf, Tree, absent, instance, component, fresh, type_equal, function_item, instance_item, component_item, module_item, value_item, inside, moved}
+use Rattle.wac_types_collection.specs.collection.Collection.{Collection, IsWellFormed, item_at}
+use Rattle.wac_types_collection.specs.collection.Held.{resolved, items_under, item_tree, of_held, listed_tree, interface_tree, world_tree}
+use Rattle.wac_types_collection.specs.collection.Bound.{Bindings, own_name, inside_interface, bound_by_imports, bound_in_world, same_side, same_path, is_here, binds_here, by_place, held_tree}
 use Rattle.wac_stacks.proofs.Unfolded.{unfolded_step, held_item, within}
 use Rattle.wac_stacks.specs.Good.{Carries, seen_inside}
 use Rattle.wac_stacks.specs.Listed.{IsItem, IsUnder, AreListed, HoldsInterface, HoldsWorld}

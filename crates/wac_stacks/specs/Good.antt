@@ -1,13 +1,13 @@
 -- What holds of a stack of open scopes between the steps of a type encoder.
 use Rattle.std.specs.Prelude.{ℕ, ◌≡◌, ◌≤◌, Bool, true, false, List, [], ◌∷◌, ◌++◌, Option, Some, None, slice_get}
-use Rattle.wac_primitives.specs.Name.{Name, option_case}
-use Rattle.wac_shapes.specs.declared.component.ResourceId.{ResourceId}
-use Rattle.wac_shapes.specs.declared.component.«Type».{«Type» as AnyType}
-use Rattle.wac_shapes.specs.declared.component.«Type».TheVariants as ty
-use Rattle.wac_primitives.specs.Tree.{Leaf, Tree, named, resource, primitive, further_out, seen_from, taken_from, items_in, moved}
-use Rattle.wac_collection.specs.Collection.{Collection, holds_type}
-use Rattle.wac_collection.specs.Held.{step}
-use Rattle.wac_collection.specs.Bound.{Bindings, by_place, held_tree}
+use Rattle.wac_types_shapes.specs.primitives.Name.{Name, option_case}
+use Rattle.wac_types_shapes.specs.declared.shapes.component.ResourceId.{ResourceId}
+use Rattle.wac_types_shapes.specs.declared.shapes.component.«Type».{«Type» as AnyType}
+use Rattle.wac_types_shapes.specs.declared.shapes.component.«Type».TheVariants as ty
+use Rattle.wac_types_shapes.specs.primitives.Tree.{Leaf, Tree, named, resource, primitive, further_out, seen_from, taken_from, items_in, moved}
+use Rattle.wac_types_collection.specs.collection.Collection.{Collection, holds_type}
+use Rattle.wac_types_collection.specs.collection.Held.{step}
+use Rattle.wac_types_collection.specs.collection.Bound.{Bindings, by_place, held_tree}
 use Rattle.wac_binary.specs.declared.types.ComponentValType.{ComponentValType}
 use Rattle.wac_binary.specs.declared.types.ComponentValType.TheVariants.{Primitive, Index}
 use Rattle.wac_binary.specs.Unfold.{Scope, Bound, scope_at, bound_type}

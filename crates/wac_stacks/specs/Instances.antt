@@ -1,19 +1,19 @@
 -- What an instance in scope binds and has, what the root's imports give, and what is held further out.
 use Rattle.std.specs.Prelude.{ℕ, ◌≡◌, true, List, [], ◌∷◌, ◌++◌, length, map, Some, None}
-use Rattle.wac_primitives.specs.Name.{Name, find_name, option_case}
-use Rattle.wac_shapes.specs.declared.component.ResourceId.{ResourceId}
-use Rattle.wac_shapes.specs.declared.component.InterfaceId.{InterfaceId}
-use Rattle.wac_shapes.specs.declared.component.Interface.{Interface}
-use Rattle.wac_shapes.specs.declared.component.DefinedTypeId.{DefinedTypeId}
-use Rattle.wac_shapes.specs.declared.component.ValueType.{ValueType}
-use Rattle.wac_shapes.specs.declared.component.ValueType.TheVariants as val
-use Rattle.wac_shapes.specs.declared.component.«Type».{«Type» as AnyType}
-use Rattle.wac_shapes.specs.declared.component.«Type».TheVariants as ty
-use Rattle.wac_shapes.specs.declared.component.ItemKind.TheVariants as kind
-use Rattle.wac_primitives.specs.Tree.{Side, imported, Place, position, named, Tree, resource, out_by, seen_from, taken_from, items_in}
-use Rattle.wac_collection.specs.Collection.{Collection, IsWellFormed, item_at, holds_value}
-use Rattle.wac_collection.specs.Aliases.{value_resolved}
-use Rattle.wac_collection.specs.Bound.{Bindings, own_name, inside_interface, held_tree}
+use Rattle.wac_types_shapes.specs.primitives.Name.{Name, find_name, option_case}
+use Rattle.wac_types_shapes.specs.declared.shapes.component.ResourceId.{ResourceId}
+use Rattle.wac_types_shapes.specs.declared.shapes.component.InterfaceId.{InterfaceId}
+use Rattle.wac_types_shapes.specs.declared.shapes.component.Interface.{Interface}
+use Rattle.wac_types_shapes.specs.declared.shapes.component.DefinedTypeId.{DefinedTypeId}
+use Rattle.wac_types_shapes.specs.declared.shapes.component.ValueType.{ValueType}
+use Rattle.wac_types_shapes.specs.declared.shapes.component.ValueType.TheVariants as val
+use Rattle.wac_types_shapes.specs.declared.shapes.component.«Type».{«Type» as AnyType}
+use Rattle.wac_types_shapes.specs.declared.shapes.component.«Type».TheVariants as ty
+use Rattle.wac_types_shapes.specs.declared.shapes.component.ItemKind.TheVariants as kind
+use Rattle.wac_types_shapes.specs.primitives.Tree.{Side, imported, Place, position, named, Tree, resource, out_by, seen_from, taken_from, items_in}
+use Rattle.wac_types_collection.specs.collection.Collection.{Collection, IsWellFormed, item_at, holds_value}
+use Rattle.wac_types_collection.specs.collection.Aliases.{value_resolved}
+use Rattle.wac_types_collection.specs.collection.Bound.{Bindings, own_name, inside_interface, held_tree}
 use Rattle.wac_binary.specs.declared.sorts.Description.{Description}
 use Rattle.wac_binary.specs.declared.sorts.Description.TheVariants as e
 use Rattle.wac_binary.specs.Indexes.{space, described_sort, indexes}

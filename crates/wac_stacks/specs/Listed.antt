@@ -1,20 +1,20 @@
 -- The imports and exports of a type: when what was written is what is listed.
 use Rattle.std.specs.Prelude.{ℕ, ◌≡◌, Bool, true, false, List, [], ◌∷◌, ◌++◌, Option, Some, None, is_some}
-use Rattle.wac_primitives.specs.Name.{Name, same_name, find_name, option_case}
-use Rattle.wac_shapes.specs.declared.component.ResourceId.{ResourceId}
-use Rattle.wac_shapes.specs.declared.component.InterfaceId.{InterfaceId}
-use Rattle.wac_shapes.specs.declared.component.WorldId.{WorldId}
-use Rattle.wac_shapes.specs.declared.component.Interface.{Interface}
-use Rattle.wac_shapes.specs.declared.component.World.{World}
-use Rattle.wac_shapes.specs.declared.component.ValueType.{ValueType}
-use Rattle.wac_shapes.specs.declared.component.«Type».{«Type» as AnyType}
-use Rattle.wac_shapes.specs.declared.component.«Type».TheVariants as ty
-use Rattle.wac_shapes.specs.declared.component.ItemKind.{ItemKind}
-use Rattle.wac_shapes.specs.declared.component.ItemKind.TheVariants as kind
-use Rattle.wac_primitives.specs.Tree.{Side, imported, exported, named, Tree, absent, instance, component, fresh, type_equal, function_item, instance_item, component_item, module_item, value_item}
-use Rattle.wac_collection.specs.Collection.{Collection, IsWellFormed, item_at}
-use Rattle.wac_collection.specs.Held.{resolved}
-use Rattle.wac_collection.specs.Bound.{Bindings, own_name, inside_interface, bound_by_imports, bound_in_world, binds_here}
+use Rattle.wac_types_shapes.specs.primitives.Name.{Name, same_name, find_name, option_case}
+use Rattle.wac_types_shapes.specs.declared.shapes.component.ResourceId.{ResourceId}
+use Rattle.wac_types_shapes.specs.declared.shapes.component.InterfaceId.{InterfaceId}
+use Rattle.wac_types_shapes.specs.declared.shapes.component.WorldId.{WorldId}
+use Rattle.wac_types_shapes.specs.declared.shapes.component.Interface.{Interface}
+use Rattle.wac_types_shapes.specs.declared.shapes.component.World.{World}
+use Rattle.wac_types_shapes.specs.declared.shapes.component.ValueType.{ValueType}
+use Rattle.wac_types_shapes.specs.declared.shapes.component.«Type».{«Type» as AnyType}
+use Rattle.wac_types_shapes.specs.declared.shapes.component.«Type».TheVariants as ty
+use Rattle.wac_types_shapes.specs.declared.shapes.component.ItemKind.{ItemKind}
+use Rattle.wac_types_shapes.specs.declared.shapes.component.ItemKind.TheVariants as kind
+use Rattle.wac_types_shapes.specs.primitives.Tree.{Side, imported, exported, named, Tree, absent, instance, component, fresh, type_equal, function_item, instance_item, component_item, module_item, value_item}
+use Rattle.wac_types_collection.specs.collection.Collection.{Collection, IsWellFormed, item_at}
+use Rattle.wac_types_collection.specs.collection.Held.{resolved}
+use Rattle.wac_types_collection.specs.collection.Bound.{Bindings, own_name, inside_interface, bound_by_imports, bound_in_world, binds_here}
 use Rattle.wac_binary.specs.declared.sorts.Description.{Description}
 use Rattle.wac_binary.specs.declared.sorts.Description.TheVariants as e
 use Rattle.wac_binary.specs.Items.{Decl, decls, import_decl, export_decl, instance_def, component_def}

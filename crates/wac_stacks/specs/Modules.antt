@@ -1,13 +1,13 @@
 -- Core module types in an open scope; and what is held as bindings grow.
 use Rattle.std.specs.Prelude.{ℕ, ◌≡◌, List, [], ◌∷◌, ◌++◌, Some}
-use Rattle.wac_shapes.specs.declared.component.ModuleTypeId.{ModuleTypeId}
-use Rattle.wac_shapes.specs.declared.core_types.ModuleType.{ModuleType}
-use Rattle.wac_shapes.specs.declared.component.«Type».{«Type» as AnyType}
-use Rattle.wac_shapes.specs.declared.component.«Type».TheVariants as ty
-use Rattle.wac_primitives.specs.Tree.{Tree}
-use Rattle.wac_collection.specs.Collection.{Collection, item_at}
-use Rattle.wac_collection.specs.Held.{module_tree as held_module_tree}
-use Rattle.wac_collection.specs.Bound.{Bindings}
+use Rattle.wac_types_shapes.specs.declared.shapes.component.ModuleTypeId.{ModuleTypeId}
+use Rattle.wac_types_shapes.specs.declared.shapes.core_types.ModuleType.{ModuleType}
+use Rattle.wac_types_shapes.specs.declared.shapes.component.«Type».{«Type» as AnyType}
+use Rattle.wac_types_shapes.specs.declared.shapes.component.«Type».TheVariants as ty
+use Rattle.wac_types_shapes.specs.primitives.Tree.{Tree}
+use Rattle.wac_types_collection.specs.collection.Collection.{Collection, item_at}
+use Rattle.wac_types_collection.specs.collection.Held.{module_tree as held_module_tree}
+use Rattle.wac_types_collection.specs.collection.Bound.{Bindings}
 use Rattle.wac_binary.specs.Items.{ModuleDecl, core_type_decl, core_type}
 use Rattle.wac_binary.specs.Indexes.{core_types as core_space, declared, indexes}
 use Rattle.wac_binary.specs.Unfold.{no_module, module_tree}

@@ -8,13 +8,13 @@ ghost use Rattle.wac_stacks.specs.Beside.{GoesOnBeside};
 ghost use Rattle.wac_stacks.specs.Reads.{Reads};
 ghost use Rattle.wac_stacks.specs.Modules.{DefinesModule, HoldsModule, HeldUnderMore};
 
-use wac_binary::{has_meaning_law, listed_law, scope_law};
+use wac_binary::laws::{has_meaning_law, listed_law, scope_law};
 
 /// How items and declarations are read.
 fn binary_laws()
     ensures reads { Reads }
 {
-    wac_binary::law();
+    wac_binary::laws::law();
     scope_law();
     has_meaning_law();
     listed_law();

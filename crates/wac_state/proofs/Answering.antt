@@ -1,9 +1,9 @@
 -- The answers of an encoder, from those of the writers into a root.
 use Rattle.std.specs.Prelude.{ℕ, ◌≡◌, Option, Some, None, Result, Ok, Err, IfOk, IfSome, OnErr}
 use Rattle.std.proofs.Common.{ap}
-use Rattle.wac_shapes.specs.declared.component.ValueType.{ValueType}
-use Rattle.wac_shapes.specs.declared.component.«Type».{«Type» as AnyType}
-use Rattle.wac_collection.specs.Collection.{Collection}
+use Rattle.wac_types_shapes.specs.declared.shapes.component.ValueType.{ValueType}
+use Rattle.wac_types_shapes.specs.declared.shapes.component.«Type».{«Type» as AnyType}
+use Rattle.wac_types_collection.specs.collection.Collection.{Collection}
 use Rattle.wac_binary.specs.declared.types.ComponentValType.{ComponentValType}
 use Rattle.wac_scopes.specs.declared.scope.Scope.{Scope}
 use Rattle.wac_scopes.specs.Rooted.{MeansBefore}
@@ -14,7 +14,7 @@ use Rattle.wac_state.specs.Binding.{with_root}
 use Rattle.wac_state.specs.Growing.{Grows, StandsSince, IsIndexSince}
 use Rattle.wac_state.specs.Held.{IsIndexOf}
 use Rattle.wac_state.specs.Root.{IsRight, SaysHeld, UnfoldsTo}
-use Rattle.wac_primitives.specs.Tree.{Tree}
+use Rattle.wac_types_shapes.specs.primitives.Tree.{Tree}
 use Rattle.wac_state.proofs.Growth.{unfolds, index-of, says-held}
 
 if-some : {A : Type 0} (o : Option A) (P Q : A → Type 0) → ((x : A) → P x → Q x) → IfSome o P → IfSome o Q

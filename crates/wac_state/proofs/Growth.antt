@@ -2,12 +2,12 @@
 use Rattle.std.specs.Prelude.{ℕ, ◌≡◌, List, [], ◌∷◌, ◌++◌, map, None}
 use Rattle.std.proofs.Common.{refl, ap, ◌∙◌, sym, subst}
 use Rattle.std.proofs.lemmas.List.{append-nil}
-use Rattle.wac_primitives.specs.Tree.{Tree}
-use Rattle.wac_shapes.specs.declared.component.ValueType.{ValueType}
-use Rattle.wac_shapes.specs.declared.component.«Type».{«Type» as AnyType}
-use Rattle.wac_shapes.specs.declared.component.«Type».TheVariants as ty
-use Rattle.wac_collection.specs.Bound.{held_tree}
-use Rattle.wac_collection.specs.Collection.{Collection}
+use Rattle.wac_types_shapes.specs.primitives.Tree.{Tree}
+use Rattle.wac_types_shapes.specs.declared.shapes.component.ValueType.{ValueType}
+use Rattle.wac_types_shapes.specs.declared.shapes.component.«Type».{«Type» as AnyType}
+use Rattle.wac_types_shapes.specs.declared.shapes.component.«Type».TheVariants as ty
+use Rattle.wac_types_collection.specs.collection.Bound.{held_tree}
+use Rattle.wac_types_collection.specs.collection.Collection.{Collection}
 use Rattle.wac_binary.specs.HasMeaning.{HasMeaning}
 use Rattle.wac_binary.specs.Items.{ModuleDecl, Item, core_type}
 use Rattle.wac_binary.specs.Unfold.{Scope as Env}

@@ -1,13 +1,13 @@
 -- What has an id, and what has none.
 use Rattle.std.specs.Prelude.{◌≡◌, Some, None}
 use Rattle.std.proofs.Common.{ap, ◌∙◌, sym}
-use Rattle.wac_primitives.specs.Name.{Name}
-use Rattle.wac_shapes.specs.declared.component.Interface.{Interface}
-use Rattle.wac_shapes.specs.declared.component.InterfaceId.{InterfaceId}
-use Rattle.wac_shapes.specs.declared.component.World.{World}
-use Rattle.wac_shapes.specs.declared.component.WorldId.{WorldId}
-use Rattle.wac_shapes.specs.declared.component.«Type».TheVariants as ty
-use Rattle.wac_collection.specs.Collection.{Collection, item_at}
+use Rattle.wac_types_shapes.specs.primitives.Name.{Name}
+use Rattle.wac_types_shapes.specs.declared.shapes.component.Interface.{Interface}
+use Rattle.wac_types_shapes.specs.declared.shapes.component.InterfaceId.{InterfaceId}
+use Rattle.wac_types_shapes.specs.declared.shapes.component.World.{World}
+use Rattle.wac_types_shapes.specs.declared.shapes.component.WorldId.{WorldId}
+use Rattle.wac_types_shapes.specs.declared.shapes.component.«Type».TheVariants as ty
+use Rattle.wac_types_collection.specs.collection.Collection.{Collection, item_at}
 use Rattle.wac_state.specs.Defined.{IsNamed}
 
 never-id : (id : Name) → None ≡ Some id → ⊥

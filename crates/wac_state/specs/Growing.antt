@@ -1,10 +1,10 @@
 -- What each step does to a root, whatever else is recorded there. Private functions alone cite this.
 use Rattle.std.specs.Prelude.{ℕ, ◌≡◌, List, [], ◌∷◌, ◌++◌}
-use Rattle.wac_primitives.specs.Tree.{Tree}
-use Rattle.wac_shapes.specs.declared.component.«Type».{«Type» as AnyType}
-use Rattle.wac_shapes.specs.declared.component.«Type».TheVariants as ty
-use Rattle.wac_collection.specs.Bound.{held_tree}
-use Rattle.wac_collection.specs.Collection.{Collection}
+use Rattle.wac_types_shapes.specs.primitives.Tree.{Tree}
+use Rattle.wac_types_shapes.specs.declared.shapes.component.«Type».{«Type» as AnyType}
+use Rattle.wac_types_shapes.specs.declared.shapes.component.«Type».TheVariants as ty
+use Rattle.wac_types_collection.specs.collection.Bound.{held_tree}
+use Rattle.wac_types_collection.specs.collection.Collection.{Collection}
 use Rattle.wac_binary.specs.Items.{Item}
 use Rattle.wac_scopes.specs.declared.scope.Scope.{Scope}
 use Rattle.wac_scopes.specs.Contents.{IsRoot, items_of}

@@ -1,16 +1,16 @@
 //! What is said to stand in a root, and is recorded there.
 
 ghost use Rattle.std.specs.Prelude.{◌≡◌, true, IfErr, OnOk, OnErr};
-ghost use Rattle.wac_shapes.specs.Kinds.{kind_type};
-ghost use Rattle.wac_shapes.specs.declared.component.ItemKind.TheVariants as kind;
-ghost use Rattle.wac_collection.specs.Collection.{HasInterface, holds_type};
+ghost use Rattle.wac_types_shapes.specs.shapes.Kinds.{kind_type};
+ghost use Rattle.wac_types_shapes.specs.declared.shapes.component.ItemKind.TheVariants as kind;
+ghost use Rattle.wac_types_collection.specs.collection.Collection.{HasInterface, holds_type};
 ghost use Rattle.wac_scopes.specs.Scoped.{IsAsBefore};
 ghost use Rattle.wac_scopes.specs.declared.fault.EncodeFault.TheVariants.{OutOfMemory};
 ghost use Rattle.wac_state.specs.Binding.{at_end, IsToRecord, Binds, BindsRight};
 
-use wac_collection::{InterfaceId, ItemKind, Type, Types};
 use wac_encode::{TypeEncoder, Worlds};
 use wac_scopes::{EncodeFault, Scope};
+use wac_types_collection::{InterfaceId, ItemKind, Type, Types};
 
 /// A type under which it is recorded: a value type by the one at the end of its aliases.
 fn type_end(types: &Types, ty: Type) -> Type

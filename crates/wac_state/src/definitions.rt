@@ -1,8 +1,8 @@
 //! The writers of definitions into a root.
 
 ghost use Rattle.std.specs.Prelude.{◌≡◌, ◌⊎◌, None, Ok as Answers, Err as Refused, IfOk, IfSome, OnErr};
-ghost use Rattle.wac_shapes.specs.declared.component.«Type».TheVariants as ty;
-ghost use Rattle.wac_collection.specs.Collection.{HasInterface, HasWorld};
+ghost use Rattle.wac_types_shapes.specs.declared.shapes.component.«Type».TheVariants as ty;
+ghost use Rattle.wac_types_collection.specs.collection.Collection.{HasInterface, HasWorld};
 ghost use Rattle.wac_root.specs.Components.{component_tree, world_component_tree};
 ghost use Rattle.wac_scopes.specs.declared.fault.EncodeFault.TheVariants.{OutOfMemory, Write};
 ghost use Rattle.wac_scopes.specs.declared.fault.WriteFault.TheVariants.{UnnamedDefinition};
@@ -11,10 +11,10 @@ ghost use Rattle.wac_state.specs.Growing.{Grows, StandsSince};
 
 use crate::resources::lists_resource;
 use crate::uses::{interface_uses, world_uses};
-use wac_collection::{InterfaceId, Type, Types, WorldId};
 use wac_components::ComponentEncoder;
 use wac_root::RootEncoder;
 use wac_scopes::{EncodeFault, Scope, WriteFault, still_law};
+use wac_types_collection::{InterfaceId, Type, Types, WorldId};
 use wac_worlds::worlds_inside;
 
 /// Writes the definition of a held interface, and answers its type index.

@@ -1,10 +1,10 @@
 //! The writer of held types into a component that is written by hand.
 
 ghost use Rattle.std.specs.Prelude.{◌≡◌, ◌⊎◌, true, None, Ok as Answers, Err as Refused, IfOk, IfSome, OnErr};
-ghost use Rattle.wac_shapes.specs.declared.component.ItemKind.TheVariants as kind;
-ghost use Rattle.wac_shapes.specs.declared.component.«Type».TheVariants as ty;
-ghost use Rattle.wac_collection.specs.Aliases.{value_resolved};
-ghost use Rattle.wac_collection.specs.Collection.{HasInterface, HasWorld, holds_type, holds_value};
+ghost use Rattle.wac_types_shapes.specs.declared.shapes.component.ItemKind.TheVariants as kind;
+ghost use Rattle.wac_types_shapes.specs.declared.shapes.component.«Type».TheVariants as ty;
+ghost use Rattle.wac_types_collection.specs.collection.Aliases.{value_resolved};
+ghost use Rattle.wac_types_collection.specs.collection.Collection.{HasInterface, HasWorld, holds_type, holds_value};
 ghost use Rattle.wac_scopes.specs.declared.fault.EncodeFault.TheVariants.{OutOfMemory, Write};
 ghost use Rattle.wac_scopes.specs.declared.fault.WriteFault.TheVariants.{UnnamedDefinition};
 ghost use Rattle.wac_defining.specs.Written.{IsByRecord, PartOf, WritesFor, IsRefused};
@@ -16,9 +16,9 @@ ghost use Rattle.wac_state.specs.Defined.{IsNamed, IsDefinable, defined_tree, De
 use crate::definitions::{define_interface, define_world};
 use crate::state::State;
 use crate::types::{write_in_use, write_type, write_world};
-use wac_builder::ComponentValType;
-use wac_collection::{InterfaceId, Type, Types, ValueType, WorldId};
+use wac_binary::ComponentValType;
 use wac_scopes::{EncodeFault, rooted_law, step_law};
+use wac_types_collection::{InterfaceId, Type, Types, ValueType, WorldId};
 
 /// Writes held types of a collection into components that are written by hand.
 ///

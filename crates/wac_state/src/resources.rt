@@ -1,14 +1,14 @@
 //! Which types list a resource.
 
 ghost use Rattle.std.specs.Prelude.{◌≡◌, ℕ, true, false, Some, IfOk, slice_get};
-ghost use Rattle.wac_shapes.specs.declared.component.«Type».{«Type» as AnyType};
-ghost use Rattle.wac_shapes.specs.declared.component.«Type».TheVariants as ty;
-ghost use Rattle.wac_collection.specs.Collection.{HasWorld};
+ghost use Rattle.wac_types_shapes.specs.declared.shapes.component.«Type».{«Type» as AnyType};
+ghost use Rattle.wac_types_shapes.specs.declared.shapes.component.«Type».TheVariants as ty;
+ghost use Rattle.wac_types_collection.specs.collection.Collection.{HasWorld};
 ghost use Rattle.wac_worlds.specs.Nested.{listed_in, IsHolder};
 ghost use Rattle.wac_state.specs.Held.{IsNoResource, AreNoResources, ListNoResource, HasNoResource};
 
 use std::alloc::AllocError;
-use wac_collection::{ItemKind, Named, Type, Types, WorldId};
+use wac_types_collection::{ItemKind, Named, Type, Types, WorldId};
 use wac_worlds::types_inside;
 
 /// Whether an item is a type item of a resource.

@@ -2,9 +2,9 @@
 
 ghost use Rattle.std.specs.Prelude.{◌≡◌, [], true, None, List, IfOk, IfErr, OnOk, OnErr};
 ghost use Rattle.std.specs.Borrow.{sem};
-ghost use Rattle.wac_shapes.specs.Kinds.{kind_type};
-ghost use Rattle.wac_shapes.specs.declared.component.«Type».{«Type» as AnyType};
-ghost use Rattle.wac_collection.specs.Collection.{Collection, holds_type};
+ghost use Rattle.wac_types_shapes.specs.shapes.Kinds.{kind_type};
+ghost use Rattle.wac_types_shapes.specs.declared.shapes.component.«Type».{«Type» as AnyType};
+ghost use Rattle.wac_types_collection.specs.collection.Collection.{Collection, holds_type};
 ghost use Rattle.wac_binary.specs.Bytes.{bytes_of};
 ghost use Rattle.wac_binary.specs.Items.{Item as AnyItem};
 ghost use Rattle.wac_binary.specs.declared.fault.BinaryFault.TheVariants.{OutOfMemory as NoMemory};
@@ -14,9 +14,9 @@ ghost use Rattle.wac_scopes.specs.declared.fault.EncodeFault.TheVariants.{OutOfM
 
 use crate::binding::bind_item;
 use std::alloc::Global;
-use wac_builder::{BinaryFault, ComponentBuilder};
-use wac_collection::{ItemKind, Types};
+use wac_binary::{BinaryFault, ComponentBuilder};
 use wac_scopes::{Encodable, EncodeFault, Scope, root_law, rooted_law};
+use wac_types_collection::{ItemKind, Types};
 
 /// A component that is written by hand, and what is recorded of the types in it.
 ///

@@ -1,11 +1,11 @@
 //! The writers of held types into a root.
 
 ghost use Rattle.std.specs.Prelude.{◌≡◌, ◌⊎◌, true, None, Ok as Answers, Err as Refused, IfOk, IfSome, OnErr};
-ghost use Rattle.wac_shapes.specs.declared.component.ItemKind.TheVariants as kind;
-ghost use Rattle.wac_shapes.specs.declared.component.ValueType.TheVariants as val;
-ghost use Rattle.wac_shapes.specs.declared.component.«Type».TheVariants as ty;
-ghost use Rattle.wac_collection.specs.Aliases.{value_resolved};
-ghost use Rattle.wac_collection.specs.Collection.{HasFunc, HasInterface, HasModule, HasWorld, holds_type, holds_value};
+ghost use Rattle.wac_types_shapes.specs.declared.shapes.component.ItemKind.TheVariants as kind;
+ghost use Rattle.wac_types_shapes.specs.declared.shapes.component.ValueType.TheVariants as val;
+ghost use Rattle.wac_types_shapes.specs.declared.shapes.component.«Type».TheVariants as ty;
+ghost use Rattle.wac_types_collection.specs.collection.Aliases.{value_resolved};
+ghost use Rattle.wac_types_collection.specs.collection.Collection.{HasFunc, HasInterface, HasModule, HasWorld, holds_type, holds_value};
 ghost use Rattle.wac_scopes.specs.declared.fault.EncodeFault.TheVariants.{OutOfMemory};
 ghost use Rattle.wac_defining.specs.Written.{IsByRecord, PartOf, Says, WritesFor, IsRefused};
 ghost use Rattle.wac_root.specs.Importing.{WritesTypesOf};
@@ -14,13 +14,13 @@ ghost use Rattle.wac_state.specs.Growing.{Grows, IsIndexSince};
 
 use crate::resources::lists_resource;
 use wac_binary::ComponentValType;
-use wac_collection::{
-    DefinedTypeId, FuncTypeId, InterfaceId, ModuleTypeId, PrimitiveType, Type, Types, ValueType,
-    WorldId,
-};
 use wac_encode::{TypeEncoder, Worlds};
 use wac_modules::module_type;
 use wac_scopes::{EncodeFault, Scope, WriteFault, alias_law, module_law, step_law, still_law};
+use wac_types_collection::{
+    DefinedTypeId, FuncTypeId, InterfaceId, ModuleTypeId, PrimitiveType, Type, Types, ValueType,
+    WorldId,
+};
 use wac_worlds::worlds_inside;
 
 /// Writes a held value type, and answers the value type in use that says it.

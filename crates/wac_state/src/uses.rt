@@ -1,13 +1,13 @@
 //! Which definitions import what they use.
 
 ghost use Rattle.std.specs.Prelude.{◌≡◌, ℕ, true, false, List, Some, slice_get};
-ghost use Rattle.wac_shapes.specs.Kinds.{kind_type};
-ghost use Rattle.wac_shapes.specs.declared.component.ItemKind.{ItemKind as AnyItem};
-ghost use Rattle.wac_shapes.specs.declared.component.«Type».TheVariants as ty;
-ghost use Rattle.wac_collection.specs.Collection.{HasInterface, HasWorld, holds_type};
+ghost use Rattle.wac_types_shapes.specs.shapes.Kinds.{kind_type};
+ghost use Rattle.wac_types_shapes.specs.declared.shapes.component.ItemKind.{ItemKind as AnyItem};
+ghost use Rattle.wac_types_shapes.specs.declared.shapes.component.«Type».TheVariants as ty;
+ghost use Rattle.wac_types_collection.specs.collection.Collection.{HasInterface, HasWorld, holds_type};
 ghost use Rattle.wac_state.specs.Defined.{ItemUsesNothing, ItemsUseNothing, UsesNothing};
 
-use wac_collection::{InterfaceId, ItemKind, Named, Types, WorldId};
+use wac_types_collection::{InterfaceId, ItemKind, Named, Types, WorldId};
 
 /// Whether a held interface uses another.
 pub(crate) fn interface_uses(types: &Types, interface: InterfaceId) -> bool

@@ -1,16 +1,16 @@
 //! Comparison of the two types of a question.
 ghost use Rattle.std.specs.Prelude.{◌≡◌, true, Err, IfOk};
-ghost use Rattle.wac_collection.specs.Collection.{holds_type, world_mentions};
-ghost use Rattle.wac_comparison.specs.Compare.{world_in};
-ghost use Rattle.wac_comparison.specs.Questions.{IsEnd, AreHeld};
-ghost use Rattle.wac_comparison.specs.Settling.{Asks, RestsOn};
-ghost use Rattle.wac_subtyping.specs.Subtype.{Sub, type_tree};
+ghost use Rattle.wac_types_collection.specs.collection.Collection.{holds_type, world_mentions};
+ghost use Rattle.wac_types.specs.private.comparison.Compare.{world_in};
+ghost use Rattle.wac_types.specs.private.comparison.Questions.{IsEnd, AreHeld};
+ghost use Rattle.wac_types.specs.private.comparison.Settling.{Asks, RestsOn};
+ghost use Rattle.wac_types_collection.specs.subtyping.Subtype.{Sub, type_tree};
 
-use wac_collection::{Type, World};
-use wac_comparison::{Asked, Comparison, TypeFault, is_module_subtype};
+use crate::comparison::{Asked, Comparison, TypeFault, is_module_subtype};
+use wac_types_collection::{Type, World};
 
 /// Compares two types and asks about the types that they mention. Neither may be an alias.
-#[tactic(auto, using(wac_comparison::proofs::Opens::func_held, wac_comparison::proofs::Opens::interface_held, wac_comparison::proofs::Opens::world_held, wac_comparison::proofs::Asking::rests_now, wac_comparison::proofs::Values::values_are, wac_comparison::proofs::Typing::resources_are, wac_comparison::proofs::Typing::interfaces_are, wac_comparison::proofs::Typing::worlds_are, wac_comparison::proofs::Typing::modules_are, wac_comparison::proofs::Typing::answer_funcs, wac_comparison::proofs::Typing::answer_interfaces, wac_comparison::proofs::Typing::answer_worlds, wac_comparison::proofs::Typing::funcs_refuse, wac_comparison::proofs::Typing::other_sort, wac_comparison::proofs::Typing::no_resource, wac_comparison::proofs::Typing::no_func, wac_comparison::proofs::Typing::no_value, wac_comparison::proofs::Typing::no_interface, wac_comparison::proofs::Typing::no_world, wac_comparison::proofs::Typing::no_module))]
+#[tactic(auto, using(crate::proofs::lemmas::comparison::Opens::func_held, crate::proofs::lemmas::comparison::Opens::interface_held, crate::proofs::lemmas::comparison::Opens::world_held, crate::proofs::lemmas::comparison::Asking::rests_now, crate::proofs::lemmas::comparison::Values::values_are, crate::proofs::lemmas::comparison::Typing::resources_are, crate::proofs::lemmas::comparison::Typing::interfaces_are, crate::proofs::lemmas::comparison::Typing::worlds_are, crate::proofs::lemmas::comparison::Typing::modules_are, crate::proofs::lemmas::comparison::Typing::answer_funcs, crate::proofs::lemmas::comparison::Typing::answer_interfaces, crate::proofs::lemmas::comparison::Typing::answer_worlds, crate::proofs::lemmas::comparison::Typing::funcs_refuse, crate::proofs::lemmas::comparison::Typing::other_sort, crate::proofs::lemmas::comparison::Typing::no_resource, crate::proofs::lemmas::comparison::Typing::no_func, crate::proofs::lemmas::comparison::Typing::no_value, crate::proofs::lemmas::comparison::Typing::no_interface, crate::proofs::lemmas::comparison::Typing::no_world, crate::proofs::lemmas::comparison::Typing::no_module))]
 pub(crate) fn answer(
     comparison: Comparison<'_>,
     asked: &mut Asked,
@@ -48,7 +48,7 @@ pub(crate) fn answer(
 }
 
 // Asks whether the world `w` is a subtype of `v`.
-#[tactic(auto, using(wac_comparison::proofs::Subtyping::of_components, wac_comparison::proofs::Subtyping::imports_held, wac_comparison::proofs::Subtyping::exports_held))]
+#[tactic(auto, using(crate::proofs::lemmas::comparison::Subtyping::of_components, crate::proofs::lemmas::comparison::Subtyping::imports_held, crate::proofs::lemmas::comparison::Subtyping::exports_held))]
 fn ask_worlds(
     comparison: Comparison<'_>,
     asked: &mut Asked,

@@ -1,14 +1,14 @@
 //! Subtyping between items of two collections.
 ghost use Rattle.std.specs.Prelude.{◌≡◌, true, false, Err, IfOk};
-ghost use Rattle.wac_comparison.specs.Questions.{first_of_pair, second_of_pair, IsAskableQuestion, IsYes};
-ghost use Rattle.wac_comparison.specs.Settling.{RestsOn};
-ghost use Rattle.wac_collection.specs.Collection.{holds_type};
-ghost use Rattle.wac_shapes.specs.Kinds.{kind_type};
-ghost use Rattle.wac_subtyping.specs.Subtype.{IsSubtype};
+ghost use Rattle.wac_types.specs.private.comparison.Questions.{first_of_pair, second_of_pair, IsAskableQuestion, IsYes};
+ghost use Rattle.wac_types.specs.private.comparison.Settling.{RestsOn};
+ghost use Rattle.wac_types_collection.specs.collection.Collection.{holds_type};
+ghost use Rattle.wac_types_shapes.specs.shapes.Kinds.{kind_type};
+ghost use Rattle.wac_types_collection.specs.subtyping.Subtype.{IsSubtype};
 
 use crate::answers::answer;
-use wac_collection::{ItemKind, Types};
-use wac_comparison::{Asked, Comparison, Question, TypeFault};
+use crate::comparison::{Asked, Comparison, Question, TypeFault};
+use wac_types_collection::{ItemKind, Types};
 
 /// Decides whether an item is a subtype of another.
 #[derive(Clone, Copy, Debug)]
@@ -28,7 +28,7 @@ impl SubtypeChecker {
     /// # Errors
     /// - [`Mismatch`](TypeFault::Mismatch) if it is not a subtype.
     /// - [`OutOfMemory`](TypeFault::OutOfMemory) if memory ran out before that was known.
-    #[tactic(auto, using(wac_comparison::proofs::Comparing::compares_first))]
+    #[tactic(auto, using(crate::proofs::lemmas::comparison::Comparing::compares_first))]
     pub fn is_subtype(
         &self,
         a: ItemKind,

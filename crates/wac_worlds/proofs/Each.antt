@@ -2,7 +2,7 @@
 use Rattle.std.proofs.Common.{◌≡◌, ◌≤◌, ℕ, zero, suc, ◌+◌, List, [], ◌∷◌, ◌++◌, take, length, refl, sym, subst, arith, add-one, Some}
 use Rattle.std.specs.Prelude.{slice_get}
 use Rattle.std.proofs.lemmas.List.{take_all}
-use Rattle.wac_shapes.proofs.Names.{take_at}
+use Rattle.wac_types_shapes.proofs.lemmas.shapes.Names.{take_at}
 
 -- each of a list
 abbrev pub Each : {A : Type 0} → (A → Type 0) → List A → Type 0

@@ -1,17 +1,17 @@
 -- What lists no resource is written, where the worlds inside it are written ahead.
 use Rattle.std.proofs.Common.{◌≡◌, ℕ, zero, suc, Bool, true, ◌&&◌, List, [], ◌∷◌, refl, ap, ◌∙◌, subst, Some, inl}
 use Rattle.std.specs.Prelude.{slice_get}
-use Rattle.wac_primitives.specs.Name.{Name}
-use Rattle.wac_shapes.specs.Kinds.{kind_type}
-use Rattle.wac_shapes.specs.declared.component.InterfaceId.{InterfaceId}
-use Rattle.wac_shapes.specs.declared.component.ItemKind.{ItemKind}
-use Rattle.wac_shapes.specs.declared.component.ItemKind.TheVariants as kind
-use Rattle.wac_shapes.specs.declared.component.ResourceId.{ResourceId}
-use Rattle.wac_shapes.specs.declared.component.WorldId.{WorldId}
-use Rattle.wac_shapes.specs.declared.component.«Type».{«Type» as AnyType}
-use Rattle.wac_shapes.specs.declared.component.«Type».TheVariants as ty
-use Rattle.wac_collection.specs.Collection.{Collection, IsWellFormed, IsBefore, size, holds_type, interface_exports}
-use Rattle.wac_collection.proofs.Growth.{type_before}
+use Rattle.wac_types_shapes.specs.primitives.Name.{Name}
+use Rattle.wac_types_shapes.specs.shapes.Kinds.{kind_type}
+use Rattle.wac_types_shapes.specs.declared.shapes.component.InterfaceId.{InterfaceId}
+use Rattle.wac_types_shapes.specs.declared.shapes.component.ItemKind.{ItemKind}
+use Rattle.wac_types_shapes.specs.declared.shapes.component.ItemKind.TheVariants as kind
+use Rattle.wac_types_shapes.specs.declared.shapes.component.ResourceId.{ResourceId}
+use Rattle.wac_types_shapes.specs.declared.shapes.component.WorldId.{WorldId}
+use Rattle.wac_types_shapes.specs.declared.shapes.component.«Type».{«Type» as AnyType}
+use Rattle.wac_types_shapes.specs.declared.shapes.component.«Type».TheVariants as ty
+use Rattle.wac_types_collection.specs.collection.Collection.{Collection, IsWellFormed, IsBefore, size, holds_type, interface_exports}
+use Rattle.wac_types_collection.proofs.lemmas.collection.Growth.{type_before}
 use Rattle.wac_sorting.specs.declared.worlds.Worlds.{Worlds}
 use Rattle.wac_sorting.specs.Worlds.{is_written}
 use Rattle.wac_sorting.specs.Inside.{IsInsideBy as IsAnInterfaceInsideBy, is_plain_alone}

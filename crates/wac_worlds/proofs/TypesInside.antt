@@ -5,25 +5,25 @@ use Rattle.std.proofs.Common.{refl, ap, ◌∙◌, sym, subst, arith, inl, inr, 
 use Rattle.std.proofs.lemmas.Option.{slice_get-get_or}
 use Rattle.std.proofs.lemmas.List.{append-nil}
 use Rattle.std.proofs.lemmas.List.Sorted.{IsPermutation-sym}
-use Rattle.wac_primitives.specs.Name.{Name, option_case}
-use Rattle.wac_shapes.specs.Kinds.{kind_type}
-use Rattle.wac_shapes.specs.contracts.component.TypePartialEq.TheImpl as TypeEq
-use Rattle.wac_shapes.proofs.Loops.{drop_at}
-use Rattle.wac_shapes.proofs.Names.{take_at}
-use Rattle.wac_shapes.specs.Named.{NoNameTwice}
-use Rattle.wac_shapes.specs.declared.component.Interface.{Interface}
-use Rattle.wac_shapes.specs.declared.component.InterfaceId.{InterfaceId}
-use Rattle.wac_shapes.specs.declared.component.ItemKind.{ItemKind}
-use Rattle.wac_shapes.specs.declared.component.ItemKind.TheVariants as kind
-use Rattle.wac_shapes.specs.declared.component.World.{World}
-use Rattle.wac_shapes.specs.declared.component.WorldId.{WorldId}
-use Rattle.wac_shapes.specs.declared.component.«Type».{«Type» as AnyType}
-use Rattle.wac_shapes.specs.declared.component.«Type».TheVariants as ty
-use Rattle.wac_collection.specs.Collection.{Collection, IsWellFormed, HasWorld, holds_type, item_at, world_imports, world_exports}
-use Rattle.wac_reach.specs.Found.{with_all}
-use Rattle.wac_reach.specs.Reach.{IsIn}
-use Rattle.wac_reach.proofs.Lists.{in_at, at_in, all_old, all_new, all_only, all_grown}
-use Rattle.wac_reach.proofs.Universe.{types_of, found_few}
+use Rattle.wac_types_shapes.specs.primitives.Name.{Name, option_case}
+use Rattle.wac_types_shapes.specs.shapes.Kinds.{kind_type}
+use Rattle.wac_types_shapes.specs.contracts.shapes.component.TypePartialEq.TheImpl as TypeEq
+use Rattle.wac_types_shapes.proofs.lemmas.shapes.Loops.{drop_at}
+use Rattle.wac_types_shapes.proofs.lemmas.shapes.Names.{take_at}
+use Rattle.wac_types_shapes.specs.shapes.Named.{NoNameTwice}
+use Rattle.wac_types_shapes.specs.declared.shapes.component.Interface.{Interface}
+use Rattle.wac_types_shapes.specs.declared.shapes.component.InterfaceId.{InterfaceId}
+use Rattle.wac_types_shapes.specs.declared.shapes.component.ItemKind.{ItemKind}
+use Rattle.wac_types_shapes.specs.declared.shapes.component.ItemKind.TheVariants as kind
+use Rattle.wac_types_shapes.specs.declared.shapes.component.World.{World}
+use Rattle.wac_types_shapes.specs.declared.shapes.component.WorldId.{WorldId}
+use Rattle.wac_types_shapes.specs.declared.shapes.component.«Type».{«Type» as AnyType}
+use Rattle.wac_types_shapes.specs.declared.shapes.component.«Type».TheVariants as ty
+use Rattle.wac_types_collection.specs.collection.Collection.{Collection, IsWellFormed, HasWorld, holds_type, item_at, world_imports, world_exports}
+use Rattle.wac_types_collection.specs.private.reach.Found.{with_all}
+use Rattle.wac_types_collection.specs.reach.Reach.{IsIn}
+use Rattle.wac_types_collection.proofs.lemmas.reach.Lists.{in_at, at_in, all_old, all_new, all_only, all_grown}
+use Rattle.wac_types_collection.proofs.lemmas.reach.Universe.{types_of, found_few}
 use Rattle.wac_listing.proofs.Grown.{same-place, lower-place, below-or-last}
 use Rattle.wac_listing.proofs.Listing.{held-items}
 use Rattle.wac_worlds.specs.Nested.{type_inside, listed_in, IsInsideBy, IsInsideOne, IsHolder, NamesOnce, AreTypesInside, and_type_inside, with_types_inside, AreWorldsAmong}

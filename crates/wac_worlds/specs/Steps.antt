@@ -1,12 +1,12 @@
 -- What each item of a world adds to a scope, under what is held. Private functions alone cite this.
 use Rattle.std.specs.Prelude.{ℕ, ◌≡◌, true, List, ◌∷◌, ◌++◌, Some, slice_get}
 use Rattle.std.specs.List.{AllZip}
-use Rattle.wac_primitives.specs.Name.{Name}
-use Rattle.wac_shapes.specs.Kinds.{kind_type}
-use Rattle.wac_shapes.specs.declared.component.ItemKind.{ItemKind}
-use Rattle.wac_primitives.specs.Tree.{Side, Tree, absent}
-use Rattle.wac_collection.specs.Collection.{Collection, holds_type}
-use Rattle.wac_collection.specs.Bound.{Bindings}
+use Rattle.wac_types_shapes.specs.primitives.Name.{Name}
+use Rattle.wac_types_shapes.specs.shapes.Kinds.{kind_type}
+use Rattle.wac_types_shapes.specs.declared.shapes.component.ItemKind.{ItemKind}
+use Rattle.wac_types_shapes.specs.primitives.Tree.{Side, Tree, absent}
+use Rattle.wac_types_collection.specs.collection.Collection.{Collection, holds_type}
+use Rattle.wac_types_collection.specs.collection.Bound.{Bindings}
 use Rattle.wac_scopes.specs.declared.scope.Scope.{Scope}
 use Rattle.wac_stacks.specs.Scopes.{Open, Stack, env, envs}
 use Rattle.wac_stacks.specs.Good.{Good}

@@ -1,10 +1,10 @@
 -- A world as a component type: its imports, then its exports.
 use Rattle.std.specs.Prelude.{◌≡◌, ◌⊎◌, ◌&&◌, Bool, true, List, Option, Some, None, Result, Ok, Err}
-use Rattle.wac_primitives.specs.Name.{option_case}
-use Rattle.wac_shapes.specs.declared.component.World.{World}
-use Rattle.wac_shapes.specs.declared.component.WorldId.{WorldId}
-use Rattle.wac_primitives.specs.Tree.{imported, exported}
-use Rattle.wac_collection.specs.Collection.{Collection, item_at}
+use Rattle.wac_types_shapes.specs.primitives.Name.{option_case}
+use Rattle.wac_types_shapes.specs.declared.shapes.component.World.{World}
+use Rattle.wac_types_shapes.specs.declared.shapes.component.WorldId.{WorldId}
+use Rattle.wac_types_shapes.specs.primitives.Tree.{imported, exported}
+use Rattle.wac_types_collection.specs.collection.Collection.{Collection, item_at}
 use Rattle.wac_binary.specs.Items.{Decl}
 use Rattle.wac_scopes.specs.declared.encodable.Encodable.TheVariants.{Component}
 use Rattle.wac_scopes.specs.declared.fault.EncodeFault.{EncodeFault}

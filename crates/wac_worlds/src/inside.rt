@@ -1,16 +1,16 @@
 //! The interfaces and worlds inside a type.
 
 ghost use Rattle.std.specs.Prelude.{◌≡◌, ◌∷◌, [], ℕ, Some, IfOk, OnOk, slice_get};
-ghost use Rattle.wac_shapes.specs.declared.component.«Type».{«Type» as AnyType};
-ghost use Rattle.wac_shapes.specs.declared.component.«Type».TheVariants as ty;
-ghost use Rattle.wac_collection.specs.Collection.{HasWorld};
-ghost use Rattle.wac_reach.specs.Found.{with_all};
+ghost use Rattle.wac_types_shapes.specs.declared.shapes.component.«Type».{«Type» as AnyType};
+ghost use Rattle.wac_types_shapes.specs.declared.shapes.component.«Type».TheVariants as ty;
+ghost use Rattle.wac_types_collection.specs.collection.Collection.{HasWorld};
+ghost use Rattle.wac_types_collection.specs.private.reach.Found.{with_all};
 ghost use Rattle.wac_worlds.specs.Nested.{type_inside as inside_of, listed_in, IsHolder, NamesOnce, AreTypesInside, and_type_inside, with_types_inside, AreWorldsAmong};
 ghost use Rattle.wac_worlds.specs.Ahead.{ArePut, world_of};
 
 use indexmap::IndexSet;
 use std::alloc::{AllocError, Global};
-use wac_collection::{ItemKind, Named, Type, Types, WorldId};
+use wac_types_collection::{ItemKind, Named, Type, Types, WorldId};
 
 /// The interface or the world that an item is an instance or a type item of.
 fn type_inside(item: ItemKind) -> Option<Type>

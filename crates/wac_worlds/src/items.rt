@@ -1,13 +1,13 @@
 //! The writer of what a world declares, item by item.
 
 ghost use Rattle.std.specs.Prelude.{◌≡◌, ◌<◌, true, Some, None, ℕ, List, OnOk, length, slice_get};
-ghost use Rattle.wac_shapes.specs.Named.{NoNameTwice, named_pairs};
-ghost use Rattle.wac_shapes.specs.declared.component.ItemKind.{ItemKind as AnyItem};
-ghost use Rattle.wac_shapes.specs.declared.component.ItemKind.TheVariants as kind;
-ghost use Rattle.wac_shapes.specs.declared.component.ValueType.TheVariants as val;
-ghost use Rattle.wac_shapes.specs.declared.component.«Type».TheVariants as ty;
-ghost use Rattle.wac_collection.specs.Collection.{HasFunc, HasInterface, HasWorld, holds_value};
-ghost use Rattle.wac_collection.specs.Aliases.{value_resolved};
+ghost use Rattle.wac_types_shapes.specs.shapes.Named.{NoNameTwice, named_pairs};
+ghost use Rattle.wac_types_shapes.specs.declared.shapes.component.ItemKind.{ItemKind as AnyItem};
+ghost use Rattle.wac_types_shapes.specs.declared.shapes.component.ItemKind.TheVariants as kind;
+ghost use Rattle.wac_types_shapes.specs.declared.shapes.component.ValueType.TheVariants as val;
+ghost use Rattle.wac_types_shapes.specs.declared.shapes.component.«Type».TheVariants as ty;
+ghost use Rattle.wac_types_collection.specs.collection.Collection.{HasFunc, HasInterface, HasWorld, holds_value};
+ghost use Rattle.wac_types_collection.specs.collection.Aliases.{value_resolved};
 ghost use Rattle.wac_scopes.specs.Scoped.{value_index};
 ghost use Rattle.wac_scopes.specs.Sides.{side_of, IsOpenComponent};
 ghost use Rattle.wac_sorting.specs.Worlds.{is_written, SayWorlds};
@@ -18,12 +18,12 @@ ghost use Rattle.wac_worlds.specs.Steps.{DeclaresHeld, DeclaresAll, CanDeclare};
 use crate::order::in_order;
 use crate::worlds::WorldEncoder;
 use wac_binary::ComponentValType;
-use wac_collection::{
-    DefinedTypeId, FuncTypeId, InterfaceId, ItemKind, Named, PrimitiveType, Type, ValueType,
-    WorldId,
-};
 use wac_scopes::{
     EncodeFault, Scope, Side, WriteFault, alias_law, instance_law, listing_law, step_law, still_law,
+};
+use wac_types_collection::{
+    DefinedTypeId, FuncTypeId, InterfaceId, ItemKind, Named, PrimitiveType, Type, ValueType,
+    WorldId,
 };
 
 impl<'a> WorldEncoder<'a> {

@@ -4,18 +4,18 @@
 //! that one pass writes all that can be; passes follow one another until one writes none.
 
 ghost use Rattle.std.specs.Prelude.{◌≡◌, ◌<◌, ℕ, Some, IfOk, OnOk, length, slice_get};
-ghost use Rattle.wac_shapes.specs.declared.component.WorldId.{WorldId as AnyWorld};
-ghost use Rattle.wac_shapes.specs.declared.component.«Type».{«Type» as AnyType};
-ghost use Rattle.wac_collection.specs.Collection.{HasWorld};
+ghost use Rattle.wac_types_shapes.specs.declared.shapes.component.WorldId.{WorldId as AnyWorld};
+ghost use Rattle.wac_types_shapes.specs.declared.shapes.component.«Type».{«Type» as AnyType};
+ghost use Rattle.wac_types_collection.specs.collection.Collection.{HasWorld};
 ghost use Rattle.wac_worlds.specs.Worlds.{IsWorldRefused};
 ghost use Rattle.wac_worlds.specs.Nested.{IsHolder, AreWorlds, AllWritten, AreWorldsRefused};
 ghost use Rattle.wac_worlds.specs.Ahead.{TriesWorld, Passes, IsOneOfRefused};
 
 use crate::inside::{types_inside, worlds_among};
 use crate::worlds::WorldEncoder;
-use wac_collection::{Type, Types, WorldId};
 use wac_encode::Worlds;
 use wac_scopes::EncodeFault;
+use wac_types_collection::{Type, Types, WorldId};
 
 /// Writes a world ahead, where it is not written yet and its items are of sorts that are written. Answers whether it did.
 fn write_world(types: &Types, world: WorldId, worlds: &mut Worlds) -> Result<bool, EncodeFault>

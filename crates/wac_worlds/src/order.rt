@@ -1,16 +1,16 @@
 //! The order in which the items of a world are declared.
 
 ghost use Rattle.std.specs.Prelude.{◌≡◌, ◌++◌, ◌<◌, ℕ, List, Some, true, IfOk, OnOk, length, slice_get};
-ghost use Rattle.wac_shapes.specs.Kinds.{kind_type};
-ghost use Rattle.wac_shapes.specs.Named.{named_pairs};
-ghost use Rattle.wac_shapes.specs.declared.component.ItemKind.{ItemKind as AnyItem};
-ghost use Rattle.wac_collection.specs.Collection.{holds_type};
+ghost use Rattle.wac_types_shapes.specs.shapes.Kinds.{kind_type};
+ghost use Rattle.wac_types_shapes.specs.shapes.Named.{named_pairs};
+ghost use Rattle.wac_types_shapes.specs.declared.shapes.component.ItemKind.{ItemKind as AnyItem};
+ghost use Rattle.wac_types_collection.specs.collection.Collection.{holds_type};
 ghost use Rattle.wac_worlds.specs.Declaring.{is_in as in_group, group as grouped, IsDeclaredOrder};
 ghost use Rattle.wac_worlds.specs.Steps.{PutsAt};
 
 use std::alloc::AllocError;
-use wac_collection::{ItemKind, Named, Type, Types};
 use wac_listing::type_order;
+use wac_types_collection::{ItemKind, Named, Type, Types};
 
 /// A group of items, which are declared together as they are listed.
 #[derive(Clone, Copy, Debug)]

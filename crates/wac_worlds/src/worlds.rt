@@ -1,12 +1,12 @@
 //! The writer of worlds, and what it takes from the writer of types.
 
 ghost use Rattle.std.specs.Prelude.{◌≡◌, ◌⊎◌, true, false, None, Some, ℕ, List, Ok as Answers, Err as Refused, IfOk, slice_get};
-ghost use Rattle.wac_shapes.specs.Kinds.{kind_type};
-ghost use Rattle.wac_shapes.specs.declared.component.ItemKind.{ItemKind as AnyItem};
-ghost use Rattle.wac_shapes.specs.declared.component.ItemKind.TheVariants as kind;
-ghost use Rattle.wac_shapes.specs.declared.component.«Type».TheVariants as ty;
-ghost use Rattle.wac_collection.specs.Collection.{HasFunc, HasInterface, HasWorld, holds_type, holds_value};
-ghost use Rattle.wac_collection.specs.Aliases.{value_resolved};
+ghost use Rattle.wac_types_shapes.specs.shapes.Kinds.{kind_type};
+ghost use Rattle.wac_types_shapes.specs.declared.shapes.component.ItemKind.{ItemKind as AnyItem};
+ghost use Rattle.wac_types_shapes.specs.declared.shapes.component.ItemKind.TheVariants as kind;
+ghost use Rattle.wac_types_shapes.specs.declared.shapes.component.«Type».TheVariants as ty;
+ghost use Rattle.wac_types_collection.specs.collection.Collection.{HasFunc, HasInterface, HasWorld, holds_type, holds_value};
+ghost use Rattle.wac_types_collection.specs.collection.Aliases.{value_resolved};
 ghost use Rattle.wac_scopes.specs.declared.fault.EncodeFault.TheVariants.{OutOfMemory};
 ghost use Rattle.wac_scopes.specs.declared.encodable.Encodable.TheVariants.{Component};
 ghost use Rattle.wac_scopes.specs.Sides.{IsOpenComponent};
@@ -20,12 +20,12 @@ ghost use Rattle.wac_worlds.specs.Declaring.{is_declarable as declarable_item, a
 ghost use Rattle.wac_worlds.specs.Worlds.{is_plain_world, SaysIfThere, WritesIfThere, IsWorldRefused};
 
 use std::alloc::AllocError;
-use wac_builder::{ComponentType, ComponentValType};
-use wac_collection::{
-    DefinedTypeId, FuncTypeId, InterfaceId, ItemKind, Named, Text, Type, Types, ValueType, WorldId,
-};
+use wac_binary::{ComponentType, ComponentValType};
 use wac_encode::{TypeEncoder, Worlds};
 use wac_scopes::{Encodable, EncodeFault, Scope, Side, closing_law};
+use wac_types_collection::{
+    DefinedTypeId, FuncTypeId, InterfaceId, ItemKind, Named, Text, Type, Types, ValueType, WorldId,
+};
 
 /// Writes worlds of a collection as component types.
 #[derive(Clone, Copy)]

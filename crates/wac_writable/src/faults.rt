@@ -1,14 +1,14 @@
 //! The lowest fault of an item.
 ghost use Rattle.std.specs.Prelude.{◌≡◌, true, IfOk};
-ghost use Rattle.wac_collection.specs.Collection.{holds_type};
-ghost use Rattle.wac_shapes.specs.Kinds.{kind_type};
+ghost use Rattle.wac_types_collection.specs.collection.Collection.{holds_type};
+ghost use Rattle.wac_types_shapes.specs.shapes.Kinds.{kind_type};
 ghost use Rattle.wac_writable.specs.Faults.{import_fault as import_fault_of, definition_fault as definition_fault_of, own_fault as own_fault_of, unnamed as unnamed_of, fault_rank, HasFault, IsLowest};
 ghost use Rattle.wac_writable.specs.Search.{lower_of};
 
 use crate::inside::fault_inside;
 use std::alloc::AllocError;
-use wac_collection::{ItemKind, Text, Type, Types};
 use wac_scopes::WriteFault;
+use wac_types_collection::{ItemKind, Text, Type, Types};
 
 /// What is to be done with an item.
 #[derive(Clone, Copy, Debug, PartialEq, Eq)]

@@ -1,7 +1,7 @@
 //! What is written inside a type: the interfaces and worlds that it lists, and so on, and what faults these have.
 ghost use Rattle.std.specs.Prelude.{◌≡◌, ◌↔◌, [], true, false, IfOk, OnOk};
-ghost use Rattle.wac_collection.specs.Collection.{holds_type};
-ghost use Rattle.wac_reach.specs.Found.{with_all};
+ghost use Rattle.wac_types_collection.specs.collection.Collection.{holds_type};
+ghost use Rattle.wac_types_collection.specs.private.reach.Found.{with_all};
 ghost use Rattle.wac_writable.specs.Faults.{listed_items, listed_fault as listed_fault_of, IsLowest, IsFaultOfListed, IsFaultAt, IsFaultInside};
 ghost use Rattle.wac_writable.specs.Search.{scope_of, scopes_of, inner_scopes};
 
@@ -9,8 +9,8 @@ use crate::faults::{Role, lower};
 use crate::unlisted::lacking_fault;
 use indexmap::IndexSet;
 use std::alloc::AllocError;
-use wac_collection::{ItemKind, Named, Type, Types};
 use wac_scopes::WriteFault;
+use wac_types_collection::{ItemKind, Named, Type, Types};
 
 /// The fault of an item that an interface or a world lists.
 fn listed_fault(item: ItemKind) -> Option<WriteFault>

@@ -1,13 +1,13 @@
 //! Which worlds use interfaces that they do not list.
 ghost use Rattle.std.specs.Prelude.{ℕ, ◌≡◌, ◌↔◌, ◌⊎◌, Some, true, IfOk, OnOk, IsTrue, slice_get};
-ghost use Rattle.wac_collection.specs.Collection.{holds_type};
-ghost use Rattle.wac_reach.specs.Found.{with_all};
-ghost use Rattle.wac_reach.specs.Reach.{IsIn};
-ghost use Rattle.wac_shapes.specs.Kinds.{kind_type};
-ghost use Rattle.wac_shapes.specs.declared.component.InterfaceId.{InterfaceId as Interfaces};
-ghost use Rattle.wac_shapes.specs.declared.component.ItemKind.TheVariants as kind_of;
-ghost use Rattle.wac_shapes.specs.declared.component.«Type».{«Type» as AnyType};
-ghost use Rattle.wac_shapes.specs.declared.component.«Type».TheVariants as ty_of;
+ghost use Rattle.wac_types_collection.specs.collection.Collection.{holds_type};
+ghost use Rattle.wac_types_collection.specs.private.reach.Found.{with_all};
+ghost use Rattle.wac_types_collection.specs.reach.Reach.{IsIn};
+ghost use Rattle.wac_types_shapes.specs.shapes.Kinds.{kind_type};
+ghost use Rattle.wac_types_shapes.specs.declared.shapes.component.InterfaceId.{InterfaceId as Interfaces};
+ghost use Rattle.wac_types_shapes.specs.declared.shapes.component.ItemKind.TheVariants as kind_of;
+ghost use Rattle.wac_types_shapes.specs.declared.shapes.component.«Type».{«Type» as AnyType};
+ghost use Rattle.wac_types_shapes.specs.declared.shapes.component.«Type».TheVariants as ty_of;
 ghost use Rattle.wac_writable.specs.Faults.{IsLowest, IsIdOf, IsListedById, UsesOther, ListsUser, HasUnlisted, IsCompleted, LacksDependency};
 ghost use Rattle.wac_scopes.specs.declared.fault.WriteFault.TheVariants as fault;
 ghost use Rattle.wac_writable.specs.Search.{AreHeld, TypeUsesOther, OneUsesOther, instance_of, instances_of};
@@ -15,8 +15,8 @@ ghost use Rattle.wac_writable.specs.Search.{AreHeld, TypeUsesOther, OneUsesOther
 use crate::faults::Role;
 use indexmap::IndexSet;
 use std::alloc::AllocError;
-use wac_collection::{InterfaceId, ItemKind, Named, Type, Types, UsedType, WorldId};
 use wac_scopes::WriteFault;
+use wac_types_collection::{InterfaceId, ItemKind, Named, Type, Types, UsedType, WorldId};
 
 /// Whether a held interface has this id.
 fn has_id(types: &Types, id: InterfaceId, name: &str) -> bool

@@ -2,7 +2,7 @@
 use Rattle.std.proofs.Common.{IfErr, IfSome, subst}
 use Rattle.std.specs.Prelude.{codes}
 use Rattle.std.specs.Result.{IsErrAnd}
-use Rattle.wac_causes.specs.Cause.{AnswersFor, Cause, Stands, cause_of}
+use Rattle.wac_graph_model.specs.causes.Cause.{AnswersFor, Cause, Stands, cause_of}
 use Rattle.wac_demo.specs.Composed.{IsCycle}
 use Rattle.wac_demo.proofs.Cycling.{is_refused, cycle_answer, own-cycle, made-there, own-argument}
 use Rattle.wac_demo.proofs.compositions.cycle_refusal.Goals as goal

@@ -1,4 +1,4 @@
-use Rattle.wac_nodes.proofs.StaysLemmas.{interface-stays}
+use Rattle.wac_graph_model.proofs.lemmas.nodes.StaysLemmas.{interface-stays}
 use Rattle.wac_demo.proofs.compositions.empty_instance.Goals as goal
 
 pub returns : goal.returns

@@ -1,5 +1,5 @@
 use Rattle.std.proofs.Common.{refl, ap}
-use Rattle.wac_nodes.specs.declared.options.EncodeOptions.{EncodeOptions}
+use Rattle.wac_graph_model.specs.declared.nodes.options.EncodeOptions.{EncodeOptions}
 use Rattle.wac_demo.proofs.Weakening.{composes}
 use Rattle.wac_demo.proofs.compositions.processor.Goals as goal
 

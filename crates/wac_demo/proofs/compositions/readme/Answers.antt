@@ -1,6 +1,6 @@
 use Rattle.std.proofs.Common.{[], ◌∷◌}
 use Rattle.std.specs.Prelude.{codes}
-use Rattle.wac_nodes.specs.Graph.{node_at}
+use Rattle.wac_graph_model.specs.nodes.Graph.{node_at}
 use Rattle.wac_demo.proofs.Following.{instance-there, there-is, given-there, gives-export}
 use Rattle.wac_demo.proofs.compositions.readme.Goals as goal
 

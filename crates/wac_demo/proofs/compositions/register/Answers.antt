@@ -1,6 +1,6 @@
 use Rattle.std.proofs.Common.{ap, ◌∙◌}
-use Rattle.wac_collection.specs.Package.{PackageParts}
-use Rattle.wac_nodes.proofs.StaysLemmas.{stays-trans, world-stays, made-stays, registered-stays}
+use Rattle.wac_types_collection.specs.collection.Package.{PackageParts}
+use Rattle.wac_graph_model.proofs.lemmas.nodes.StaysLemmas.{stays-trans, world-stays, made-stays, registered-stays}
 use Rattle.wac_demo.proofs.Following.{registered-is}
 use Rattle.wac_demo.proofs.compositions.register.Goals as goal
 

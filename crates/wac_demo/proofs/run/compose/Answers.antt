@@ -1,5 +1,5 @@
 use Rattle.std.proofs.Common.{List, ℕ, codes, inl, inr}
-use Rattle.wac_nodes.specs.Steps.{IsEmpty}
+use Rattle.wac_graph_model.specs.nodes.Steps.{IsEmpty}
 use Rattle.wac_demo.specs.Composed.{AreDefault, Compose, IsComposed, IsFunction, IsReadme, IsPlugged, NameProcessor, of_empty, of_processor, of_function, of_readme, of_plug}
 use Rattle.wac_demo.proofs.Weakening.{composed, no_bytes}
 use Rattle.wac_demo.proofs.run.compose.Goals as goal

@@ -1,5 +1,5 @@
 use Rattle.std.proofs.Common.{◌≡◌, ◌≢◌, ℕ, Some, None, ap, sym, ◌∙◌}
-use Rattle.wac_edges.specs.Aliases.{place, first}
+use Rattle.wac_edges.specs.private.Aliases.{place, first}
 use Rattle.wac_edges.proofs.AliasLemmas.{Lists, read, both, is_there, put_here, put_elsewhere}
 use Rattle.wac_edges.proofs.aliases.empty_first.Goals as goal
 

@@ -3,7 +3,7 @@ use Rattle.std.specs.HashMap.{get}
 use Rattle.std.proofs.lemmas.Bool.{OnTrue_at}
 use Rattle.std.specs.Prelude.{OnErr}
 use Rattle.std.specs.Bool.{OnTrue, OnFalse}
-use Rattle.wac_edges.specs.Aliases.{place, first}
+use Rattle.wac_edges.specs.private.Aliases.{place, first}
 use Rattle.wac_edges.proofs.AliasLemmas.{Lists, read, both, is_there, put_here, put_elsewhere}
 use Rattle.wac_edges.proofs.aliases.fill_first.Goals as goal
 

@@ -2,8 +2,8 @@ use Rattle.std.proofs.Common.{◌≡◌, ℕ, ◌⊎◌, List, ◌++◌}
 use Rattle.std.specs.Prelude.{◌↔◌}
 use Rattle.wac_edges.specs.declared.edges.Edge.{Edge}
 use Rattle.wac_edges.specs.Edge.{node_number}
-use Rattle.wac_cycles.specs.Cycles.{IsStep}
-use Rattle.wac_edges.specs.Ends.{LeadsTo}
+use Rattle.wac_edges.specs.cycles.Cycles.{IsStep}
+use Rattle.wac_edges.specs.private.Ends.{LeadsTo}
 use Rattle.wac_edges.proofs.edges.add_targets.Given as goal
 
 abbrev pub invariant-loop-edge : goal.invariant-loop-edge

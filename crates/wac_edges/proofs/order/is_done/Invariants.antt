@@ -1,5 +1,5 @@
 use Rattle.std.proofs.Common.{◌≡◌, ℕ, ◌<◌, false}
-use Rattle.wac_edges.specs.Ready.{is_set}
+use Rattle.wac_edges.specs.private.Ready.{is_set}
 use Rattle.wac_edges.proofs.order.is_done.Given as goal
 
 abbrev pub invariant-loop-n : goal.invariant-loop-n

@@ -5,7 +5,7 @@ use Rattle.std.specs.Ordering.{nat_cmp}
 use Rattle.std.specs.declared.cmp.Reverse.{Reverse}
 use Rattle.std.proofs.lemmas.Bool.{cases_lt}
 use Rattle.std.proofs.lemmas.List.Sorted.{sum_by_popped}
-use Rattle.wac_edges.specs.Ready.{one}
+use Rattle.wac_edges.specs.private.Ready.{one}
 use Rattle.wac_edges.proofs.CycleLemmas.{within}
 use Rattle.wac_edges.proofs.ReadyLemmas.{free_here, found_rest, none_below, not_left, popped_lowest, popped_rest}
 use Rattle.wac_edges.proofs.order.next_ready.Goals as goal

@@ -4,7 +4,7 @@ use Rattle.std.proofs.lemmas.List.{append-nil, with_items_is}
 use Rattle.std.proofs.Math.ListN.{length-set}
 use Rattle.wac_edges.specs.Edge.{node_number}
 use Rattle.wac_edges.specs.Order.{Writes}
-use Rattle.wac_edges.specs.Ready.{leading, AreReady, IsLowestFree, is_left_with, is_set}
+use Rattle.wac_edges.specs.private.Ready.{leading, AreReady, IsLowestFree, is_left_with, is_set}
 use Rattle.wac_edges.proofs.OrderLemmas.{flags_after}
 use Rattle.wac_edges.proofs.CycleLemmas.{stuck_cycle}
 use Rattle.wac_edges.proofs.CountLemmas.{counted_next}

@@ -3,7 +3,7 @@ use Rattle.std.specs.Prelude.{count_by}
 use Rattle.wac_edges.specs.declared.node.NodeId.{NodeId}
 use Rattle.wac_edges.specs.Edge.{is_left}
 use Rattle.wac_edges.specs.Order.{Writes}
-use Rattle.wac_edges.specs.Ready.{AreCounted, AreReady}
+use Rattle.wac_edges.specs.private.Ready.{AreCounted, AreReady}
 use Rattle.wac_edges.proofs.order.order_by_counts.Given as goal
 
 abbrev pub invariant-loop-n : goal.invariant-loop-n

@@ -1,7 +1,7 @@
 use Rattle.std.proofs.Common.{◌≡◌, ◌-◌, ◌<◌, List, length, ◌∙◌, subst, arith}
 use Rattle.std.specs.Prelude.{slice_index}
 use Rattle.wac_edges.specs.declared.edges.Edge.{Edge}
-use Rattle.wac_edges.specs.Ready.{leading}
+use Rattle.wac_edges.specs.private.Ready.{leading}
 use Rattle.wac_edges.proofs.ReadyLemmas.{released_next}
 use Rattle.wac_edges.proofs.order.release.Goals as goal
 

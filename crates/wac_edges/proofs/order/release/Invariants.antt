@@ -1,6 +1,6 @@
 use Rattle.std.proofs.Common.{◌≡◌, ℕ, ◌<◌, ◌-◌, length}
 use Rattle.std.specs.Prelude.{slice_index}
-use Rattle.wac_edges.specs.Ready.{leading, AreReady}
+use Rattle.wac_edges.specs.private.Ready.{leading, AreReady}
 use Rattle.wac_edges.proofs.order.release.Given as goal
 
 abbrev pub invariant-loop-edge : goal.invariant-loop-edge

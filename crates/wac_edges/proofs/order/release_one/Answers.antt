@@ -3,7 +3,7 @@ use Rattle.std.specs.Prelude.{◌==◌, nat_lt, slice_index}
 use Rattle.std.specs.BinaryHeap.{heap_items}
 use Rattle.std.specs.declared.cmp.Reverse.{Reverse}
 use Rattle.std.proofs.lemmas.List.Sorted.{sum_by_pushed}
-use Rattle.wac_edges.specs.Ready.{one}
+use Rattle.wac_edges.specs.private.Ready.{one}
 use Rattle.wac_edges.proofs.ReadyLemmas.{released_yes, released_no}
 use Rattle.wac_edges.proofs.order.release_one.Goals as goal
 use Rattle.wac_edges.proofs.order.release_one.Goals.{then-is_freed+in_ok-push, else-is_freed}

@@ -2,7 +2,7 @@ use Rattle.std.proofs.Common.{◌++◌, List}
 use Rattle.wac_edges.specs.declared.node.NodeId.{NodeId}
 use Rattle.wac_edges.specs.Edge.{is_left}
 use Rattle.wac_edges.specs.Order.{Edges, Writes}
-use Rattle.wac_edges.specs.Ready.{AllRise}
+use Rattle.wac_edges.specs.private.Ready.{AllRise}
 use Rattle.wac_edges.proofs.RisingLemmas.{left_from}
 use Rattle.wac_edges.proofs.order.rising.Given as goal
 

@@ -1,7 +1,7 @@
 use Rattle.std.proofs.Common.{◌≡◌, ◌<◌, ℕ, Some}
 use Rattle.slab.specs.Slab.{get}
 use Rattle.wac_edges.specs.declared.edges.Edge.{Edge}
-use Rattle.wac_edges.specs.Records.{edge_at}
+use Rattle.wac_edges.specs.private.Records.{edge_at}
 use Rattle.wac_edges.proofs.records.all_rise.Given as goal
 
 abbrev pub invariant-loop-key : goal.invariant-loop-key

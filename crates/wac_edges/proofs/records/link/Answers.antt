@@ -1,6 +1,6 @@
 use Rattle.std.proofs.Common.{None, refl}
 use Rattle.slab.specs.Slab.{get}
-use Rattle.wac_edges.specs.Records.{first_at}
+use Rattle.wac_edges.specs.private.Records.{first_at}
 use Rattle.wac_edges.proofs.TableLemmas.{linked_all}
 use Rattle.wac_edges.proofs.records.link.Goals as goal
 

@@ -3,7 +3,7 @@ use Rattle.slab.specs.Slab.{get}
 use Rattle.wac_edges.specs.declared.edges.End.TheVariants.{Outgoing, Incoming}
 use Rattle.wac_edges.specs.declared.edges.Edge.{Edge}
 use Rattle.wac_edges.specs.declared.records.Record.{Record}
-use Rattle.wac_edges.specs.Records.{Place, AreLinked, places, first_at, edge_at, updated}
+use Rattle.wac_edges.specs.private.Records.{Place, AreLinked, places, first_at, edge_at, updated}
 use Rattle.wac_edges.proofs.TableLemmas.{relinked, places_without, once_more}
 use Rattle.wac_edges.proofs.records.put.Goals as goal
 

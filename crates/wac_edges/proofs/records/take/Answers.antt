@@ -2,7 +2,7 @@ use Rattle.std.proofs.Common.{◌≡◌, ◌≢◌, ◌==◌, ℕ, Option, None,
 use Rattle.slab.specs.Slab.{get}
 use Rattle.wac_edges.specs.declared.edges.End.TheVariants.{Outgoing, Incoming}
 use Rattle.wac_edges.specs.declared.records.Record.{Record}
-use Rattle.wac_edges.specs.Records.{Place, AreLinked, places, first_at, edge_at, updated}
+use Rattle.wac_edges.specs.private.Records.{Place, AreLinked, places, first_at, edge_at, updated}
 use Rattle.wac_edges.proofs.TableLemmas.{relinked, places_less, once_less, edges_less}
 use Rattle.wac_edges.proofs.records.take.Goals as goal
 

@@ -1,7 +1,7 @@
 use Rattle.std.proofs.Common.{sym, ap, ◌∙◌}
 use Rattle.slab.specs.Slab.{get}
 use Rattle.wac_edges.specs.declared.records.Links.{Links}
-use Rattle.wac_edges.specs.Records.{first_at, with_next}
+use Rattle.wac_edges.specs.private.Records.{first_at, with_next}
 use Rattle.wac_edges.proofs.TableLemmas.{unlinked_all, previous_there, next_there, first_there, first_within, changed_there}
 use Rattle.wac_edges.proofs.records.unlink.Goals as goal
 

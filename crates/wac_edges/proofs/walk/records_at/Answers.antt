@@ -1,6 +1,6 @@
 use Rattle.std.proofs.Common.{Option, sym, subst, ◌<◌, ◌^◌, arith, ℕ, length}
 use Rattle.slab.specs.Slab.{get}
-use Rattle.wac_edges.specs.Records.{IsList, list_at}
+use Rattle.wac_edges.specs.private.Records.{IsList, list_at}
 use Rattle.wac_edges.proofs.ListLemmas.{the_list, the_length}
 use Rattle.wac_edges.proofs.walk.records_at.Goals as goal
 

@@ -1,6 +1,6 @@
 use Rattle.std.specs.Prelude.{◌≡◌, None, Some, slice_get}
 use Rattle.std.proofs.Common.{sym, subst, ◌∙◌}
-use Rattle.wac_shapes.proofs.Names.{named_pairs-at}
+use Rattle.wac_types_shapes.proofs.lemmas.shapes.Names.{named_pairs-at}
 use Rattle.wac_encode.proofs.nesting.next_of.Goals as goal
 
 pub returns-in-None : goal.returns-in-None

@@ -1,5 +1,5 @@
 use Rattle.std.proofs.Common.{sym, subst}
-use Rattle.wac_collection.specs.Collection.{Collection}
+use Rattle.wac_types_collection.specs.collection.Collection.{Collection}
 use Rattle.wac_state.specs.Root.{IsRight}
 use Rattle.wac_encode_tests.proofs.Added.{right-after}
 use Rattle.wac_encode_tests.proofs.states.does.Goals as goal

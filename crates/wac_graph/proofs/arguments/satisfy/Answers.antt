@@ -4,10 +4,10 @@ use Rattle.std.proofs.Common.{Some}
 use Rattle.std.specs.List.{list_any}
 use Rattle.std.specs.BTreeMap.{is_at}
 use Rattle.std.specs.Ordering.{nat_cmp}
-use Rattle.wac_nodes.specs.declared.node.Node.{Node}
-use Rattle.wac_nodes.specs.declared.node.NodeKind.{NodeKind}
-use Rattle.wac_nodes.specs.Nodes.{node_of, satisfied_at, satisfied}
-use Rattle.wac_fields.proofs.SatisfyLemmas.{kept_at, OnErr-from}
+use Rattle.wac_graph_model.specs.declared.nodes.node.Node.{Node}
+use Rattle.wac_graph_model.specs.declared.nodes.node.NodeKind.{NodeKind}
+use Rattle.wac_graph_model.specs.nodes.Nodes.{node_of, satisfied_at, satisfied}
+use Rattle.wac_graph_fields.proofs.SatisfyLemmas.{kept_at, OnErr-from}
 use Rattle.wac_graph.proofs.arguments.satisfy.Goals as goal
 
 pub returns-in_err-insert-clause-err : goal.returns-in_err-insert-clause-err

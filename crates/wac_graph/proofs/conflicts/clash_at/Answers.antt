@@ -1,7 +1,7 @@
 use Rattle.std.proofs.Common.{◌∙◌, sym}
 use Rattle.std.specs.BTreeSet as positions
 use Rattle.std.specs.Ordering.{nat_cmp}
-use Rattle.wac_writing.proofs.ConflictLemmas.{clash_some, clash_none}
+use Rattle.wac_graph_reader.proofs.lemmas.writing.ConflictLemmas.{clash_some, clash_none}
 use Rattle.wac_graph.proofs.conflicts.clash_at.Goals as goal
 
 pub returns-clause-some : goal.returns-clause-some

@@ -2,9 +2,9 @@ use Rattle.std.proofs.Common.{arith, below_more}
 use Rattle.std.specs.BTreeSet as positions
 use Rattle.std.specs.Ordering.{nat_cmp}
 use Rattle.wac_edges.specs.declared.node.NodeId.{NodeId}
-use Rattle.wac_nodes.specs.Nodes.{names_of}
-use Rattle.wac_causes.specs.Search.{Clashes}
-use Rattle.wac_writing.proofs.ConflictLemmas.{none_clashes}
+use Rattle.wac_graph_model.specs.nodes.Nodes.{names_of}
+use Rattle.wac_graph_model.specs.private.causes.Search.{Clashes}
+use Rattle.wac_graph_reader.proofs.lemmas.writing.ConflictLemmas.{none_clashes}
 use Rattle.wac_graph.proofs.conflicts.first_clash.Goals as goal
 
 pub loop-i-preserved : goal.loop-i-preserved

@@ -2,8 +2,8 @@ use Rattle.std.proofs.Common.{ℕ, ◌<◌}
 use Rattle.std.specs.BTreeSet as positions
 use Rattle.std.specs.Ordering.{nat_cmp}
 use Rattle.wac_edges.specs.declared.node.NodeId.{NodeId}
-use Rattle.wac_nodes.specs.Nodes.{names_of}
-use Rattle.wac_causes.specs.Search.{Clashes}
+use Rattle.wac_graph_model.specs.nodes.Nodes.{names_of}
+use Rattle.wac_graph_model.specs.private.causes.Search.{Clashes}
 use Rattle.wac_graph.proofs.conflicts.first_clash.Given as goal
 
 abbrev pub invariant-loop-i : goal.invariant-loop-i

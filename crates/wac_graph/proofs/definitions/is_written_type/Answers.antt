@@ -1,6 +1,6 @@
 use Rattle.std.proofs.Common.{ap}
-use Rattle.wac_nodes.specs.Nodes.{kind_of}
-use Rattle.wac_writing.proofs.WriteDefinitionLemmas.{the_definition}
+use Rattle.wac_graph_model.specs.nodes.Nodes.{kind_of}
+use Rattle.wac_graph_reader.proofs.lemmas.writing.WriteDefinitionLemmas.{the_definition}
 use Rattle.wac_graph.proofs.definitions.is_written_type.Goals as goal
 
 pub returns-in_default-clause-is : goal.returns-in_default-clause-is

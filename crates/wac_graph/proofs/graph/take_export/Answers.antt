@@ -1,7 +1,7 @@
 use Rattle.std.proofs.Common.{◌≡◌, IfSome, ◌∙◌, sym, subst}
 use Rattle.std.specs.Prelude.{swap_remove}
 use Rattle.std.proofs.lemmas.Bool.{eq-eqb, ne_eqb}
-use Rattle.wac_fields.proofs.TakingLemmas.{entry_taken, entry_left}
+use Rattle.wac_graph_fields.proofs.TakingLemmas.{entry_taken, entry_left}
 use Rattle.wac_graph.proofs.graph.take_export.Goals as goal
 
 pub returns-then-other-node : goal.returns-then-other-node

@@ -1,6 +1,6 @@
 use Rattle.std.proofs.Common.{◌≡◌, ◌==◌}
-use Rattle.wac_nodes.specs.Nodes.{names_of}
-use Rattle.wac_nodes.specs.TakenOut.{taken_below, without}
+use Rattle.wac_graph_model.specs.nodes.Nodes.{names_of}
+use Rattle.wac_graph_model.specs.nodes.TakenOut.{taken_below, without}
 use Rattle.wac_graph.proofs.graph.take_exports.Given as goal
 
 abbrev pub invariant-loop-i : goal.invariant-loop-i

@@ -1,5 +1,5 @@
 use Rattle.std.proofs.Common.{◌≡◌}
-use Rattle.wac_graph.specs.Left.{packages_left}
+use Rattle.wac_graph.specs.private.Left.{packages_left}
 use Rattle.wac_graph.proofs.iterators.first_package.Given as goal
 
 abbrev pub invariant-loop-i : goal.invariant-loop-i

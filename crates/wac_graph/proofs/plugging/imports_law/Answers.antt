@@ -1,7 +1,7 @@
 use Rattle.std.proofs.Common.{sym, subst}
-use Rattle.wac_shapes.specs.Named.{NoNameTwice}
-use Rattle.wac_plugging.proofs.Each.{listed-imports}
-use Rattle.wac_plugging.proofs.Worlds.{world-within}
+use Rattle.wac_types_shapes.specs.shapes.Named.{NoNameTwice}
+use Rattle.wac_graph.proofs.lemmas.plugs.Each.{listed-imports}
+use Rattle.wac_graph.proofs.lemmas.plugs.Worlds.{world-within}
 use Rattle.wac_graph.proofs.plugging.imports_law.Goals as goal
 
 pub index-requires-2 : goal.index-requires-2

@@ -1,13 +1,13 @@
 use Rattle.std.proofs.Common.{List, sym, subst}
-use Rattle.wac_nodes.specs.declared.packages.PackageId.{PackageId}
-use Rattle.wac_plugging.specs.Plugging.{Answer, PlugsAll}
-use Rattle.wac_plugging.specs.Outcome.{IsAlreadyPassed}
-use Rattle.wac_plugging.specs.Naming.{PlugsAllNamed}
-use Rattle.wac_plugging.proofs.Exporting.{says-refused, export-said}
-use Rattle.wac_plugging.proofs.Nothing.{says-nothing, nothing-said}
-use Rattle.wac_plugging.proofs.Never.{alias-never}
-use Rattle.wac_plugging.proofs.Twice.{says-twice, twice-said}
-use Rattle.wac_plugging.proofs.Weaker.{weaker}
+use Rattle.wac_graph_model.specs.declared.nodes.packages.PackageId.{PackageId}
+use Rattle.wac_graph.specs.plugs.Plugging.{Answer, PlugsAll}
+use Rattle.wac_graph.specs.plugs.Outcome.{IsAlreadyPassed}
+use Rattle.wac_graph.specs.private.plugs.Naming.{PlugsAllNamed}
+use Rattle.wac_graph.proofs.lemmas.plugs.Exporting.{says-refused, export-said}
+use Rattle.wac_graph.proofs.lemmas.plugs.Nothing.{says-nothing, nothing-said}
+use Rattle.wac_graph.proofs.lemmas.plugs.Never.{alias-never}
+use Rattle.wac_graph.proofs.lemmas.plugs.Twice.{says-twice, twice-said}
+use Rattle.wac_graph.proofs.lemmas.plugs.Weaker.{weaker}
 use Rattle.wac_graph.proofs.plugging.plug.Goals as goal
 
 pub returns-clause-step : goal.returns-clause-step

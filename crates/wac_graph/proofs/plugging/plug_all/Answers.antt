@@ -1,13 +1,13 @@
 use Rattle.std.proofs.Common.{◌∙◌, List, refl, sym, subst, inl, inr}
-use Rattle.wac_primitives.specs.Name.{Name}
-use Rattle.wac_shapes.specs.Named.{names_of}
-use Rattle.wac_plugging.specs.Matching.{exports_of_package}
-use Rattle.wac_plugging.specs.Plugging.{Answer, InOrder, PassesOn}
-use Rattle.wac_plugging.specs.Naming.{PlugsAllNamed}
-use Rattle.wac_plugging.proofs.Order.{exit-is}
-use Rattle.wac_plugging.proofs.Steps.{instance-keeps, keeps-trans}
-use Rattle.wac_plugging.proofs.Each.{all-same, ends-none, ends-some, listed-names}
-use Rattle.wac_plugging.proofs.Fitting.{node-made}
+use Rattle.wac_types_shapes.specs.primitives.Name.{Name}
+use Rattle.wac_types_shapes.specs.shapes.Named.{names_of}
+use Rattle.wac_graph.specs.plugs.Matching.{exports_of_package}
+use Rattle.wac_graph.specs.plugs.Plugging.{Answer, InOrder, PassesOn}
+use Rattle.wac_graph.specs.private.plugs.Naming.{PlugsAllNamed}
+use Rattle.wac_graph.proofs.lemmas.plugs.Order.{exit-is}
+use Rattle.wac_graph.proofs.lemmas.plugs.Steps.{instance-keeps, keeps-trans}
+use Rattle.wac_graph.proofs.lemmas.plugs.Each.{all-same, ends-none, ends-some, listed-names}
+use Rattle.wac_graph.proofs.lemmas.plugs.Fitting.{node-made}
 use Rattle.wac_graph.proofs.plugging.plug_all.Goals as goal
 
 pub plug_each-requires-clause-node : goal.plug_each-requires-clause-node

@@ -1,11 +1,11 @@
 use Rattle.std.proofs.Common.{◌≡◌, ◌||◌, Ok, ap, sym, subst, ◌∙◌, IfSome, inr}
 use Rattle.std.proofs.lemmas.Option.{slice_get-get_or}
-use Rattle.wac_plugging.specs.Tracks.{AreFirsts}
-use Rattle.wac_plugging.specs.Naming.{PlugsNamed}
-use Rattle.wac_plugging.proofs.Order.{one-more, all-made}
-use Rattle.wac_plugging.proofs.Steps.{keeps-trans}
-use Rattle.wac_plugging.proofs.Each.{matched-more, matched-all, imports-kept}
-use Rattle.wac_plugging.proofs.Fitting.{node-kept}
+use Rattle.wac_graph.specs.private.plugs.Tracks.{AreFirsts}
+use Rattle.wac_graph.specs.private.plugs.Naming.{PlugsNamed}
+use Rattle.wac_graph.proofs.lemmas.plugs.Order.{one-more, all-made}
+use Rattle.wac_graph.proofs.lemmas.plugs.Steps.{keeps-trans}
+use Rattle.wac_graph.proofs.lemmas.plugs.Each.{matched-more, matched-all, imports-kept}
+use Rattle.wac_graph.proofs.lemmas.plugs.Fitting.{node-kept}
 use Rattle.wac_graph.proofs.plugging.plug_each.Goals as goal
 use Rattle.wac_graph.proofs.plugging.plug_each.Goals.{then-has_match, else-has_match}
 

@@ -1,9 +1,9 @@
 use Rattle.std.proofs.Common.{◌≡◌, ◌||◌, List, drop, IfSome}
-use Rattle.wac_nodes.specs.Graph.{Graph}
-use Rattle.wac_plugging.specs.Matching.{Match, AreAllMatches, imports_of_package}
-use Rattle.wac_plugging.specs.Plugging.{Answer, InOrder, Keeps, has_any}
-use Rattle.wac_plugging.specs.Naming.{PlugsNamed}
-use Rattle.wac_plugging.specs.Tracks.{AreFirsts}
+use Rattle.wac_graph_model.specs.nodes.Graph.{Graph}
+use Rattle.wac_graph.specs.plugs.Matching.{Match, AreAllMatches, imports_of_package}
+use Rattle.wac_graph.specs.plugs.Plugging.{Answer, InOrder, Keeps, has_any}
+use Rattle.wac_graph.specs.private.plugs.Naming.{PlugsNamed}
+use Rattle.wac_graph.specs.private.plugs.Tracks.{AreFirsts}
 use Rattle.wac_graph.proofs.plugging.plug_each.Given as goal
 
 abbrev pub invariant-loop-i : goal.invariant-loop-i

@@ -1,11 +1,11 @@
 use Rattle.std.proofs.Common.{subst}
-use Rattle.wac_shapes.specs.Named.{NoNameTwice}
-use Rattle.wac_collection.specs.Collection.{world_imports, world_exports}
-use Rattle.wac_plugging.specs.Fitting.{node_imports}
-use Rattle.wac_plugging.specs.Matching.{exports_of_package}
-use Rattle.wac_plugging.specs.Pairs.{matches_at}
-use Rattle.wac_plugging.proofs.Fitting.{node-there, found-fit, found-exports, found-imports}
-use Rattle.wac_plugging.proofs.Pairs.{same-matches, same-within}
+use Rattle.wac_types_shapes.specs.shapes.Named.{NoNameTwice}
+use Rattle.wac_types_collection.specs.collection.Collection.{world_imports, world_exports}
+use Rattle.wac_graph.specs.private.plugs.Fitting.{node_imports}
+use Rattle.wac_graph.specs.plugs.Matching.{exports_of_package}
+use Rattle.wac_graph.specs.private.plugs.Pairs.{matches_at}
+use Rattle.wac_graph.proofs.lemmas.plugs.Fitting.{node-there, found-fit, found-exports, found-imports}
+use Rattle.wac_graph.proofs.lemmas.plugs.Pairs.{same-matches, same-within}
 use Rattle.wac_graph.proofs.plugging.plug_one.Goals as goal
 
 pub plug_in-requires-clause-socket : goal.plug_in-requires-clause-socket

@@ -1,8 +1,8 @@
 use Rattle.std.proofs.Common.{subst, sym, Ok}
-use Rattle.wac_primitives.specs.Name.{Name}
-use Rattle.wac_shapes.specs.declared.component.ItemKind.{ItemKind}
-use Rattle.wac_nodes.specs.Steps.{Aliases}
-use Rattle.wac_plugging.specs.Positions.{HasExport}
+use Rattle.wac_types_shapes.specs.primitives.Name.{Name}
+use Rattle.wac_types_shapes.specs.declared.shapes.component.ItemKind.{ItemKind}
+use Rattle.wac_graph_model.specs.nodes.Steps.{Aliases}
+use Rattle.wac_graph.specs.private.plugs.Positions.{HasExport}
 use Rattle.wac_graph.proofs.PositionLemmas.{if_ok}
 use Rattle.wac_graph.proofs.positions.alias_export_at.Goals as goal
 

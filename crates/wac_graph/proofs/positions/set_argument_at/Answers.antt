@@ -1,6 +1,6 @@
 use Rattle.std.proofs.Common.{subst, sym}
-use Rattle.wac_fields.proofs.ArgumentLemmas.{can_be_given, has_instantiation}
-use Rattle.wac_fields.specs.Arguments.{HasImport}
+use Rattle.wac_graph_fields.proofs.ArgumentLemmas.{can_be_given, has_instantiation}
+use Rattle.wac_graph_fields.specs.private.Arguments.{HasImport}
 use Rattle.wac_graph.proofs.FittingLemmas.{fits_named}
 use Rattle.wac_graph.proofs.positions.set_argument_at.Goals as goal
 

@@ -1,4 +1,4 @@
-use Rattle.wac_fields.proofs.RemovedLemmas.{left_named}
+use Rattle.wac_graph_fields.proofs.RemovedLemmas.{left_named}
 use Rattle.wac_graph.proofs.removing.take_import.Goals as goal
 
 pub returns-in-Import : goal.returns-in-Import

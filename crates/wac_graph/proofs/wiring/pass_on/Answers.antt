@@ -1,4 +1,4 @@
-use Rattle.wac_plugging.proofs.Made.{passes-made, passes-refused, passes-keeps}
+use Rattle.wac_graph.proofs.lemmas.plugs.Made.{passes-made, passes-refused, passes-keeps}
 use Rattle.wac_graph.proofs.wiring.pass_on.Goals as goal
 
 pub returns-in_err-export-clause-step : goal.returns-in_err-export-clause-step

@@ -1,13 +1,13 @@
 use Rattle.std.proofs.Common.{◌≡◌, List, Some, Err, ap, sym, ◌∙◌, subst, slice_get}
-use Rattle.wac_primitives.specs.Name.{Name}
-use Rattle.wac_shapes.specs.Named.{names_of}
-use Rattle.wac_collection.specs.Collection.{world_exports}
-use Rattle.wac_plugging.specs.declared.errors.PlugError.TheVariants.{OutOfMemory}
-use Rattle.wac_plugging.specs.Plugging.{Answer, InOrder, PassesOn}
-use Rattle.wac_plugging.proofs.Order.{one-more, refused-at, exit-is}
-use Rattle.wac_plugging.proofs.Made.{passes-none}
-use Rattle.wac_plugging.proofs.Steps.{keeps-trans}
-use Rattle.wac_plugging.proofs.Each.{export-named}
+use Rattle.wac_types_shapes.specs.primitives.Name.{Name}
+use Rattle.wac_types_shapes.specs.shapes.Named.{names_of}
+use Rattle.wac_types_collection.specs.collection.Collection.{world_exports}
+use Rattle.wac_graph.specs.declared.plugs.errors.PlugError.TheVariants.{OutOfMemory}
+use Rattle.wac_graph.specs.plugs.Plugging.{Answer, InOrder, PassesOn}
+use Rattle.wac_graph.proofs.lemmas.plugs.Order.{one-more, refused-at, exit-is}
+use Rattle.wac_graph.proofs.lemmas.plugs.Made.{passes-none}
+use Rattle.wac_graph.proofs.lemmas.plugs.Steps.{keeps-trans}
+use Rattle.wac_graph.proofs.lemmas.plugs.Each.{export-named}
 use Rattle.wac_graph.proofs.wiring.pass_on_all.Goals as goal
 
 pub returns-in_err-name : goal.returns-in_err-name

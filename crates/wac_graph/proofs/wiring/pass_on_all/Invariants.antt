@@ -1,8 +1,8 @@
 use Rattle.std.proofs.Common.{drop}
-use Rattle.wac_shapes.specs.Named.{names_of}
-use Rattle.wac_collection.specs.Collection.{world_exports}
-use Rattle.wac_nodes.specs.Graph.{Graph}
-use Rattle.wac_plugging.specs.Plugging.{Answer, InOrder, PassesOn, Keeps}
+use Rattle.wac_types_shapes.specs.shapes.Named.{names_of}
+use Rattle.wac_types_collection.specs.collection.Collection.{world_exports}
+use Rattle.wac_graph_model.specs.nodes.Graph.{Graph}
+use Rattle.wac_graph.specs.plugs.Plugging.{Answer, InOrder, PassesOn, Keeps}
 use Rattle.wac_graph.proofs.wiring.pass_on_all.Given as goal
 
 abbrev pub invariant-loop-i : goal.invariant-loop-i

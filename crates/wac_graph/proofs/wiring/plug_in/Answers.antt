@@ -1,14 +1,14 @@
 use Rattle.std.proofs.Common.{◌≡◌, Some, Ok, Err, slice_get, get_or, sym, ◌∙◌, subst}
 use Rattle.std.proofs.lemmas.Option.{slice_get-get_or}
-use Rattle.wac_plugging.specs.Fitting.{node_imports}
-use Rattle.wac_plugging.specs.Matching.{exports_of_package}
-use Rattle.wac_plugging.specs.declared.matching.Pair.{Pair}
-use Rattle.wac_plugging.specs.Pairs.{match_at, matches_at}
-use Rattle.wac_plugging.specs.Plugging.{Answer, Wires, PlugsIn}
-use Rattle.wac_plugging.proofs.Order.{one-more, refused-at, all-made, exit-is, plugs-in-some}
-use Rattle.wac_plugging.proofs.Pairs.{past, not-none, plugs-none, match-there}
-use Rattle.wac_plugging.proofs.Steps.{instance-keeps, keeps-trans}
-use Rattle.wac_plugging.proofs.Fitting.{pair-at}
+use Rattle.wac_graph.specs.private.plugs.Fitting.{node_imports}
+use Rattle.wac_graph.specs.plugs.Matching.{exports_of_package}
+use Rattle.wac_graph.specs.declared.plugs.matching.Pair.{Pair}
+use Rattle.wac_graph.specs.private.plugs.Pairs.{match_at, matches_at}
+use Rattle.wac_graph.specs.plugs.Plugging.{Answer, Wires, PlugsIn}
+use Rattle.wac_graph.proofs.lemmas.plugs.Order.{one-more, refused-at, all-made, exit-is, plugs-in-some}
+use Rattle.wac_graph.proofs.lemmas.plugs.Pairs.{past, not-none, plugs-none, match-there}
+use Rattle.wac_graph.proofs.lemmas.plugs.Steps.{instance-keeps, keeps-trans}
+use Rattle.wac_graph.proofs.lemmas.plugs.Fitting.{pair-at}
 use Rattle.wac_graph.proofs.wiring.plug_in.Goals as goal
 
 pub returns-then-is_empty-clause-step : goal.returns-then-is_empty-clause-step

@@ -1,9 +1,9 @@
 use Rattle.std.proofs.Common.{drop}
-use Rattle.wac_nodes.specs.Graph.{Graph}
-use Rattle.wac_plugging.specs.Fitting.{node_imports}
-use Rattle.wac_plugging.specs.Matching.{exports_of_package}
-use Rattle.wac_plugging.specs.Pairs.{matches_at}
-use Rattle.wac_plugging.specs.Plugging.{Answer, InOrder, Wires, Keeps}
+use Rattle.wac_graph_model.specs.nodes.Graph.{Graph}
+use Rattle.wac_graph.specs.private.plugs.Fitting.{node_imports}
+use Rattle.wac_graph.specs.plugs.Matching.{exports_of_package}
+use Rattle.wac_graph.specs.private.plugs.Pairs.{matches_at}
+use Rattle.wac_graph.specs.plugs.Plugging.{Answer, InOrder, Wires, Keeps}
 use Rattle.wac_graph.proofs.wiring.plug_in.Given as goal
 
 abbrev pub invariant-loop-i : goal.invariant-loop-i

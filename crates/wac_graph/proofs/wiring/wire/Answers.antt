@@ -1,10 +1,10 @@
 use Rattle.std.proofs.Common.{Err, refl, subst, sym}
-use Rattle.wac_nodes.specs.Graph.{Graph}
-use Rattle.wac_plugging.specs.declared.errors.PlugError.TheVariants.{OutOfMemory}
-use Rattle.wac_plugging.specs.Plugging.{Answer, Wires}
-use Rattle.wac_plugging.proofs.Order.{exit-is}
-use Rattle.wac_plugging.proofs.Made.{aliased-keeps, wires-made, wires-none, wires-refused, wires-keeps}
-use Rattle.wac_plugging.proofs.Fitting.{fits-import, named-kept}
+use Rattle.wac_graph_model.specs.nodes.Graph.{Graph}
+use Rattle.wac_graph.specs.declared.plugs.errors.PlugError.TheVariants.{OutOfMemory}
+use Rattle.wac_graph.specs.plugs.Plugging.{Answer, Wires}
+use Rattle.wac_graph.proofs.lemmas.plugs.Order.{exit-is}
+use Rattle.wac_graph.proofs.lemmas.plugs.Made.{aliased-keeps, wires-made, wires-none, wires-refused, wires-keeps}
+use Rattle.wac_graph.proofs.lemmas.plugs.Fitting.{fits-import, named-kept}
 use Rattle.wac_graph.proofs.wiring.wire.Goals as goal
 
 pub alias_export_at-requires-clause-export : goal.alias_export_at-requires-clause-export

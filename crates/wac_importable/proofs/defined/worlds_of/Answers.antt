@@ -1,6 +1,6 @@
 use Rattle.std.proofs.Common.{[], ◌∷◌, Err, ap, ◌∙◌, subst}
 use Rattle.wac_sorting.specs.declared.worlds.Worlds.{Worlds}
-use Rattle.wac_shapes.specs.declared.component.ItemKind.TheVariants as kind
+use Rattle.wac_types_shapes.specs.declared.shapes.component.ItemKind.TheVariants as kind
 use Rattle.wac_worlds.specs.Nested.{IsHolder, AreWorldsRefused}
 use Rattle.wac_worlds.proofs.Ahead.{none-written}
 use Rattle.wac_worlds.proofs.Each.{one-start}

@@ -1,8 +1,8 @@
 use Rattle.std.proofs.Common.{◌≡◌, true, IfOk, sym, subst}
-use Rattle.wac_shapes.specs.declared.component.ItemKind.TheVariants as kind
-use Rattle.wac_shapes.specs.declared.component.«Type».{«Type» as AnyType}
-use Rattle.wac_collection.specs.Collection.{holds_type}
-use Rattle.wac_meaning.specs.Importable.{IsDefinableKind}
+use Rattle.wac_types_shapes.specs.declared.shapes.component.ItemKind.TheVariants as kind
+use Rattle.wac_types_shapes.specs.declared.shapes.component.«Type».{«Type» as AnyType}
+use Rattle.wac_types_collection.specs.collection.Collection.{holds_type}
+use Rattle.wac_graph_model.specs.meaning.Importable.{IsDefinableKind}
 use Rattle.wac_scopes.specs.Contents.{items_of}
 use Rattle.wac_importable.specs.Defined.{definition_thing, DefinesType}
 use Rattle.wac_importable.proofs.defined.write_definition.Goals as goal

@@ -1,5 +1,5 @@
 use Rattle.std.proofs.Common.{ℕ, Err, refl, ap, ◌∙◌, subst}
-use Rattle.wac_shapes.specs.declared.component.«Type».TheVariants as ty
+use Rattle.wac_types_shapes.specs.declared.shapes.component.«Type».TheVariants as ty
 use Rattle.wac_sorting.specs.Worlds.{SayWorlds}
 use Rattle.wac_root.specs.Defining.{WritesDefinition}
 use Rattle.wac_scopes.specs.declared.scope.Scope.{Scope}

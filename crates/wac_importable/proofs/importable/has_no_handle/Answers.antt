@@ -1,9 +1,9 @@
 use Rattle.std.proofs.Common.{List, ◌≡◌, true, false, ◌⊎◌, inl, inr, refl, sym, subst, length, arith}
-use Rattle.wac_shapes.specs.declared.component.ResourceId.{ResourceId}
-use Rattle.wac_shapes.specs.declared.component.«Type».{«Type» as AnyType}
-use Rattle.wac_shapes.specs.declared.component.«Type».TheVariants as ty
-use Rattle.wac_collection.specs.Collection.{Collection}
-use Rattle.wac_reach.specs.Reach.{IsIn, Reaches}
+use Rattle.wac_types_shapes.specs.declared.shapes.component.ResourceId.{ResourceId}
+use Rattle.wac_types_shapes.specs.declared.shapes.component.«Type».{«Type» as AnyType}
+use Rattle.wac_types_shapes.specs.declared.shapes.component.«Type».TheVariants as ty
+use Rattle.wac_types_collection.specs.collection.Collection.{Collection}
+use Rattle.wac_types_collection.specs.reach.Reach.{IsIn, Reaches}
 use Rattle.wac_importable.specs.Looked.{HasNoResource}
 use Rattle.wac_importable.proofs.Lists.{known_none}
 use Rattle.wac_importable.proofs.Handles.{none_held, none_reached, reached_none}

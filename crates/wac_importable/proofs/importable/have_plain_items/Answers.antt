@@ -1,7 +1,7 @@
 use Rattle.std.proofs.Common.{List, sym, subst, ◌∙◌}
-use Rattle.wac_shapes.specs.declared.component.«Type».{«Type» as AnyType}
-use Rattle.wac_reach.specs.Reach.{IsIn}
-use Rattle.wac_reach.proofs.Lists.{in_at}
+use Rattle.wac_types_shapes.specs.declared.shapes.component.«Type».{«Type» as AnyType}
+use Rattle.wac_types_collection.specs.reach.Reach.{IsIn}
+use Rattle.wac_types_collection.proofs.lemmas.reach.Lists.{in_at}
 use Rattle.wac_worlds.specs.Nested.{AreTypesInside}
 use Rattle.wac_worlds.proofs.Earlier.{found-held}
 use Rattle.wac_importable.specs.Holders.{holders_of}

@@ -1,7 +1,7 @@
 use Rattle.std.proofs.Common.{sym, subst}
-use Rattle.wac_shapes.specs.declared.component.ItemKind.TheVariants as kind
-use Rattle.wac_shapes.specs.declared.component.«Type».{«Type» as AnyType}
-use Rattle.wac_meaning.specs.Importable.{IsDefinableKind}
+use Rattle.wac_types_shapes.specs.declared.shapes.component.ItemKind.TheVariants as kind
+use Rattle.wac_types_shapes.specs.declared.shapes.component.«Type».{«Type» as AnyType}
+use Rattle.wac_graph_model.specs.meaning.Importable.{IsDefinableKind}
 use Rattle.wac_importable.proofs.Items.{is_of_values, not_of_values, type_not_definable, free_definable, values_free}
 use Rattle.wac_importable.proofs.importable.is_definable_type.Goals as goal
 

@@ -1,4 +1,4 @@
-use Rattle.wac_shapes.specs.declared.component.ItemKind.TheVariants as kind
+use Rattle.wac_types_shapes.specs.declared.shapes.component.ItemKind.TheVariants as kind
 use Rattle.wac_importable.proofs.Ahead.{is_holder, type_lists, held_by_type}
 use Rattle.wac_importable.proofs.Items.{is_of_values, not_of_values, type_not_importable, free_lists, values_importable}
 use Rattle.wac_importable.proofs.importable.is_importable_type.Goals as goal

@@ -1,4 +1,4 @@
-use Rattle.wac_shapes.specs.declared.component.ItemKind.TheVariants as kind
+use Rattle.wac_types_shapes.specs.declared.shapes.component.ItemKind.TheVariants as kind
 use Rattle.wac_importable.proofs.Items.{is_of_values, not_of_values, values_plain}
 use Rattle.wac_importable.proofs.Nested.{alone_of, alone_value, type_not_alone, alone_holder}
 use Rattle.wac_importable.proofs.importable.is_plain_type.Goals as goal

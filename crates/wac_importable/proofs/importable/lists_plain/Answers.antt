@@ -1,6 +1,6 @@
 use Rattle.std.proofs.Common.{refl, subst, inl}
-use Rattle.wac_shapes.specs.declared.component.ItemKind.TheVariants as kind
-use Rattle.wac_meaning.specs.Importable.{IsImportableKind}
+use Rattle.wac_types_shapes.specs.declared.shapes.component.ItemKind.TheVariants as kind
+use Rattle.wac_graph_model.specs.meaning.Importable.{IsImportableKind}
 use Rattle.wac_importable.proofs.importable.lists_plain.Goals as goal
 
 pub returns-in-Instance-clause-not : goal.returns-in-Instance-clause-not

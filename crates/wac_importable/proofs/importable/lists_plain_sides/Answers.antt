@@ -1,7 +1,7 @@
 use Rattle.std.proofs.Common.{Ok, ap, ◌∙◌, sym, subst}
-use Rattle.wac_primitives.specs.Name.{Name}
-use Rattle.wac_shapes.specs.declared.component.ItemKind.{ItemKind}
-use Rattle.wac_collection.specs.Collection.{world_imports, world_exports}
+use Rattle.wac_types_shapes.specs.primitives.Name.{Name}
+use Rattle.wac_types_shapes.specs.declared.shapes.component.ItemKind.{ItemKind}
+use Rattle.wac_types_collection.specs.collection.Collection.{world_imports, world_exports}
 use Rattle.wac_worlds.proofs.Earlier.{of-both, of-left, of-right}
 use Rattle.wac_worlds.proofs.TypesInside.{imports-named, outside-named}
 use Rattle.wac_worlds.proofs.Whole.{held-imports, held-exports}

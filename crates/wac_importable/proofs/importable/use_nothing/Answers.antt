@@ -1,7 +1,7 @@
 use Rattle.std.proofs.Common.{arith}
-use Rattle.wac_primitives.specs.Name.{Name}
-use Rattle.wac_shapes.specs.declared.component.ItemKind.{ItemKind}
-use Rattle.wac_meaning.specs.Importable.{UsesNothing}
+use Rattle.wac_types_shapes.specs.primitives.Name.{Name}
+use Rattle.wac_types_shapes.specs.declared.shapes.component.ItemKind.{ItemKind}
+use Rattle.wac_graph_model.specs.meaning.Importable.{UsesNothing}
 use Rattle.wac_worlds.proofs.Each.{each-next, each-end}
 use Rattle.wac_importable.proofs.importable.use_nothing.Goals as goal
 

@@ -1,8 +1,8 @@
 use Rattle.std.specs.Prelude.{List, slice_get}
 use Rattle.std.proofs.Common.{arith, ap, sym, subst, ◌∙◌, ◌<◌, ◌≤◌, ◌+◌, length}
-use Rattle.wac_shapes.specs.declared.component.DefinedTypeId.{DefinedTypeId}
-use Rattle.wac_shapes.specs.declared.component.«Type».{«Type» as AnyType}
-use Rattle.wac_reach.proofs.Universe.{types_of}
+use Rattle.wac_types_shapes.specs.declared.shapes.component.DefinedTypeId.{DefinedTypeId}
+use Rattle.wac_types_shapes.specs.declared.shapes.component.«Type».{«Type» as AnyType}
+use Rattle.wac_types_collection.proofs.lemmas.reach.Universe.{types_of}
 use Rattle.wac_listing.specs.Made.{AreMadeOf}
 use Rattle.wac_listing.specs.Found.{items_ends, definitions_in}
 use Rattle.wac_listing.proofs.Grown.{shown-at}

@@ -1,5 +1,5 @@
 use Rattle.std.proofs.Common.{◌-◌, length}
-use Rattle.wac_reach.proofs.Universe.{types_of}
+use Rattle.wac_types_collection.proofs.lemmas.reach.Universe.{types_of}
 use Rattle.wac_listing.proofs.Making.{FoundOf}
 use Rattle.wac_listing.proofs.made.definitions_of.Given as goal
 

@@ -1,7 +1,7 @@
 use Rattle.std.specs.Prelude.{List}
 use Rattle.std.proofs.Common.{arith, ap, sym, subst, ◌∙◌, ◌<◌, ◌≤◌, ◌+◌, length}
-use Rattle.wac_shapes.specs.declared.component.«Type».{«Type» as AnyType}
-use Rattle.wac_reach.proofs.Universe.{types_of}
+use Rattle.wac_types_shapes.specs.declared.shapes.component.«Type».{«Type» as AnyType}
+use Rattle.wac_types_collection.proofs.lemmas.reach.Universe.{types_of}
 use Rattle.wac_listing.specs.Found.{items_ends, items_among}
 use Rattle.wac_listing.proofs.Grown.{shown-at}
 use Rattle.wac_listing.proofs.Making.{AreFound, found-first, found-all, found-next, here-held, few-found, all-held, definition-at}

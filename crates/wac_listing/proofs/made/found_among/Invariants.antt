@@ -1,5 +1,5 @@
 use Rattle.std.proofs.Common.{◌-◌, length}
-use Rattle.wac_reach.proofs.Universe.{types_of}
+use Rattle.wac_types_collection.proofs.lemmas.reach.Universe.{types_of}
 use Rattle.wac_listing.specs.Found.{items_among}
 use Rattle.wac_listing.proofs.Making.{AreFound}
 use Rattle.wac_listing.proofs.made.found_among.Given as goal

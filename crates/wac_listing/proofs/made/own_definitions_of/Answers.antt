@@ -1,6 +1,6 @@
 use Rattle.std.specs.Prelude.{List, slice_get}
 use Rattle.std.proofs.Common.{ap, sym, subst, ◌∙◌}
-use Rattle.wac_shapes.specs.declared.component.DefinedTypeId.{DefinedTypeId}
+use Rattle.wac_types_shapes.specs.declared.shapes.component.DefinedTypeId.{DefinedTypeId}
 use Rattle.wac_listing.specs.Made.{own_items, AreMadeOf}
 use Rattle.wac_listing.specs.Found.{definitions_in}
 use Rattle.wac_listing.proofs.Making.{if-ok, at-definition, listed-held}

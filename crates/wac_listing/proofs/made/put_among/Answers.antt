@@ -1,10 +1,10 @@
 use Rattle.std.proofs.Common.{ap, sym, subst, true, ◌≡◌, ◌∙◌, drop, ◌+◌}
 use Rattle.std.specs.Prelude.{List}
-use Rattle.wac_primitives.specs.Name.{Name}
-use Rattle.wac_shapes.specs.Kinds.{kind_type}
-use Rattle.wac_shapes.specs.declared.component.ItemKind.{ItemKind}
-use Rattle.wac_collection.specs.Collection.{holds_type}
-use Rattle.wac_reach.proofs.Lists.{drop_second}
+use Rattle.wac_types_shapes.specs.primitives.Name.{Name}
+use Rattle.wac_types_shapes.specs.shapes.Kinds.{kind_type}
+use Rattle.wac_types_shapes.specs.declared.shapes.component.ItemKind.{ItemKind}
+use Rattle.wac_types_collection.specs.collection.Collection.{holds_type}
+use Rattle.wac_types_collection.proofs.lemmas.reach.Lists.{drop_second}
 use Rattle.wac_listing.specs.Found.{items_ends, items_among}
 use Rattle.wac_listing.proofs.Making.{second-at}
 use Rattle.wac_listing.proofs.Owning.{own-more, own-passed}

@@ -1,5 +1,5 @@
 use Rattle.std.proofs.Common.{◌≡◌, drop}
-use Rattle.wac_collection.specs.Collection.{seconds}
+use Rattle.wac_types_collection.specs.collection.Collection.{seconds}
 use Rattle.wac_listing.specs.Found.{with_ends}
 use Rattle.wac_listing.proofs.made.put_fields.Given as goal
 

@@ -1,7 +1,7 @@
 use Rattle.std.proofs.Common.{arith, ap, sym, ◌∙◌, ◌<◌, ◌≡◌, length, Some}
 use Rattle.std.specs.Prelude.{List, Option}
-use Rattle.wac_shapes.specs.declared.component.DefinedType.{DefinedType}
-use Rattle.wac_shapes.specs.declared.component.ValueType.{ValueType}
+use Rattle.wac_types_shapes.specs.declared.shapes.component.DefinedType.{DefinedType}
+use Rattle.wac_types_shapes.specs.declared.shapes.component.ValueType.{ValueType}
 use Rattle.wac_listing.specs.Made.{parts}
 use Rattle.wac_listing.specs.Found.{somes, with_ends}
 use Rattle.wac_listing.proofs.Taking.{within}

@@ -1,4 +1,4 @@
-use Rattle.wac_entries.specs.Bindings.{AreHeld}
+use Rattle.wac_merge_classes.specs.entries.Bindings.{AreHeld}
 use Rattle.wac_measures.proofs.merging.aggregated.Given as goal
 
 abbrev pub invariant-loop-import : goal.invariant-loop-import

@@ -2,18 +2,18 @@ use Rattle.std.proofs.Common.{ℕ, List, map, refl, sym, subst, string_bytes, in
 use Rattle.std.specs.BTreeSet.{BTreeSet}
 use Rattle.std.specs.Option.{MatchOption}
 use Rattle.std.proofs.lemmas.Option.{slice_get_within}
-use Rattle.wac_cycles.specs.Cycles.{AreWithin, HasLowestOnCycle}
-use Rattle.wac_cycles.specs.Cycles as cycles
-use Rattle.wac_entries.specs.Classes.{by_names, class_names, canonical}
-use Rattle.wac_terms.specs.ClassOrder.{IsFirstOnCircle}
-use Rattle.wac_agreement.specs.Compared.{AreCompared}
-use Rattle.wac_terms.specs.Faults.{Disagrees, HasNoCircle, disagree, use_each_other}
-use Rattle.wac_terms.specs.NoDisagreement.{HasNoDisagreement}
-use Rattle.wac_tables.specs.NodeViews.{item_view}
-use Rattle.wac_agreement.specs.declared.compared.Disagreement.{Disagreement}
-use Rattle.wac_tables.specs.declared.nodes.Item.{Item}
+use Rattle.wac_edges.specs.cycles.Cycles.{AreWithin, HasLowestOnCycle}
+use Rattle.wac_edges.specs.cycles.Cycles as cycles
+use Rattle.wac_merge_classes.specs.entries.Classes.{by_names, class_names, canonical}
+use Rattle.wac_merge_classes.specs.terms.ClassOrder.{IsFirstOnCircle}
+use Rattle.wac_merge_agreement.specs.private.agreement.Compared.{AreCompared}
+use Rattle.wac_merge_classes.specs.terms.Faults.{Disagrees, HasNoCircle, disagree, use_each_other}
+use Rattle.wac_merge_classes.specs.terms.NoDisagreement.{HasNoDisagreement}
+use Rattle.wac_merge_tables.specs.private.tables.NodeViews.{item_view}
+use Rattle.wac_merge_agreement.specs.declared.agreement.compared.Disagreement.{Disagreement}
+use Rattle.wac_merge_tables.specs.declared.tables.nodes.Item.{Item}
 use Rattle.wac_merge.proofs.FaultLemmas.{circle_class, none_of, pair_of}
-use Rattle.wac_agreement.proofs.RestCircles.{are_within, first_of}
+use Rattle.wac_merge_agreement.proofs.lemmas.agreement.RestCircles.{are_within, first_of}
 use Rattle.wac_merge.proofs.aggregator.check.Goals as goal
 
 pub first_pair-requires-clause-items : goal.first_pair-requires-clause-items

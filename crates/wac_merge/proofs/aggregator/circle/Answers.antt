@@ -1,8 +1,8 @@
 use Rattle.std.proofs.Common.{◌≡◌, ℕ, ◌<◌, List, Some, slice_get, get_or, length, refl, sym, ap, ◌∙◌, subst, arith}
 use Rattle.std.proofs.lemmas.Option.{slice_get_read, slice_get_within, slice_get-get_or}
-use Rattle.wac_entries.specs.Classes.{Entry, by_names, canonical}
-use Rattle.wac_terms.specs.Faults.{use_each_other}
-use Rattle.wac_entries.proofs.ClassPaths.{position-at}
+use Rattle.wac_merge_classes.specs.entries.Classes.{Entry, by_names, canonical}
+use Rattle.wac_merge_classes.specs.terms.Faults.{use_each_other}
+use Rattle.wac_merge_classes.proofs.lemmas.entries.ClassPaths.{position-at}
 use Rattle.wac_merge.proofs.FaultLemmas.{same_some}
 use Rattle.wac_merge.proofs.aggregator.circle.Goals as goal
 

@@ -1,7 +1,7 @@
 use Rattle.std.proofs.Common.{sym, ap, ◌∙◌, not, nat_eq}
 use Rattle.std.specs.Cmp.Lexicographic.{pointwise}
-use Rattle.wac_terms.specs.Merge.{own_resource}
-use Rattle.wac_terms.proofs.OwnResources.{own-other, own-nowhere, own-there, told-other, told-same}
+use Rattle.wac_merge_classes.specs.terms.Merge.{own_resource}
+use Rattle.wac_merge_classes.proofs.lemmas.terms.OwnResources.{own-other, own-nowhere, own-there, told-other, told-same}
 use Rattle.wac_merge.proofs.aggregator.own_resource.Goals as goal
 
 pub returns-then-ne : goal.returns-then-ne

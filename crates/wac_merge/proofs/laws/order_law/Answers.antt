@@ -1,5 +1,5 @@
-use Rattle.wac_entries.specs.Classes.{by_names}
-use Rattle.wac_agreement.proofs.OrderLaws.{order_each, order_once}
+use Rattle.wac_merge_classes.specs.entries.Classes.{by_names}
+use Rattle.wac_merge_agreement.proofs.lemmas.agreement.OrderLaws.{order_each, order_once}
 use Rattle.wac_merge.proofs.OrderOnce.{order_only}
 use Rattle.wac_merge.proofs.laws.order_law.Goals as goal
 

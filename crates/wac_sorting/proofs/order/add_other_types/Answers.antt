@@ -1,7 +1,7 @@
 use Rattle.std.proofs.Common.{arith, sym, ap, ◌∙◌, ◌≡◌, ◌++◌, length}
 use Rattle.std.specs.List.{filter}
 use Rattle.std.proofs.lemmas.List.{append-nil}
-use Rattle.wac_shapes.specs.Named.{named_pairs}
+use Rattle.wac_types_shapes.specs.shapes.Named.{named_pairs}
 use Rattle.wac_sorting.proofs.Ordered.{all-of, other_type_item, group-more, group-passed}
 use Rattle.wac_sorting.proofs.order.add_other_types.Goals as goal
 use Rattle.wac_sorting.proofs.order.add_other_types.Goals.{then-is_other_type_item+in_ok-push, else-is_other_type_item}

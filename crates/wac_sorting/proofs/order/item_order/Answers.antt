@@ -1,7 +1,7 @@
 use Rattle.std.specs.Prelude.{slice_get}
 use Rattle.std.specs.List.{AllZip}
 use Rattle.std.proofs.Common.{subst, ◌≡◌, Some, ℕ, List}
-use Rattle.wac_shapes.specs.Named.{named_pairs}
+use Rattle.wac_types_shapes.specs.shapes.Named.{named_pairs}
 use Rattle.wac_listing.specs.Order.{is_value_type_at}
 use Rattle.wac_listing.proofs.Listing.{held-items}
 use Rattle.wac_sorting.proofs.Ordered.{Stand, taken-within, type-within, order-of}

@@ -1,7 +1,7 @@
 use Rattle.std.specs.List.{AllZip}
 use Rattle.std.proofs.Common.{arith, subst, sym, ◌≡◌, length, take}
 use Rattle.std.proofs.lemmas.Option.{slice_get-get_or}
-use Rattle.wac_shapes.specs.Named.{named_pairs}
+use Rattle.wac_types_shapes.specs.shapes.Named.{named_pairs}
 use Rattle.wac_sorting.proofs.Ordered.{all-of, Stand, types-more}
 use Rattle.wac_sorting.proofs.order.items_at.Goals as goal
 

@@ -1,5 +1,5 @@
 use Rattle.std.proofs.Common.{arith, ap, ◌<◌, ◌≤◌, length}
-use Rattle.wac_reach.proofs.Universe.{types_of}
+use Rattle.wac_types_collection.proofs.lemmas.reach.Universe.{types_of}
 use Rattle.wac_listing.proofs.Grown.{shown-at}
 use Rattle.wac_sorting.proofs.Inside.{found-on, all-found, few-found, here-is}
 use Rattle.wac_sorting.proofs.sorts.interfaces_inside.Goals as goal

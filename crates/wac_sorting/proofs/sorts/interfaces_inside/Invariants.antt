@@ -1,5 +1,5 @@
 use Rattle.std.specs.Prelude.{◌-◌, length}
-use Rattle.wac_reach.proofs.Universe.{types_of}
+use Rattle.wac_types_collection.proofs.lemmas.reach.Universe.{types_of}
 use Rattle.wac_sorting.proofs.Inside.{AreFound}
 use Rattle.wac_sorting.proofs.sorts.interfaces_inside.Given as goal
 

@@ -1,7 +1,7 @@
 use Rattle.std.specs.Prelude.{◌≡◌, ◌∷◌, [], true, length}
 use Rattle.std.proofs.Common.{arith, nat_lt}
 use Rattle.std.proofs.lemmas.Bool.{OnTrue_at, OnTrue_from}
-use Rattle.wac_shapes.specs.declared.component.«Type».TheVariants as ty
+use Rattle.wac_types_shapes.specs.declared.shapes.component.«Type».TheVariants as ty
 use Rattle.wac_sorting.specs.Inside.{AreInside}
 use Rattle.wac_sorting.proofs.Flat.{flat-inside}
 use Rattle.wac_sorting.proofs.sorts.is_flat.Goals as goal

@@ -1,7 +1,7 @@
 use Rattle.std.specs.Prelude.{◌≡◌, true}
 use Rattle.std.proofs.Common.{refl, arith, sym, subst, ◌∙◌, ◌<◌, ◌≤◌, List, length, nat_lt}
 use Rattle.std.proofs.lemmas.Bool.{OnTrue_at}
-use Rattle.wac_shapes.specs.declared.component.«Type».{«Type» as AnyType}
+use Rattle.wac_types_shapes.specs.declared.shapes.component.«Type».{«Type» as AnyType}
 use Rattle.wac_listing.proofs.Grown.{shown-at}
 use Rattle.wac_sorting.specs.Inside.{AreInside}
 use Rattle.wac_sorting.proofs.Flat.{flat-plain}

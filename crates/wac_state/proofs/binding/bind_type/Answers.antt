@@ -1,6 +1,6 @@
 use Rattle.std.proofs.Common.{subst}
 use Rattle.std.proofs.lemmas.Result.{err_from_is_err_and}
-use Rattle.wac_shapes.specs.declared.component.«Type».{«Type» as AnyType}
+use Rattle.wac_types_shapes.specs.declared.shapes.component.«Type».{«Type» as AnyType}
 use Rattle.wac_scopes.specs.Binding.{IsUnrecorded, Records, BindsType}
 use Rattle.wac_state.proofs.Standing.{right-as-before, right-type}
 use Rattle.wac_state.proofs.binding.bind_type.Goals as goal

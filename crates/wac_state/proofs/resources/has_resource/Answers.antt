@@ -1,6 +1,6 @@
 use Rattle.std.proofs.Common.{arith}
-use Rattle.wac_primitives.specs.Name.{Name}
-use Rattle.wac_shapes.specs.declared.component.ItemKind.{ItemKind}
+use Rattle.wac_types_shapes.specs.primitives.Name.{Name}
+use Rattle.wac_types_shapes.specs.declared.shapes.component.ItemKind.{ItemKind}
 use Rattle.wac_worlds.proofs.Each.{each-next, each-end}
 use Rattle.wac_state.specs.Held.{IsNoResource}
 use Rattle.wac_state.proofs.resources.has_resource.Goals as goal

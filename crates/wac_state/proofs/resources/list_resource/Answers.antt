@@ -1,6 +1,6 @@
 use Rattle.std.proofs.Common.{arith}
 use Rattle.std.proofs.lemmas.Option.{slice_get-get_or}
-use Rattle.wac_shapes.specs.declared.component.«Type».{«Type» as AnyType}
+use Rattle.wac_types_shapes.specs.declared.shapes.component.«Type».{«Type» as AnyType}
 use Rattle.wac_worlds.specs.Nested.{listed_in}
 use Rattle.wac_worlds.proofs.Each.{each-next, each-end}
 use Rattle.wac_state.specs.Held.{AreNoResources}

@@ -1,5 +1,5 @@
 use Rattle.std.proofs.Common.{sym, subst}
-use Rattle.wac_shapes.specs.declared.component.«Type».{«Type» as AnyType}
+use Rattle.wac_types_shapes.specs.declared.shapes.component.«Type».{«Type» as AnyType}
 use Rattle.wac_worlds.specs.Nested.{listed_in, IsHolder}
 use Rattle.wac_worlds.proofs.TypesInside.{exports-named, other-holder}
 use Rattle.wac_state.specs.Held.{AreNoResources}

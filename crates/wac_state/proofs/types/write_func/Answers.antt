@@ -1,8 +1,8 @@
 use Rattle.std.specs.Prelude.{ℕ, Err}
 use Rattle.std.proofs.Common.{subst}
 use Rattle.std.proofs.lemmas.Result.{err_from_is_err_and}
-use Rattle.wac_shapes.specs.declared.component.«Type».TheVariants as ty
-use Rattle.wac_collection.specs.Collection.{Collection}
+use Rattle.wac_types_shapes.specs.declared.shapes.component.«Type».TheVariants as ty
+use Rattle.wac_types_collection.specs.collection.Collection.{Collection}
 use Rattle.wac_binary.specs.HasMeaning.{IsFunction}
 use Rattle.wac_defining.specs.Written.{WritesFor, IsOfFunc, AddsHeldFunc, IsFuncAt, IsFuncRefused}
 use Rattle.wac_state.proofs.Growth.{grows-written}

@@ -1,5 +1,5 @@
 use Rattle.std.proofs.Common.{ap, sym, subst}
-use Rattle.wac_shapes.specs.declared.component.«Type».TheVariants as ty
+use Rattle.wac_types_shapes.specs.declared.shapes.component.«Type».TheVariants as ty
 use Rattle.wac_worlds.specs.Nested.{type_inside}
 use Rattle.wac_worlds.proofs.TypesInside.{inside-holder}
 use Rattle.wac_state.specs.Defined.{ItemUsesNothing}

@@ -1,7 +1,7 @@
 use Rattle.std.proofs.lemmas.Result.{IfOk-weaker}
-use Rattle.wac_comparison.proofs.Asking.{rests_now, rests_iff}
-use Rattle.wac_comparison.proofs.Values.{values_are}
-use Rattle.wac_comparison.proofs.Typing.{modules_are}
+use Rattle.wac_types.proofs.lemmas.comparison.Asking.{rests_now, rests_iff}
+use Rattle.wac_types.proofs.lemmas.comparison.Values.{values_are}
+use Rattle.wac_types.proofs.lemmas.comparison.Typing.{modules_are}
 use Rattle.wac_types.proofs.answers.answer.Goals as goal
 
 pub returns-in-Value-Value-clause-settled : goal.returns-in-Value-Value-clause-settled

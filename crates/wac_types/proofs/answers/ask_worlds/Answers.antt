@@ -1,6 +1,6 @@
 use Rattle.std.proofs.lemmas.Result.{IfOk-weaker}
-use Rattle.wac_comparison.proofs.Agreeing.{handed_on}
-use Rattle.wac_comparison.proofs.Subtyping.{asks_turned, asks_worlds, of_components}
+use Rattle.wac_types.proofs.lemmas.comparison.Agreeing.{handed_on}
+use Rattle.wac_types.proofs.lemmas.comparison.Subtyping.{asks_turned, asks_worlds, of_components}
 use Rattle.wac_types.proofs.answers.ask_worlds.Goals as goal
 
 pub returns-in_err-ask_items-clause-mismatch : goal.returns-in_err-ask_items-clause-mismatch

@@ -1,6 +1,6 @@
 use Rattle.std.specs.Prelude.{◌≡◌}
 use Rattle.std.proofs.Common.{ap, ◌∙◌, sym, subst}
-use Rattle.wac_shapes.specs.declared.component.«Type».{«Type» as AnyType}
+use Rattle.wac_types_shapes.specs.declared.shapes.component.«Type».{«Type» as AnyType}
 use Rattle.wac_worlds.specs.Nested.{listed_in, IsHolder, NamesOnce, with_types_inside}
 use Rattle.wac_worlds.proofs.TypesInside.{exports-named, exports-once, on-ok, other-holder}
 use Rattle.wac_worlds.proofs.inside.put_listed.Goals as goal

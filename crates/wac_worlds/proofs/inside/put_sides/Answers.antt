@@ -1,6 +1,6 @@
 use Rattle.std.specs.Prelude.{◌≡◌}
 use Rattle.wac_worlds.specs.Nested.{listed_in, with_types_inside}
-use Rattle.wac_shapes.specs.declared.component.«Type».TheVariants as ty
+use Rattle.wac_types_shapes.specs.declared.shapes.component.«Type».TheVariants as ty
 use Rattle.wac_worlds.proofs.TypesInside.{sides-once, sides-put, on-ok}
 use Rattle.wac_worlds.proofs.inside.put_sides.Goals as goal
 

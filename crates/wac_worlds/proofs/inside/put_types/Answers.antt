@@ -1,6 +1,6 @@
 use Rattle.std.specs.Prelude.{◌≡◌, List, length}
 use Rattle.std.proofs.Common.{arith, refl, subst}
-use Rattle.wac_shapes.specs.declared.component.«Type».{«Type» as AnyType}
+use Rattle.wac_types_shapes.specs.declared.shapes.component.«Type».{«Type» as AnyType}
 use Rattle.wac_sorting.proofs.Ordered.{all-of}
 use Rattle.wac_listing.proofs.Grown.{shown-at}
 use Rattle.wac_worlds.specs.Ahead.{ArePut}

@@ -1,7 +1,7 @@
 use Rattle.std.specs.Prelude.{List}
 use Rattle.std.proofs.Common.{arith, ap, subst, ◌<◌, ◌≤◌, length}
-use Rattle.wac_shapes.specs.declared.component.«Type».{«Type» as AnyType}
-use Rattle.wac_reach.proofs.Universe.{types_of}
+use Rattle.wac_types_shapes.specs.declared.shapes.component.«Type».{«Type» as AnyType}
+use Rattle.wac_types_collection.proofs.lemmas.reach.Universe.{types_of}
 use Rattle.wac_listing.proofs.Grown.{shown-at}
 use Rattle.wac_worlds.specs.Ahead.{ArePut}
 use Rattle.wac_worlds.proofs.TypesInside.{found-first, found-next, all-found, few-found, here-is}

@@ -1,7 +1,7 @@
 use Rattle.std.specs.Prelude.{◌≤◌, ◌+◌, List, [], length}
 use Rattle.std.proofs.Common.{ap, arith, sym, subst, take, ◌∙◌}
 use Rattle.std.proofs.lemmas.List.{take_all}
-use Rattle.wac_shapes.specs.declared.component.«Type».{«Type» as AnyType}
+use Rattle.wac_types_shapes.specs.declared.shapes.component.«Type».{«Type» as AnyType}
 use Rattle.wac_worlds.specs.Nested.{AreWorldsAmong}
 use Rattle.wac_worlds.proofs.TypesInside.{among-none, among-shown-world, among-shown-other, among-ordered}
 use Rattle.wac_worlds.proofs.inside.worlds_among.Goals as goal

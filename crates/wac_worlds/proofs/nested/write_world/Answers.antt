@@ -1,7 +1,7 @@
 use Rattle.std.specs.Prelude.{◌≡◌, Bool, true, false, List, Option, Ok, Err}
 use Rattle.std.proofs.Common.{refl, ap, ◌∙◌, sym, subst}
 use Rattle.std.proofs.lemmas.Result.{err_from_is_err_and}
-use Rattle.wac_collection.specs.Collection.{Collection, HasWorld}
+use Rattle.wac_types_collection.specs.collection.Collection.{Collection, HasWorld}
 use Rattle.wac_binary.specs.Items.{Decl}
 use Rattle.wac_sorting.specs.Worlds.{SayWorlds, SaysWorld}
 use Rattle.wac_worlds.specs.Worlds.{is_plain_world, WritesWorld, SaysIfThere, WritesIfThere, IsWorldRefused}

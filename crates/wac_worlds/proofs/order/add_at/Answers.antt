@@ -1,6 +1,6 @@
 use Rattle.std.proofs.Common.{ℕ, List, arith, subst, ◌≡◌, length}
 use Rattle.std.proofs.lemmas.Option.{slice_get-get_or}
-use Rattle.wac_shapes.specs.Named.{named_pairs}
+use Rattle.wac_types_shapes.specs.shapes.Named.{named_pairs}
 use Rattle.wac_sorting.proofs.Ordered.{all-of}
 use Rattle.wac_worlds.specs.Steps.{PutsAt}
 use Rattle.wac_worlds.proofs.Ordered.{puts-none, puts-more}

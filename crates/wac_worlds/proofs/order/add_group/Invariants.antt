@@ -1,5 +1,5 @@
 use Rattle.std.proofs.Common.{◌≡◌, ◌++◌, take}
-use Rattle.wac_shapes.specs.Named.{named_pairs}
+use Rattle.wac_types_shapes.specs.shapes.Named.{named_pairs}
 use Rattle.wac_worlds.specs.Declaring.{group}
 use Rattle.wac_worlds.proofs.order.add_group.Given as goal
 

@@ -1,8 +1,8 @@
 use Rattle.std.specs.Borrow.{Bor}
 use Rattle.std.specs.Prelude.{ℕ, ◌≡◌, List, ◌++◌, Some, slice_get}
 use Rattle.std.proofs.Common.{ap, ◌∙◌, subst}
-use Rattle.wac_shapes.specs.Named.{named_pairs}
-use Rattle.wac_shapes.specs.declared.component.ItemKind.{ItemKind}
+use Rattle.wac_types_shapes.specs.shapes.Named.{named_pairs}
+use Rattle.wac_types_shapes.specs.declared.shapes.component.ItemKind.{ItemKind}
 use Rattle.wac_listing.specs.Order.{is_value_type_at}
 use Rattle.wac_sorting.proofs.Ordered.{taken-within, type-within}
 use Rattle.wac_worlds.specs.Declaring.{group}

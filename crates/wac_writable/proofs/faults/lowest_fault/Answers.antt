@@ -1,6 +1,6 @@
 use Rattle.std.proofs.Common.{◌≡◌, [], sym, subst}
-use Rattle.wac_shapes.specs.declared.component.WorldId.{WorldId}
-use Rattle.wac_shapes.specs.declared.component.«Type».TheVariants as ty
+use Rattle.wac_types_shapes.specs.declared.shapes.component.WorldId.{WorldId}
+use Rattle.wac_types_shapes.specs.declared.shapes.component.«Type».TheVariants as ty
 use Rattle.wac_writable.specs.Faults.{listed_items, IsLowest, IsFaultInside, HasFault}
 use Rattle.wac_writable.proofs.Listing.{nothing_listed}
 use Rattle.wac_writable.proofs.Insides.{whole_fault, alone_fault}

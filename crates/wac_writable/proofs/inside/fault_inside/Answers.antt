@@ -1,8 +1,8 @@
 use Rattle.std.proofs.Common.{◌≡◌, [], ◌∷◌, ap, sym, ◌∙◌, ◌≤◌, length, arith, refl, subst}
 use Rattle.std.proofs.lemmas.Result.{IfOk-weaker}
-use Rattle.wac_reach.specs.Found.{with_all}
-use Rattle.wac_reach.proofs.Lists.{in_at, read_at}
-use Rattle.wac_reach.proofs.Universe.{types_of, found_few}
+use Rattle.wac_types_collection.specs.private.reach.Found.{with_all}
+use Rattle.wac_types_collection.proofs.lemmas.reach.Lists.{in_at, read_at}
+use Rattle.wac_types_collection.proofs.lemmas.reach.Universe.{types_of, found_few}
 use Rattle.wac_writable.specs.Faults.{IsLowest, IsFaultAt, IsFaultInside}
 use Rattle.wac_writable.proofs.Lowest.{lowest_same}
 use Rattle.wac_writable.proofs.Insides.{AreInside, IsFaultBefore, inside_first, lowest_alone, looked_next, no_fault_before, fault_inside_all}

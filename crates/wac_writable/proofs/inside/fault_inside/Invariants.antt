@@ -1,5 +1,5 @@
 use Rattle.std.proofs.Common.{◌-◌, length}
-use Rattle.wac_reach.proofs.Universe.{types_of}
+use Rattle.wac_types_collection.proofs.lemmas.reach.Universe.{types_of}
 use Rattle.wac_writable.specs.Faults.{IsLowest}
 use Rattle.wac_writable.proofs.Insides.{AreInside, IsFaultBefore}
 use Rattle.wac_writable.proofs.inside.fault_inside.Given as goal

@@ -1,6 +1,6 @@
 use Rattle.std.proofs.Common.{◌≡◌, false, [], ◌+◌, ◌++◌, drop, refl, ap, sym, ◌∙◌, subst, arith}
 use Rattle.std.proofs.lemmas.List.{drop_all}
-use Rattle.wac_shapes.specs.Kinds.{kind_type}
+use Rattle.wac_types_shapes.specs.shapes.Kinds.{kind_type}
 use Rattle.wac_writable.specs.Search.{scope_of, scopes_of}
 use Rattle.wac_writable.proofs.Listing.{both_none, scopes_past}
 use Rattle.wac_writable.proofs.inside.list_scopes.Goals as goal

@@ -1,7 +1,7 @@
 use Rattle.std.proofs.Common.{ap, sym, ◌∙◌, drop, ◌+◌}
-use Rattle.wac_shapes.specs.Kinds.{kind_type}
-use Rattle.wac_reach.specs.Found.{with_all}
-use Rattle.wac_reach.proofs.Lists.{drop_second}
+use Rattle.wac_types_shapes.specs.shapes.Kinds.{kind_type}
+use Rattle.wac_types_collection.specs.private.reach.Found.{with_all}
+use Rattle.wac_types_collection.proofs.lemmas.reach.Lists.{drop_second}
 use Rattle.wac_writable.specs.Search.{scope_of, scopes_of}
 use Rattle.wac_writable.proofs.Listing.{scope_first}
 use Rattle.wac_writable.proofs.inside.put_scopes.Goals as goal

@@ -1,8 +1,8 @@
 use Rattle.std.proofs.Common.{◌≡◌, Bool, true, false, IsTrue, refl, sym, ◌∙◌}
 use Rattle.std.specs.Prelude.{◌↔◌}
-use Rattle.wac_shapes.specs.declared.component.InterfaceId.{InterfaceId}
-use Rattle.wac_shapes.specs.declared.component.«Type».TheVariants as ty
-use Rattle.wac_reach.specs.Reach.{IsIn}
+use Rattle.wac_types_shapes.specs.declared.shapes.component.InterfaceId.{InterfaceId}
+use Rattle.wac_types_shapes.specs.declared.shapes.component.«Type».TheVariants as ty
+use Rattle.wac_types_collection.specs.reach.Reach.{IsIn}
 use Rattle.wac_writable.specs.Faults.{ListsUser, HasUnlisted}
 use Rattle.wac_writable.proofs.Dependencies.{imports_held, exports_held, first_listed, both_listed, by_uses, by_imports, by_exports, if_ok}
 use Rattle.wac_writable.proofs.unlisted.has_unlisted.Goals as goal

@@ -1,8 +1,8 @@
 use Rattle.std.proofs.Common.{ap, ◌∙◌}
-use Rattle.wac_shapes.specs.declared.component.InterfaceId.{InterfaceId}
-use Rattle.wac_shapes.specs.declared.component.«Type».TheVariants as ty
-use Rattle.wac_reach.specs.Reach.{IsIn}
-use Rattle.wac_reach.specs.Found.{with_all}
+use Rattle.wac_types_shapes.specs.declared.shapes.component.InterfaceId.{InterfaceId}
+use Rattle.wac_types_shapes.specs.declared.shapes.component.«Type».TheVariants as ty
+use Rattle.wac_types_collection.specs.reach.Reach.{IsIn}
+use Rattle.wac_types_collection.specs.private.reach.Found.{with_all}
 use Rattle.wac_writable.specs.Search.{instances_of}
 use Rattle.wac_writable.proofs.Dependencies.{instance_held, some_user, user_some}
 use Rattle.wac_writable.proofs.unlisted.lists_user.Goals as goal

@@ -1,6 +1,6 @@
 use Rattle.std.proofs.Common.{ap, sym, ◌∙◌, drop, ◌+◌}
-use Rattle.wac_reach.specs.Found.{with_all}
-use Rattle.wac_reach.proofs.Lists.{drop_second}
+use Rattle.wac_types_collection.specs.private.reach.Found.{with_all}
+use Rattle.wac_types_collection.proofs.lemmas.reach.Lists.{drop_second}
 use Rattle.wac_writable.specs.Search.{instances_of}
 use Rattle.wac_writable.proofs.Dependencies.{instance_first}
 use Rattle.wac_writable.proofs.unlisted.put_instances.Goals as goal

@@ -1,5 +1,5 @@
 use Rattle.std.proofs.Common.{◌≡◌, drop}
-use Rattle.wac_reach.specs.Found.{with_all}
+use Rattle.wac_types_collection.specs.private.reach.Found.{with_all}
 use Rattle.wac_writable.specs.Search.{instances_of}
 use Rattle.wac_writable.proofs.unlisted.put_instances.Given as goal
 

@@ -1,5 +1,5 @@
-use Rattle.wac_shapes.specs.declared.component.«Type».TheVariants as ty
-use Rattle.wac_reach.specs.Reach.{IsIn}
+use Rattle.wac_types_shapes.specs.declared.shapes.component.«Type».TheVariants as ty
+use Rattle.wac_types_collection.specs.reach.Reach.{IsIn}
 use Rattle.wac_writable.proofs.Dependencies.{uses_of_type, no_type_uses}
 use Rattle.wac_writable.proofs.unlisted.type_uses_other.Goals as goal
 

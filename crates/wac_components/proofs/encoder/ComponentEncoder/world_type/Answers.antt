@@ -1,5 +1,5 @@
 use Rattle.std.proofs.Common.{sym, subst}
-use Rattle.wac_collection.specs.Collection.{Collection}
+use Rattle.wac_types_collection.specs.collection.Collection.{Collection}
 use Rattle.wac_sorting.specs.Worlds.{SayWorlds}
 use Rattle.wac_components.proofs.encoder.ComponentEncoder.world_type.Goals as goal
 

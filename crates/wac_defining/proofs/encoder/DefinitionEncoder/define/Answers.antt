@@ -2,7 +2,7 @@ use Rattle.std.specs.Prelude.{slice_get}
 use Rattle.std.specs.Option.{option_map}
 use Rattle.std.proofs.Common.{ap, ◌∙◌}
 use Rattle.std.proofs.lemmas.Option.{slice_get-map}
-use Rattle.wac_shapes.specs.declared.component.DefinedType.{DefinedType}
+use Rattle.wac_types_shapes.specs.declared.shapes.component.DefinedType.{DefinedType}
 use Rattle.wac_listing.specs.Made.{parts, some_of, second_of, some_second_of}
 use Rattle.wac_defining.specs.Tasks.{ValueSays, FieldSays, CaseSays, IsText}
 use Rattle.wac_defining.proofs.Answering.{some-part, zip-same}

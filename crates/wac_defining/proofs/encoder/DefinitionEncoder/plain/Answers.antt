@@ -1,6 +1,6 @@
 use Rattle.std.specs.Prelude.{slice_get}
 use Rattle.std.proofs.Common.{ap, ◌∙◌}
-use Rattle.wac_shapes.specs.declared.component.DefinedType.{DefinedType}
+use Rattle.wac_types_shapes.specs.declared.shapes.component.DefinedType.{DefinedType}
 use Rattle.wac_listing.specs.Made.{parts}
 use Rattle.wac_defining.proofs.Answering.{some-part}
 use Rattle.wac_defining.proofs.Saying.{says-list, says-fixed-list, says-option, says-result, says-stream, says-future, list-by-record, fixed-list-by-record, option-by-record, result-by-record, stream-by-record, future-by-record}

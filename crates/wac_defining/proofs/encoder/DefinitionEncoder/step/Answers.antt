@@ -1,6 +1,6 @@
 use Rattle.std.specs.Prelude.{Option, List, ◌++◌, ◌∷◌, [], Ok}
 use Rattle.std.proofs.Common.{ap, sym, subst, ◌∙◌}
-use Rattle.wac_shapes.specs.declared.component.DefinedTypeId.{DefinedTypeId}
+use Rattle.wac_types_shapes.specs.declared.shapes.component.DefinedTypeId.{DefinedTypeId}
 use Rattle.wac_defining.specs.declared.task.Task.{Task}
 use Rattle.wac_defining.specs.Tasks.{IsMissing}
 use Rattle.wac_defining.proofs.Answering.{did-pass, did-put-off}

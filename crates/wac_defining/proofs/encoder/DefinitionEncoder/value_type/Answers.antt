@@ -1,5 +1,5 @@
 use Rattle.std.proofs.lemmas.Result.{err_from_is_err_and}
-use Rattle.wac_collection.specs.Aliases.{value_resolved}
+use Rattle.wac_types_collection.specs.collection.Aliases.{value_resolved}
 use Rattle.wac_binary.specs.declared.types.ComponentValType.{ComponentValType}
 use Rattle.wac_defining.specs.Written.{PartOf}
 use Rattle.wac_defining.proofs.Answering.{as-it-was, value-refused}

@@ -1,6 +1,6 @@
 use Rattle.std.specs.Prelude.{List, slice_get}
 use Rattle.std.proofs.Common.{ap, sym, ◌∙◌}
-use Rattle.wac_shapes.specs.declared.component.ValueType.{ValueType}
+use Rattle.wac_types_shapes.specs.declared.shapes.component.ValueType.{ValueType}
 use Rattle.wac_defining.specs.Tasks.{ValueSays}
 use Rattle.wac_defining.proofs.Answering.{zip-further}
 use Rattle.wac_defining.proofs.encoder.DefinitionEncoder.values.Goals as goal

@@ -1,8 +1,8 @@
 use Rattle.std.specs.Prelude.{◌<◌}
 use Rattle.std.proofs.Common.{arith}
 use Rattle.std.proofs.lemmas.Result.{err_from_is_err_and}
-use Rattle.wac_collection.specs.Collection.{seconds}
-use Rattle.wac_collection.specs.Aliases.{value_resolved}
+use Rattle.wac_types_collection.specs.collection.Collection.{seconds}
+use Rattle.wac_types_collection.specs.collection.Aliases.{value_resolved}
 use Rattle.wac_binary.specs.declared.types.ComponentValType.{ComponentValType}
 use Rattle.wac_defining.specs.Written.{PartOf, PartOfOne}
 use Rattle.wac_defining.proofs.Rows.{known-now, of-one, refused-as, row-further, row-starts, row-written, second-at, within-list}

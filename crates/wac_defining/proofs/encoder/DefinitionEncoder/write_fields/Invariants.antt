@@ -1,6 +1,6 @@
 use Rattle.std.specs.Prelude.{ℕ, ◌<◌, ◌≡◌, List, Some, slice_get}
-use Rattle.wac_shapes.specs.declared.component.ValueType.{ValueType}
-use Rattle.wac_collection.specs.Collection.{seconds}
+use Rattle.wac_types_shapes.specs.declared.shapes.component.ValueType.{ValueType}
+use Rattle.wac_types_collection.specs.collection.Collection.{seconds}
 use Rattle.wac_defining.specs.Written.{PartOfOne, IsKnown, WritesFor}
 use Rattle.wac_defining.proofs.encoder.DefinitionEncoder.write_fields.Given as goal
 

@@ -1,6 +1,6 @@
 use Rattle.std.specs.Prelude.{ℕ, Option, []}
 use Rattle.std.proofs.lemmas.Result.{err_from_is_err_and}
-use Rattle.wac_collection.specs.Collection.{and_maybe, seconds}
+use Rattle.wac_types_collection.specs.collection.Collection.{and_maybe, seconds}
 use Rattle.wac_binary.specs.declared.types.ComponentValType.{ComponentValType}
 use Rattle.wac_listing.specs.Made.{OneIsMadeOf}
 use Rattle.wac_defining.specs.Written.{PartOfOne, IsOfFunc}

@@ -1,7 +1,7 @@
 use Rattle.std.specs.Prelude.{Option, []}
 use Rattle.std.proofs.lemmas.Result.{err_from_is_err_and}
-use Rattle.wac_collection.specs.Collection.{and_maybe}
-use Rattle.wac_collection.specs.Aliases.{value_resolved}
+use Rattle.wac_types_collection.specs.collection.Collection.{and_maybe}
+use Rattle.wac_types_collection.specs.collection.Aliases.{value_resolved}
 use Rattle.wac_binary.specs.declared.types.ComponentValType.{ComponentValType}
 use Rattle.wac_defining.specs.Written.{PartOf, PartOfOne}
 use Rattle.wac_defining.proofs.Rows.{one-of, refused-as}

@@ -4,8 +4,8 @@ use Rattle.slab.specs.Slab.{Slab, get}
 use Rattle.wac_edges.specs.declared.records.Record.{Record}
 use Rattle.wac_edges.specs.declared.records.Firsts.{Firsts}
 use Rattle.wac_edges.specs.Order.{Edges}
-use Rattle.wac_edges.specs.Records.{AreListed, RiseUnless, edge_at}
-use Rattle.wac_edges.specs.Aliases.{AreNoted}
+use Rattle.wac_edges.specs.private.Records.{AreListed, RiseUnless, edge_at}
+use Rattle.wac_edges.specs.private.Aliases.{AreNoted}
 use Rattle.wac_edges.proofs.AliasLemmas.{noted_as, noted_with, listed_back}
 use Rattle.wac_edges.proofs.FallLemmas.{rise_with}
 use Rattle.wac_edges.proofs.TableLemmas.{listed_same}

@@ -1,7 +1,7 @@
 use Rattle.std.proofs.Common.{List, ap, sym, subst, ◌∙◌}
 use Rattle.slab.specs.Slab.{get}
 use Rattle.wac_edges.specs.declared.records.Firsts.{Firsts}
-use Rattle.wac_edges.specs.Records.{AreListed}
+use Rattle.wac_edges.specs.private.Records.{AreListed}
 use Rattle.wac_edges.specs.Order.{Edges}
 use Rattle.std.specs.FinSet as set
 use Rattle.wac_edges.proofs.SetLemmas.{found_is}

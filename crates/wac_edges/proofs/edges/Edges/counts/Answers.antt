@@ -3,7 +3,7 @@ use Rattle.std.specs.Prelude.{slice_index}
 use Rattle.std.proofs.lemmas.List.{with_items_is}
 use Rattle.slab.specs.Slab.{entries}
 use Rattle.wac_edges.specs.Order.{Edges}
-use Rattle.wac_edges.specs.Ready.{AreAll, leads_from, one}
+use Rattle.wac_edges.specs.private.Ready.{AreAll, leads_from, one}
 use Rattle.wac_edges.proofs.CountLemmas.{all_of_table, counted_last, counted_more, edges_of}
 use Rattle.wac_edges.proofs.edges.Edges.counts.Goals as goal
 

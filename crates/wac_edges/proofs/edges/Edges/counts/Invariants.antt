@@ -1,6 +1,6 @@
 use Rattle.std.proofs.Common.{◌≡◌, ℕ, ◌<◌, ◌+◌, length}
 use Rattle.std.specs.Prelude.{slice_index}
-use Rattle.wac_edges.specs.Ready.{incoming}
+use Rattle.wac_edges.specs.private.Ready.{incoming}
 use Rattle.wac_edges.proofs.CountLemmas.{edges_of}
 use Rattle.wac_edges.proofs.edges.Edges.counts.Given as goal
 

@@ -3,7 +3,7 @@ use Rattle.slab.specs.Slab.{get}
 use Rattle.wac_edges.specs.declared.edges.Edge.{Edge}
 use Rattle.wac_edges.specs.declared.edges.End.TheVariants.{Outgoing}
 use Rattle.wac_edges.specs.declared.records.Firsts.{Firsts}
-use Rattle.wac_edges.specs.Records.{list_at, first_at}
+use Rattle.wac_edges.specs.private.Records.{list_at, first_at}
 use Rattle.wac_edges.proofs.AliasLemmas.{noted_some, noted_node, noted_with_same, crowded_more}
 use Rattle.wac_edges.proofs.edges.Edges.crowd.Goals as goal
 

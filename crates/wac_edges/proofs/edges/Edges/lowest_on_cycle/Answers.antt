@@ -1,7 +1,7 @@
 use Rattle.std.proofs.Common.{ℕ, List, Option, sym, subst}
 use Rattle.std.specs.BTreeSet.{BTreeSet}
 use Rattle.std.specs.Option.{MatchOption}
-use Rattle.wac_cycles.specs.Cycles.{AreWithin, HasNoCycle, HasLowestOnCycle}
+use Rattle.wac_edges.specs.cycles.Cycles.{AreWithin, HasNoCycle, HasLowestOnCycle}
 use Rattle.wac_edges.proofs.TargetLemmas.{within, acyclic, lowest_of}
 use Rattle.wac_edges.proofs.edges.Edges.lowest_on_cycle.Goals as goal
 

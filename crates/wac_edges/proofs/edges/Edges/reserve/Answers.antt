@@ -1,8 +1,8 @@
 use Rattle.std.proofs.Common.{sym, subst}
 use Rattle.slab.specs.Slab.{Slab, get}
 use Rattle.wac_edges.specs.declared.records.Record.{Record}
-use Rattle.wac_edges.specs.Aliases.{AreNoted}
-use Rattle.wac_edges.specs.Records.{AreListed, RiseUnless}
+use Rattle.wac_edges.specs.private.Aliases.{AreNoted}
+use Rattle.wac_edges.specs.private.Records.{AreListed, RiseUnless}
 use Rattle.wac_edges.proofs.edges.Edges.reserve.Goals as goal
 
 pub invariant_of-self : goal.invariant_of-self

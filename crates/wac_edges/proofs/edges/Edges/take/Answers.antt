@@ -1,7 +1,7 @@
 use Rattle.std.proofs.Common.{List, ap, sym, subst, ◌∙◌}
 use Rattle.slab.specs.Slab.{get}
 use Rattle.wac_edges.specs.declared.records.Firsts.{Firsts}
-use Rattle.wac_edges.specs.Records.{AreListed}
+use Rattle.wac_edges.specs.private.Records.{AreListed}
 use Rattle.wac_edges.proofs.AliasLemmas.{noted_without, listed_back}
 use Rattle.wac_edges.proofs.FallLemmas.{rise_without}
 use Rattle.std.proofs.lemmas.Bool.{false_from_ne_true}

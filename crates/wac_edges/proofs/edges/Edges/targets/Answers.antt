@@ -2,9 +2,9 @@ use Rattle.std.proofs.Common.{◌≡◌, ◌<◌, ℕ, length, ap, ◌∙◌, su
 use Rattle.std.specs.Prelude.{◌↔◌}
 use Rattle.std.proofs.lemmas.List.{with_items_is}
 use Rattle.wac_edges.specs.Edge.{node_number}
-use Rattle.wac_cycles.specs.Cycles.{IsStep}
+use Rattle.wac_edges.specs.cycles.Cycles.{IsStep}
 use Rattle.wac_edges.specs.Order.{IsEdge}
-use Rattle.wac_edges.specs.Ends.{LeadsTo}
+use Rattle.wac_edges.specs.private.Ends.{LeadsTo}
 use Rattle.wac_edges.proofs.TargetLemmas.{next_row, step_as, leads_at}
 use Rattle.wac_edges.proofs.edges.Edges.targets.Goals as goal
 

@@ -1,7 +1,7 @@
 use Rattle.std.proofs.Common.{◌≡◌, ◌<◌, ℕ, length}
 use Rattle.std.specs.Prelude.{◌↔◌}
 use Rattle.wac_edges.specs.Edge.{node_number}
-use Rattle.wac_cycles.specs.Cycles.{IsStep}
+use Rattle.wac_edges.specs.cycles.Cycles.{IsStep}
 use Rattle.wac_edges.specs.Order.{IsEdge}
 use Rattle.wac_edges.proofs.edges.Edges.targets.Given as goal
 

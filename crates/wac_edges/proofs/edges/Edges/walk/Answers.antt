@@ -2,7 +2,7 @@ use Rattle.std.proofs.Common.{ℕ, List, map, ap, sym, subst, ◌∙◌}
 use Rattle.slab.specs.Slab.{get}
 use Rattle.wac_edges.specs.declared.edges.Edge.{Edge}
 use Rattle.wac_edges.specs.declared.records.Firsts.{Firsts}
-use Rattle.wac_edges.specs.Records.{AreListed, list_at, first_at}
+use Rattle.wac_edges.specs.private.Records.{AreListed, list_at, first_at}
 use Rattle.wac_edges.proofs.SetLemmas.{are_at}
 use Rattle.wac_edges.proofs.edges.Edges.walk.Goals as goal
 

@@ -4,8 +4,8 @@ use Rattle.std.specs.FinSet as set
 use Rattle.std.proofs.lemmas.List.Elements.{same_from_all_zip}
 use Rattle.slab.specs.Slab.{IsSlotClone, get}
 use Rattle.wac_edges.specs.Edge.{edge_cmp}
-use Rattle.wac_edges.specs.Aliases.{is_crowded}
-use Rattle.wac_edges.specs.Records.{all_edges}
+use Rattle.wac_edges.specs.private.Aliases.{is_crowded}
+use Rattle.wac_edges.specs.private.Records.{all_edges}
 use Rattle.wac_edges.proofs.AliasLemmas.{noted_with_same}
 use Rattle.wac_edges.proofs.edges.EdgesClone.clone.Goals as goal
 

@@ -1,7 +1,7 @@
 use Rattle.std.proofs.Common.{◌≡◌, ◌∷◌, length, sym, ap, ◌∙◌, subst, arith}
 use Rattle.slab.specs.Slab.{get}
 use Rattle.wac_edges.specs.declared.records.Links.{Links}
-use Rattle.wac_edges.specs.Records.{IsList, list_at}
+use Rattle.wac_edges.specs.private.Records.{IsList, list_at}
 use Rattle.wac_edges.proofs.ListLemmas.{list_step}
 use Rattle.wac_edges.proofs.walk.RecordsIterator.next.Goals as goal
 

@@ -1,6 +1,6 @@
 use Rattle.std.proofs.Common.{sym, ap, ◌∙◌}
 use Rattle.std.specs.Prelude.{List, slice_get}
-use Rattle.wac_shapes.specs.declared.component.DefinedTypeId.{DefinedTypeId}
+use Rattle.wac_types_shapes.specs.declared.shapes.component.DefinedTypeId.{DefinedTypeId}
 use Rattle.wac_defining.proofs.Answering.{as-it-was}
 use Rattle.wac_encode.proofs.Around.{aliasing-none, are-of-items, all-aliased-of, made-shown}
 use Rattle.wac_encode.proofs.encoder.TypeEncoder.alias_listed.Goals as goal

@@ -1,6 +1,6 @@
 use Rattle.std.specs.Prelude.{OnOk}
 use Rattle.std.proofs.Common.{subst}
-use Rattle.wac_collection.specs.Collection.{Collection}
+use Rattle.wac_types_collection.specs.collection.Collection.{Collection}
 use Rattle.wac_defining.specs.Tasks.{AliasesOne}
 use Rattle.wac_encode.proofs.encoder.TypeEncoder.alias_one.Goals as goal
 

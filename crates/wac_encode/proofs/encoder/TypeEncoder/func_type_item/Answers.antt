@@ -1,7 +1,7 @@
 use Rattle.std.specs.Prelude.{ℕ}
 use Rattle.std.proofs.lemmas.Result.{err_from_is_err_and}
-use Rattle.wac_shapes.specs.declared.component.ItemKind.TheVariants as kind
-use Rattle.wac_shapes.specs.declared.component.«Type».TheVariants as ty
+use Rattle.wac_types_shapes.specs.declared.shapes.component.ItemKind.TheVariants as kind
+use Rattle.wac_types_shapes.specs.declared.shapes.component.«Type».TheVariants as ty
 use Rattle.wac_binary.specs.declared.sorts.Description.TheVariants as e
 use Rattle.wac_encode.proofs.Listed.{function-type-listed, still-open}
 use Rattle.wac_encode.proofs.Naming.{function-type-wrote, function-type-refused, export-refused}

@@ -1,6 +1,6 @@
 use Rattle.std.specs.Prelude.{ℕ, suc, ◌≡◌, ◌-◌, [], ◌∷◌, ◌++◌}
 use Rattle.std.proofs.Common.{ap, ◌∙◌, sym, arith, drop}
-use Rattle.wac_primitives.specs.Name.{Name}
+use Rattle.wac_types_shapes.specs.primitives.Name.{Name}
 use Rattle.wac_encode.specs.Instances.{listed_definitions}
 use Rattle.wac_encode.proofs.Aliasing.{one-listed, none-listed, all-dropped}
 use Rattle.wac_encode.proofs.encoder.TypeEncoder.listed_definitions.Goals as goal

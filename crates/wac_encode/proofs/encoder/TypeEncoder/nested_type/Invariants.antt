@@ -1,4 +1,4 @@
-use Rattle.wac_collection.specs.Collection.{size}
+use Rattle.wac_types_collection.specs.collection.Collection.{size}
 use Rattle.wac_encode.specs.Levels.{IsChain}
 use Rattle.wac_planning.specs.Plans.{places_of}
 use Rattle.wac_encode.specs.Plans.{IsAtPlace, AreAtPlaces}

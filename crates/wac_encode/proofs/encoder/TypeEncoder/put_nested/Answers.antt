@@ -2,10 +2,10 @@ use Rattle.std.specs.Prelude.{◌≡◌, List, Option, Some, Err, slice_get}
 use Rattle.std.specs.Borrow.{Bor}
 use Rattle.std.proofs.Common.{ℕ, sym, subst, ◌∙◌}
 use Rattle.std.proofs.lemmas.Result.{err_from_is_err_and}
-use Rattle.wac_primitives.specs.Name.{Name}
-use Rattle.wac_shapes.specs.Named.{named_pairs}
-use Rattle.wac_shapes.specs.declared.component.ItemKind.{ItemKind}
-use Rattle.wac_shapes.proofs.Names.{named_pairs-at}
+use Rattle.wac_types_shapes.specs.primitives.Name.{Name}
+use Rattle.wac_types_shapes.specs.shapes.Named.{named_pairs}
+use Rattle.wac_types_shapes.specs.declared.shapes.component.ItemKind.{ItemKind}
+use Rattle.wac_types_shapes.proofs.lemmas.shapes.Names.{named_pairs-at}
 use Rattle.wac_encode.specs.Levels.{PutsItem, ItemNotPut}
 use Rattle.wac_encode.proofs.encoder.TypeEncoder.put_nested.Goals as goal
 

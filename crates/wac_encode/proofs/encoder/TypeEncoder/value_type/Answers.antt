@@ -1,7 +1,7 @@
 use Rattle.std.specs.Prelude.{IfOk}
 use Rattle.std.proofs.Common.{subst}
-use Rattle.wac_collection.specs.Collection.{Collection}
-use Rattle.wac_collection.specs.Aliases.{value_resolved}
+use Rattle.wac_types_collection.specs.collection.Collection.{Collection}
+use Rattle.wac_types_collection.specs.collection.Aliases.{value_resolved}
 use Rattle.wac_defining.specs.Written.{PartOf, WritesFor, Says, IsByRecord, IsRefused}
 use Rattle.wac_encode.proofs.encoder.TypeEncoder.value_type.Goals as goal
 

@@ -1,11 +1,11 @@
 use Rattle.std.proofs.Common.{◌≡◌, ap, refl, subst, ◌∙◌, arith, string_bytes}
 use Rattle.std.specs.String.{string_eq}
 use Rattle.indexmap.specs.IndexMap.{insert_entry}
-use Rattle.wac_fields.proofs.GraphLemmas.{with_brought}
-use Rattle.wac_fields.specs.Fields.{graph_of}
-use Rattle.wac_fields.proofs.AliasLemmas.{before_reserve, vacant_before}
-use Rattle.wac_fields.proofs.DefinitionLemmas.{defines, invariant_defined}
-use Rattle.wac_graph.specs.Inside.{fields_of}
+use Rattle.wac_graph_fields.proofs.GraphLemmas.{with_brought}
+use Rattle.wac_graph_fields.specs.private.Fields.{graph_of}
+use Rattle.wac_graph_fields.proofs.AliasLemmas.{before_reserve, vacant_before}
+use Rattle.wac_graph_fields.proofs.DefinitionLemmas.{defines, invariant_defined}
+use Rattle.wac_graph.specs.private.Inside.{fields_of}
 use Rattle.wac_graph.proofs.DefiningLemmas.{of_ok, same_nodes, roomy_held, roomy_bare, roomy_invariant}
 use Rattle.wac_graph.proofs.graph.CompositionGraph.add_definition.Goals as goal
 

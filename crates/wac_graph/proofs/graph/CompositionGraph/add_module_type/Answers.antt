@@ -1,6 +1,6 @@
-use Rattle.wac_nodes.proofs.ExtendsLemmas.{extends_module, extends_result}
-use Rattle.wac_fields.proofs.InvariantLemmas.{invariant_types}
-use Rattle.wac_graph.specs.Inside.{fields_of}
+use Rattle.wac_graph_model.proofs.lemmas.nodes.ExtendsLemmas.{extends_module, extends_result}
+use Rattle.wac_graph_fields.proofs.InvariantLemmas.{invariant_types}
+use Rattle.wac_graph.specs.private.Inside.{fields_of}
 use Rattle.wac_graph.proofs.graph.CompositionGraph.add_module_type.Goals as goal
 
 pub invariant_of-self : goal.invariant_of-self

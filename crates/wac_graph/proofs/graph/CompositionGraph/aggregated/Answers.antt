@@ -1,10 +1,10 @@
 use Rattle.std.proofs.Common.{◌≡◌, ap, sym, subst, map}
 use Rattle.std.specs.List.{AllByRecursion}
-use Rattle.wac_collection.specs.Collection.{Collection}
-use Rattle.wac_nodes.specs.Asked.{Entry}
-use Rattle.wac_fields.specs.EntriesLeft.{entry_view, IsHeldKind}
-use Rattle.wac_nodes.specs.Graph.{Graph}
-use Rattle.wac_places.proofs.MergeLemmas.{all_index}
+use Rattle.wac_types_collection.specs.collection.Collection.{Collection}
+use Rattle.wac_graph_model.specs.nodes.Asked.{Entry}
+use Rattle.wac_graph_fields.specs.private.EntriesLeft.{entry_view, IsHeldKind}
+use Rattle.wac_graph_model.specs.nodes.Graph.{Graph}
+use Rattle.wac_graph_encode.proofs.lemmas.places.MergeLemmas.{all_index}
 use Rattle.wac_graph.proofs.graph.CompositionGraph.aggregated.Goals as goal
 
 pub aggregate-requires : goal.aggregate-requires

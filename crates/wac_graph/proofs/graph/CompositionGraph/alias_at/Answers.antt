@@ -1,8 +1,8 @@
 use Rattle.std.proofs.Common.{ap, ◌∙◌}
-use Rattle.wac_nodes.specs.Nodes.{satisfied}
-use Rattle.wac_nodes.proofs.NodeLemmas.{there}
-use Rattle.wac_fields.proofs.AliasLemmas.{already, aliased, invariant_aliased, before_reserve, vacant_before, alias_stands, alias_made}
-use Rattle.wac_graph.specs.Inside.{fields_of}
+use Rattle.wac_graph_model.specs.nodes.Nodes.{satisfied}
+use Rattle.wac_graph_model.proofs.lemmas.nodes.NodeLemmas.{there}
+use Rattle.wac_graph_fields.proofs.AliasLemmas.{already, aliased, invariant_aliased, before_reserve, vacant_before, alias_stands, alias_made}
+use Rattle.wac_graph.specs.private.Inside.{fields_of}
 use Rattle.wac_graph.proofs.CheckedLemmas.{found_export}
 use Rattle.wac_graph.proofs.graph.CompositionGraph.alias_at.Goals as goal
 

@@ -1,6 +1,6 @@
-use Rattle.wac_nodes.specs.Steps.{Aliases}
-use Rattle.wac_nodes.specs.Graph.{node_at}
-use Rattle.wac_nodes.specs.declared.errors.AliasError.TheVariants.{OutOfMemory}
+use Rattle.wac_graph_model.specs.nodes.Steps.{Aliases}
+use Rattle.wac_graph_model.specs.nodes.Graph.{node_at}
+use Rattle.wac_graph_model.specs.declared.nodes.errors.AliasError.TheVariants.{OutOfMemory}
 use Rattle.std.proofs.Common.{◌≡◌}
 use Rattle.wac_graph.proofs.CheckedLemmas.{handed_on, whatever}
 use Rattle.wac_graph.proofs.graph.CompositionGraph.alias_instance_export.Goals as goal

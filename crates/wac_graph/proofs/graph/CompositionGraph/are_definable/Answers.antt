@@ -2,11 +2,11 @@ use Rattle.std.proofs.Common.{◌≡◌, ◌<◌, Ok, IfSome, ap, ◌∙◌, ari
 use Rattle.std.specs.Prelude.{IsSomeAnd}
 use Rattle.wac_edges.specs.declared.node.NodeId.{NodeId}
 use Rattle.wac_edges.specs.Edge.{node_number}
-use Rattle.wac_nodes.specs.Graph.{Graph, GraphNode, node_at, definition}
-use Rattle.wac_causes.specs.NotYet.{AllDefinable}
-use Rattle.wac_meaning.specs.Importable.{IsDefinableKind}
-use Rattle.wac_writing.proofs.EncodingLemmas.{all_nodes, one_undefined}
-use Rattle.wac_graph.specs.Inside.{fields_of}
+use Rattle.wac_graph_model.specs.nodes.Graph.{Graph, GraphNode, node_at, definition}
+use Rattle.wac_graph_model.specs.causes.NotYet.{AllDefinable}
+use Rattle.wac_graph_model.specs.meaning.Importable.{IsDefinableKind}
+use Rattle.wac_graph_reader.proofs.lemmas.writing.EncodingLemmas.{all_nodes, one_undefined}
+use Rattle.wac_graph.specs.private.Inside.{fields_of}
 use Rattle.wac_graph.proofs.graph.CompositionGraph.are_definable.Goals as goal
 
 abbrev IsWritten : Graph → GraphNode → Type 0

@@ -1,8 +1,8 @@
 use Rattle.std.proofs.Common.{◌≡◌, ◌<◌, IfSome}
 use Rattle.wac_edges.specs.declared.node.NodeId.{NodeId}
-use Rattle.wac_nodes.specs.Graph.{node_at, definition}
+use Rattle.wac_graph_model.specs.nodes.Graph.{node_at, definition}
 use Rattle.wac_importable.specs.Looked.{AreFree}
-use Rattle.wac_meaning.specs.Importable.{IsDefinableKind}
+use Rattle.wac_graph_model.specs.meaning.Importable.{IsDefinableKind}
 use Rattle.wac_graph.proofs.graph.CompositionGraph.are_definable.Given as goal
 
 abbrev pub invariant-loop-n : goal.invariant-loop-n

@@ -1,8 +1,8 @@
 use Rattle.std.proofs.Common.{◌≡◌, ◌++◌, ◌∙◌, ap, arith, subst, take}
 use Rattle.std.specs.List.{flat_map}
 use Rattle.std.proofs.lemmas.List.{take_all}
-use Rattle.wac_fields.specs.EntriesLeft.{entries_of, asked_at, all_asked_by, all_with_used, AsksAlike}
-use Rattle.wac_writing.proofs.AskingWalk.{nothing_asked}
+use Rattle.wac_graph_fields.specs.private.EntriesLeft.{entries_of, asked_at, all_asked_by, all_with_used, AsksAlike}
+use Rattle.wac_graph_reader.proofs.lemmas.writing.AskingWalk.{nothing_asked}
 use Rattle.wac_graph.proofs.OpenLemmas.{listed_asked, open_asked}
 use Rattle.wac_graph.proofs.graph.CompositionGraph.ask_instantiations.Goals as goal
 

@@ -1,6 +1,6 @@
 use Rattle.std.proofs.Common.{◌++◌, [], take}
 use Rattle.std.specs.List.{flat_map}
-use Rattle.wac_fields.specs.EntriesLeft.{entries_of, asked_at, all_with_used, IsRight, AreSettled, AsksAlike}
+use Rattle.wac_graph_fields.specs.private.EntriesLeft.{entries_of, asked_at, all_with_used, IsRight, AreSettled, AsksAlike}
 use Rattle.wac_graph.proofs.graph.CompositionGraph.ask_instantiations.Given as goal
 
 abbrev pub invariant-loop-n : goal.invariant-loop-n

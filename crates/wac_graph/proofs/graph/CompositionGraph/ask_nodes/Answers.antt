@@ -1,19 +1,19 @@
 use Rattle.std.proofs.Common.{◌≡◌, ◌++◌, [], ◌+◌, ap, sym, subst, arith}
 use Rattle.std.specs.List.{flat_map, range_with_len}
 use Rattle.std.proofs.lemmas.List.{append-nil}
-use Rattle.wac_primitives.specs.Name.{Name}
+use Rattle.wac_types_shapes.specs.primitives.Name.{Name}
 use Rattle.wac_edges.specs.declared.node.NodeId.{NodeId}
-use Rattle.wac_collection.specs.Collection.{Collection}
-use Rattle.wac_fields.specs.declared.asked.Asking.{Asking}
-use Rattle.wac_nodes.specs.Asked.{Entry}
-use Rattle.wac_nodes.specs.Entries.{with_used}
-use Rattle.wac_nodes.specs.Graph.{Graph, IsImportOf}
-use Rattle.wac_fields.proofs.EntryLists.{stands_itself}
-use Rattle.wac_fields.specs.EntriesLeft.{entries_of, imported_at, all_imported_by, all_with_used, IsRight, IsHeldKind, AreSettled, AsksAlike}
-use Rattle.wac_nodes.specs.Sound.{IsSound}
-use Rattle.wac_writing.proofs.AskingWalk.{nothing_asked, number_asked, number_passed, one_number, asked_node, no_node, all_imported}
-use Rattle.wac_graph.specs.Inside.{fields_of}
-use Rattle.wac_writing.proofs.NoImportLemmas.{no_import}
+use Rattle.wac_types_collection.specs.collection.Collection.{Collection}
+use Rattle.wac_graph_fields.specs.declared.asked.Asking.{Asking}
+use Rattle.wac_graph_model.specs.nodes.Asked.{Entry}
+use Rattle.wac_graph_model.specs.nodes.Entries.{with_used}
+use Rattle.wac_graph_model.specs.nodes.Graph.{Graph, IsImportOf}
+use Rattle.wac_graph_fields.proofs.EntryLists.{stands_itself}
+use Rattle.wac_graph_fields.specs.private.EntriesLeft.{entries_of, imported_at, all_imported_by, all_with_used, IsRight, IsHeldKind, AreSettled, AsksAlike}
+use Rattle.wac_graph_model.specs.nodes.Sound.{IsSound}
+use Rattle.wac_graph_reader.proofs.lemmas.writing.AskingWalk.{nothing_asked, number_asked, number_passed, one_number, asked_node, no_node, all_imported}
+use Rattle.wac_graph.specs.private.Inside.{fields_of}
+use Rattle.wac_graph_reader.proofs.lemmas.writing.NoImportLemmas.{no_import}
 use Rattle.wac_graph.proofs.WantedAskedLemmas.{none_imported}
 use Rattle.wac_graph.proofs.graph.CompositionGraph.ask_nodes.Goals as goal
 use Rattle.wac_graph.proofs.graph.CompositionGraph.ask_nodes.Goals.{in-Some+in_ok-ask, in_default}

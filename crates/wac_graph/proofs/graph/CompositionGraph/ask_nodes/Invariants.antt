@@ -1,6 +1,6 @@
 use Rattle.std.proofs.Common.{◌++◌, []}
 use Rattle.std.specs.List.{flat_map, range_with_len}
-use Rattle.wac_fields.specs.EntriesLeft.{entries_of, imported_at, all_with_used, IsRight, AreSettled, AsksAlike}
+use Rattle.wac_graph_fields.specs.private.EntriesLeft.{entries_of, imported_at, all_with_used, IsRight, AreSettled, AsksAlike}
 use Rattle.wac_graph.proofs.graph.CompositionGraph.ask_nodes.Given as goal
 
 abbrev pub invariant-loop-node : goal.invariant-loop-node

@@ -1,13 +1,13 @@
 use Rattle.std.proofs.Common.{◌≡◌, ◌++◌, map, ap, subst}
 use Rattle.std.specs.List.{AllByRecursion}
-use Rattle.wac_collection.specs.Collection.{Collection, IsWellFormed}
+use Rattle.wac_types_collection.specs.collection.Collection.{Collection, IsWellFormed}
 use Rattle.wac_edges.specs.Edge.{node_number}
-use Rattle.wac_nodes.specs.Graph.{Graph, node_at}
-use Rattle.wac_nodes.specs.Asked.{Entry}
-use Rattle.wac_nodes.specs.Entries.{with_used}
-use Rattle.wac_fields.specs.EntriesLeft.{entries_of, row_entry, left_entries, asked_at, all_with_used, IsHeldKind, AsksAlike}
-use Rattle.wac_fields.proofs.EntryLists.{stands_itself}
-use Rattle.wac_writing.proofs.AskingWalk.{first_entries, first_held, one_asked}
+use Rattle.wac_graph_model.specs.nodes.Graph.{Graph, node_at}
+use Rattle.wac_graph_model.specs.nodes.Asked.{Entry}
+use Rattle.wac_graph_model.specs.nodes.Entries.{with_used}
+use Rattle.wac_graph_fields.specs.private.EntriesLeft.{entries_of, row_entry, left_entries, asked_at, all_with_used, IsHeldKind, AsksAlike}
+use Rattle.wac_graph_fields.proofs.EntryLists.{stands_itself}
+use Rattle.wac_graph_reader.proofs.lemmas.writing.AskingWalk.{first_entries, first_held, one_asked}
 use Rattle.wac_graph.proofs.graph.CompositionGraph.ask_unset.Goals as goal
 
 pub loop-behind-init : goal.loop-behind-init

@@ -1,9 +1,9 @@
 use Rattle.std.proofs.Common.{◌++◌, [], length}
 use Rattle.std.specs.List.{AllByRecursion}
 use Rattle.wac_edges.specs.Edge.{node_number}
-use Rattle.wac_nodes.specs.Graph.{node_at}
-use Rattle.wac_fields.specs.ImportsLeft.{node_left}
-use Rattle.wac_fields.specs.EntriesLeft.{entries_of, left_entries, asked_at, all_with_used, IsRight, IsHeldKind, AreSettled, AsksAlike}
+use Rattle.wac_graph_model.specs.nodes.Graph.{node_at}
+use Rattle.wac_graph_fields.specs.private.ImportsLeft.{node_left}
+use Rattle.wac_graph_fields.specs.private.EntriesLeft.{entries_of, left_entries, asked_at, all_with_used, IsRight, IsHeldKind, AreSettled, AsksAlike}
 use Rattle.wac_graph.proofs.graph.CompositionGraph.ask_unset.Given as goal
 
 abbrev pub invariant-loop-behind : goal.invariant-loop-behind

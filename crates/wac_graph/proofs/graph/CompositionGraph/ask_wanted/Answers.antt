@@ -1,17 +1,17 @@
 use Rattle.std.proofs.Common.{◌≡◌, ◌++◌, [], ◌∷◌, OnOk, ap, sym, ◌∙◌, subst}
-use Rattle.wac_collection.specs.Collection.{Collection}
-use Rattle.wac_nodes.specs.Graph as graph
-use Rattle.wac_nodes.specs.Graph.{Graph}
-use Rattle.wac_nodes.specs.Nodes.{kind_of}
-use Rattle.wac_nodes.specs.Asked.{Entry}
-use Rattle.wac_nodes.specs.Entries.{with_used}
-use Rattle.wac_fields.specs.EntriesLeft.{entries_of, all_with_used, asked_at, AsksAlike}
-use Rattle.wac_fields.proofs.AskingTasks.{on_ok}
-use Rattle.wac_causes.specs.TypeFaults.{wanted_at}
-use Rattle.wac_writing.proofs.AskingWalk.{one_number}
-use Rattle.wac_writing.proofs.WantedLemmas.{none_wanted, node_wanted, instantiation_wanted, nothing_wanted}
-use Rattle.wac_writing.proofs.WriteDefinitionLemmas.{item_held}
-use Rattle.wac_graph.specs.Inside.{fields_of}
+use Rattle.wac_types_collection.specs.collection.Collection.{Collection}
+use Rattle.wac_graph_model.specs.nodes.Graph as graph
+use Rattle.wac_graph_model.specs.nodes.Graph.{Graph}
+use Rattle.wac_graph_model.specs.nodes.Nodes.{kind_of}
+use Rattle.wac_graph_model.specs.nodes.Asked.{Entry}
+use Rattle.wac_graph_model.specs.nodes.Entries.{with_used}
+use Rattle.wac_graph_fields.specs.private.EntriesLeft.{entries_of, all_with_used, asked_at, AsksAlike}
+use Rattle.wac_graph_fields.proofs.AskingTasks.{on_ok}
+use Rattle.wac_graph_model.specs.causes.TypeFaults.{wanted_at}
+use Rattle.wac_graph_reader.proofs.lemmas.writing.AskingWalk.{one_number}
+use Rattle.wac_graph_reader.proofs.lemmas.writing.WantedLemmas.{none_wanted, node_wanted, instantiation_wanted, nothing_wanted}
+use Rattle.wac_graph_reader.proofs.lemmas.writing.WriteDefinitionLemmas.{item_held}
+use Rattle.wac_graph.specs.private.Inside.{fields_of}
 use Rattle.wac_graph.proofs.graph.CompositionGraph.ask_wanted.Goals as goal
 
 pub returns-in_default-clause-stands : goal.returns-in_default-clause-stands

@@ -1,8 +1,8 @@
 use Rattle.std.proofs.Common.{◌++◌, ◌∙◌, subst}
-use Rattle.wac_nodes.specs.Asked.{asked}
-use Rattle.wac_fields.specs.EntriesLeft.{entries_of, all_asked_by, all_with_used, AsksAlike}
-use Rattle.wac_fields.proofs.EntryLists.{stands_once}
-use Rattle.wac_writing.proofs.AskingWalk.{both_asked}
+use Rattle.wac_graph_model.specs.nodes.Asked.{asked}
+use Rattle.wac_graph_fields.specs.private.EntriesLeft.{entries_of, all_asked_by, all_with_used, AsksAlike}
+use Rattle.wac_graph_fields.proofs.EntryLists.{stands_once}
+use Rattle.wac_graph_reader.proofs.lemmas.writing.AskingWalk.{both_asked}
 use Rattle.wac_graph.proofs.graph.CompositionGraph.asked_entries.Goals as goal
 
 pub returns : goal.returns

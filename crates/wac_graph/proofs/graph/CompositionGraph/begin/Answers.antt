@@ -1,13 +1,13 @@
 use Rattle.std.proofs.Common.{◌≡◌, Ok, ap, inl, ◌∙◌}
-use Rattle.wac_causes.specs.NotYet.{AllImportable, undefined_components, undefined_type, unwritten}
-use Rattle.wac_meaning.specs.Beginning.{Begins}
-use Rattle.wac_meaning.specs.MergedImports.{merged_imports, AreOfSorts}
-use Rattle.wac_nodes.specs.declared.options.EncodeOptions.{EncodeOptions}
-use Rattle.wac_writing.specs.Refused.{IsRefusedBefore}
-use Rattle.wac_importing.specs.declared.written.WrittenImports.{WrittenImports}
-use Rattle.wac_writing.proofs.CauseLemmas.{at_not_yet, begin_refused, exit_cause, nothing_left}
-use Rattle.wac_writing.proofs.MeansLemmas.{when_none, when_some}
-use Rattle.wac_places.proofs.OuterNameLemmas.{merged_count}
+use Rattle.wac_graph_model.specs.causes.NotYet.{AllImportable, undefined_components, undefined_type, unwritten}
+use Rattle.wac_graph_model.specs.private.meaning.Beginning.{Begins}
+use Rattle.wac_graph_model.specs.private.meaning.MergedImports.{merged_imports, AreOfSorts}
+use Rattle.wac_graph_model.specs.declared.nodes.options.EncodeOptions.{EncodeOptions}
+use Rattle.wac_graph_reader.specs.private.writing.Refused.{IsRefusedBefore}
+use Rattle.wac_graph_encode.specs.declared.importing.written.WrittenImports.{WrittenImports}
+use Rattle.wac_graph_reader.proofs.lemmas.writing.CauseLemmas.{at_not_yet, begin_refused, exit_cause, nothing_left}
+use Rattle.wac_graph_reader.proofs.lemmas.writing.MeansLemmas.{when_none, when_some}
+use Rattle.wac_graph_encode.proofs.lemmas.places.OuterNameLemmas.{merged_count}
 use Rattle.wac_graph.proofs.graph.CompositionGraph.begin.Goals as goal
 use Rattle.wac_graph.proofs.graph.CompositionGraph.begin.Goals.{then-not-define_components-via-then-not-define_components, then-not-define_components-via-else-not-define_components+in_ok-are_definable+then-not-branch}
 

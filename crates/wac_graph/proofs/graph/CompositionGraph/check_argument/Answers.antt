@@ -1,9 +1,9 @@
 use Rattle.std.proofs.Common.{refl, subst, sym}
-use Rattle.wac_shapes.specs.declared.component.ItemKind.{ItemKind}
-use Rattle.wac_subtyping.specs.Subtype.{IsSubtype}
-use Rattle.wac_nodes.proofs.NodeLemmas.{there}
-use Rattle.wac_fields.proofs.ArgumentLemmas.{held_node, mismatch, fits}
-use Rattle.wac_graph.specs.Inside.{fields_of}
+use Rattle.wac_types_shapes.specs.declared.shapes.component.ItemKind.{ItemKind}
+use Rattle.wac_types_collection.specs.subtyping.Subtype.{IsSubtype}
+use Rattle.wac_graph_model.proofs.lemmas.nodes.NodeLemmas.{there}
+use Rattle.wac_graph_fields.proofs.ArgumentLemmas.{held_node, mismatch, fits}
+use Rattle.wac_graph.specs.private.Inside.{fields_of}
 use Rattle.wac_graph.proofs.graph.CompositionGraph.check_argument.Goals as goal
 
 pub index-requires : goal.index-requires

@@ -1,11 +1,11 @@
 use Rattle.std.proofs.Common.{lit<, ℕ, ◌<◌, arith, below_more, inr, subst, sym}
-use Rattle.wac_primitives.specs.Name.{Name}
+use Rattle.wac_types_shapes.specs.primitives.Name.{Name}
 use Rattle.wac_edges.specs.declared.node.NodeId.{NodeId}
-use Rattle.wac_causes.specs.Cause.{IsConflict, HasNoConflict, conflict}
+use Rattle.wac_graph_model.specs.causes.Cause.{IsConflict, HasNoConflict, conflict}
 use Rattle.wac_edges.specs.Edge.{node_number}
-use Rattle.wac_writing.proofs.ConflictLemmas.{is_lowest, no_conflict}
-use Rattle.wac_causes.proofs.StandsLemmas.{stands_conflict}
-use Rattle.wac_graph.specs.Inside.{fields_of}
+use Rattle.wac_graph_reader.proofs.lemmas.writing.ConflictLemmas.{is_lowest, no_conflict}
+use Rattle.wac_graph_model.proofs.lemmas.causes.StandsLemmas.{stands_conflict}
+use Rattle.wac_graph.specs.private.Inside.{fields_of}
 use Rattle.wac_graph.proofs.ConflictFreeLemmas.{no_imports}
 use Rattle.wac_graph.proofs.graph.CompositionGraph.check_conflicts.Goals as goal
 

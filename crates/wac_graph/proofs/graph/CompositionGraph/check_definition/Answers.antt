@@ -2,12 +2,12 @@ use Rattle.std.proofs.Common.{ap, sym, refl, subst, ◌∙◌, MatchOption, is_s
 use Rattle.std.proofs.lemmas.Result.{err_from_is_err_and}
 use Rattle.wac_names.specs.Faults.{HasFault}
 use Rattle.wac_edges.specs.Edge.{node_number}
-use Rattle.wac_nodes.specs.Definitions.{IsResource}
-use Rattle.wac_nodes.specs.ExternName.{IsImportName}
-use Rattle.wac_nodes.proofs.NodeLemmas.{lookup_text}
-use Rattle.wac_fields.proofs.GraphLemmas.{defined_there, defined_nowhere}
-use Rattle.wac_fields.specs.Fields.{graph_of}
-use Rattle.wac_graph.specs.Inside.{fields_of}
+use Rattle.wac_graph_model.specs.nodes.Definitions.{IsResource}
+use Rattle.wac_graph_model.specs.nodes.ExternName.{IsImportName}
+use Rattle.wac_graph_model.proofs.lemmas.nodes.NodeLemmas.{lookup_text}
+use Rattle.wac_graph_fields.proofs.GraphLemmas.{defined_there, defined_nowhere}
+use Rattle.wac_graph_fields.specs.private.Fields.{graph_of}
+use Rattle.wac_graph.specs.private.Inside.{fields_of}
 use Rattle.wac_graph.proofs.DefiningLemmas.{no_resource}
 use Rattle.wac_graph.proofs.graph.CompositionGraph.check_definition.Goals as goal
 

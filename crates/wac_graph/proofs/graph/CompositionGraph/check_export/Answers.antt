@@ -1,6 +1,6 @@
 use Rattle.std.proofs.Common.{refl, sym, subst, MatchOption}
-use Rattle.wac_nodes.specs.ExternName.{IsExportName, HasExportFault}
-use Rattle.wac_nodes.proofs.NodeLemmas.{lookup_text}
+use Rattle.wac_graph_model.specs.nodes.ExternName.{IsExportName, HasExportFault}
+use Rattle.wac_graph_model.proofs.lemmas.nodes.NodeLemmas.{lookup_text}
 use Rattle.wac_graph.proofs.graph.CompositionGraph.check_export.Goals as goal
 
 pub returns-in-Some-clause-refused : goal.returns-in-Some-clause-refused

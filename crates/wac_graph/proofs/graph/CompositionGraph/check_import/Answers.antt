@@ -1,8 +1,8 @@
 use Rattle.std.proofs.Common.{refl, sym, subst, MatchOption}
 use Rattle.wac_names.specs.Faults.{HasFault}
-use Rattle.wac_nodes.specs.ExternName.{IsImportName}
-use Rattle.wac_fields.proofs.ImportLemmas.{imported_already, not_imported}
-use Rattle.wac_graph.specs.Inside.{fields_of}
+use Rattle.wac_graph_model.specs.nodes.ExternName.{IsImportName}
+use Rattle.wac_graph_fields.proofs.ImportLemmas.{imported_already, not_imported}
+use Rattle.wac_graph.specs.private.Inside.{fields_of}
 use Rattle.wac_graph.proofs.graph.CompositionGraph.check_import.Goals as goal
 
 pub returns-in-Some-clause-refused : goal.returns-in-Some-clause-refused

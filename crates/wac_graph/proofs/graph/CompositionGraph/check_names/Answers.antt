@@ -1,15 +1,15 @@
 -- A refusal names the one fault of the names of the imports and exports.
 use Rattle.std.proofs.Common.{◌≡◌, List, IsTrue, ap, ◌∙◌, subst}
-use Rattle.wac_primitives.specs.Name.{Name}
-use Rattle.wac_validation.specs.FirstFault.{IsFirstFault, IsRefusal}
-use Rattle.wac_validation.specs.Valid.{AreValid}
-use Rattle.wac_validation.specs.Views.{texts}
-use Rattle.wac_causes.specs.Faults.{validation_failure}
-use Rattle.wac_causes.specs.OuterNames.{written_exports}
-use Rattle.wac_causes.specs.Search.{NamesFault}
-use Rattle.wac_places.specs.Places.{names_of}
-use Rattle.wac_writing.proofs.CauseLemmas.{exit_cause}
-use Rattle.wac_places.proofs.OuterNameLemmas.{refusal_names, entry_names}
+use Rattle.wac_types_shapes.specs.primitives.Name.{Name}
+use Rattle.wac_names.specs.validation.FirstFault.{IsFirstFault, IsRefusal}
+use Rattle.wac_names.specs.validation.Valid.{AreValid}
+use Rattle.wac_names.specs.private.validation.Views.{texts}
+use Rattle.wac_graph_model.specs.private.causes.Faults.{validation_failure}
+use Rattle.wac_graph_model.specs.causes.OuterNames.{written_exports}
+use Rattle.wac_graph_model.specs.private.causes.Search.{NamesFault}
+use Rattle.wac_graph_encode.specs.private.places.Places.{names_of}
+use Rattle.wac_graph_reader.proofs.lemmas.writing.CauseLemmas.{exit_cause}
+use Rattle.wac_graph_encode.proofs.lemmas.places.OuterNameLemmas.{refusal_names, entry_names}
 use Rattle.wac_graph.proofs.graph.CompositionGraph.check_names.Goals as goal
 
 pub returns-in_err-validate-clause-fault : goal.returns-in_err-validate-clause-fault

@@ -3,18 +3,18 @@ use Rattle.std.specs.Prelude.{slice_get}
 use Rattle.std.specs.Option.{option_map}
 use Rattle.std.proofs.lemmas.Option.{slice_get-map, slice_get_read, slice_get_within}
 use Rattle.std.proofs.lemmas.List.{length-map}
-use Rattle.wac_collection.specs.Collection.{IsWellFormed}
+use Rattle.wac_types_collection.specs.collection.Collection.{IsWellFormed}
 use Rattle.wac_edges.specs.Edge.{node_number}
-use Rattle.wac_nodes.specs.Asked.{Entry}
-use Rattle.wac_nodes.specs.Graph.{Graph}
-use Rattle.wac_fields.specs.declared.asked.AskedEntry.{AskedEntry}
-use Rattle.wac_fields.specs.EntriesLeft.{entry_view, IsHeldKind}
+use Rattle.wac_graph_model.specs.nodes.Asked.{Entry}
+use Rattle.wac_graph_model.specs.nodes.Graph.{Graph}
+use Rattle.wac_graph_fields.specs.declared.asked.AskedEntry.{AskedEntry}
+use Rattle.wac_graph_fields.specs.private.EntriesLeft.{entry_view, IsHeldKind}
 use Rattle.wac_writable.specs.Faults.{IsLowest}
-use Rattle.wac_causes.specs.TypeFaults.{wanted_entries, IsEntryFault}
-use Rattle.wac_writing.proofs.AskedHeld.{held_wanted}
-use Rattle.wac_writing.proofs.CauseLemmas.{at_type_fault}
-use Rattle.wac_places.proofs.MergeLemmas.{all_slice}
-use Rattle.wac_writing.proofs.WantedLemmas.{none_before_next, first_fault}
+use Rattle.wac_graph_model.specs.causes.TypeFaults.{wanted_entries, IsEntryFault}
+use Rattle.wac_graph_reader.proofs.lemmas.writing.AskedHeld.{held_wanted}
+use Rattle.wac_graph_reader.proofs.lemmas.writing.CauseLemmas.{at_type_fault}
+use Rattle.wac_graph_encode.proofs.lemmas.places.MergeLemmas.{all_slice}
+use Rattle.wac_graph_reader.proofs.lemmas.writing.WantedLemmas.{none_before_next, first_fault}
 use Rattle.wac_graph.proofs.graph.CompositionGraph.check_types.Goals as goal
 
 -- what is read at a position is the entry there

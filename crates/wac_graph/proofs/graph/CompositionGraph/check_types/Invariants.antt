@@ -1,4 +1,4 @@
-use Rattle.wac_writing.proofs.WantedLemmas.{NoneBefore}
+use Rattle.wac_graph_reader.proofs.lemmas.writing.WantedLemmas.{NoneBefore}
 use Rattle.wac_graph.proofs.graph.CompositionGraph.check_types.Given as goal
 
 abbrev pub invariant-loop-i : goal.invariant-loop-i

@@ -1,7 +1,7 @@
 use Rattle.std.proofs.Common.{sym}
-use Rattle.wac_nodes.proofs.NodeLemmas.{there}
-use Rattle.wac_fields.proofs.ArgumentLemmas.{has_no_import, import_there, passed_already, unsatisfied}
-use Rattle.wac_graph.specs.Inside.{fields_of}
+use Rattle.wac_graph_model.proofs.lemmas.nodes.NodeLemmas.{there}
+use Rattle.wac_graph_fields.proofs.ArgumentLemmas.{has_no_import, import_there, passed_already, unsatisfied}
+use Rattle.wac_graph.specs.private.Inside.{fields_of}
 use Rattle.wac_graph.proofs.graph.CompositionGraph.check_unset.Goals as goal
 
 pub index-requires : goal.index-requires

@@ -1,9 +1,9 @@
 use Rattle.std.proofs.Common.{◌≡◌, ◌∙◌, ◌≤◌, List, length, subst, sym, vec_capacity}
 use Rattle.std.proofs.lemmas.List.Elements.{same_from_all_zip}
-use Rattle.wac_nodes.specs.declared.packages.Slot.{Slot}
-use Rattle.wac_fields.specs.Fields.{Fields}
-use Rattle.wac_fields.proofs.CloneLemmas.{same_graph, same_marks, same_keys, same_names, invariant_clone}
-use Rattle.wac_graph.specs.Inside.{fields_of}
+use Rattle.wac_graph_model.specs.declared.nodes.packages.Slot.{Slot}
+use Rattle.wac_graph_fields.specs.private.Fields.{Fields}
+use Rattle.wac_graph_fields.proofs.CloneLemmas.{same_graph, same_marks, same_keys, same_names, invariant_clone}
+use Rattle.wac_graph.specs.private.Inside.{fields_of}
 use Rattle.wac_graph.proofs.graph.CompositionGraph.clone.Goals as goal
 
 pub invariant_of-result : goal.invariant_of-result

@@ -1,6 +1,6 @@
 use Rattle.std.proofs.Common.{refl, ap, sym, ◌∙◌, string_bytes, Some}
-use Rattle.wac_writing.proofs.ConflictLemmas.{named_first}
-use Rattle.wac_writing.proofs.EncodingLemmas.{package_now}
+use Rattle.wac_graph_reader.proofs.lemmas.writing.ConflictLemmas.{named_first}
+use Rattle.wac_graph_reader.proofs.lemmas.writing.EncodingLemmas.{package_now}
 use Rattle.wac_graph.proofs.graph.CompositionGraph.conflict.Goals as goal
 
 pub returns : goal.returns

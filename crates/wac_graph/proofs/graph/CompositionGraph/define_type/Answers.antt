@@ -1,7 +1,7 @@
 use Rattle.std.proofs.Common.{Ok, ap, sym, subst, ◌∙◌}
-use Rattle.wac_nodes.specs.Definitions.{definition_node}
-use Rattle.wac_nodes.specs.Steps.{Defines}
-use Rattle.wac_fields.specs.Definable.{IsDefinable}
+use Rattle.wac_graph_model.specs.nodes.Definitions.{definition_node}
+use Rattle.wac_graph_model.specs.nodes.Steps.{Defines}
+use Rattle.wac_graph_fields.specs.private.Definable.{IsDefinable}
 use Rattle.wac_graph.proofs.graph.CompositionGraph.define_type.Goals as goal
 
 pub add_definition-requires-clause-definable : goal.add_definition-requires-clause-definable

@@ -1,11 +1,11 @@
 use Rattle.std.proofs.Common.{ℕ, List, Some, sym, ap, ◌∙◌}
 use Rattle.std.specs.Prelude.{slice_get}
-use Rattle.wac_fields.specs.declared.asked.AskedEntry.{AskedEntry}
-use Rattle.wac_nodes.specs.Asked.{Entry}
-use Rattle.wac_nodes.specs.Entries.{asked_entries}
-use Rattle.wac_fields.specs.EntriesLeft.{entry_view}
+use Rattle.wac_graph_fields.specs.declared.asked.AskedEntry.{AskedEntry}
+use Rattle.wac_graph_model.specs.nodes.Asked.{Entry}
+use Rattle.wac_graph_model.specs.nodes.Entries.{asked_entries}
+use Rattle.wac_graph_fields.specs.private.EntriesLeft.{entry_view}
 use Rattle.wac_edges.specs.Edge.{node_number}
-use Rattle.wac_places.proofs.MergeLemmas.{entry_at, explicit_refused, implicit_refused, index_there, mapped_within}
+use Rattle.wac_graph_encode.proofs.lemmas.places.MergeLemmas.{entry_at, explicit_refused, implicit_refused, index_there, mapped_within}
 use Rattle.wac_graph.proofs.graph.CompositionGraph.disagreement.Goals as goal
 
 pub returns-then-is_some : goal.returns-then-is_some

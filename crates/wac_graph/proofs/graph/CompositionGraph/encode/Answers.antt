@@ -1,20 +1,20 @@
 use Rattle.std.proofs.Common.{◌≡◌, ◌∙◌, List, IfSome, ap, refl, sym, subst}
 use Rattle.wac_binary.specs.Bytes.{bytes_of}
 use Rattle.wac_binary.specs.Items.{Item}
-use Rattle.wac_causes.specs.Cause.{AnswersFor, Stands, cause_of}
-use Rattle.wac_causes.specs.NotYet.{AllDefinable, AllImportable}
-use Rattle.wac_causes.specs.Search.{IsRefused}
-use Rattle.wac_entries.specs.Classes.{by_names}
-use Rattle.wac_nodes.specs.OuterImports.{outer_entries}
-use Rattle.wac_terms.specs.Faults.{HasNoCircle}
+use Rattle.wac_graph_model.specs.causes.Cause.{AnswersFor, Stands, cause_of}
+use Rattle.wac_graph_model.specs.causes.NotYet.{AllDefinable, AllImportable}
+use Rattle.wac_graph_model.specs.private.causes.Search.{IsRefused}
+use Rattle.wac_merge_classes.specs.entries.Classes.{by_names}
+use Rattle.wac_graph_model.specs.nodes.OuterImports.{outer_entries}
+use Rattle.wac_merge_classes.specs.terms.Faults.{HasNoCircle}
 use Rattle.wac_edges.specs.Order.{Writes, IsAcyclic}
 use Rattle.wac_edges.specs.declared.node.NodeId.{NodeId}
-use Rattle.wac_meaning.specs.Means.{Means, is_written}
-use Rattle.wac_nodes.specs.Graph.{Graph}
-use Rattle.wac_reading.specs.Seen.{open_numbers}
-use Rattle.wac_places.specs.Places.{ArePlaced}
-use Rattle.wac_writing.proofs.CauseLemmas.{names_cause, refused_for, begun_cause, begun_refused, none_stands, nameless_answers, exit_cause, exit_refused}
-use Rattle.wac_places.proofs.OuterNameLemmas.{items_valid, names_valid, fault_stands, fault_answers}
+use Rattle.wac_graph_model.specs.meaning.Means.{Means, is_written}
+use Rattle.wac_graph_model.specs.nodes.Graph.{Graph}
+use Rattle.wac_graph_reader.specs.private.reading.Seen.{open_numbers}
+use Rattle.wac_graph_encode.specs.private.places.Places.{ArePlaced}
+use Rattle.wac_graph_reader.proofs.lemmas.writing.CauseLemmas.{names_cause, refused_for, begun_cause, begun_refused, none_stands, nameless_answers, exit_cause, exit_refused}
+use Rattle.wac_graph_encode.proofs.lemmas.places.OuterNameLemmas.{items_valid, names_valid, fault_stands, fault_answers}
 use Rattle.wac_graph.proofs.WantedAskedLemmas.{IsDefinition}
 use Rattle.wac_graph.proofs.graph.CompositionGraph.encode.Goals as goal
 

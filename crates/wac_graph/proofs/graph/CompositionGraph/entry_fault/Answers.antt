@@ -1,10 +1,10 @@
 use Rattle.std.proofs.Common.{◌≡◌, true, IfOk, ap, sym, subst}
-use Rattle.wac_shapes.specs.Kinds.{kind_type}
-use Rattle.wac_collection.specs.Collection.{holds_type}
+use Rattle.wac_types_shapes.specs.shapes.Kinds.{kind_type}
+use Rattle.wac_types_collection.specs.collection.Collection.{holds_type}
 use Rattle.wac_edges.specs.Edge.{node_number}
-use Rattle.wac_nodes.specs.Graph.{Graph, node_at}
+use Rattle.wac_graph_model.specs.nodes.Graph.{Graph, node_at}
 use Rattle.wac_writable.specs.Faults.{HasFault, IsLowest}
-use Rattle.wac_causes.specs.TypeFaults.{role_of}
+use Rattle.wac_graph_model.specs.causes.TypeFaults.{role_of}
 use Rattle.wac_graph.proofs.graph.CompositionGraph.entry_fault.Goals as goal
 
 pub lowest_fault-requires : goal.lowest_fault-requires

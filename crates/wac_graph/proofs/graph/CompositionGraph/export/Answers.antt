@@ -2,12 +2,12 @@ use Rattle.std.proofs.Common.{◌≡◌, arith, subst, sym, ◌∙◌}
 use Rattle.std.specs.String.{string_eq}
 use Rattle.indexmap.specs.IndexMap.{insert_entry}
 use Rattle.slab.specs.Slab.{get}
-use Rattle.wac_nodes.specs.Steps.{Exports}
-use Rattle.wac_nodes.proofs.NodeLemmas.{lookup_text, there}
-use Rattle.wac_fields.proofs.InvariantLemmas.{invariant_more, invariant_exports}
-use Rattle.wac_fields.proofs.ExportLemmas.{exported, invariant_exported, read_name}
-use Rattle.wac_fields.specs.Fields.{Invariant}
-use Rattle.wac_graph.specs.Inside.{fields_of}
+use Rattle.wac_graph_model.specs.nodes.Steps.{Exports}
+use Rattle.wac_graph_model.proofs.lemmas.nodes.NodeLemmas.{lookup_text, there}
+use Rattle.wac_graph_fields.proofs.InvariantLemmas.{invariant_more, invariant_exports}
+use Rattle.wac_graph_fields.proofs.ExportLemmas.{exported, invariant_exported, read_name}
+use Rattle.wac_graph_fields.specs.private.Fields.{Invariant}
+use Rattle.wac_graph.specs.private.Inside.{fields_of}
 use Rattle.wac_graph.proofs.CheckedLemmas.{handed_on}
 use Rattle.wac_graph.proofs.DefiningLemmas.{of_ok}
 use Rattle.wac_graph.proofs.graph.CompositionGraph.export.Goals as goal

@@ -1,6 +1,6 @@
-use Rattle.wac_nodes.proofs.NodeLemmas.{there}
-use Rattle.wac_fields.proofs.AliasLemmas.{interface_there}
-use Rattle.wac_graph.specs.Inside.{fields_of}
+use Rattle.wac_graph_model.proofs.lemmas.nodes.NodeLemmas.{there}
+use Rattle.wac_graph_fields.proofs.AliasLemmas.{interface_there}
+use Rattle.wac_graph.specs.private.Inside.{fields_of}
 use Rattle.wac_graph.proofs.CheckedLemmas.{found_export}
 use Rattle.wac_graph.proofs.PositionLemmas.{listed_at, value_is, within}
 use Rattle.wac_graph.proofs.graph.CompositionGraph.export_kind.Goals as goal

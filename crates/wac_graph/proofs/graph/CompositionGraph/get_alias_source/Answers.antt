@@ -1,7 +1,7 @@
 use Rattle.wac_edges.specs.Edge.{node_number}
-use Rattle.wac_fields.proofs.AliasLemmas.{interface_there}
-use Rattle.wac_writing.proofs.WriteAliasLemmas.{alias_target, source_there, source_is_instance, position_there, alias_of}
-use Rattle.wac_graph.specs.Inside.{fields_of}
+use Rattle.wac_graph_fields.proofs.AliasLemmas.{interface_there}
+use Rattle.wac_graph_reader.proofs.lemmas.writing.WriteAliasLemmas.{alias_target, source_there, source_is_instance, position_there, alias_of}
+use Rattle.wac_graph.specs.private.Inside.{fields_of}
 use Rattle.wac_graph.proofs.graph.CompositionGraph.get_alias_source.Goals as goal
 
 pub index-requires : goal.index-requires

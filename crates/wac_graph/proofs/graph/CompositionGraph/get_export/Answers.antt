@@ -1,5 +1,5 @@
 use Rattle.std.proofs.Common.{◌∙◌}
-use Rattle.wac_nodes.proofs.NodeLemmas.{lookup_text}
+use Rattle.wac_graph_model.proofs.lemmas.nodes.NodeLemmas.{lookup_text}
 use Rattle.wac_graph.proofs.graph.CompositionGraph.get_export.Goals as goal
 
 pub returns : goal.returns

@@ -1,6 +1,6 @@
-use Rattle.wac_nodes.proofs.NodeLemmas.{there}
-use Rattle.wac_fields.proofs.ImportLemmas.{name_there}
-use Rattle.wac_graph.specs.Inside.{fields_of}
+use Rattle.wac_graph_model.proofs.lemmas.nodes.NodeLemmas.{there}
+use Rattle.wac_graph_fields.proofs.ImportLemmas.{name_there}
+use Rattle.wac_graph.specs.private.Inside.{fields_of}
 use Rattle.wac_graph.proofs.graph.CompositionGraph.get_import_name.Goals as goal
 
 pub index-requires : goal.index-requires

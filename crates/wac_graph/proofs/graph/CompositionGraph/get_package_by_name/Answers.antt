@@ -1,7 +1,7 @@
 use Rattle.std.proofs.Common.{Some, None}
-use Rattle.wac_nodes.specs.PackageKeys.{borrowed_key}
-use Rattle.wac_fields.proofs.StepLemmas.{found_registered, found_package}
-use Rattle.wac_graph.specs.Inside.{fields_of}
+use Rattle.wac_graph_model.specs.private.nodes.PackageKeys.{borrowed_key}
+use Rattle.wac_graph_fields.proofs.StepLemmas.{found_registered, found_package}
+use Rattle.wac_graph.specs.private.Inside.{fields_of}
 use Rattle.wac_graph.proofs.graph.CompositionGraph.get_package_by_name.Goals as goal
 
 pub index-requires : goal.index-requires

@@ -1,11 +1,11 @@
 use Rattle.std.proofs.Common.{ap, ◌∙◌}
 use Rattle.std.specs.FinSet as set
 use Rattle.wac_edges.specs.Edge.{argument_edge}
-use Rattle.wac_fields.proofs.InvariantLemmas.{invariant_argument, invariant_back}
-use Rattle.wac_fields.proofs.ArgumentLemmas.{is_instantiation, given_instantiation, unset_edge, same_graph}
-use Rattle.wac_nodes.proofs.AgainLemmas.{taken_back}
-use Rattle.wac_fields.specs.Fields.{graph_of}
-use Rattle.wac_graph.specs.Inside.{fields_of}
+use Rattle.wac_graph_fields.proofs.InvariantLemmas.{invariant_argument, invariant_back}
+use Rattle.wac_graph_fields.proofs.ArgumentLemmas.{is_instantiation, given_instantiation, unset_edge, same_graph}
+use Rattle.wac_graph_model.proofs.lemmas.nodes.AgainLemmas.{taken_back}
+use Rattle.wac_graph_fields.specs.private.Fields.{graph_of}
+use Rattle.wac_graph.specs.private.Inside.{fields_of}
 use Rattle.wac_graph.proofs.graph.CompositionGraph.give_argument.Goals as goal
 
 pub satisfy-requires : goal.satisfy-requires

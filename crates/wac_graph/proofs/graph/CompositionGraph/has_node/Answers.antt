@@ -1,4 +1,4 @@
-use Rattle.wac_nodes.proofs.NodeLemmas.{get-nodes_of, is_some-node_of}
+use Rattle.wac_graph_model.proofs.lemmas.nodes.NodeLemmas.{get-nodes_of, is_some-node_of}
 use Rattle.wac_graph.proofs.graph.CompositionGraph.has_node.Goals as goal
 
 pub returns : goal.returns

@@ -1,8 +1,8 @@
 use Rattle.std.proofs.Common.{ap, ◌∙◌}
-use Rattle.wac_nodes.specs.Steps.{Imports}
-use Rattle.wac_fields.proofs.AliasLemmas.{before_reserve, vacant_before}
-use Rattle.wac_fields.proofs.ImportLemmas.{import_bare, import_is_there, import_shape, imported, invariant_imported}
-use Rattle.wac_graph.specs.Inside.{fields_of}
+use Rattle.wac_graph_model.specs.nodes.Steps.{Imports}
+use Rattle.wac_graph_fields.proofs.AliasLemmas.{before_reserve, vacant_before}
+use Rattle.wac_graph_fields.proofs.ImportLemmas.{import_bare, import_is_there, import_shape, imported, invariant_imported}
+use Rattle.wac_graph.specs.private.Inside.{fields_of}
 use Rattle.wac_graph.proofs.CheckedLemmas.{absent, handed_on}
 use Rattle.wac_graph.proofs.graph.CompositionGraph.import.Goals as goal
 

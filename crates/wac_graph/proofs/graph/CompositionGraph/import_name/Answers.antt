@@ -1,10 +1,10 @@
 use Rattle.std.proofs.Common.{◌≡◌, ap}
-use Rattle.wac_nodes.specs.Graph.{instantiation}
-use Rattle.wac_nodes.specs.Nodes.{kind_of}
-use Rattle.wac_nodes.proofs.NodeLemmas.{there}
-use Rattle.wac_writing.proofs.EncodingLemmas.{some_and}
-use Rattle.wac_fields.proofs.ArgumentLemmas.{not_instantiation}
-use Rattle.wac_graph.specs.Inside.{fields_of}
+use Rattle.wac_graph_model.specs.nodes.Graph.{instantiation}
+use Rattle.wac_graph_model.specs.nodes.Nodes.{kind_of}
+use Rattle.wac_graph_model.proofs.lemmas.nodes.NodeLemmas.{there}
+use Rattle.wac_graph_reader.proofs.lemmas.writing.EncodingLemmas.{some_and}
+use Rattle.wac_graph_fields.proofs.ArgumentLemmas.{not_instantiation}
+use Rattle.wac_graph.specs.private.Inside.{fields_of}
 use Rattle.wac_graph.proofs.PositionLemmas.{has_import, import_at, name_is, within}
 use Rattle.wac_graph.proofs.graph.CompositionGraph.import_name.Goals as goal
 

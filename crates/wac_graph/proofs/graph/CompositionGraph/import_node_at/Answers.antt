@@ -1,6 +1,6 @@
 use Rattle.std.proofs.Common.{◌≡◌, [], ◌∷◌, Some, MatchOption, subst}
 use Rattle.wac_edges.specs.Edge.{node_number}
-use Rattle.wac_nodes.specs.Imports.{node_rows}
+use Rattle.wac_graph_model.specs.nodes.Imports.{node_rows}
 use Rattle.wac_graph.proofs.graph.CompositionGraph.import_node_at.Goals as goal
 
 pub returns : goal.returns

@@ -1,15 +1,15 @@
 use Rattle.std.proofs.Common.{◌≡◌, ap, ◌∙◌, sym, Some, Err}
-use Rattle.wac_collection.specs.Collection.{item_at}
-use Rattle.wac_nodes.specs.Graph.{instantiation}
-use Rattle.wac_nodes.specs.Nodes.{kind_of}
-use Rattle.wac_nodes.specs.Steps.{UnsetsArgument}
+use Rattle.wac_types_collection.specs.collection.Collection.{item_at}
+use Rattle.wac_graph_model.specs.nodes.Graph.{instantiation}
+use Rattle.wac_graph_model.specs.nodes.Nodes.{kind_of}
+use Rattle.wac_graph_model.specs.nodes.Steps.{UnsetsArgument}
 use Rattle.wac_edges.specs.declared.node.NodeId.{NodeId}
-use Rattle.wac_nodes.specs.declared.errors.InstantiationArgumentError.TheVariants.{OutOfMemory}
-use Rattle.wac_writing.proofs.CauseLemmas.{exit_cause}
-use Rattle.wac_nodes.proofs.NodeLemmas.{there}
-use Rattle.wac_writing.proofs.EncodingLemmas.{some_and, of_if}
-use Rattle.wac_fields.proofs.ArgumentLemmas.{not_instantiation, not_instantiation_unset, world_there, invalid_name, invalid_name_unset, no_memory_unset, import_held, has_import}
-use Rattle.wac_graph.specs.Inside.{fields_of}
+use Rattle.wac_graph_model.specs.declared.nodes.errors.InstantiationArgumentError.TheVariants.{OutOfMemory}
+use Rattle.wac_graph_reader.proofs.lemmas.writing.CauseLemmas.{exit_cause}
+use Rattle.wac_graph_model.proofs.lemmas.nodes.NodeLemmas.{there}
+use Rattle.wac_graph_reader.proofs.lemmas.writing.EncodingLemmas.{some_and, of_if}
+use Rattle.wac_graph_fields.proofs.ArgumentLemmas.{not_instantiation, not_instantiation_unset, world_there, invalid_name, invalid_name_unset, no_memory_unset, import_held, has_import}
+use Rattle.wac_graph.specs.private.Inside.{fields_of}
 use Rattle.wac_graph.proofs.graph.CompositionGraph.import_of.Goals as goal
 
 pub index-node-requires : goal.index-node-requires

@@ -1,5 +1,5 @@
-use Rattle.wac_writing.proofs.ImportRows.{all_left}
-use Rattle.wac_graph.specs.Inside.{fields_of}
+use Rattle.wac_graph_reader.proofs.lemmas.writing.ImportRows.{all_left}
+use Rattle.wac_graph.specs.private.Inside.{fields_of}
 use Rattle.wac_graph.proofs.graph.CompositionGraph.imports.Goals as goal
 
 pub returns : goal.returns

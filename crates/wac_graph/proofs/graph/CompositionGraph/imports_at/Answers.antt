@@ -1,7 +1,7 @@
 use Rattle.std.proofs.Common.{◌≡◌, IfSome, sym, subst}
 use Rattle.std.specs.Prelude.{IsSomeAnd}
 use Rattle.wac_edges.specs.Edge.{node_number}
-use Rattle.wac_nodes.specs.Graph.{node_at, imports_of, instantiation}
+use Rattle.wac_graph_model.specs.nodes.Graph.{node_at, imports_of, instantiation}
 use Rattle.wac_graph.proofs.graph.CompositionGraph.imports_at.Goals as goal
 
 pub imports_at-requires : goal.imports_at-requires

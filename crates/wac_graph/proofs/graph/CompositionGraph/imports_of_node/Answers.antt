@@ -1,11 +1,11 @@
 use Rattle.std.proofs.Common.{◌≡◌, ap, sym}
-use Rattle.wac_nodes.specs.Nodes.{kind_of}
-use Rattle.wac_nodes.specs.Graph.{instantiation, imports_of}
-use Rattle.wac_fields.specs.Fields.{graph_of}
-use Rattle.wac_fields.proofs.ArgumentLemmas.{no_instantiation}
-use Rattle.wac_writing.proofs.EncodingLemmas.{some_and, of_if}
+use Rattle.wac_graph_model.specs.nodes.Nodes.{kind_of}
+use Rattle.wac_graph_model.specs.nodes.Graph.{instantiation, imports_of}
+use Rattle.wac_graph_fields.specs.private.Fields.{graph_of}
+use Rattle.wac_graph_fields.proofs.ArgumentLemmas.{no_instantiation}
+use Rattle.wac_graph_reader.proofs.lemmas.writing.EncodingLemmas.{some_and, of_if}
 use Rattle.wac_graph.proofs.ListedLemmas.{nothing_there, not_imported, imports_are}
-use Rattle.wac_graph.specs.Inside.{fields_of}
+use Rattle.wac_graph.specs.private.Inside.{fields_of}
 use Rattle.wac_graph.proofs.graph.CompositionGraph.imports_of_node.Goals as goal
 
 pub returns-in_err-node : goal.returns-in_err-node

@@ -2,11 +2,11 @@ use Rattle.std.proofs.Common.{sym, ap, ◌∙◌}
 use Rattle.std.specs.List.{list_any}
 use Rattle.std.specs.BTreeMap.{is_at}
 use Rattle.std.specs.Ordering.{nat_cmp}
-use Rattle.wac_nodes.specs.Nodes.{satisfied}
-use Rattle.wac_fields.proofs.AliasLemmas.{before_reserve, vacant_before}
-use Rattle.wac_fields.proofs.InvariantLemmas.{invariant_instance}
-use Rattle.wac_fields.proofs.StepLemmas.{instantiated, instance_shape}
-use Rattle.wac_graph.specs.Inside.{fields_of}
+use Rattle.wac_graph_model.specs.nodes.Nodes.{satisfied}
+use Rattle.wac_graph_fields.proofs.AliasLemmas.{before_reserve, vacant_before}
+use Rattle.wac_graph_fields.proofs.InvariantLemmas.{invariant_instance}
+use Rattle.wac_graph_fields.proofs.StepLemmas.{instantiated, instance_shape}
+use Rattle.wac_graph.specs.private.Inside.{fields_of}
 use Rattle.wac_graph.proofs.graph.CompositionGraph.instantiate.Goals as goal
 
 pub invariant_of-self-2 : goal.invariant_of-self-2

@@ -1,11 +1,11 @@
 use Rattle.std.proofs.Common.{◌≡◌, sym, subst, IfSome, IsSomeAnd}
 use Rattle.wac_edges.specs.Edge.{node_number}
-use Rattle.wac_nodes.specs.Graph.{Graph, GraphNode, node_at, definition}
-use Rattle.wac_meaning.specs.Importable.{IsDefinableKind}
-use Rattle.wac_writing.proofs.EncodingLemmas.{if_none, if_node, some_and}
-use Rattle.wac_writing.proofs.WriteDefinitionLemmas.{item_held}
+use Rattle.wac_graph_model.specs.nodes.Graph.{Graph, GraphNode, node_at, definition}
+use Rattle.wac_graph_model.specs.meaning.Importable.{IsDefinableKind}
+use Rattle.wac_graph_reader.proofs.lemmas.writing.EncodingLemmas.{if_none, if_node, some_and}
+use Rattle.wac_graph_reader.proofs.lemmas.writing.WriteDefinitionLemmas.{item_held}
 use Rattle.wac_importable.specs.Looked.{AreFree}
-use Rattle.wac_graph.specs.Inside.{fields_of}
+use Rattle.wac_graph.specs.private.Inside.{fields_of}
 use Rattle.wac_graph.proofs.graph.CompositionGraph.is_definable.Goals as goal
 
 abbrev IsWritten : Graph → GraphNode → Type 0

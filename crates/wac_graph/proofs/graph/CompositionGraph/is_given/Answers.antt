@@ -1,7 +1,7 @@
 use Rattle.std.proofs.Common.{◌≡◌}
-use Rattle.wac_nodes.specs.Graph.{instantiation}
-use Rattle.wac_writing.proofs.EncodingLemmas.{contains_node, of_node, the_set}
-use Rattle.wac_graph.specs.Inside.{fields_of}
+use Rattle.wac_graph_model.specs.nodes.Graph.{instantiation}
+use Rattle.wac_graph_reader.proofs.lemmas.writing.EncodingLemmas.{contains_node, of_node, the_set}
+use Rattle.wac_graph.specs.private.Inside.{fields_of}
 use Rattle.wac_graph.proofs.graph.CompositionGraph.is_given.Goals as goal
 
 pub index-requires : goal.index-requires

@@ -1,7 +1,7 @@
 use Rattle.std.proofs.Common.{subst}
 use Rattle.wac_merge.specs.Aggregate.{IsFault}
-use Rattle.wac_nodes.specs.Entries.{asked_entries, to_merge}
-use Rattle.wac_places.proofs.MergeLemmas.{circle_refused}
+use Rattle.wac_graph_model.specs.nodes.Entries.{asked_entries, to_merge}
+use Rattle.wac_graph_encode.proofs.lemmas.places.MergeLemmas.{circle_refused}
 use Rattle.wac_graph.proofs.graph.CompositionGraph.merge_error.Goals as goal
 
 pub returns-in-UseEachOther : goal.returns-in-UseEachOther

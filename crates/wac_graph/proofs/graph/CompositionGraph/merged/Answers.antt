@@ -1,21 +1,21 @@
 use Rattle.std.proofs.Common.{◌≡◌, List, map, ap, sym, ◌∙◌, subst}
 use Rattle.std.specs.List.{AllByRecursion}
-use Rattle.wac_collection.specs.Collection.{Collection, IsWellFormed}
+use Rattle.wac_types_collection.specs.collection.Collection.{Collection, IsWellFormed}
 use Rattle.wac_merge.specs.Aggregate.{IsFault}
 use Rattle.wac_merge.specs.Listed.{AreListedInOrder}
-use Rattle.wac_entries.specs.Bindings.{AreHeld}
-use Rattle.wac_terms.specs.Merge.{IsMerge}
-use Rattle.wac_meaning.specs.MergedImports.{ExportsOnce}
-use Rattle.wac_terms.specs.Faults.{HasNoCircle}
-use Rattle.wac_terms.specs.NoDisagreement.{HasNoDisagreement}
-use Rattle.wac_terms.specs.declared.fault.MergeFault.{MergeFault}
-use Rattle.wac_entries.specs.Classes as merge
-use Rattle.wac_nodes.specs.Asked.{Entry}
-use Rattle.wac_nodes.specs.Entries.{asked_entries, to_merge}
-use Rattle.wac_fields.specs.EntriesLeft.{entry_view, IsHeldKind}
-use Rattle.wac_nodes.specs.Graph.{Graph}
-use Rattle.wac_writing.proofs.AskedHeld.{held_entries}
-use Rattle.wac_places.proofs.MergeLemmas.{is_fault, merge_held}
+use Rattle.wac_merge_classes.specs.entries.Bindings.{AreHeld}
+use Rattle.wac_merge_classes.specs.terms.Merge.{IsMerge}
+use Rattle.wac_graph_model.specs.private.meaning.MergedImports.{ExportsOnce}
+use Rattle.wac_merge_classes.specs.terms.Faults.{HasNoCircle}
+use Rattle.wac_merge_classes.specs.terms.NoDisagreement.{HasNoDisagreement}
+use Rattle.wac_merge_classes.specs.declared.terms.fault.MergeFault.{MergeFault}
+use Rattle.wac_merge_classes.specs.entries.Classes as merge
+use Rattle.wac_graph_model.specs.nodes.Asked.{Entry}
+use Rattle.wac_graph_model.specs.nodes.Entries.{asked_entries, to_merge}
+use Rattle.wac_graph_fields.specs.private.EntriesLeft.{entry_view, IsHeldKind}
+use Rattle.wac_graph_model.specs.nodes.Graph.{Graph}
+use Rattle.wac_graph_reader.proofs.lemmas.writing.AskedHeld.{held_entries}
+use Rattle.wac_graph_encode.proofs.lemmas.places.MergeLemmas.{is_fault, merge_held}
 use Rattle.wac_graph.proofs.graph.CompositionGraph.merged.Goals as goal
 
 pub aggregated-requires : goal.aggregated-requires

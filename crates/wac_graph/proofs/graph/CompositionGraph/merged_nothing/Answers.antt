@@ -1,9 +1,9 @@
 use Rattle.std.proofs.Common.{◌≡◌, [], ap, sym, ◌∙◌, subst}
-use Rattle.wac_collection.specs.Collection.{Collection, IsWellFormed}
+use Rattle.wac_types_collection.specs.collection.Collection.{Collection, IsWellFormed}
 use Rattle.wac_merge.specs.Aggregate.{Aggregate}
-use Rattle.wac_meaning.specs.MergedImports.{ExportsOnce}
-use Rattle.wac_nodes.specs.Entries.{to_merge}
-use Rattle.wac_nodes.specs.Graph.{Graph}
+use Rattle.wac_graph_model.specs.private.meaning.MergedImports.{ExportsOnce}
+use Rattle.wac_graph_model.specs.nodes.Entries.{to_merge}
+use Rattle.wac_graph_model.specs.nodes.Graph.{Graph}
 use Rattle.wac_graph.proofs.NothingLemmas.{has_merge, lists_nothing, merges_nothing}
 use Rattle.wac_graph.proofs.graph.CompositionGraph.merged_nothing.Goals as goal
 

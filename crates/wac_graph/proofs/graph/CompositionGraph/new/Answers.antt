@@ -1,4 +1,4 @@
-use Rattle.wac_fields.proofs.InvariantLemmas.{invariant_empty}
+use Rattle.wac_graph_fields.proofs.InvariantLemmas.{invariant_empty}
 use Rattle.wac_graph.proofs.graph.CompositionGraph.new.Goals as goal
 
 pub invariant_of-result : goal.invariant_of-result

@@ -1,7 +1,7 @@
 use Rattle.std.proofs.Common.{◌∙◌, arith}
-use Rattle.wac_writing.proofs.ImportRows.{some_entry}
+use Rattle.wac_graph_reader.proofs.lemmas.writing.ImportRows.{some_entry}
 use Rattle.wac_graph.proofs.ListedLemmas.{passed, taken, none_from, argument_is, no_argument}
-use Rattle.wac_graph.specs.Inside.{fields_of}
+use Rattle.wac_graph.specs.private.Inside.{fields_of}
 use Rattle.wac_graph.proofs.graph.CompositionGraph.next_argument.Goals as goal
 
 pub loop-i-preserved : goal.loop-i-preserved

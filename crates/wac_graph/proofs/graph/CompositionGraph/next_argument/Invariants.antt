@@ -1,5 +1,5 @@
 use Rattle.std.proofs.Common.{◌≡◌}
-use Rattle.wac_graph.specs.Left.{set_from}
+use Rattle.wac_graph.specs.private.Left.{set_from}
 use Rattle.wac_graph.proofs.graph.CompositionGraph.next_argument.Given as goal
 
 abbrev pub invariant-loop-i : goal.invariant-loop-i

@@ -1,6 +1,6 @@
 use Rattle.std.proofs.Common.{◌∙◌, Some}
 use Rattle.wac_edges.specs.Edge.{node_number}
-use Rattle.wac_writing.proofs.ImportRows.{node_taken, node_passed, no_nodes_left}
+use Rattle.wac_graph_reader.proofs.lemmas.writing.ImportRows.{node_taken, node_passed, no_nodes_left}
 use Rattle.wac_graph.proofs.graph.CompositionGraph.next_import_node.Goals as goal
 
 pub returns-in-Some-clause-first : goal.returns-in-Some-clause-first

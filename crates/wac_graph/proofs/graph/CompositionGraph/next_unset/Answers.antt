@@ -1,5 +1,5 @@
 use Rattle.std.proofs.Common.{◌∙◌, None}
-use Rattle.wac_writing.proofs.ImportRows.{taken, passed, none_past_end}
+use Rattle.wac_graph_reader.proofs.lemmas.writing.ImportRows.{taken, passed, none_past_end}
 use Rattle.wac_graph.proofs.graph.CompositionGraph.next_unset.Goals as goal
 
 pub returns-in-Some : goal.returns-in-Some

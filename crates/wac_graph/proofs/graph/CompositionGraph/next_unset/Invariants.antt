@@ -1,5 +1,5 @@
 use Rattle.std.proofs.Common.{◌≡◌, ◌-◌}
-use Rattle.wac_fields.specs.ImportsLeft.{instantiations_left}
+use Rattle.wac_graph_fields.specs.private.ImportsLeft.{instantiations_left}
 use Rattle.wac_graph.proofs.graph.CompositionGraph.next_unset.Given as goal
 
 abbrev pub invariant-loop-n : goal.invariant-loop-n

@@ -1,8 +1,8 @@
 use Rattle.std.proofs.Common.{map, ap, ◌∙◌}
 use Rattle.wac_graph.specs.Listed.{node_ids}
-use Rattle.wac_graph.specs.Left.{id_of}
+use Rattle.wac_graph.specs.private.Left.{id_of}
 use Rattle.wac_graph.proofs.ListedLemmas.{ids_are}
-use Rattle.wac_graph.specs.Inside.{fields_of}
+use Rattle.wac_graph.specs.private.Inside.{fields_of}
 use Rattle.wac_graph.proofs.graph.CompositionGraph.node_ids.Goals as goal
 
 pub returns : goal.returns

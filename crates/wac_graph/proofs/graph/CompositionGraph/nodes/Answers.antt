@@ -1,9 +1,9 @@
 use Rattle.std.proofs.Common.{map, subst, sym}
 use Rattle.slab.specs.Slab.{entries}
 use Rattle.wac_graph.specs.Listed.{AreNodes}
-use Rattle.wac_graph.specs.Left.{with_id}
+use Rattle.wac_graph.specs.private.Left.{with_id}
 use Rattle.wac_graph.proofs.ListedLemmas.{nodes_are}
-use Rattle.wac_graph.specs.Inside.{fields_of}
+use Rattle.wac_graph.specs.private.Inside.{fields_of}
 use Rattle.wac_graph.proofs.graph.CompositionGraph.nodes.Goals as goal
 
 pub returns : goal.returns

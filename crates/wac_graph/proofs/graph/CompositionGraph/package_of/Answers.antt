@@ -1,7 +1,7 @@
 use Rattle.std.proofs.Common.{◌≡◌, IfSome, Some, sym, subst}
 use Rattle.std.specs.Prelude.{IsSomeAnd}
 use Rattle.wac_edges.specs.Edge.{node_number}
-use Rattle.wac_nodes.specs.Graph.{node_at, package_at, instantiation}
+use Rattle.wac_graph_model.specs.nodes.Graph.{node_at, package_at, instantiation}
 use Rattle.wac_graph.proofs.graph.CompositionGraph.package_of.Goals as goal
 
 pub package_of-requires : goal.package_of-requires

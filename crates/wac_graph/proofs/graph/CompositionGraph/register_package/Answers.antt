@@ -1,9 +1,9 @@
 use Rattle.std.proofs.Common.{refl, sym, ap, reverse, subst}
-use Rattle.wac_fields.specs.Slots.{vacant_of, IsNext}
-use Rattle.wac_fields.specs.Fields.{graph_of}
-use Rattle.wac_fields.proofs.InvariantLemmas.{room_put, invariant_register}
-use Rattle.wac_fields.proofs.StepLemmas.{there_already, registered}
-use Rattle.wac_graph.specs.Inside.{fields_of}
+use Rattle.wac_graph_fields.specs.private.Slots.{vacant_of, IsNext}
+use Rattle.wac_graph_fields.specs.private.Fields.{graph_of}
+use Rattle.wac_graph_fields.proofs.InvariantLemmas.{room_put, invariant_register}
+use Rattle.wac_graph_fields.proofs.StepLemmas.{there_already, registered}
+use Rattle.wac_graph.specs.private.Inside.{fields_of}
 use Rattle.wac_graph.proofs.graph.CompositionGraph.register_package.Goals as goal
 
 pub returns-in-Some : goal.returns-in-Some

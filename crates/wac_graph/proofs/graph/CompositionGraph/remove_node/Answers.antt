@@ -1,7 +1,7 @@
-use Rattle.wac_nodes.proofs.NodeLemmas.{there}
-use Rattle.wac_fields.proofs.LostLemmas.{noted_told}
-use Rattle.wac_fields.proofs.RemovedLemmas.{tied_inside, removes, invariant_removed}
-use Rattle.wac_graph.specs.Inside.{fields_of}
+use Rattle.wac_graph_model.proofs.lemmas.nodes.NodeLemmas.{there}
+use Rattle.wac_graph_fields.proofs.LostLemmas.{noted_told}
+use Rattle.wac_graph_fields.proofs.RemovedLemmas.{tied_inside, removes, invariant_removed}
+use Rattle.wac_graph.specs.private.Inside.{fields_of}
 use Rattle.wac_graph.proofs.graph.CompositionGraph.remove_node.Goals as goal
 
 pub take_nodes-removed-requires-clause-there : goal.take_nodes-removed-requires-clause-there

@@ -1,6 +1,6 @@
 use Rattle.std.proofs.Common.{sym, ◌∙◌}
-use Rattle.wac_writing.proofs.WantedLemmas.{none_role, node_role}
-use Rattle.wac_graph.specs.Inside.{fields_of}
+use Rattle.wac_graph_reader.proofs.lemmas.writing.WantedLemmas.{none_role, node_role}
+use Rattle.wac_graph.specs.private.Inside.{fields_of}
 use Rattle.wac_graph.proofs.graph.CompositionGraph.role_at.Goals as goal
 
 pub returns-in-Some : goal.returns-in-Some

@@ -1,4 +1,4 @@
-use Rattle.wac_fields.proofs.ArgumentLemmas.{can_be_given, has_instantiation}
+use Rattle.wac_graph_fields.proofs.ArgumentLemmas.{can_be_given, has_instantiation}
 use Rattle.wac_graph.proofs.graph.CompositionGraph.set_instantiation_argument.Goals as goal
 
 pub is_given-requires : goal.is_given-requires

@@ -1,6 +1,6 @@
-use Rattle.wac_nodes.proofs.NodeLemmas.{there}
-use Rattle.wac_fields.proofs.TakingLemmas.{the_node, invariant_named, named_node}
-use Rattle.wac_graph.specs.Inside.{fields_of}
+use Rattle.wac_graph_model.proofs.lemmas.nodes.NodeLemmas.{there}
+use Rattle.wac_graph_fields.proofs.TakingLemmas.{the_node, invariant_named, named_node}
+use Rattle.wac_graph.specs.private.Inside.{fields_of}
 use Rattle.wac_graph.proofs.graph.CompositionGraph.set_node_name.Goals as goal
 
 pub set_name-requires : goal.set_name-requires

@@ -1,11 +1,11 @@
 use Rattle.std.proofs.Common.{ap, ◌∙◌, sym, subst}
 use Rattle.std.specs.FinSet as set
 use Rattle.wac_edges.specs.Edge.{argument_edge}
-use Rattle.wac_nodes.specs.Graph.{Graph}
-use Rattle.wac_fields.specs.Fields.{graph_of, Invariant}
-use Rattle.wac_fields.proofs.ArgumentLemmas.{is_instantiation, same_graph}
-use Rattle.wac_fields.proofs.TakingLemmas.{invariant_taken, nothing_removed}
-use Rattle.wac_graph.specs.Inside.{fields_of}
+use Rattle.wac_graph_model.specs.nodes.Graph.{Graph}
+use Rattle.wac_graph_fields.specs.private.Fields.{graph_of, Invariant}
+use Rattle.wac_graph_fields.proofs.ArgumentLemmas.{is_instantiation, same_graph}
+use Rattle.wac_graph_fields.proofs.TakingLemmas.{invariant_taken, nothing_removed}
+use Rattle.wac_graph.specs.private.Inside.{fields_of}
 use Rattle.wac_graph.proofs.graph.CompositionGraph.take_argument.Goals as goal
 
 pub unsatisfy-requires : goal.unsatisfy-requires

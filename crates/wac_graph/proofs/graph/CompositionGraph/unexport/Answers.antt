@@ -1,8 +1,8 @@
 use Rattle.std.proofs.Common.{ap}
-use Rattle.wac_nodes.specs.Nodes.{kind_of}
-use Rattle.wac_nodes.proofs.NodeLemmas.{there}
-use Rattle.wac_fields.proofs.TakingLemmas.{unexported, invariant_forgotten, still_definition, no_definition}
-use Rattle.wac_graph.specs.Inside.{fields_of}
+use Rattle.wac_graph_model.specs.nodes.Nodes.{kind_of}
+use Rattle.wac_graph_model.proofs.lemmas.nodes.NodeLemmas.{there}
+use Rattle.wac_graph_fields.proofs.TakingLemmas.{unexported, invariant_forgotten, still_definition, no_definition}
+use Rattle.wac_graph.specs.private.Inside.{fields_of}
 use Rattle.wac_graph.proofs.graph.CompositionGraph.unexport.Goals as goal
 
 pub index-requires : goal.index-requires

@@ -1,6 +1,6 @@
-use Rattle.wac_fields.proofs.RemovedLemmas.{tied_inside}
-use Rattle.wac_fields.proofs.UnregisteredLemmas.{noted_room, unregisters, invariant_unregistered}
-use Rattle.wac_graph.specs.Inside.{fields_of}
+use Rattle.wac_graph_fields.proofs.RemovedLemmas.{tied_inside}
+use Rattle.wac_graph_fields.proofs.UnregisteredLemmas.{noted_room, unregisters, invariant_unregistered}
+use Rattle.wac_graph.specs.private.Inside.{fields_of}
 use Rattle.wac_graph.proofs.graph.CompositionGraph.unregister_package.Goals as goal
 
 pub take_owned-requires : goal.take_owned-requires

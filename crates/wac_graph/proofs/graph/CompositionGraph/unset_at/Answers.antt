@@ -1,7 +1,7 @@
 use Rattle.std.proofs.Common.{◌≡◌, [], ◌∷◌, None, MatchOption, subst}
 use Rattle.wac_edges.specs.Edge.{node_number}
-use Rattle.wac_fields.specs.ImportsLeft.{node_left}
-use Rattle.wac_nodes.specs.Graph.{Graph, node_at}
+use Rattle.wac_graph_fields.specs.private.ImportsLeft.{node_left}
+use Rattle.wac_graph_model.specs.nodes.Graph.{Graph, node_at}
 use Rattle.wac_graph.proofs.graph.CompositionGraph.unset_at.Goals as goal
 
 pub returns : goal.returns

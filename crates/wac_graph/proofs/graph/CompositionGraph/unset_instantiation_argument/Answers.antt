@@ -1,4 +1,4 @@
-use Rattle.wac_fields.proofs.ArgumentLemmas.{unset, has_instantiation, handed_on}
+use Rattle.wac_graph_fields.proofs.ArgumentLemmas.{unset, has_instantiation, handed_on}
 use Rattle.wac_graph.proofs.graph.CompositionGraph.unset_instantiation_argument.Goals as goal
 
 pub take_argument-requires : goal.take_argument-requires

@@ -1,12 +1,12 @@
 use Rattle.std.proofs.Common.{◌≡◌, ◌∙◌, [], sym, subst, arith}
 use Rattle.std.specs.List.{flat_map, range_with_len}
 use Rattle.std.specs.FinMap as finite
-use Rattle.wac_nodes.specs.Graph.{Graph}
-use Rattle.wac_fields.specs.EntriesLeft.{entries_of, all_with_used, AreSettled, AsksAlike}
-use Rattle.wac_fields.proofs.EntryLists.{stands_itself, stands_once}
-use Rattle.wac_causes.specs.TypeFaults.{wanted_at}
-use Rattle.wac_writing.proofs.AskingWalk.{number_asked, all_wanted}
-use Rattle.wac_graph.specs.Inside.{fields_of}
+use Rattle.wac_graph_model.specs.nodes.Graph.{Graph}
+use Rattle.wac_graph_fields.specs.private.EntriesLeft.{entries_of, all_with_used, AreSettled, AsksAlike}
+use Rattle.wac_graph_fields.proofs.EntryLists.{stands_itself, stands_once}
+use Rattle.wac_graph_model.specs.causes.TypeFaults.{wanted_at}
+use Rattle.wac_graph_reader.proofs.lemmas.writing.AskingWalk.{number_asked, all_wanted}
+use Rattle.wac_graph.specs.private.Inside.{fields_of}
 use Rattle.wac_graph.proofs.graph.CompositionGraph.wanted_entries.Goals as goal
 
 pub loop-n-preserved : goal.loop-n-preserved

@@ -1,7 +1,7 @@
 use Rattle.std.proofs.Common.{◌++◌, []}
 use Rattle.std.specs.List.{flat_map, range_with_len}
-use Rattle.wac_fields.specs.EntriesLeft.{entries_of, all_with_used, IsRight, AreSettled, AsksAlike}
-use Rattle.wac_causes.specs.TypeFaults.{wanted_at}
+use Rattle.wac_graph_fields.specs.private.EntriesLeft.{entries_of, all_with_used, IsRight, AreSettled, AsksAlike}
+use Rattle.wac_graph_model.specs.causes.TypeFaults.{wanted_at}
 use Rattle.wac_graph.proofs.graph.CompositionGraph.wanted_entries.Given as goal
 
 abbrev pub invariant-loop-n : goal.invariant-loop-n

@@ -1,9 +1,9 @@
 use Rattle.std.proofs.Common.{◌∙◌, subst}
-use Rattle.wac_primitives.specs.Name.{Name}
+use Rattle.wac_types_shapes.specs.primitives.Name.{Name}
 use Rattle.wac_edges.specs.declared.node.NodeId.{NodeId}
-use Rattle.wac_nodes.specs.Graph.{IsImportOf}
-use Rattle.wac_graph.specs.Inside.{fields_of}
-use Rattle.wac_writing.proofs.NoImportLemmas.{no_import}
+use Rattle.wac_graph_model.specs.nodes.Graph.{IsImportOf}
+use Rattle.wac_graph.specs.private.Inside.{fields_of}
+use Rattle.wac_graph_reader.proofs.lemmas.writing.NoImportLemmas.{no_import}
 use Rattle.wac_graph.proofs.WantedAskedLemmas.{wanted_is_asked}
 use Rattle.wac_graph.proofs.graph.CompositionGraph.wanted_of_asked.Goals as goal
 

@@ -1,25 +1,25 @@
 use Rattle.std.proofs.Common.{◌≡◌, Option, Some, None, Ok, IfSome, IfNone, ◌⊎◌, inl, inr, refl, ap, ◌∙◌}
 use Rattle.wac_binary.specs.declared.fault.BinaryFault.{BinaryFault}
 use Rattle.wac_binary.specs.declared.fault.BinaryFault.TheVariants as binary
-use Rattle.wac_terms.specs.Merge.{Merged}
-use Rattle.wac_causes.specs.Faults.{encode_error}
-use Rattle.wac_causes.specs.NotYet.{AllImportable}
-use Rattle.wac_causes.specs.declared.errors.EncodeError.TheVariants as error
-use Rattle.wac_importing.specs.Written as written
-use Rattle.wac_importing.specs.declared.written.WrittenImports.{WrittenImports}
-use Rattle.wac_nodes.specs.Graph.{Graph}
-use Rattle.wac_entries.specs.Classes.{ClassLaws}
-use Rattle.wac_nodes.specs.Sound.{IsSound}
-use Rattle.wac_nodes.specs.Entries.{asked_entries}
-use Rattle.wac_nodes.specs.OuterImports.{outer_entries}
-use Rattle.wac_meaning.proofs.MergeLemmas.{OrderHasClasses}
-use Rattle.wac_importing.proofs.Asked.{merge_importable}
+use Rattle.wac_merge_classes.specs.terms.Merge.{Merged}
+use Rattle.wac_graph_model.specs.private.causes.Faults.{encode_error}
+use Rattle.wac_graph_model.specs.causes.NotYet.{AllImportable}
+use Rattle.wac_graph_model.specs.declared.causes.errors.EncodeError.TheVariants as error
+use Rattle.wac_graph_encode.specs.private.importing.Written as written
+use Rattle.wac_graph_encode.specs.declared.importing.written.WrittenImports.{WrittenImports}
+use Rattle.wac_graph_model.specs.nodes.Graph.{Graph}
+use Rattle.wac_merge_classes.specs.entries.Classes.{ClassLaws}
+use Rattle.wac_graph_model.specs.nodes.Sound.{IsSound}
+use Rattle.wac_graph_model.specs.nodes.Entries.{asked_entries}
+use Rattle.wac_graph_model.specs.nodes.OuterImports.{outer_entries}
+use Rattle.wac_graph_model.proofs.lemmas.meaning.MergeLemmas.{OrderHasClasses}
+use Rattle.wac_graph_encode.proofs.lemmas.importing.Asked.{merge_importable}
 use Rattle.wac_merge.specs.Aggregate.{Aggregate}
-use Rattle.wac_places.specs.Places.{IsMergedFor}
-use Rattle.wac_places.proofs.OuterLemmas.{asked_importable}
-use Rattle.wac_writing.proofs.AskedHeld.{held_entries}
-use Rattle.wac_places.proofs.MergeLemmas.{merge_held}
-use Rattle.wac_writing.proofs.CauseLemmas.{exit_cause}
+use Rattle.wac_graph_encode.specs.private.places.Places.{IsMergedFor}
+use Rattle.wac_graph_encode.proofs.lemmas.places.OuterLemmas.{asked_importable}
+use Rattle.wac_graph_reader.proofs.lemmas.writing.AskedHeld.{held_entries}
+use Rattle.wac_graph_encode.proofs.lemmas.places.MergeLemmas.{merge_held}
+use Rattle.wac_graph_reader.proofs.lemmas.writing.CauseLemmas.{exit_cause}
 use Rattle.wac_graph.proofs.graph.CompositionGraph.written_imports.Goals as goal
 
 so : {P Q : Type 0} (o : Option WrittenImports) → (P → Q) → IfSome o (λ w. P) → IfSome o (λ w. Q)

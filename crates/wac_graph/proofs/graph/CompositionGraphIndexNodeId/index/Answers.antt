@@ -1,5 +1,5 @@
-use Rattle.wac_writing.proofs.EncodingLemmas.{has_number, gives_node}
-use Rattle.wac_graph.specs.Inside.{fields_of}
+use Rattle.wac_graph_reader.proofs.lemmas.writing.EncodingLemmas.{has_number, gives_node}
+use Rattle.wac_graph.specs.private.Inside.{fields_of}
 use Rattle.wac_graph.proofs.graph.CompositionGraphIndexNodeId.index.Goals as goal
 
 pub index-requires : goal.index-requires

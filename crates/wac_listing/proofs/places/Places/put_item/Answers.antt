@@ -1,7 +1,7 @@
 use Rattle.std.proofs.Common.{rules, arith, sym, ap, ◌∙◌, ◌<◌, ◌+◌, length, subst, ◌≡◌, inl, inr}
-use Rattle.wac_shapes.specs.declared.component.ValueType.TheVariants as val
-use Rattle.wac_shapes.specs.declared.component.«Type».TheVariants as ty
-use Rattle.wac_reach.proofs.Lists.{in_at}
+use Rattle.wac_types_shapes.specs.declared.shapes.component.ValueType.TheVariants as val
+use Rattle.wac_types_shapes.specs.declared.shapes.component.«Type».TheVariants as ty
+use Rattle.wac_types_collection.proofs.lemmas.reach.Lists.{in_at}
 use Rattle.wac_listing.specs.Before.{HasEdge}
 use Rattle.wac_listing.proofs.Taking.{within}
 use Rattle.wac_listing.proofs.Placing.{lists-none, lists-here, unlisted-named, unlisted-put, listed-named, listed-put, listed-sound}

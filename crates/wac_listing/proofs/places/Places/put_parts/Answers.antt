@@ -1,5 +1,5 @@
 use Rattle.std.proofs.Common.{rules, arith, sym, ap, ◌∙◌, ◌<◌, ◌+◌, length, subst, Some}
-use Rattle.wac_reach.proofs.Lists.{in_at}
+use Rattle.wac_types_collection.proofs.lemmas.reach.Lists.{in_at}
 use Rattle.wac_listing.specs.Made.{parts}
 use Rattle.wac_listing.proofs.Taking.{within}
 use Rattle.wac_listing.proofs.Placing.{ArePut, parts-step, parts-skip, parts-all}

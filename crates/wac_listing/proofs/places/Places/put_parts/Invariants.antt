@@ -1,5 +1,5 @@
 use Rattle.std.proofs.Common.{ℕ, ◌<◌, ◌-◌, length}
-use Rattle.wac_shapes.specs.declared.component.ValueType.{ValueType}
+use Rattle.wac_types_shapes.specs.declared.shapes.component.ValueType.{ValueType}
 use Rattle.wac_listing.specs.Made.{parts}
 use Rattle.wac_listing.specs.Before.{AreKept, AreSound, HasPartAt, HavePart}
 use Rattle.wac_listing.proofs.places.Places.put_parts.Given as goal

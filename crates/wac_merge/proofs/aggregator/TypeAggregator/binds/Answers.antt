@@ -1,10 +1,10 @@
 use Rattle.std.proofs.Common.{◌≡◌, IfSome, List, true, ap, subst, sym, ◌∙◌}
 use Rattle.std.specs.Prelude.{◌↔◌}
-use Rattle.wac_primitives.specs.Name.{option_case}
-use Rattle.wac_entries.specs.Bindings.{AreBindings, AreHeld}
-use Rattle.wac_entries.specs.Classes.{AreClasses, Entry, by_names}
-use Rattle.wac_terms.specs.Merge.{Merged}
-use Rattle.wac_unions.specs.MergedScope.{BindsUnder}
+use Rattle.wac_types_shapes.specs.primitives.Name.{option_case}
+use Rattle.wac_merge_classes.specs.entries.Bindings.{AreBindings, AreHeld}
+use Rattle.wac_merge_classes.specs.entries.Classes.{AreClasses, Entry, by_names}
+use Rattle.wac_merge_classes.specs.terms.Merge.{Merged}
+use Rattle.wac_merge_imports.specs.unions.MergedScope.{BindsUnder}
 use Rattle.wac_merge.specs.Aggregate.{Aggregate, AreKnown, nothing}
 use Rattle.wac_merge.specs.declared.aggregator.Finished.{Finished}
 use Rattle.wac_merge.proofs.aggregator.TypeAggregator.binds.Goals as goal

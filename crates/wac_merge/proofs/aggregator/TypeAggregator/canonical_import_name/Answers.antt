@@ -1,7 +1,7 @@
 use Rattle.std.proofs.Common.{IfSome, sym, ◌∙◌, subst}
 use Rattle.wac_merge.specs.Aggregate.{AreKnown}
 use Rattle.wac_merge.specs.declared.aggregator.Finished.{Finished}
-use Rattle.wac_entries.proofs.Canonical.{imported-there, imported-other}
+use Rattle.wac_merge_classes.proofs.lemmas.entries.Canonical.{imported-there, imported-other}
 use Rattle.wac_merge.proofs.aggregator.TypeAggregator.canonical_import_name.Goals as goal
 
 pub returns-in-Some-position : goal.returns-in-Some-position

@@ -1,13 +1,13 @@
 use Rattle.std.proofs.Common.{ℕ, ◌≡◌, ◌<◌, List, length, Contains, refl, ap, sym, ◌∙◌, subst, Some, IfSome, ◌⊎◌, inr}
 use Rattle.std.specs.Prelude.{◌↔◌}
-use Rattle.wac_entries.specs.Bindings.{AreHeld}
+use Rattle.wac_merge_classes.specs.entries.Bindings.{AreHeld}
 use Rattle.wac_merge.specs.Aggregate.{Aggregate, AreKnown, IsFault}
-use Rattle.wac_entries.specs.Classes.{Entry, by_names, class_names}
-use Rattle.wac_terms.specs.Faults.{HasFault, HasNoCircle, fault_of}
-use Rattle.wac_terms.specs.NoDisagreement.{HasNoDisagreement}
-use Rattle.wac_terms.specs.declared.fault.MergeFault.{MergeFault}
-use Rattle.wac_terms.specs.declared.fault.MergeFault.TheVariants.{OutOfMemory}
-use Rattle.wac_uses.specs.KeptUses.{KeepsUses}
+use Rattle.wac_merge_classes.specs.entries.Classes.{Entry, by_names, class_names}
+use Rattle.wac_merge_classes.specs.terms.Faults.{HasFault, HasNoCircle, fault_of}
+use Rattle.wac_merge_classes.specs.terms.NoDisagreement.{HasNoDisagreement}
+use Rattle.wac_merge_classes.specs.declared.terms.fault.MergeFault.{MergeFault}
+use Rattle.wac_merge_classes.specs.declared.terms.fault.MergeFault.TheVariants.{OutOfMemory}
+use Rattle.wac_merge_unions.specs.uses.KeptUses.{KeepsUses}
 use Rattle.wac_merge.proofs.BoundLookups.{bindings-kept}
 use Rattle.wac_merge.proofs.FaultLemmas.{exit_cause, exit_refused, names_fault, no_fault, refused_for}
 use Rattle.wac_merge.proofs.MergedMentions.{imports_mention}

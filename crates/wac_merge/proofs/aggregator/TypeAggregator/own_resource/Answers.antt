@@ -1,6 +1,6 @@
 use Rattle.std.proofs.Common.{sym, ap, ◌∙◌}
-use Rattle.wac_terms.specs.Merge.{own_resource}
-use Rattle.wac_terms.proofs.OwnResources.{bound-nowhere, bound-there}
+use Rattle.wac_merge_classes.specs.terms.Merge.{own_resource}
+use Rattle.wac_merge_classes.proofs.lemmas.terms.OwnResources.{bound-nowhere, bound-there}
 use Rattle.wac_merge.proofs.aggregator.TypeAggregator.own_resource.Goals as goal
 
 pub returns-in_err-kind : goal.returns-in_err-kind

@@ -1,9 +1,9 @@
 use Rattle.std.proofs.Common.{◌≡◌, ◌<◌, ℕ, IfSome, List, Some, length, slice_get, get_or, refl, sym, ap, ◌∙◌, subst, arith}
 use Rattle.std.proofs.lemmas.Option.{slice_get_read, slice_get-get_or}
-use Rattle.wac_subtyping.specs.CalledViews.{path_view}
-use Rattle.wac_primitives.specs.Name.{Name, option_case}
-use Rattle.wac_entries.specs.Classes.{Entry, by_names}
-use Rattle.wac_terms.specs.Merge.{Merged, import_entries}
+use Rattle.wac_types_collection.specs.subtyping.CalledViews.{path_view}
+use Rattle.wac_types_shapes.specs.primitives.Name.{Name, option_case}
+use Rattle.wac_merge_classes.specs.entries.Classes.{Entry, by_names}
+use Rattle.wac_merge_classes.specs.terms.Merge.{Merged, import_entries}
 use Rattle.wac_merge.specs.Aggregate.{Aggregate, AreKnown, nothing}
 use Rattle.wac_merge.specs.MergedPlaces.{IsRootPlace}
 use Rattle.wac_merge.specs.declared.aggregator.Finished.{Finished}

@@ -1,5 +1,5 @@
 use Rattle.std.specs.Prelude.{◌≡◌, Some, slice_get}
-use Rattle.wac_shapes.specs.declared.component.DefinedTypeId.{DefinedTypeId}
+use Rattle.wac_types_shapes.specs.declared.shapes.component.DefinedTypeId.{DefinedTypeId}
 use Rattle.wac_planning.specs.declared.plan.Place.{Place}
 use Rattle.wac_planning.proofs.Looking.{RenamesTo}
 use Rattle.wac_planning.proofs.growing.Growing.rename.Given as goal

@@ -3,7 +3,7 @@ use Rattle.std.proofs.Common.{ap, sym, subst, ◌∙◌}
 use Rattle.wac_planning.specs.declared.growing.Growing.{Growing}
 use Rattle.wac_planning.specs.declared.growing.Visit.{Visit}
 use Rattle.wac_planning.specs.declared.growing.Visit.TheVariants.{Leave}
-use Rattle.wac_collection.specs.Collection.{interface_exports}
+use Rattle.wac_types_collection.specs.collection.Collection.{interface_exports}
 use Rattle.wac_planning.specs.Planning.{enters, OpensPlace}
 use Rattle.wac_planning.proofs.Adding.{opens-after, grown-same}
 use Rattle.wac_planning.proofs.Leaving.{entering-added}

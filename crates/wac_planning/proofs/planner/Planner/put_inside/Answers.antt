@@ -1,9 +1,9 @@
 use Rattle.std.specs.Prelude.{ℕ, suc, ◌≡◌, ◌-◌, [], ◌∷◌, ◌++◌, length, drop, Option}
 use Rattle.std.proofs.Common.{refl, arith, ap, sym, ◌∙◌}
 use Rattle.std.proofs.lemmas.List.{append-nil}
-use Rattle.wac_collection.specs.Collection.{interface_exports}
-use Rattle.wac_primitives.specs.Name.{option_case}
-use Rattle.wac_shapes.specs.declared.component.InterfaceId.{InterfaceId}
+use Rattle.wac_types_collection.specs.collection.Collection.{interface_exports}
+use Rattle.wac_types_shapes.specs.primitives.Name.{option_case}
+use Rattle.wac_types_shapes.specs.declared.shapes.component.InterfaceId.{InterfaceId}
 use Rattle.wac_listing.proofs.Listing.{exports-are}
 use Rattle.wac_planning.specs.declared.growing.Growing.{Growing}
 use Rattle.wac_planning.specs.declared.growing.Visit.TheVariants.{Enter}

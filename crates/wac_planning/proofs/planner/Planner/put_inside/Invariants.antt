@@ -1,5 +1,5 @@
 use Rattle.std.specs.Prelude.{◌≡◌, ◌≤◌, ◌++◌, length, drop}
-use Rattle.wac_collection.specs.Collection.{interface_exports}
+use Rattle.wac_types_collection.specs.collection.Collection.{interface_exports}
 use Rattle.wac_planning.specs.Planning.{enters}
 use Rattle.wac_planning.proofs.planner.Planner.put_inside.Given as goal
 

@@ -1,5 +1,5 @@
 use Rattle.std.specs.Prelude.{ℕ, List}
-use Rattle.wac_shapes.specs.declared.component.InterfaceId.{InterfaceId}
+use Rattle.wac_types_shapes.specs.declared.shapes.component.InterfaceId.{InterfaceId}
 use Rattle.wac_planning.specs.Planning.{IsEntering}
 use Rattle.wac_planning.proofs.Looking.{IsTakingAll}
 use Rattle.wac_planning.proofs.planner.Planner.take_all.Given as goal

@@ -1,7 +1,7 @@
 use Rattle.std.specs.Prelude.{◌≡◌, OnErr}
 use Rattle.std.proofs.Common.{sym, subst}
-use Rattle.wac_shapes.specs.declared.component.«Type».{«Type» as AnyType}
-use Rattle.wac_shapes.specs.declared.component.«Type».TheVariants as ty
+use Rattle.wac_types_shapes.specs.declared.shapes.component.«Type».{«Type» as AnyType}
+use Rattle.wac_types_shapes.specs.declared.shapes.component.«Type».TheVariants as ty
 use Rattle.wac_root.specs.Defining.{WritesTypesFor}
 use Rattle.wac_root.proofs.root.RootEncoder.definition.Goals as goal
 

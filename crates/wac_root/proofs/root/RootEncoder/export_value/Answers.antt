@@ -1,6 +1,6 @@
 use Rattle.wac_encode.proofs.Naming.{handle-fault, is-handle}
 use Rattle.std.proofs.Common.{refl}
-use Rattle.wac_shapes.specs.declared.component.«Type».TheVariants as ty
+use Rattle.wac_types_shapes.specs.declared.shapes.component.«Type».TheVariants as ty
 use Rattle.wac_root.proofs.ComponentTypes.{nothing-for}
 use Rattle.wac_root.proofs.root.RootEncoder.export_value.Goals as goal
 

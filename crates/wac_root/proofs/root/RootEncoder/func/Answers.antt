@@ -1,6 +1,6 @@
 use Rattle.std.specs.Prelude.{IfOk}
 use Rattle.std.proofs.Common.{subst}
-use Rattle.wac_collection.specs.Collection.{Collection}
+use Rattle.wac_types_collection.specs.collection.Collection.{Collection}
 use Rattle.wac_defining.specs.Written.{WritesFor, IsOfFunc, AddsHeldFunc, IsFuncAt, IsFuncRefused}
 use Rattle.wac_root.proofs.root.RootEncoder.func.Goals as goal
 

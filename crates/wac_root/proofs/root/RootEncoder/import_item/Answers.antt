@@ -1,7 +1,7 @@
 use Rattle.std.specs.Prelude.{◌≡◌, OnErr}
 use Rattle.std.proofs.Common.{sym, subst}
-use Rattle.wac_shapes.specs.declared.component.ItemKind.{ItemKind}
-use Rattle.wac_shapes.specs.declared.component.ItemKind.TheVariants as kind
+use Rattle.wac_types_shapes.specs.declared.shapes.component.ItemKind.{ItemKind}
+use Rattle.wac_types_shapes.specs.declared.shapes.component.ItemKind.TheVariants as kind
 use Rattle.wac_root.specs.Importing.{WritesTypesOf}
 use Rattle.std.proofs.Common.{refl}
 use Rattle.wac_root.proofs.Importing.{nothing-of}

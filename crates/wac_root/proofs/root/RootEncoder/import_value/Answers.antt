@@ -1,7 +1,7 @@
 use Rattle.wac_encode.proofs.Naming.{handle-fault, is-handle}
 use Rattle.std.proofs.Common.{refl}
-use Rattle.wac_shapes.specs.declared.component.ItemKind.TheVariants as kind
-use Rattle.wac_shapes.specs.declared.component.«Type».TheVariants as ty
+use Rattle.wac_types_shapes.specs.declared.shapes.component.ItemKind.TheVariants as kind
+use Rattle.wac_types_shapes.specs.declared.shapes.component.«Type».TheVariants as ty
 use Rattle.wac_root.proofs.Importing.{nothing-of}
 use Rattle.wac_root.proofs.root.RootEncoder.import_value.Goals as goal
 

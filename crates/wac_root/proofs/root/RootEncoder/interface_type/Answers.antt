@@ -1,6 +1,6 @@
 use Rattle.std.specs.Prelude.{IfOk}
 use Rattle.std.proofs.Common.{sym, subst}
-use Rattle.wac_collection.specs.Collection.{Collection}
+use Rattle.wac_types_collection.specs.collection.Collection.{Collection}
 use Rattle.wac_sorting.specs.declared.worlds.Worlds.{Worlds}
 use Rattle.wac_sorting.specs.Worlds.{SayWorlds}
 use Rattle.wac_encode.specs.Listing.{SaysIfThere, WritesIfThere, IsInterfaceRefused}

@@ -1,5 +1,5 @@
 use Rattle.std.proofs.Common.{refl}
-use Rattle.wac_shapes.specs.declared.component.«Type».TheVariants as ty
+use Rattle.wac_types_shapes.specs.declared.shapes.component.«Type».TheVariants as ty
 use Rattle.wac_scopes.proofs.Standing.{binds-type, bound-stands, same-bound, same-refused, stays-recorded, no-place}
 use Rattle.wac_scopes.proofs.scope.Scope.bind.Goals as goal
 

@@ -1,6 +1,6 @@
 use Rattle.std.proofs.Common.{sym, ◌∙◌}
 use Rattle.std.proofs.lemmas.Result.{err_from_is_err_and}
-use Rattle.wac_shapes.specs.declared.component.«Type».TheVariants as ty
+use Rattle.wac_types_shapes.specs.declared.shapes.component.«Type».TheVariants as ty
 use Rattle.wac_scopes.specs.Scoped.{type_index}
 use Rattle.wac_scopes.proofs.Standing.{stays-recorded, records-first, some-index, none-index}
 use Rattle.wac_scopes.proofs.scope.Scope.bind_world.Goals as goal

@@ -7,8 +7,8 @@ use Rattle.wac_scopes.specs.Contents.{count}
 use Rattle.wac_scopes.specs.Sides.{side_of, IsOpenComponent, and_declared}
 use Rattle.wac_scopes.proofs.ScopedLaws.{recorded-more}
 use Rattle.wac_scopes.proofs.SideLaws.{declares-value}
-use Rattle.wac_shapes.specs.declared.component.ValueType.TheVariants as val
-use Rattle.wac_shapes.specs.declared.component.«Type».TheVariants as ty
+use Rattle.wac_types_shapes.specs.declared.shapes.component.ValueType.TheVariants as val
+use Rattle.wac_types_shapes.specs.declared.shapes.component.«Type».TheVariants as ty
 use Rattle.wac_scopes.proofs.scope.Scope.declare_value.Goals as goal
 
 pub declare-requires : goal.declare-requires

@@ -6,8 +6,8 @@ use Rattle.wac_binary.specs.Views.{defined_of}
 use Rattle.wac_scopes.specs.declared.encodable.Encodable.{Encodable}
 use Rattle.wac_scopes.specs.Contents.{and_type, count}
 use Rattle.wac_scopes.proofs.ScopedLaws.{adds-value, recorded-more}
-use Rattle.wac_shapes.specs.declared.component.ValueType.TheVariants as val
-use Rattle.wac_shapes.specs.declared.component.«Type».TheVariants as ty
+use Rattle.wac_types_shapes.specs.declared.shapes.component.ValueType.TheVariants as val
+use Rattle.wac_types_shapes.specs.declared.shapes.component.«Type».TheVariants as ty
 use Rattle.wac_scopes.proofs.scope.Scope.define.Goals as goal
 
 pub returns-clause-stands : goal.returns-clause-stands

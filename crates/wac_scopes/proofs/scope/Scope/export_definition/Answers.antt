@@ -10,8 +10,8 @@ use Rattle.wac_scopes.specs.Contents.{items_of, count}
 use Rattle.wac_scopes.specs.Scoped.{type_index, named_at, listing}
 use Rattle.wac_scopes.proofs.Rooted.{exports-right}
 use Rattle.wac_scopes.proofs.ScopedLaws.{recorded-behind}
-use Rattle.wac_shapes.specs.declared.component.ValueType.TheVariants as val
-use Rattle.wac_shapes.specs.declared.component.«Type».TheVariants as ty
+use Rattle.wac_types_shapes.specs.declared.shapes.component.ValueType.TheVariants as val
+use Rattle.wac_types_shapes.specs.declared.shapes.component.«Type».TheVariants as ty
 use Rattle.wac_scopes.proofs.scope.Scope.export_definition.Goals as goal
 
 pub returns-clause-right : goal.returns-clause-right

@@ -5,8 +5,8 @@ use Rattle.wac_binary.specs.Indexes.{space}
 use Rattle.wac_scopes.specs.declared.encodable.Encodable.{Encodable}
 use Rattle.wac_scopes.specs.Contents.{IsOpenType, and_export, count}
 use Rattle.wac_scopes.proofs.ScopedLaws.{lists-value, recorded-more}
-use Rattle.wac_shapes.specs.declared.component.ValueType.TheVariants as val
-use Rattle.wac_shapes.specs.declared.component.«Type».TheVariants as ty
+use Rattle.wac_types_shapes.specs.declared.shapes.component.ValueType.TheVariants as val
+use Rattle.wac_types_shapes.specs.declared.shapes.component.«Type».TheVariants as ty
 use Rattle.wac_scopes.proofs.scope.Scope.export_value.Goals as goal
 
 pub export-requires : goal.export-requires

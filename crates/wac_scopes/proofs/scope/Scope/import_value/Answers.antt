@@ -6,8 +6,8 @@ use Rattle.wac_scopes.specs.declared.encodable.Encodable.{Encodable}
 use Rattle.wac_scopes.specs.Contents.{IsRoot, and_import, count}
 use Rattle.wac_scopes.proofs.ImportLaws.{imports-value}
 use Rattle.wac_scopes.proofs.ScopedLaws.{recorded-more}
-use Rattle.wac_shapes.specs.declared.component.ValueType.TheVariants as val
-use Rattle.wac_shapes.specs.declared.component.«Type».TheVariants as ty
+use Rattle.wac_types_shapes.specs.declared.shapes.component.ValueType.TheVariants as val
+use Rattle.wac_types_shapes.specs.declared.shapes.component.«Type».TheVariants as ty
 use Rattle.wac_scopes.proofs.scope.Scope.import_value.Goals as goal
 
 pub import-requires : goal.import-requires

@@ -1,7 +1,7 @@
 use Rattle.std.specs.Prelude.{nat_eq, cond, Some}
 use Rattle.std.proofs.Common.{refl, ap, ◌∙◌}
-use Rattle.wac_shapes.specs.declared.component.ValueType.TheVariants as val
-use Rattle.wac_shapes.specs.declared.component.«Type».TheVariants as ty
+use Rattle.wac_types_shapes.specs.declared.shapes.component.ValueType.TheVariants as val
+use Rattle.wac_types_shapes.specs.declared.shapes.component.«Type».TheVariants as ty
 use Rattle.wac_scopes.specs.declared.scope.Listed.TheVariants.{Around}
 use Rattle.wac_scopes.proofs.ScopedLaws.{same-types}
 use Rattle.wac_scopes.proofs.scope.Scope.list_around.Goals as goal

@@ -1,4 +1,4 @@
-use Rattle.wac_shapes.specs.declared.component.«Type».TheVariants as ty
+use Rattle.wac_types_shapes.specs.declared.shapes.component.«Type».TheVariants as ty
 use Rattle.wac_state.proofs.Answering.{index-there}
 use Rattle.wac_state.proofs.Growth.{right-on, continues}
 use Rattle.wac_state.proofs.encoder.TypeEncoder.component.Goals as goal

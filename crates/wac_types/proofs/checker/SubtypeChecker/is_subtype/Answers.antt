@@ -1,6 +1,6 @@
 use Rattle.std.proofs.Common.{arith, refl}
 use Rattle.std.proofs.lemmas.Option.{slice_get_read}
-use Rattle.wac_comparison.proofs.Comparing.{compares_next, compares_last}
+use Rattle.wac_types.proofs.lemmas.comparison.Comparing.{compares_next, compares_last}
 use Rattle.wac_types.proofs.checker.SubtypeChecker.is_subtype.Goals as goal
 
 pub loop-next-preserved : goal.loop-next-preserved

@@ -1,5 +1,5 @@
 use Rattle.std.proofs.Common.{◌-◌}
-use Rattle.wac_comparison.proofs.Comparing.{Compares}
+use Rattle.wac_types.proofs.lemmas.comparison.Comparing.{Compares}
 use Rattle.wac_types.proofs.checker.SubtypeChecker.is_subtype.Given as goal
 
 -- the answers to the questions before the next one rest on those to the others, and the first question on all

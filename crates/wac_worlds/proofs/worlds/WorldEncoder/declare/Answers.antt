@@ -2,8 +2,8 @@ use Rattle.std.specs.Borrow.{Bor}
 use Rattle.std.specs.Prelude.{ℕ, List}
 use Rattle.std.proofs.Common.{sym, subst}
 use Rattle.std.proofs.lemmas.Result.{err_from_is_err_and}
-use Rattle.wac_shapes.specs.Named.{named_pairs}
-use Rattle.wac_shapes.specs.declared.component.ItemKind.{ItemKind}
+use Rattle.wac_types_shapes.specs.shapes.Named.{named_pairs}
+use Rattle.wac_types_shapes.specs.declared.shapes.component.ItemKind.{ItemKind}
 use Rattle.wac_scopes.specs.Sides.{side_of}
 use Rattle.wac_worlds.specs.Declaring.{IsDeclaredOrder}
 use Rattle.wac_worlds.proofs.Together.{ordered-once, ordered-can, as-listed, refused-as}

@@ -1,7 +1,7 @@
 use Rattle.std.specs.Prelude.{IfOk}
 use Rattle.std.proofs.Common.{subst}
-use Rattle.wac_shapes.specs.declared.component.ItemKind.TheVariants as kind
-use Rattle.wac_collection.specs.Collection.{Collection}
+use Rattle.wac_types_shapes.specs.declared.shapes.component.ItemKind.TheVariants as kind
+use Rattle.wac_types_collection.specs.collection.Collection.{Collection}
 use Rattle.wac_sorting.specs.declared.worlds.Worlds.{Worlds}
 use Rattle.wac_defining.specs.Written.{WritesFor}
 use Rattle.wac_sorting.specs.Worlds.{SayWorlds}

@@ -1,8 +1,8 @@
 use Rattle.std.specs.Prelude.{◌≡◌, length}
 use Rattle.std.proofs.Common.{arith}
 use Rattle.std.proofs.lemmas.Result.{err_from_is_err_and}
-use Rattle.wac_shapes.specs.Named.{named_pairs}
-use Rattle.wac_shapes.proofs.Names.{named_pairs-at}
+use Rattle.wac_types_shapes.specs.shapes.Named.{named_pairs}
+use Rattle.wac_types_shapes.proofs.lemmas.shapes.Names.{named_pairs-at}
 use Rattle.wac_scopes.specs.Sides.{side_of}
 use Rattle.wac_sorting.proofs.Ordered.{pairs-length}
 use Rattle.wac_worlds.proofs.Together.{starts, goes-further, stops-at, all-listed, all-written}

@@ -1,4 +1,4 @@
-use Rattle.wac_shapes.specs.Named.{named_pairs}
+use Rattle.wac_types_shapes.specs.shapes.Named.{named_pairs}
 use Rattle.wac_scopes.specs.Sides.{side_of}
 use Rattle.wac_worlds.proofs.Together.{SoFar}
 use Rattle.wac_worlds.proofs.worlds.WorldEncoder.items.Given as goal

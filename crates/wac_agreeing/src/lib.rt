@@ -1,6 +1,0 @@
-//! The first two entries of a class that disagree, found in the interning table of their types.
-#![tactic(auto)]
-
-pub mod agreement;
-pub mod fitting;
-pub mod rows;

@@ -1,9 +1,0 @@
-use Rattle.std.proofs.Common.{◌≡◌, drop}
-use Rattle.std.specs.List.{list_any}
-use Rattle.wac_tables.specs.Nodes.{optionals}
-use Rattle.wac_tables.specs.NodeViews.{named}
-use Rattle.wac_agreement.specs.ReachSteps.{flag_of}
-use Rattle.wac_agreement.proofs.flags.any_case.Given as goal
-
-abbrev pub invariant-loop-case : goal.invariant-loop-case
-invariant-loop-case l = list_any (flag_of l.flags) (optionals (named (drop l.case-index l.cases))) ≡ list_any (flag_of l.flags) (optionals (named l.cases))

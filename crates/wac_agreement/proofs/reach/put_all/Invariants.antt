@@ -1,6 +1,0 @@
-use Rattle.std.proofs.Common.{◌≡◌, drop}
-use Rattle.wac_agreement.specs.ReachSteps.{with_all}
-use Rattle.wac_agreement.proofs.reach.put_all.Given as goal
-
-abbrev pub invariant-loop-number : goal.invariant-loop-number
-invariant-loop-number l = with_all l.numbers.keys (drop l.number-index l.more) ≡ with_all l.initial.numbers.keys l.more

@@ -1,8 +1,0 @@
-use Rattle.std.proofs.Common.{◌≡◌, drop}
-use Rattle.wac_tables.specs.Nodes.{optionals}
-use Rattle.wac_tables.specs.NodeViews.{named}
-use Rattle.wac_agreement.specs.ReachSteps.{with_all}
-use Rattle.wac_agreement.proofs.reach.put_cases.Given as goal
-
-abbrev pub invariant-loop-case : goal.invariant-loop-case
-invariant-loop-case l = with_all l.numbers.keys (optionals (named (drop l.case-index l.cases))) ≡ with_all l.initial.numbers.keys (optionals (named l.cases))

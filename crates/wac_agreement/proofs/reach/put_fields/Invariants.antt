@@ -1,8 +1,0 @@
-use Rattle.std.proofs.Common.{◌≡◌, drop}
-use Rattle.wac_tables.specs.Nodes.{seconds}
-use Rattle.wac_tables.specs.NodeViews.{named}
-use Rattle.wac_agreement.specs.ReachSteps.{with_all}
-use Rattle.wac_agreement.proofs.reach.put_fields.Given as goal
-
-abbrev pub invariant-loop-field : goal.invariant-loop-field
-invariant-loop-field l = with_all l.numbers.keys (seconds (named (drop l.field-index l.fields))) ≡ with_all l.initial.numbers.keys (seconds (named l.fields))

@@ -1,7 +1,0 @@
-use Rattle.std.proofs.Common.{◌≡◌, drop}
-use Rattle.wac_agreement.specs.ReachSteps.{with_all}
-use Rattle.wac_agreement.specs.Resting.{used_classes}
-use Rattle.wac_agreement.proofs.rests.put_used.Given as goal
-
-abbrev pub invariant-loop-i : goal.invariant-loop-i
-invariant-loop-i l = with_all l.numbers.keys (used_classes l.types l.classes.names (drop l.i l.uses)) ≡ with_all l.initial.numbers.keys (used_classes l.types l.classes.names l.uses)

@@ -1,0 +1,7 @@
+use Rattle.std.proofs.Common.{arith}
+use Rattle.std.proofs.lemmas.Grind.{common_steps}
+use Rattle.wac_binary.proofs.lemmas.builder.CustomLaws.{all_of}
+use Rattle.wac_binary.proofs.builder.customs.count_of.Goals as goal
+
+pub returns : goal.returns
+returns c = rw (all_of c.args.sort c.args.names.now) (grind (arith, common_steps))

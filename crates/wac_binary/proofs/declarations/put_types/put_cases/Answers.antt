@@ -1,0 +1,8 @@
+use Rattle.std.proofs.Common.{arith}
+use Rattle.std.proofs.lemmas.Grind.{common_steps}
+use Rattle.wac_binary.specs.Bytes.{case}
+use Rattle.wac_binary.proofs.lemmas.bytes.Vectors.{vector_map}
+use Rattle.wac_binary.proofs.declarations.put_types.put_cases.Goals as goal
+
+pub returns-clause-written : goal.returns-clause-written
+returns-clause-written c = rw (vector_map case (λ c. (c.0.now, c.1)) c.args.cases.now) (grind (arith, common_steps))

@@ -1,0 +1,4 @@
+pub mod bytes
+pub mod declarations
+pub mod sections
+pub mod builder

@@ -1,0 +1,12 @@
+pub mod LebLaws
+pub mod Spaces
+pub mod Code
+pub mod OneReading
+pub mod OneType
+pub mod OneModule
+pub mod OneItem
+pub mod OneText
+pub mod Sections
+pub mod declarations
+pub mod sections
+pub mod builder

@@ -1,7 +1,0 @@
-use Rattle.std.proofs.Common.{arith}
-use Rattle.std.proofs.lemmas.Grind.{common_steps}
-use Rattle.wac_builder.proofs.CustomLaws.{all_of}
-use Rattle.wac_builder.proofs.customs.count_of.Goals as goal
-
-pub returns : goal.returns
-returns c = rw (all_of c.args.sort c.args.names.now) (grind (arith, common_steps))

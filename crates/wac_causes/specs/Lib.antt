@@ -1,6 +1,0 @@
-pub mod NotYet
-pub mod TypeFaults
-pub mod OuterNames
-pub mod Cause
-pub mod Search
-pub mod Faults

@@ -1,6 +1,0 @@
-//! The errors of encoding a graph, and the causes that they report: when each occurs, and which comes first.
-#![tactic(auto)]
-
-mod errors;
-
-pub use errors::EncodeError;

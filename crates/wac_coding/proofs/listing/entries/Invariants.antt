@@ -1,7 +1,0 @@
-use Rattle.std.proofs.Common.{take}
-use Rattle.wac_coding.specs.Coding.{source_tree}
-use Rattle.wac_coding.proofs.SortedEntries.{AreEntries}
-use Rattle.wac_coding.proofs.listing.entries.Given as goal
-
-abbrev pub invariant-loop-i : goal.invariant-loop-i
-invariant-loop-i l = AreEntries l.nodes (source_tree l.source) (take l.i l.kinds) l.entries.items

@@ -1,7 +1,0 @@
-use Rattle.wac_collection.proofs.Adding.{no_fault}
-use Rattle.wac_collection.proofs.Ends.{interface_kept}
-use Rattle.wac_collection.proofs.collection.Types.add_interface.Goals as goal
-
-pub invariant_of-self-2 : goal.invariant_of-self-2
-invariant_of-self-2 c =
-    interface_kept _ _ c.args.interface _ _ _ _ c.self.invariant c.self.view_is c.in_ok-before.ensures.count (no_fault c.interface_fault.result _ c.in_default.not-Some c.interface_fault.ensures) c.in_ok-hold.ensures.held

@@ -1,5 +1,0 @@
-use Rattle.wac_collection.proofs.Ends.{module_kept}
-use Rattle.wac_collection.proofs.collection.Types.add_module_type.Goals as goal
-
-pub invariant_of-self-2 : goal.invariant_of-self-2
-invariant_of-self-2 c = module_kept _ _ c.args.module_type _ _ _ _ c.self.invariant c.self.view_is c.in_ok-before.ensures.count c.in_ok-hold.ensures.held

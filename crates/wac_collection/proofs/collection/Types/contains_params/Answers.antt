@@ -1,9 +1,0 @@
-use Rattle.std.proofs.Common.{◌∙◌, sym, rules}
-use Rattle.std.proofs.lemmas.Iterator.Consumers.{YieldsList-from_first}
-use Rattle.std.proofs.lemmas.Iterator.Search.{all_from_yields_List}
-use Rattle.wac_collection.specs.Collection.{holds_value}
-use Rattle.wac_collection.proofs.Mentioned.{params_held}
-use Rattle.wac_collection.proofs.collection.Types.contains_params.Goals as goal
-
-pub returns : goal.returns
-returns c = all_from_yields_List (λ e. holds_value c.args.self.now e.1) _ _ _ c.all.ensures.ran (YieldsList-from_first _ _ c.args.params.now c.iter.ensures) (λ x b q k. search rules) ∙ sym (params_held c.args.self.now c.args.params.now)

@@ -1,8 +1,0 @@
-use Rattle.wac_collection.specs.Collection.{kind_types}
-use Rattle.wac_comparison.specs.Settling.{Asks}
-use Rattle.wac_comparison.proofs.Subtyping.{ItemsBelow}
-use Rattle.wac_comparison.proofs.comparison.Comparison.ask_items.Given as goal
-
--- those so far are settled
-abbrev pub invariant-loop-i : goal.invariant-loop-i
-invariant-loop-i l = Asks l.self.turned l.self.first.now l.self.second.now (kind_types l.xs) (kind_types l.ys) l.initial.asked l.asked (ItemsBelow l.self.first.now l.self.second.now l.xs l.ys l.i)

@@ -1,8 +1,0 @@
-use Rattle.std.proofs.Common.{map}
-use Rattle.wac_comparison.specs.Compare.{entry_in}
-use Rattle.wac_comparison.proofs.Agreeing.{AgreeBelow}
-use Rattle.wac_comparison.proofs.comparison.Comparison.have_same_fields.Given as goal
-
--- those so far are the same
-abbrev pub invariant-loop-i : goal.invariant-loop-i
-invariant-loop-i l = AgreeBelow l.i (map (entry_in l.self.first.now) l.vs) (map (entry_in l.self.second.now) l.ws)

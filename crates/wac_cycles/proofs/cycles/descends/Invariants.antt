@@ -1,7 +1,0 @@
-use Rattle.std.proofs.Common.{ℕ, ◌<◌, ◌≤◌}
-use Rattle.std.specs.Prelude.{slice_index}
-use Rattle.wac_cycles.specs.Cycles.{IsStep}
-use Rattle.wac_cycles.proofs.cycles.descends.Given as goal
-
-abbrev pub invariant-loop-a : goal.invariant-loop-a
-invariant-loop-a l = (a b : ℕ) → a < l.a → IsStep l.targets a b → slice_index l.ranks b ≤ slice_index l.ranks a

@@ -1,6 +1,0 @@
-use Rattle.std.proofs.Common.{ℕ, ◌<◌}
-use Rattle.wac_cycles.specs.Cycles.{LeadsBack}
-use Rattle.wac_cycles.proofs.cycles.lowest_on_cycle.Given as goal
-
-abbrev pub invariant-loop-n : goal.invariant-loop-n
-invariant-loop-n l = (m : ℕ) → m < l.n → LeadsBack l.targets m → ⊥

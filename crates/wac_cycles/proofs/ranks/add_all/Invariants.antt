@@ -1,5 +1,0 @@
-use Rattle.std.proofs.Common.{◌≡◌, ◌++◌}
-use Rattle.wac_cycles.proofs.ranks.add_all.Given as goal
-
-abbrev pub invariant-loop-b : goal.invariant-loop-b
-invariant-loop-b l = l.numbers.items ++ l.b-iterator ≡ l.initial.numbers.items ++ l.steps.keys

@@ -1,4 +1,0 @@
-pub mod Numbers
-pub mod Cycles
-pub mod CycleSearch
-pub mod RankSearch

@@ -1,8 +1,0 @@
-use Rattle.wac_binary.specs.Leb.{unsigned}
-use Rattle.wac_declarations.proofs.DeclLaws.{behind, joins_two}
-use Rattle.wac_declarations.proofs.declarations.Declarations.put.Goals as goal
-
-pub returns-clause-written : goal.returns-clause-written
-returns-clause-written c =
-    rw (← c.self.view_is, behind c.self.inside.written, joins_two c.args.out.now.items (unsigned c.self.inside.count) c.self.inside.bytes, ← c.in_ok-put_unsigned.ensures.written)
-    c.put.ensures.written

@@ -1,7 +1,0 @@
-use Rattle.std.proofs.Common.{arith}
-use Rattle.std.proofs.lemmas.Grind.{common_steps}
-use Rattle.wac_declarations.proofs.DeclLaws.{behind}
-use Rattle.wac_declarations.proofs.declarations.Declarations.size.Goals as goal
-
-pub returns-clause-is : goal.returns-clause-is
-returns-clause-is c = rw (← c.self.view_is, behind c.self.inside.written) (grind (arith, common_steps))

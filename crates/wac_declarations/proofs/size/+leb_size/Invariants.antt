@@ -1,4 +1,0 @@
-use Rattle.wac_declarations.proofs.size.+leb_size.Given as goal
-
-abbrev pub decreases-leb_size : goal.decreases-leb_size
-decreases-leb_size l = l.n

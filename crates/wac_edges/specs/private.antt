@@ -1,0 +1,5 @@
+pub mod cycles
+pub mod Ends
+pub mod Records
+pub mod Aliases
+pub mod Ready

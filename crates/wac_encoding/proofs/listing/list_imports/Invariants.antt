@@ -1,6 +1,0 @@
-use Rattle.wac_nodes.specs.OuterImports.{outer_entries}
-use Rattle.wac_encoding.proofs.ListingLemmas.{AreRecorded}
-use Rattle.wac_encoding.proofs.listing.list_imports.Given as goal
-
-abbrev pub invariant-loop-i : goal.invariant-loop-i
-invariant-loop-i l = AreRecorded l.reader l.imports.places.items (outer_entries l.reader) l.fn.root l.i l.root

@@ -1,6 +1,0 @@
-use Rattle.std.proofs.Common.{◌≡◌, length}
-use Rattle.wac_entries.specs.Bindings.{HaveTracks}
-use Rattle.wac_entries.proofs.bindings.class_tracks.Given as goal
-
-abbrev pub invariant-loop-k : goal.invariant-loop-k
-invariant-loop-k l = record { counted : length l.tracks.items ≡ l.k; tracks : HaveTracks l.entries l.tracks.items }

@@ -1,6 +1,0 @@
-use Rattle.wac_entries.specs.Walking.{AreBound}
-use Rattle.std.proofs.Common.{take}
-use Rattle.wac_entries.proofs.naming.bound_in.Given as goal
-
-abbrev pub invariant-loop-position : goal.invariant-loop-position
-invariant-loop-position l = AreBound l.types (take l.position l.scopes) l.bound.items

@@ -1,7 +1,0 @@
-use Rattle.std.proofs.Common.{◌<◌, length, sym, subst}
-use Rattle.wac_entries.proofs.Walking.{resolved-held}
-use Rattle.wac_entries.proofs.naming.called_outside.Goals as goal
-
-pub own_name-requires : goal.own_name-requires
-own_name-requires c =
-    subst (λ x. x.0 < length c.args.types.now.resources) (sym c.resolve_resource-resource.ensures.end) (resolved-held c.args.types.now c.law.ensures c.args.resource c.requires.held)

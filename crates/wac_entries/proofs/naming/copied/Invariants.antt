@@ -1,6 +1,0 @@
-use Rattle.std.proofs.Common.{◌≡◌, take}
-use Rattle.wac_subtyping.specs.CalledViews.{path_view}
-use Rattle.wac_entries.proofs.naming.copied.Given as goal
-
-abbrev pub invariant-loop-i : goal.invariant-loop-i
-invariant-loop-i l = path_view l.copy.items ≡ path_view (take l.i l.path)

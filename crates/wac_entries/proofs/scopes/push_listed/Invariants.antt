@@ -1,7 +1,0 @@
-use Rattle.std.proofs.Common.{◌≡◌, take, Some}
-use Rattle.wac_entries.specs.Scopes.{opened}
-use Rattle.wac_entries.specs.Opening.{with_opened}
-use Rattle.wac_entries.proofs.scopes.push_listed.Given as goal
-
-abbrev pub invariant-loop-index : goal.invariant-loop-index
-invariant-loop-index l = l.scopes.keys ≡ with_opened l.initial.scopes.keys (Some l.parent) (opened (take l.index l.listed))

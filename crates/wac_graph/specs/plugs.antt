@@ -1,0 +1,4 @@
+pub mod Refusals
+pub mod Matching
+pub mod Plugging
+pub mod Outcome

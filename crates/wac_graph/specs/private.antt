@@ -1,0 +1,3 @@
+pub mod plugs
+pub mod Inside
+pub mod Left

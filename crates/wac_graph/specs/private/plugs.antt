@@ -1,0 +1,5 @@
+pub mod Pairs
+pub mod Tracks
+pub mod Positions
+pub mod Fitting
+pub mod Naming

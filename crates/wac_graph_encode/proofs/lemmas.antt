@@ -1,0 +1,3 @@
+pub mod importing
+pub mod places
+pub mod encoding

@@ -1,0 +1,13 @@
+pub mod Fields
+pub mod Arguments
+pub mod Taking
+pub mod Definable
+pub mod EntriesLeft
+pub mod ImportsLeft
+pub mod Stored
+pub mod Removing
+pub mod Told
+pub mod Lost
+pub mod Slots
+pub mod Owned
+pub mod Renamed

@@ -1,0 +1,677 @@
+-- What is written of a graph after some of its nodes, behind items that begin with its imports.
+use Rattle.std.proofs.Common.{◌≡◌, ℕ, zero, suc, ◌<◌, Bool, true, false, ◌||◌, cond, List, [], ◌∷◌, ◌++◌, length, map, refl, ap, ◌∙◌, sym, subst, arith, append_assoc, Option, Some, None, ◌⊎◌, inl, inr}
+use Rattle.std.specs.List.{AllByRecursion, list_any, filter, flat_map}
+use Rattle.std.specs.Prelude.{slice_get}
+use Rattle.std.specs.FinSet as set
+use Rattle.std.proofs.lemmas.List.{append-nil, length-append, map-append, length-map}
+use Rattle.std.proofs.lemmas.List.Elements.{filter-append}
+use Rattle.std.proofs.lemmas.Option.{slice_get_within}
+use Rattle.std.proofs.lemmas.Grind.{flat_map-append}
+use Rattle.wac_types_shapes.specs.primitives.Name.{Name, same_name, option_case}
+use Rattle.wac_types_shapes.proofs.lemmas.shapes.Names.{same_name-refl}
+use Rattle.wac_types_shapes.specs.declared.shapes.component.InterfaceId.{InterfaceId}
+use Rattle.wac_types_shapes.specs.declared.shapes.component.ItemKind.{ItemKind}
+use Rattle.wac_types_shapes.specs.declared.shapes.component.«Type».{«Type» as AnyType}
+use Rattle.wac_types_shapes.specs.primitives.Tree.{Tree}
+use Rattle.wac_types_collection.specs.collection.Collection.{interface_exports}
+use Rattle.wac_types_shapes.specs.declared.shapes.component.ItemKind.TheVariants as item
+use Rattle.wac_binary.specs.declared.sorts.Sort.{Sort}
+use Rattle.wac_binary.specs.declared.sorts.Sort.TheVariants as sort
+use Rattle.wac_binary.specs.Items.{Item, nested, instantiate, alias_item, export_alias, export_item}
+use Rattle.wac_binary.specs.Indexes.{space, indexes, is_in, adds, sort_added}
+use Rattle.wac_binary.specs.Meaning.{Thing, nothing, import_at, instance_at, component_at, projection, projected, Instantiation, start, stands_for, meaning}
+use Rattle.wac_binary.specs.Unfold.{Bound, bound_at}
+use Rattle.wac_binary.specs.HasMeaning.{ItemHasMeaning, AllHaveMeaning, HasMeaning, IsSomething, HasExport}
+use Rattle.wac_edges.specs.declared.edges.Edge.{Edge}
+use Rattle.wac_edges.specs.declared.node.NodeId.{NodeId}
+use Rattle.wac_graph_model.specs.declared.nodes.packages.PackageId.{PackageId}
+use Rattle.wac_edges.specs.Edge.{alias_edge, argument_edge}
+use Rattle.wac_graph_model.specs.nodes.Graph as graph
+use Rattle.wac_graph_model.specs.nodes.Graph.{Graph, GraphNode, Kind, node_at, export_at, imports_of, exports_of, IsAliasOf, IsArgumentOf}
+use Rattle.wac_graph_model.specs.nodes.Sound.{IsSound}
+use Rattle.wac_edges.specs.Order.{Writes, IsLowestReady}
+use Rattle.wac_graph_model.specs.meaning.Means.{node_is, is_import, is_instantiation, is_written, instantiations, IsThing, as_import, as_instantiation, as_alias, sort_of_kind, same_package, with_package, used_after, used_packages, package_bytes, IsArgument, given, AreArguments, HasItem, is_first, is_own_item, as_definition, asked, shown, first_export}
+use Rattle.wac_graph_model.specs.meaning.Listing.{listing_of, IsDefined}
+use Rattle.wac_graph_model.specs.private.meaning.Beginning.{Places}
+use Rattle.wac_graph_model.specs.private.meaning.Encoding.{HasComponent}
+use Rattle.wac_graph_model.specs.private.meaning.Writing.{IsArgumentItem, of_node, of_import, AreArgumentItems, WritesType}
+use Rattle.wac_edges.proofs.WrittenOrder.{has, minus, minus-true, same, same_itself, eqb_same, apart, in_list, in_push, now_in, slice_get-middle, written_left, only_place, has-filter}
+use Rattle.wac_graph_model.proofs.lemmas.meaning.ThingLemmas.{Stands, node_of_written, stands_apart, stood, ready_sources}
+use Rattle.wac_graph_model.proofs.lemmas.meaning.OuterOrder.{OneImportPlace, defined_once}
+use Rattle.wac_graph_model.proofs.lemmas.meaning.CoverLemmas.{IsKnown, known_export, known_alias}
+use Rattle.wac_graph_model.proofs.lemmas.meaning.MeantLemmas.{meant-push, alias_meant, defined_something, something, IsAmong, IsFirstAmong, new_name}
+use Rattle.wac_graph_model.proofs.lemmas.meaning.QuietLemmas.{IsQuiet, quiet_rest, quiet_types, all_behind}
+use Rattle.wac_graph_model.proofs.lemmas.meaning.MeaningLemmas.{Laws, meaning-push, alias_stands, alias_bound, instance_bound, alias_rest, nested_bytes_more, nested_stands, instantiations_more, instance_stands, export_shown, type_export_stands, export_others, made_of, indexes-push}
+use Rattle.wac_graph_model.proofs.lemmas.meaning.DefinedLemmas.{IsMadeOf, AreMade}
+
+clash : (b : Bool) → b ≡ true → b ≡ false → ⊥
+clash true _ h = cc
+clash false h _ = cc
+
+pub slice_get-push : {A : Type 0} (xs : List A) (x : A) (k : ℕ) (y : A) → slice_get (xs ++ x ∷ []) k ≡ Some y → (slice_get xs k ≡ Some y) ⊎ ((k ≡ length xs) × (y ≡ x))
+slice_get-push [] x zero y h = inr (refl, cc)
+slice_get-push [] x (suc k) y h = cc
+slice_get-push (z ∷ xs) x zero y h = inl h
+slice_get-push (z ∷ xs) x (suc k) y h = split (slice_get-push xs x k y h) where
+  split : (slice_get xs k ≡ Some y) ⊎ ((k ≡ length xs) × (y ≡ x)) → (slice_get xs k ≡ Some y) ⊎ ((suc k ≡ suc (length xs)) × (y ≡ x))
+  split (inl a) = inl a
+  split (inr (a, b)) = inr (ap suc a, b)
+
+pub slice_get-prefix : {A : Type 0} (xs ys : List A) (k : ℕ) (y : A) → slice_get xs k ≡ Some y → slice_get (xs ++ ys) k ≡ Some y
+slice_get-prefix [] ys k y h = cc
+slice_get-prefix (x ∷ xs) ys zero y h = h
+slice_get-prefix (x ∷ xs) ys (suc k) y h = slice_get-prefix xs ys k y h
+
+slice_get-map : {A B : Type 0} (f : A → B) (xs : List A) (k : ℕ) (y : A) → slice_get xs k ≡ Some y → slice_get (map f xs) k ≡ Some (f y)
+slice_get-map f [] k y h = cc
+slice_get-map f (x ∷ xs) zero y h = let e : x ≡ y = cc in ap (λ z. Some (f z)) e
+slice_get-map f (x ∷ xs) (suc k) y h = slice_get-map f xs k y h
+
+same_package_itself : (p : PackageId) → same_package p p ≡ true
+same_package_itself p = rw (eqb_same p.slot) (eqb_same p.generation)
+
+any_package : (id : PackageId) (xs : List PackageId) (k : ℕ) → slice_get xs k ≡ Some id → list_any (same_package id) xs ≡ true
+any_package id [] k h = cc
+any_package id (x ∷ xs) zero h = let e : x ≡ id = cc in rw e (ap (λ b. b || list_any (same_package id) xs) (same_package_itself id))
+any_package id (x ∷ xs) (suc k) h = rw (any_package id xs k h) (or_yes (same_package id x)) where
+  or_yes : (b : Bool) → (b || true) ≡ true
+  or_yes true = refl
+  or_yes false = refl
+
+any_first : (id : PackageId) (es : List (PackageId × ℕ)) → list_any (λ e. same_package id e.0) es ≡ list_any (same_package id) (map (λ e. e.0) es)
+any_first id [] = refl
+any_first id (e ∷ es) = ap (λ b. same_package id e.0 || b) (any_first id es)
+
+-- the packages of more nodes begin with those of fewer
+pub used-append : (g : Graph) (used : List PackageId) (xs ys : List NodeId) → used_after g used (xs ++ ys) ≡ used_after g (used_after g used xs) ys
+used-append g used [] ys = refl
+used-append g used (x ∷ xs) ys = used-append g (with_package used (option_case (node_at g x) None (λ node. node.owner))) xs ys
+
+pub used_prefix : (g : Graph) (used : List PackageId) (xs : List NodeId) (k : ℕ) (p : PackageId) → slice_get used k ≡ Some p → slice_get (used_after g used xs) k ≡ Some p
+used_prefix g used [] k p h = h
+used_prefix g used (x ∷ xs) k p h = used_prefix g (with_package used (owner x)) xs k p (one used (owner x) h) where
+  owner : NodeId → Option PackageId
+  owner n = option_case (node_at g n) None (λ node. node.owner)
+
+  one : (us : List PackageId) (o : Option PackageId) → slice_get us k ≡ Some p → slice_get (with_package us o) k ≡ Some p
+  one us None at = at
+  one us (Some q) at = split (list_any (same_package q) us) where
+    split : (b : Bool) → slice_get (cond b us (us ++ q ∷ [])) k ≡ Some p
+    split true = at
+    split false = slice_get-prefix us (q ∷ []) k p at
+
+pub HasItem-push : (items : List Item) (x : Item) (node : GraphNode) (index k : ℕ) → HasItem items node index k → HasItem (items ++ x ∷ []) node index k
+HasItem-push items x node index k h = record {
+  it = h.it;
+  before = h.before;
+  after = h.after ++ x ∷ [];
+  split = ap (λ xs. xs ++ x ∷ []) h.split ∙ append_assoc h.before (h.it ∷ h.after) (x ∷ []);
+  here = h.here;
+  own = h.own;
+  adds = h.adds;
+  counted = h.counted;
+}
+
+-- an item's place is within the items
+HasItem-within : (items : List Item) (node : GraphNode) (index k : ℕ) → HasItem items node index k → k < length items
+HasItem-within items node index k h = omega (arith, ap length h.split, length-append h.before (h.it ∷ h.after), h.here)
+
+first_of : {A B : Type 0} (o : Option (A × B)) (a b : A) (x y : B) → o ≡ Some (a, x) → o ≡ Some (b, y) → a ≡ b
+first_of {A} {B} o a b x y p q = ap (λ (z : Option (A × B)). option_case z a (λ (e : A × B). e.0)) (sym p ∙ q)
+
+projected_some : (x : Thing) (name : Name) → IsSomething x → projected x name ≡ projection x name
+projected_some nothing name h = absurd h
+projected_some x name h = refl
+
+-- an item that adds an index of a sort
+pub counted_up : (t : Sort) (items : List Item) (x : Item) → adds x ≡ Some (space t) → indexes (space t) items < indexes (space t) (items ++ x ∷ [])
+counted_up t items x is =
+    let one : is_in (space t) (adds x) ≡ 1 = ap (is_in (space t)) is ∙ ap (λ b. cond b 1 0) (eqb_same (space t)) in
+    omega (arith, indexes-push (space t) items x)
+
+module _ (laws : Laws) (g : Graph) (sound : IsSound g) (order : List NodeId) (at : NodeId → Thing) (is_thing : (n : NodeId) (node : GraphNode) → node_at g n ≡ Some node → IsThing g at order n node) (imported : List (Name × Tree)) (places : Places) where
+  -- these items and indexes say what the nodes written so far stand for; `used` are the packages whose components are written
+  pub record Written (done : List NodeId) (used : List PackageId) (items : List Item) (components : List (PackageId × ℕ)) (index : NodeId → ℕ) : Type 0 where
+    pub nodes : (n : NodeId) → has done n ≡ true → is_written g n ≡ true
+    pub meant : HasMeaning items
+    pub imports : (meaning items).imports ≡ imported
+    pub customs : (meaning items).customs ≡ []
+    pub exports : map shown (meaning items).exports ≡ flat_map (first_export g at) done
+    pub bytes : (meaning items).nested_bytes ≡ map (package_bytes g) used
+    pub packages : map (λ e. e.0) components ≡ used
+    pub numbers : (k : ℕ) (e : PackageId × ℕ) → slice_get components k ≡ Some e → (e.1 < indexes (space sort.Component) items) × (stands_for (meaning items) sort.Component e.1 ≡ component_at k)
+    pub made : AreMade g at order (instantiations g done) (meaning items).instantiations
+    pub asked_for : (p : ℕ) (t : Sort) (i : ℕ) → slice_get places p ≡ Some (t, i) → (i < indexes (space t) items) × (stands_for (meaning items) t i ≡ import_at p)
+    pub stand : (n : NodeId) (node : GraphNode) → Stands done n node → node_at g n ≡ Some node
+        → (index n < indexes (space (sort_of_kind node.item_kind)) items) × (stands_for (meaning items) (sort_of_kind node.item_kind) (index n) ≡ at n)
+    pub known : (n : NodeId) (node : GraphNode) → Stands done n node → node_at g n ≡ Some node → (i : InterfaceId) → node.item_kind ≡ item.Instance i → IsKnown g.types i (bound_at (meaning items).scope.instances (index n))
+    pub place : NodeId → ℕ
+    pub own : (n : NodeId) (node : GraphNode) → Stands done n node → node_at g n ≡ Some node → is_import node.kind ≡ false → HasItem items node (index n) (place n)
+    pub in_place : (i j : ℕ) (n m : NodeId) → i < j → slice_get done i ≡ Some n → slice_get done j ≡ Some m → place n < place m
+
+  module _ (done : List NodeId) (used : List PackageId) (items : List Item) (components : List (PackageId × ℕ)) (index : NodeId → ℕ) (w : Written done used items components index) where
+    stand-push : (x : Item) (n : NodeId) (node : GraphNode) → Stands done n node → node_at g n ≡ Some node
+        → (index n < indexes (space (sort_of_kind node.item_kind)) (items ++ x ∷ [])) × (stands_for (meaning (items ++ x ∷ [])) (sort_of_kind node.item_kind) (index n) ≡ at n)
+    stand-push x n node here there =
+        let s = w.stand n node here there in
+        (omega (arith, s.0, indexes-push (space (sort_of_kind node.item_kind)) items x), laws.earlier items (x ∷ []) (sort_of_kind node.item_kind) (index n) s.0 ∙ s.1)
+
+    known-push : (x : Item) (n : NodeId) (node : GraphNode) → Stands done n node → node_at g n ≡ Some node → (i : InterfaceId) → node.item_kind ≡ item.Instance i → IsKnown g.types i (bound_at (meaning (items ++ x ∷ [])).scope.instances (index n))
+    known-push x n node here there i is =
+        let within : index n < indexes (space sort.Instance) items = subst (λ (k : ItemKind). index n < indexes (space (sort_of_kind k)) items) is (w.stand n node here there).0 in
+        subst (IsKnown g.types i) (sym (laws.bounds_earlier items (x ∷ []) (index n) within)) (w.known n node here there i is)
+
+    asked-push : (x : Item) (p : ℕ) (t : Sort) (i : ℕ) → slice_get places p ≡ Some (t, i) → (i < indexes (space t) (items ++ x ∷ [])) × (stands_for (meaning (items ++ x ∷ [])) t i ≡ import_at p)
+    asked-push x p t i placed =
+        let s = w.asked_for p t i placed in
+        (omega (arith, s.0, indexes-push (space t) items x), laws.earlier items (x ∷ []) t i s.0 ∙ s.1)
+
+    -- a component keeps its index
+    kept_number : (x : Item) (k : ℕ) (e : PackageId × ℕ) → slice_get components k ≡ Some e
+        → (e.1 < indexes (space sort.Component) (items ++ x ∷ [])) × (stands_for (meaning (items ++ x ∷ [])) sort.Component e.1 ≡ component_at k)
+    kept_number x k e there =
+        let n = w.numbers k e there in
+        (omega (arith, n.0, indexes-push (space sort.Component) items x), laws.earlier items (x ∷ []) sort.Component e.1 n.0 ∙ n.1)
+
+    -- a type or an alias more
+    quiet_more : (x : Item) → IsQuiet x → ItemHasMeaning (meaning items) x → Written done used (items ++ x ∷ []) components index
+    quiet_more x quiet meant =
+        let same_ = quiet_rest items x quiet in
+        record {
+          nodes = w.nodes;
+          meant = meant-push items x w.meant meant;
+          imports = ap (λ r. r.imports) same_ ∙ w.imports;
+          customs = ap (λ r. r.customs) same_ ∙ w.customs;
+          exports = ap (λ r. map shown r.exports) same_ ∙ w.exports;
+          bytes = ap (λ r. r.nested_bytes) same_ ∙ w.bytes;
+          packages = w.packages;
+          numbers = kept_number x;
+          made = subst (λ made. AreMade g at order (instantiations g done) made) (sym (ap (λ r. r.instantiations) same_)) w.made;
+          asked_for = asked-push x;
+          stand = stand-push x;
+          known = known-push x;
+          place = w.place;
+          own = λ n node here there no_import. HasItem-push items x node (index n) (w.place n) (w.own n node here there no_import);
+          in_place = w.in_place;
+        }
+
+    -- a component more
+    component_more : (id : PackageId) → list_any (same_package id) used ≡ false
+        → Written done (used ++ id ∷ []) (items ++ nested (package_bytes g id) ∷ []) (components ++ (id, indexes (space sort.Component) items) ∷ []) index
+    component_more id absent =
+        let more = nested_bytes_more items (package_bytes g id) in
+        let many : length (meaning items).nested_bytes ≡ length components = ap length w.bytes ∙ length-map used (package_bytes g) ∙ ap length (sym w.packages) ∙ length-map components (λ e. e.0) in
+        record {
+          nodes = w.nodes;
+          meant = meant-push items (nested (package_bytes g id)) w.meant tt;
+          imports = ap (λ r. r.imports) more ∙ w.imports;
+          customs = ap (λ r. r.customs) more ∙ w.customs;
+          exports = ap (λ r. map shown r.exports) more ∙ w.exports;
+          bytes = ap (λ r. r.nested_bytes) more ∙ ap (λ bs. bs ++ package_bytes g id ∷ []) w.bytes ∙ sym (map-append (package_bytes g) used (id ∷ []));
+          packages = map-append (λ e. e.0) components ((id, indexes (space sort.Component) items) ∷ []) ∙ ap (λ us. us ++ id ∷ []) w.packages;
+          numbers = λ k e at_k. numbers many k e (slice_get-push components (id, indexes (space sort.Component) items) k e at_k);
+          made = subst (λ made. AreMade g at order (instantiations g done) made) (sym (ap (λ r. r.instantiations) more)) w.made;
+          asked_for = asked-push (nested (package_bytes g id));
+          stand = stand-push (nested (package_bytes g id));
+          known = known-push (nested (package_bytes g id));
+          place = w.place;
+          own = λ n node here there no_import. HasItem-push items (nested (package_bytes g id)) node (index n) (w.place n) (w.own n node here there no_import);
+          in_place = w.in_place;
+        } where
+          numbers : length (meaning items).nested_bytes ≡ length components → (k : ℕ) (e : PackageId × ℕ)
+              → (slice_get components k ≡ Some e) ⊎ ((k ≡ length components) × (e ≡ (id, indexes (space sort.Component) items)))
+              → (e.1 < indexes (space sort.Component) (items ++ nested (package_bytes g id) ∷ [])) × (stands_for (meaning (items ++ nested (package_bytes g id) ∷ [])) sort.Component e.1 ≡ component_at k)
+          numbers many k e (inl before) = kept_number (nested (package_bytes g id)) k e before
+          numbers many k e (inr (last, is)) = (
+            subst (λ j. j < indexes (space sort.Component) (items ++ nested (package_bytes g id) ∷ [])) (sym (ap (λ x. x.1) is)) (counted_up sort.Component items (nested (package_bytes g id)) refl),
+            ap (stands_for (meaning (items ++ nested (package_bytes g id) ∷ [])) sort.Component) (ap (λ x. x.1) is)
+                ∙ nested_stands items (package_bytes g id) (indexes (space sort.Component) items) (sym (laws.counted items sort.Component)) ∙ ap component_at (many ∙ sym last),
+          )
+
+  -- types and aliases more
+  quiet_all : (done : List NodeId) (used : List PackageId) (more items : List Item) (components : List (PackageId × ℕ)) (index : NodeId → ℕ) → AllByRecursion IsQuiet more → AllHaveMeaning (meaning items) more
+      → Written done used items components index → Written done used (items ++ more) components index
+  quiet_all done used [] items components index quiet meant w = subst (λ its. Written done used its components index) (sym (append-nil items)) w
+  quiet_all done used (x ∷ more) items components index quiet meant w =
+      subst (λ its. Written done used its components index) (append_assoc items (x ∷ []) more)
+      (quiet_all done used more (items ++ x ∷ []) components index quiet.1 (subst (λ r. AllHaveMeaning r more) (sym (meaning-push items x)) meant.1) (quiet_more done used items components index w x quiet.0 meant.0))
+
+  -- types alone more, of which one stands for this
+  pub with_type : (done : List NodeId) (used : List PackageId) (items mid : List Item) (components : List (PackageId × ℕ)) (index : NodeId → ℕ) (thing : Thing) (k : ℕ)
+      → Written done used items components index → WritesType thing items mid k → Written done used mid components index × (stands_for (meaning mid) sort.«Type» k ≡ thing)
+  with_type done used items mid components index thing k w t =
+      let (meant, stands) = t.meant w.meant in
+      let behind : AllHaveMeaning (meaning items) t.types = all_behind start items t.types (subst HasMeaning t.added meant) in
+      (subst (λ its. Written done used its components index) (sym t.added) (quiet_all done used t.types items components index (quiet_types t.types t.alone) behind w), stands)
+
+  -- the component of a package, which is written where it was not
+  pub with_component : (done : List NodeId) (used : List PackageId) (items mid : List Item) (components after : List (PackageId × ℕ)) (index : NodeId → ℕ) (id : PackageId) (c : ℕ)
+      → Written done used items components index → HasComponent (package_bytes g id) id c components after items mid
+      → Written done (with_package used (Some id)) mid after index × ((k : ℕ) × (slice_get (with_package used (Some id)) k ≡ Some id) × (stands_for (meaning mid) sort.Component c ≡ component_at k))
+  with_component done used items mid components after index id c w (inl (k, at_k, same, kept)) =
+      let there : slice_get used k ≡ Some id = ap (λ us. slice_get us k) (sym w.packages) ∙ slice_get-map (λ e. e.0) components k (id, c) at_k in
+      let is : with_package used (Some id) ≡ used = ap (λ b. cond b used (used ++ id ∷ [])) (any_package id used k there) in
+      let n = w.numbers k (id, c) at_k in (
+        subst (λ us. Written done us mid after index) (sym is) (subst (λ cs. Written done used mid cs index) (sym same) (subst (λ its. Written done used its components index) (sym kept) w)),
+        (k, ap (λ us. slice_get us k) is ∙ there, ap (λ its. stands_for (meaning its) sort.Component c) kept ∙ n.1),
+      )
+  with_component done used items mid components after index id c w (inr (absent, number, grown, added)) =
+      let none : list_any (same_package id) used ≡ false = ap (list_any (same_package id)) (sym w.packages) ∙ sym (any_first id components) ∙ absent in
+      let is : with_package used (Some id) ≡ used ++ id ∷ [] = ap (λ b. cond b used (used ++ id ∷ [])) none in
+      let more = component_more done used items components index w id none in
+      let place = length components in
+      let last : slice_get (components ++ (id, indexes (space sort.Component) items) ∷ []) (length components) ≡ Some (id, indexes (space sort.Component) items) = slice_get-middle components (id, indexes (space sort.Component) items) [] in
+      let n = more.numbers (length components) (id, indexes (space sort.Component) items) last in
+      let long : length used ≡ length components = ap length (sym w.packages) ∙ length-map components (λ e. e.0) in (
+        subst (λ us. Written done us mid after index) (sym is)
+            (subst (λ cs. Written done (used ++ id ∷ []) mid cs index) (sym (grown ∙ ap (λ j. components ++ (id, j) ∷ []) number))
+            (subst (λ its. Written done (used ++ id ∷ []) its (components ++ (id, indexes (space sort.Component) items) ∷ []) index) (sym added) more)),
+        (
+          length components,
+          ap (λ us. slice_get us (length components)) is ∙ ap (slice_get (used ++ id ∷ [])) (sym long) ∙ slice_get-middle used id [],
+          ap (λ its. stands_for (meaning its) sort.Component c) added ∙ ap (stands_for (meaning (items ++ nested (package_bytes g id) ∷ [])) sort.Component) number ∙ n.1,
+        ),
+      )
+
+  -- what a node stands for is something
+  projected_thing : (m : NodeId) (node : GraphNode) (name : Name) → IsThing g at order m node → projected (at m) name ≡ projection (at m) name
+  projected_thing m node name (as_import n p k place is) = rw is refl
+  projected_thing m node name (as_instantiation j k place is) = rw is refl
+  projected_thing m node name (as_definition t k item is) = projected_some (at m) name (defined_something g t (listing_of g t) (at m) is)
+  projected_thing m node name (as_alias instance source i n k aliased there exported is) = rw is refl
+
+  -- the next node, with the index at which it stands
+  module _ (done later : List NodeId) (n : NodeId) (node : GraphNode) (here : order ≡ done ++ n ∷ later) (ready : IsLowestReady g.edges (minus (is_written g) done) n) (writes : Writes g.edges (minus (is_written g) (done ++ n ∷ [])) later) (there : node_at g n ≡ Some node) (index index' : NodeId → ℕ) (i : ℕ) (now : index' n ≡ i) (others : (m : NodeId) → same m n ≡ false → index' m ≡ index m) where
+    absent : has done n ≡ false
+    absent = (minus-true (is_written g) done n ready.here).1
+
+    source_done : (e : Edge) → set.contains g.edges e ≡ true → e.target ≡ n → (source : GraphNode) → node_at g e.source ≡ Some source → Stands done e.source source
+    source_done e stands leads source source_there = ready_sources g done n ready e stands leads source source_there
+
+    -- another node than the next keeps its index
+    index_kept : (m : NodeId) (other : GraphNode) → Stands done m other → node_at g m ≡ Some other → index' m ≡ index m
+    index_kept m other was other_there = others m (stands_apart g done m n other ready.here other_there was)
+
+    not_later : has later n ≡ false
+    not_later = split (has later n) refl where
+      split : (b : Bool) → has later n ≡ b → b ≡ false
+      split false _ = refl
+      split true is = absurd (clash (has (done ++ n ∷ []) n) (now_in done n) ((minus-true (is_written g) (done ++ n ∷ []) n (written_left g.edges (minus (is_written g) (done ++ n ∷ [])) later writes n is)).1))
+
+    -- facts on each node that stands so far and the next
+    each : (P : NodeId → GraphNode → Type 0) → ((m : NodeId) (other : GraphNode) → Stands done m other → node_at g m ≡ Some other → P m other) → P n node
+        → (m : NodeId) (other : GraphNode) → Stands (done ++ n ∷ []) m other → node_at g m ≡ Some other → P m other
+    each P before last m other within other_there = split (stood done n m other within) where
+      split : (m ≡ n) ⊎ Stands done m other → P m other
+      split (inl same) =
+          let e : node ≡ other = let f : node_at g n ≡ Some other = ap (λ k. node_at g k) (sym same) ∙ other_there in cc in
+          subst (λ k. P k other) (sym same) (subst (λ x. P n x) e last)
+      split (inr was) = before m other was other_there
+
+    place' : (NodeId → ℕ) → ℕ → NodeId → ℕ
+    place' place last m = cond (same m n) last (place m)
+
+    place-here : (place : NodeId → ℕ) (last : ℕ) → place' place last n ≡ last
+    unfolding place'
+    place-here place last = rw (same_itself n) refl
+
+    place-other : (place : NodeId → ℕ) (last : ℕ) (m : NodeId) → same m n ≡ false → place' place last m ≡ place m
+    unfolding place'
+    place-other place last m h = rw h refl
+
+    -- the last item is the node's own, and stands after the others
+    placed : (used : List PackageId) (items : List Item) (components : List (PackageId × ℕ)) → Written done used items components index → (x : Item) → is_own_item node node.kind x ≡ true → sort_added x ≡ Some (sort_of_kind node.item_kind) → i ≡ indexes (space (sort_of_kind node.item_kind)) items
+        → (place : NodeId → ℕ)
+        × ((m : NodeId) (other : GraphNode) → Stands (done ++ n ∷ []) m other → node_at g m ≡ Some other → is_import other.kind ≡ false → HasItem (items ++ x ∷ []) other (index' m) (place m))
+        × ((a b : ℕ) (k m : NodeId) → a < b → slice_get (done ++ n ∷ []) a ≡ Some k → slice_get (done ++ n ∷ []) b ≡ Some m → place k < place m)
+    placed used items components w x own sorted counts = (
+      place' w.place (length items),
+      each (λ m other. is_import other.kind ≡ false → HasItem (items ++ x ∷ []) other (index' m) (place' w.place (length items) m))
+          (λ m other was other_there no_import.
+          subst (λ k. HasItem (items ++ x ∷ []) other (index' m) k) (sym (place-other w.place (length items) m (stands_apart g done m n other ready.here other_there was)))
+          (subst (λ k. HasItem (items ++ x ∷ []) other k (w.place m)) (sym (index_kept m other was other_there)) (HasItem-push items x other (index m) (w.place m) (w.own m other was other_there no_import))))
+          (λ no_import. subst (λ k. HasItem (items ++ x ∷ []) node (index' n) k) (sym (place-here w.place (length items)))
+          (record { it = x; before = items; after = []; split = refl; here = refl; own = own; adds = sorted; counted = now ∙ counts })),
+      λ a b k m less at_a at_b. rising a b k m less (slice_get-push done n a k at_a) (slice_get-push done n b m at_b),
+    ) where
+      within : (k : NodeId) → has done k ≡ true → w.place k < length items
+      within k was =
+          let (other, other_there, no_import) = node_of_written g k (w.nodes k was) in
+          HasItem-within items other (index k) (w.place k) (w.own k other (inr was) other_there no_import)
+
+      rising : (a b : ℕ) (k m : NodeId) → a < b → (slice_get done a ≡ Some k) ⊎ ((a ≡ length done) × (k ≡ n)) → (slice_get done b ≡ Some m) ⊎ ((b ≡ length done) × (m ≡ n)) → place' w.place (length items) k < place' w.place (length items) m
+      rising a b k m less (inl at_a) (inl at_b) =
+          let e = place-other w.place (length items) k (apart done k n (in_list done a k at_a) absent) in
+          let f = place-other w.place (length items) m (apart done m n (in_list done b m at_b) absent) in
+          let r = w.in_place a b k m less at_a at_b in
+          rw (e, f) r
+      rising a b k m less (inl at_a) (inr (last, is)) =
+          let e = place-other w.place (length items) k (apart done k n (in_list done a k at_a) absent) in
+          let f = ap (place' w.place (length items)) is ∙ place-here w.place (length items) in
+          rw (e, f) (within k (in_list done a k at_a))
+      rising a b k m less (inr (first, _)) (inl at_b) = let s = slice_get_within done b m at_b in absurd (omega arith)
+      rising a b k m less (inr (first, _)) (inr (last, _)) = absurd (omega arith)
+
+    instantiations-push : (b : Bool) → node_is g (λ x. is_instantiation x.kind) n ≡ b → instantiations g (done ++ n ∷ []) ≡ instantiations g done ++ cond b (n ∷ []) []
+    instantiations-push b is = filter-append (node_is g (λ x. is_instantiation x.kind)) done (n ∷ []) ∙ ap (λ t. instantiations g done ++ cond t (n ∷ []) []) is
+
+    kind_test : (k : Bool) → is_instantiation node.kind ≡ k → node_is g (λ x. is_instantiation x.kind) n ≡ k
+    kind_test k is = ap (λ o. option_case o false (λ x. is_instantiation x.kind)) there ∙ is
+
+    nodes_more : (used : List PackageId) (items : List Item) (components : List (PackageId × ℕ)) → Written done used items components index → (m : NodeId) → (m ≡ n) ⊎ (has done m ≡ true) → is_written g m ≡ true
+    nodes_more used items components w m (inl same) = ap (is_written g) same ∙ (minus-true (is_written g) done n ready.here).0
+    nodes_more used items components w m (inr was) = w.nodes m was
+
+    -- what the nodes stand for so far, where this one stands
+    stand_more : (used : List PackageId) (items : List Item) (components : List (PackageId × ℕ)) → Written done used items components index → (x : Item)
+        → (i < indexes (space (sort_of_kind node.item_kind)) (items ++ x ∷ [])) × (stands_for (meaning (items ++ x ∷ [])) (sort_of_kind node.item_kind) i ≡ at n)
+        → (m : NodeId) (other : GraphNode) → Stands (done ++ n ∷ []) m other → node_at g m ≡ Some other
+        → (index' m < indexes (space (sort_of_kind other.item_kind)) (items ++ x ∷ [])) × (stands_for (meaning (items ++ x ∷ [])) (sort_of_kind other.item_kind) (index' m) ≡ at m)
+    stand_more used items components w x last =
+        each (λ m other. (index' m < indexes (space (sort_of_kind other.item_kind)) (items ++ x ∷ [])) × (stands_for (meaning (items ++ x ∷ [])) (sort_of_kind other.item_kind) (index' m) ≡ at m))
+        (λ m other was other_there.
+        let s = stand-push done used items components index w x m other was other_there in
+        subst (λ j. (j < indexes (space (sort_of_kind other.item_kind)) (items ++ x ∷ [])) × (stands_for (meaning (items ++ x ∷ [])) (sort_of_kind other.item_kind) j ≡ at m)) (sym (index_kept m other was other_there)) s)
+        (subst (λ j. (j < indexes (space (sort_of_kind node.item_kind)) (items ++ x ∷ [])) × (stands_for (meaning (items ++ x ∷ [])) (sort_of_kind node.item_kind) j ≡ at n)) (sym now) last)
+
+    -- and of which instances something is known
+    known_more : (used : List PackageId) (items : List Item) (components : List (PackageId × ℕ)) → Written done used items components index → (x : Item)
+        → ((j : InterfaceId) → node.item_kind ≡ item.Instance j → IsKnown g.types j (bound_at (meaning (items ++ x ∷ [])).scope.instances i))
+        → (m : NodeId) (other : GraphNode) → Stands (done ++ n ∷ []) m other → node_at g m ≡ Some other
+        → (j : InterfaceId) → other.item_kind ≡ item.Instance j → IsKnown g.types j (bound_at (meaning (items ++ x ∷ [])).scope.instances (index' m))
+    known_more used items components w x last =
+        each (λ m other. (j : InterfaceId) → other.item_kind ≡ item.Instance j → IsKnown g.types j (bound_at (meaning (items ++ x ∷ [])).scope.instances (index' m)))
+        (λ m other was other_there j is. subst (λ k. IsKnown g.types j (bound_at (meaning (items ++ x ∷ [])).scope.instances k)) (sym (index_kept m other was other_there)) (known-push done used items components index w x m other was other_there j is))
+        (λ j is. subst (λ k. IsKnown g.types j (bound_at (meaning (items ++ x ∷ [])).scope.instances k)) (sym now) (last j is))
+
+    -- the exports by first names, with the node's where it has one
+    first-push : (o : Option Name) → node.first_name ≡ o → flat_map (first_export g at) (done ++ n ∷ []) ≡ flat_map (first_export g at) done ++ option_case o [] (λ name. (name, sort_of_kind node.item_kind, at n) ∷ [])
+    first-push o is =
+        flat_map-append (first_export g at) done (n ∷ [])
+        ∙ ap (λ es. flat_map (first_export g at) done ++ es)
+        (append-nil (first_export g at n) ∙ ap (λ z. option_case z [] (λ x. option_case x.first_name [] (λ name. (name, sort_of_kind x.item_kind, at n) ∷ []))) there
+        ∙ ap (λ z. option_case z [] (λ name. (name, sort_of_kind node.item_kind, at n) ∷ [])) is)
+
+    -- only a definition has one
+    no_first : (node.kind ≡ graph.definition → ⊥) → flat_map (first_export g at) done ≡ flat_map (first_export g at) (done ++ n ∷ [])
+    no_first other = sym (first-push None (split node.first_name refl) ∙ append-nil (flat_map (first_export g at) done)) where
+      split : (o : Option Name) → node.first_name ≡ o → o ≡ None
+      split None is = refl
+      split (Some name) is = absurd (other (sound.first_names n node name there is).0)
+
+    -- an alias is written
+    pub alias_more : (used : List PackageId) (items : List Item) (components : List (PackageId × ℕ)) (instance : NodeId) (source : GraphNode) (k : ℕ) (name : Name) → Written done used items components index
+        → node.kind ≡ graph.alias → IsAliasOf g instance k n → node_at g instance ≡ Some source → slice_get (exports_of g source) k ≡ Some (name, node.item_kind)
+        → i ≡ indexes (space (sort_of_kind node.item_kind)) items
+        → Written (done ++ n ∷ []) used (items ++ alias_item (export_alias (sort_of_kind node.item_kind) (index instance) name) ∷ []) components index'
+    alias_more used items components instance source k name w kind aliased source_there exported counts =
+        let t : Sort = sort_of_kind node.item_kind in
+        let x : Item = alias_item (export_alias t (index instance) name) in
+        let more = alias_rest items t (index instance) name in
+        let (place, own, in_place) = placed used items components w x (ap (λ q. is_own_item node q x) kind) refl counts in
+        record {
+          nodes = λ m within. nodes_more used items components w m (in_push done n m within);
+          meant = meant-push items x w.meant (alias_meant items t (index instance) name (subst IsSomething (sym of_instance) (something g at order instance source (is_thing instance source source_there))) has_export);
+          imports = ap (λ r. r.imports) more ∙ w.imports;
+          customs = ap (λ r. r.customs) more ∙ w.customs;
+          exports = ap (λ r. map shown r.exports) more ∙ w.exports ∙ no_first (λ other. two_kinds kind other);
+          bytes = ap (λ r. r.nested_bytes) more ∙ w.bytes;
+          packages = w.packages;
+          numbers = kept_number done used items components index w x;
+          made = subst (λ ns. AreMade g at order ns (meaning (items ++ x ∷ [])).instantiations) (sym (instantiations-push false (kind_test false (ap is_instantiation kind)) ∙ rw append-nil refl))
+              (subst (λ made. AreMade g at order (instantiations g done) made) (sym (ap (λ r. r.instantiations) more)) w.made);
+          asked_for = asked-push done used items components index w x;
+          stand = stand_more used items components w x (subst (λ j. (j < indexes (space t) (items ++ x ∷ [])) × (stands_for (meaning (items ++ x ∷ [])) t j ≡ at n)) (sym counts) here_stands);
+          known = known_more used items components w x here_known;
+          place = place;
+          own = own;
+          in_place = in_place;
+        } where
+          two_kinds : {q : Kind} → q ≡ graph.alias → q ≡ graph.definition → ⊥
+          two_kinds a b = cc
+
+          -- what is no instance exports nothing
+          no_exports : (z : GraphNode) → exports_of g z ≡ [] → slice_get (exports_of g z) k ≡ Some (name, node.item_kind) → ⊥
+          no_exports z none found = nothing_there (exports_of g z) none found where
+            nothing_there : (es : List (Name × ItemKind)) → es ≡ [] → slice_get es k ≡ Some (name, node.item_kind) → ⊥
+            nothing_there [] none found = cc
+            nothing_there (e ∷ es) none found = cc
+
+          exports_are : (z : GraphNode) (j : InterfaceId) → z.item_kind ≡ item.Instance j → exports_of g z ≡ interface_exports g.types j
+          exports_are z j is = rw is refl
+
+          -- an interface of which the source is an instance
+          instance_of : (q : ItemKind) (z : GraphNode) → z.item_kind ≡ q → slice_get (exports_of g z) k ≡ Some (name, node.item_kind) → (j : InterfaceId) × (z.item_kind ≡ item.Instance j) × (slice_get (interface_exports g.types j) k ≡ Some (name, node.item_kind))
+          instance_of (item.TypeItem t) z is found = absurd (no_exports z (rw is refl) found)
+          instance_of (item.Func f) z is found = absurd (no_exports z (rw is refl) found)
+          instance_of (item.Instance j) z is found = (j, is, subst (λ (es : List (Name × ItemKind)). slice_get es k ≡ Some (name, node.item_kind)) (exports_are z j is) found)
+          instance_of (item.Component u) z is found = absurd (no_exports z (rw is refl) found)
+          instance_of (item.Module m) z is found = absurd (no_exports z (rw is refl) found)
+          instance_of (item.Value v) z is found = absurd (no_exports z (rw is refl) found)
+
+          -- what the alias is
+          is_projection : IsThing g at order n node → at n ≡ projection (at instance) name
+          is_projection (as_import other p other_kind at_p is) = absurd (two_kinds kind other_kind) where
+            two_kinds : {q : Kind} {m : Name} → q ≡ graph.alias → q ≡ graph.import m → ⊥
+            two_kinds a b = cc
+          is_projection (as_instantiation j other_kind at_j is) = absurd (two_kinds kind other_kind) where
+            two_kinds : {q : Kind} → q ≡ graph.alias → q ≡ graph.instantiation → ⊥
+            two_kinds a b = cc
+          is_projection (as_definition t other_kind _ _) = absurd (two_kinds kind other_kind)
+          is_projection (as_alias other other_source j other_name _ other_aliased other_there other_exported is) =
+              let (same, at_same) = sound.one_source n instance other k j aliased other_aliased in
+              let sources : source ≡ other_source = let e : node_at g instance ≡ Some other_source = ap (node_at g) same ∙ other_there in cc in
+              let names : name ≡ other_name = first_of (slice_get (exports_of g source) k) name other_name node.item_kind node.item_kind exported (ap (λ z. slice_get (exports_of g z) k) sources ∙ ap (slice_get (exports_of g other_source)) at_same ∙ other_exported) in
+              is ∙ ap (λ z. projection (at z) other_name) (sym same) ∙ ap (projection (at instance)) (sym names)
+
+          source_stands : Stands done instance source
+          source_stands = source_done (alias_edge instance n k) aliased refl source source_there
+
+          -- the instance stands
+          of_instance : stands_for (meaning items) sort.Instance (index instance) ≡ at instance
+          of_instance =
+              let (j, is, _) = instance_of source.item_kind source refl exported in
+              ap (λ q. stands_for (meaning items) (sort_of_kind q) (index instance)) (sym is) ∙ (w.stand instance source source_stands source_there).1
+
+          -- and may have the export
+          has_export : HasExport (sort_of_kind node.item_kind) (bound_at (meaning items).scope.instances (index instance)).type name
+          has_export =
+              let (j, is, found) = instance_of source.item_kind source refl exported in
+              known_export g.types j (bound_at (meaning items).scope.instances (index instance)) k name node.item_kind (w.known instance source source_stands source_there j is) found
+
+          here_known : (l : InterfaceId) → node.item_kind ≡ item.Instance l → IsKnown g.types l (bound_at (meaning (items ++ alias_item (export_alias (sort_of_kind node.item_kind) (index instance) name) ∷ [])).scope.instances i)
+          here_known l is_instance =
+              let (j, is, found) = instance_of source.item_kind source refl exported in
+              let b = bound_at (meaning items).scope.instances (index instance) in
+              let here : IsKnown g.types l (bound_at (meaning (items ++ alias_item (export_alias sort.Instance (index instance) name) ∷ [])).scope.instances (indexes (space sort.Instance) items)) =
+              subst (IsKnown g.types l) (sym (alias_bound laws items (index instance) name))
+              (known_alias g.types j l b k name (w.known instance source source_stands source_there j is) (found ∙ ap (λ (q : ItemKind). Some (name, q)) is_instance)) in
+              subst (λ q. IsKnown g.types l (bound_at (meaning (items ++ alias_item (export_alias (sort_of_kind node.item_kind) (index instance) name) ∷ [])).scope.instances q)) (sym counts)
+              (subst (λ (q : ItemKind). IsKnown g.types l (bound_at (meaning (items ++ alias_item (export_alias (sort_of_kind q) (index instance) name) ∷ [])).scope.instances (indexes (space (sort_of_kind q)) items))) (sym is_instance) here)
+
+          here_stands : (indexes (space (sort_of_kind node.item_kind)) items < indexes (space (sort_of_kind node.item_kind)) (items ++ alias_item (export_alias (sort_of_kind node.item_kind) (index instance) name) ∷ []))
+              × (stands_for (meaning (items ++ alias_item (export_alias (sort_of_kind node.item_kind) (index instance) name) ∷ [])) (sort_of_kind node.item_kind) (indexes (space (sort_of_kind node.item_kind)) items) ≡ at n)
+          here_stands =
+              let t : Sort = sort_of_kind node.item_kind in (
+                counted_up t items (alias_item (export_alias t (index instance) name)) refl,
+                alias_stands items t (index instance) name (indexes (space t) items) (sym (laws.counted items t)) has_export
+                    ∙ ap (λ z. projected z name) of_instance
+                    ∙ projected_thing instance source name (is_thing instance source source_there)
+                    ∙ sym (is_projection (is_thing n node there)),
+              )
+
+    -- where the node stands among the instantiations
+    only_instance : (k : ℕ) → node.kind ≡ graph.instantiation → slice_get (instantiations g order) k ≡ Some n → k ≡ length (instantiations g done)
+    only_instance k kind at_k =
+        let test : NodeId → Bool = node_is g (λ x. is_instantiation x.kind) in
+        only_place (filter test done) (filter test later) n k (has-filter test done n absent) (has-filter test later n not_later)
+        (ap (λ xs. slice_get xs k) (sym (ap (filter test) here ∙ filter-append test done (n ∷ later) ∙ ap (λ b. filter test done ++ cond b (n ∷ filter test later) (filter test later)) (kind_test true (ap is_instantiation kind)))) ∙ at_k)
+
+    -- an instantiation is written
+    pub instance_more : (used : List PackageId) (items : List Item) (components : List (PackageId × ℕ)) (id : PackageId) (c place : ℕ) (arguments : List (Name × Sort × ℕ)) → Written done used items components index
+        → node.kind ≡ graph.instantiation → node.owner ≡ Some id → slice_get (used_packages g order) place ≡ Some id → stands_for (meaning items) sort.Component c ≡ component_at place
+        → sort_of_kind node.item_kind ≡ sort.Instance
+        → AreArgumentItems g places index n 0 (imports_of g node) arguments
+        → i ≡ indexes (space sort.Instance) items
+        → Written (done ++ n ∷ []) used (items ++ instantiate c arguments ∷ []) components index'
+    instance_more used items components id c k arguments w kind owned first stands typed given_items counts =
+        let x : Item = instantiate c arguments in
+        let more = instantiations_more items c arguments in
+        let (place, own, in_place) = placed used items components w x (ap (λ q. is_own_item node q x) kind) (ap Some (sym typed)) (counts ∙ ap (λ t. indexes (space t) items) (sym typed)) in
+        record {
+          nodes = λ m within. nodes_more used items components w m (in_push done n m within);
+          meant = meant-push items x w.meant (subst IsSomething (sym stands) tt, arguments_meant 0 (imports_of g node) arguments given_items);
+          imports = ap (λ r. r.imports) more ∙ w.imports;
+          customs = ap (λ r. r.customs) more ∙ w.customs;
+          exports = ap (λ r. map shown r.exports) more ∙ w.exports ∙ no_first (λ other. two_kinds kind other);
+          bytes = ap (λ r. r.nested_bytes) more ∙ w.bytes;
+          packages = w.packages;
+          numbers = kept_number done used items components index w x;
+          made = subst (λ ns. AreMade g at order ns (meaning (items ++ x ∷ [])).instantiations) (sym (instantiations-push true (kind_test true (ap is_instantiation kind))))
+              (subst (λ made. AreMade g at order (instantiations g done ++ n ∷ []) made) (sym (ap (λ r. r.instantiations) more))
+              (are_push (instantiations g done) (meaning items).instantiations w.made this));
+          asked_for = asked-push done used items components index w x;
+          stand = stand_more used items components w x
+              (subst (λ j. (j < indexes (space (sort_of_kind node.item_kind)) (items ++ x ∷ [])) × (stands_for (meaning (items ++ x ∷ [])) (sort_of_kind node.item_kind) j ≡ at n)) (sym counts)
+              (subst (λ t. (indexes (space sort.Instance) items < indexes (space t) (items ++ x ∷ [])) × (stands_for (meaning (items ++ x ∷ [])) t (indexes (space sort.Instance) items) ≡ at n)) (sym typed) here_stands));
+          known = known_more used items components w x
+              (λ j is. inl (ap (λ k. (bound_at (meaning (items ++ x ∷ [])).scope.instances k).type) counts ∙ ap (λ (b : Bound). b.type) (instance_bound laws items c arguments)));
+          place = place;
+          own = own;
+          in_place = in_place;
+        } where
+          two_kinds : {q : Kind} → q ≡ graph.instantiation → q ≡ graph.definition → ⊥
+          two_kinds a b = cc
+
+          are_push : (ns : List NodeId) (its : List Instantiation) → AreMade g at order ns its → IsMadeOf g at order n (made_of (meaning items) c arguments) → AreMade g at order (ns ++ n ∷ []) (its ++ made_of (meaning items) c arguments ∷ [])
+          are_push [] [] h it = (it, tt)
+          are_push [] (y ∷ its) h it = absurd h
+          are_push (m ∷ ns) [] h it = absurd h
+          are_push (m ∷ ns) (y ∷ its) h it = (h.0, are_push ns its h.1 it)
+
+          are_many : (ns : List NodeId) (its : List Instantiation) → AreMade g at order ns its → length its ≡ length ns
+          are_many [] [] h = refl
+          are_many [] (y ∷ its) h = absurd h
+          are_many (m ∷ ns) [] h = absurd h
+          are_many (m ∷ ns) (y ∷ its) h = ap suc (are_many ns its h.1)
+
+          node_stands : (j : ℕ) (source : NodeId) (other : GraphNode) (a : Name × Sort × ℕ) → IsArgumentOf g n j source → node_at g source ≡ Some other → a.1 ≡ sort_of_kind other.item_kind → a.2 ≡ index source → stands_for (meaning items) a.1 a.2 ≡ at source
+          node_stands j source other a set_ other_there of_sort at_index =
+              let s = w.stand source other (source_done (argument_edge source n j) set_ refl other other_there) other_there in
+              ap (λ t. stands_for (meaning items) t a.2) of_sort ∙ ap (stands_for (meaning items) (sort_of_kind other.item_kind)) at_index ∙ s.1
+
+          argument_named : (j : ℕ) (name : Name) (a : Name × Sort × ℕ) → IsArgumentItem g places index n j name a → a.0 ≡ name
+          argument_named j name a (of_node source other is set_ other_there of_sort at_index) = is
+          argument_named j name a (of_import is unset_ there_) = is
+
+          argument_thing : (j : ℕ) (name : Name) (a : Name × Sort × ℕ) → IsArgumentItem g places index n j name a → IsArgument g at n j name (stands_for (meaning items) a.1 a.2)
+          argument_thing j name a (of_node source other is set_ other_there of_sort at_index) = subst (λ t. IsArgument g at n j name t) (sym (node_stands j source other a set_ other_there of_sort at_index)) (given source set_)
+          argument_thing j name a (of_import is unset_ there_) = subst (λ t. IsArgument g at n j name t) (sym (w.asked_for there_.p a.1 a.2 there_.placed).1) (asked there_.p unset_ there_.fell)
+
+          argument_meant : (j : ℕ) (name : Name) (a : Name × Sort × ℕ) → IsArgumentItem g places index n j name a → IsSomething (stands_for (meaning items) a.1 a.2)
+          argument_meant j name a (of_node source other is set_ other_there of_sort at_index) = subst IsSomething (sym (node_stands j source other a set_ other_there of_sort at_index)) (something g at order source other (is_thing source other other_there))
+          argument_meant j name a (of_import is unset_ there_) = subst IsSomething (sym (w.asked_for there_.p a.1 a.2 there_.placed).1) tt
+
+          arguments_meant : (j : ℕ) (imports : List (Name × ItemKind)) (as_ : List (Name × Sort × ℕ)) → AreArgumentItems g places index n j imports as_ → AllByRecursion (λ a. IsSomething (stands_for (meaning items) a.1 a.2)) as_
+          arguments_meant j [] [] h = tt
+          arguments_meant j [] (a ∷ as_) h = absurd h
+          arguments_meant j (e ∷ imports) [] h = absurd h
+          arguments_meant j (e ∷ imports) (a ∷ as_) h = (argument_meant j e.0 a h.0, arguments_meant (suc j) imports as_ h.1)
+
+          are_arguments : (j : ℕ) (imports : List (Name × ItemKind)) (as_ : List (Name × Sort × ℕ)) → AreArgumentItems g places index n j imports as_ → AreArguments g at n j imports (map (λ a. (a.0, stands_for (meaning items) a.1 a.2)) as_)
+          are_arguments j [] [] h = tt
+          are_arguments j [] (a ∷ as_) h = absurd h
+          are_arguments j (e ∷ imports) [] h = absurd h
+          are_arguments j (e ∷ imports) (a ∷ as_) h = (argument_named j e.0 a h.0, argument_thing j e.0 a h.0, are_arguments (suc j) imports as_ h.1)
+
+          this : IsMadeOf g at order n (made_of (meaning items) c arguments)
+          this = record { node = node; there = there; owner = id; owned = owned; place = k; used = first; component = stands; arguments = are_arguments 0 (imports_of g node) arguments given_items }
+
+          is_instance : IsThing g at order n node → at n ≡ instance_at (length (instantiations g done))
+          is_instance (as_import other p other_kind at_p is) = absurd (two_kinds kind other_kind) where
+            two_kinds : {q : Kind} {m : Name} → q ≡ graph.instantiation → q ≡ graph.import m → ⊥
+            two_kinds a b = cc
+          is_instance (as_instantiation j _ at_j is) = is ∙ ap instance_at (only_instance j kind at_j)
+          is_instance (as_definition t other_kind _ _) = absurd (two_kinds kind other_kind)
+          is_instance (as_alias other other_source j other_name other_kind _ _ _ _) = absurd (two_kinds kind other_kind) where
+            two_kinds : {q : Kind} → q ≡ graph.instantiation → q ≡ graph.alias → ⊥
+            two_kinds a b = cc
+
+          here_stands : (indexes (space sort.Instance) items < indexes (space sort.Instance) (items ++ instantiate c arguments ∷ []))
+              × (stands_for (meaning (items ++ instantiate c arguments ∷ [])) sort.Instance (indexes (space sort.Instance) items) ≡ at n)
+          here_stands = (
+            counted_up sort.Instance items (instantiate c arguments) refl,
+            instance_stands items c arguments (indexes (space sort.Instance) items) (sym (laws.counted items sort.Instance))
+                ∙ ap instance_at (are_many (instantiations g done) (meaning items).instantiations w.made)
+                ∙ sym (is_instance (is_thing n node there)),
+          )
+
+    -- a definition is exported by its first name
+    pub definition_more : OneImportPlace g → (used : List PackageId) (items : List Item) (components : List (PackageId × ℕ)) (t : AnyType) (name : Name) (k : ℕ) (thing : Thing) → Written done used items components index
+        → node.kind ≡ graph.definition → node.item_kind ≡ item.TypeItem t → node.first_name ≡ Some name → IsDefined g t (listing_of g t) thing → stands_for (meaning items) sort.«Type» k ≡ thing
+        → i ≡ indexes (space sort.«Type») items
+        → Written (done ++ n ∷ []) used (items ++ export_item name sort.«Type» k ∷ []) components index'
+    definition_more one_place used items components t name k thing w kind is_type first defined stands counts =
+        let x : Item = export_item name sort.«Type» k in
+        let more = export_others items sort.«Type» k name in
+        let typed : sort_of_kind node.item_kind ≡ sort.«Type» = ap sort_of_kind is_type in
+        let own_name : is_first node name ≡ true = ap (λ o. option_case o false (same_name name)) first ∙ same_name-refl name in
+        let (place, own, in_place) = placed used items components w x (ap (λ q. is_own_item node q x) kind ∙ own_name) (ap Some (sym typed)) (counts ∙ ap (λ z. indexes (space z) items) (sym typed)) in
+        let exported : map shown (meaning (items ++ x ∷ [])).exports ≡ flat_map (first_export g at) done ++ (name, sort_of_kind node.item_kind, at n) ∷ [] =
+        export_shown items sort.«Type» k name
+        ∙ ap (λ es. es ++ (name, sort.«Type», stands_for (meaning items) sort.«Type» k) ∷ []) w.exports
+        ∙ ap (λ z. flat_map (first_export g at) done ++ (name, sort.«Type», z) ∷ []) (stands ∙ sym (is_type_defined (is_thing n node there)))
+        ∙ ap (λ z. flat_map (first_export g at) done ++ (name, z, at n) ∷ []) (sym typed) in
+        record {
+          nodes = λ m within. nodes_more used items components w m (in_push done n m within);
+          meant = meant-push items x w.meant (new_name g at items done [] name (w.exports ∙ sym (append-nil (flat_map (first_export g at) done))) not_first no_others, subst IsSomething (sym stands) (defined_something g t (listing_of g t) thing defined));
+          imports = more.0 ∙ w.imports;
+          customs = more.3 ∙ w.customs;
+          exports = exported ∙ sym (first-push (Some name) first);
+          bytes = more.1 ∙ w.bytes;
+          packages = w.packages;
+          numbers = kept_number done used items components index w x;
+          made = subst (λ ns. AreMade g at order ns (meaning (items ++ x ∷ [])).instantiations) (sym (instantiations-push false (kind_test false (ap is_instantiation kind)) ∙ rw append-nil refl))
+              (subst (λ made. AreMade g at order (instantiations g done) made) (sym more.2) w.made);
+          asked_for = asked-push done used items components index w x;
+          stand = stand_more used items components w x
+              (subst (λ j. (j < indexes (space (sort_of_kind node.item_kind)) (items ++ x ∷ [])) × (stands_for (meaning (items ++ x ∷ [])) (sort_of_kind node.item_kind) j ≡ at n)) (sym counts)
+              (subst (λ z. (indexes (space sort.«Type») items < indexes (space z) (items ++ x ∷ [])) × (stands_for (meaning (items ++ x ∷ [])) z (indexes (space sort.«Type») items) ≡ at n)) (sym typed) here_stands));
+          known = known_more used items components w x (λ j is. absurd (no_instance is_type is));
+          place = place;
+          own = own;
+          in_place = in_place;
+        } where
+          no_instance : {q : ItemKind} {j : InterfaceId} → q ≡ item.TypeItem t → q ≡ item.Instance j → ⊥
+          no_instance a b = cc
+
+          no_others : IsAmong [] name → ⊥
+          no_others (j, m, wrong) = cc
+
+          not_first : IsFirstAmong g done name → ⊥
+          not_first (m, other, within, other_there, also) =
+              let e : m ≡ n = one_node (export_at g name) (sound.first_names m other name other_there also).1 (sound.first_names n node name there first).1 in
+              clash (has done n) (ap (has done) (sym e) ∙ within) absent where
+                one_node : (o : Option NodeId) → o ≡ Some m → o ≡ Some n → m ≡ n
+                one_node o a b = cc
+
+          is_type_defined : IsThing g at order n node → at n ≡ thing
+          is_type_defined (as_import other p other_kind at_p is) = absurd (no_import kind other_kind) where
+            no_import : {q : Kind} {m : Name} → q ≡ graph.definition → q ≡ graph.import m → ⊥
+            no_import a b = cc
+          is_type_defined (as_instantiation j other_kind at_j is) = absurd (no_kind kind other_kind) where
+            no_kind : {q : Kind} → q ≡ graph.definition → q ≡ graph.instantiation → ⊥
+            no_kind a b = cc
+          is_type_defined (as_definition other other_kind other_type is) = defined_once g one_place t (listing_of g t) (at n) thing (subst (λ z. IsDefined g z (listing_of g z) (at n)) (one_type node.item_kind other_type is_type) is) defined where
+            one_type : (q : ItemKind) → q ≡ item.TypeItem other → q ≡ item.TypeItem t → other ≡ t
+            one_type q a b = cc
+          is_type_defined (as_alias other other_source j other_name other_kind _ _ _ _) = absurd (no_kind kind other_kind) where
+            no_kind : {q : Kind} → q ≡ graph.definition → q ≡ graph.alias → ⊥
+            no_kind a b = cc
+
+          here_stands : (indexes (space sort.«Type») items < indexes (space sort.«Type») (items ++ export_item name sort.«Type» k ∷ []))
+              × (stands_for (meaning (items ++ export_item name sort.«Type» k ∷ [])) sort.«Type» (indexes (space sort.«Type») items) ≡ at n)
+          here_stands = (
+            counted_up sort.«Type» items (export_item name sort.«Type» k) refl,
+            type_export_stands items k name (indexes (space sort.«Type») items) (sym (laws.counted items sort.«Type»)) ∙ stands ∙ sym (is_type_defined (is_thing n node there)),
+          )

@@ -1,0 +1,4 @@
+pub mod nodes
+pub mod meaning
+pub mod causes
+pub mod private

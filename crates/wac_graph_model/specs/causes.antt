@@ -1,0 +1,4 @@
+pub mod NotYet
+pub mod TypeFaults
+pub mod OuterNames
+pub mod Cause

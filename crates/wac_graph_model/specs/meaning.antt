@@ -1,0 +1,4 @@
+pub mod Definition
+pub mod Listing
+pub mod Means
+pub mod Importable

@@ -1,0 +1,14 @@
+pub mod Graph
+pub mod Options
+pub mod Nodes
+pub mod Sound
+pub mod ExternName
+pub mod Definitions
+pub mod Steps
+pub mod TakenOut
+pub mod Asked
+pub mod Imports
+pub mod Entries
+pub mod OuterImports
+pub mod Gives
+pub mod Stays

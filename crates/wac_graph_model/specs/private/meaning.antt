@@ -1,0 +1,4 @@
+pub mod Beginning
+pub mod MergedImports
+pub mod Encoding
+pub mod Writing

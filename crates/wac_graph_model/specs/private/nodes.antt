@@ -1,0 +1,3 @@
+pub mod Clones
+pub mod PackageKeys
+pub mod Positions

@@ -1,0 +1,1 @@
+//! When component items mean a graph: `Means` with the definitions it needs, and lemmas about the items of each node.

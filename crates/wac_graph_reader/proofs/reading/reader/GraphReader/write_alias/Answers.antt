@@ -1,0 +1,55 @@
+use Rattle.wac_scopes.specs.declared.scope.Scope.{Scope}
+use Rattle.wac_scopes.specs.Scoped.{listing}
+use Rattle.std.proofs.Common.{◌<◌, ◌∙◌, refl, ap, sym, subst, IfSome}
+use Rattle.wac_binary.specs.Indexes.{space}
+use Rattle.wac_scopes.specs.Contents.{items_of}
+use Rattle.wac_graph_reader.proofs.lemmas.reading.RootLemmas.{root_count, grown, stays_right}
+use Rattle.wac_graph_model.specs.private.meaning.Encoding.{index_in}
+use Rattle.wac_graph_model.specs.private.meaning.Writing.{WritesNode}
+use Rattle.wac_graph_model.specs.nodes.Graph.{node_at}
+use Rattle.wac_graph_fields.proofs.AliasLemmas.{interface_there}
+use Rattle.wac_edges.specs.Edge.{alias_edge}
+use Rattle.wac_graph_reader.proofs.lemmas.writing.WriteArgumentsLemmas.{source_noted, index_is}
+use Rattle.wac_graph_reader.proofs.lemmas.writing.WriteAliasLemmas.{alias_sourced, source_there, source_is_instance, position_there, alias_there, alias_added}
+use Rattle.wac_graph_reader.specs.private.reading.Inside.{fields_of}
+use Rattle.wac_graph_reader.proofs.reading.reader.GraphReader.write_alias.Goals as goal
+
+pub unreachable-requires : goal.unreachable-requires
+unreachable-requires c = alias_sourced (fields_of c.self.inside) c.self.invariant c.args.n.0 (rw (← c.self.view_is) at c.requires.alias) c.in_default.ensures.none
+
+pub index-requires : goal.index-requires
+index-requires c = source_there (fields_of c.self.inside) c.self.invariant c.args.n.0 (rw (← c.self.view_is) at c.requires.alias) c.in-Some.source.0 c.in-Some.position c.in-Some.ensures.some
+
+pub unreachable-requires-in_default-item_kind : goal.unreachable-requires-in_default-item_kind
+unreachable-requires-in_default-item_kind c =
+    source_is_instance (fields_of c.self.inside) c.self.invariant c.args.n.0 (rw (← c.self.view_is) at c.requires.alias) c.in-Some.source.0 c.in-Some.position c.in-Some.ensures.some c.index.result.now c.index.ensures c.in_default-item_kind.not-Instance
+
+pub index-requires-2 : goal.index-requires-2
+index-requires-2 c = interface_there (fields_of c.self.inside) c.self.invariant c.in-Some.source c.index.result.now c.in-Instance.interface c.index.ensures c.in-Instance.is
+
+pub name_at-name-requires : goal.name_at-name-requires
+name_at-name-requires c =
+    position_there (fields_of c.self.inside) c.self.invariant c.args.n.0 (rw (← c.self.view_is) at c.requires.alias) c.in-Some.source.0 c.in-Some.position c.in-Some.ensures.some c.index.result.now c.in-Instance.interface c.index-2.result.now c.index.ensures c.in-Instance.is c.index-2.ensures
+
+pub index-requires-3 : goal.index-requires-3
+index-requires-3 c =
+    alias_there (fields_of c.self.inside) c.self.invariant c.args.n.0 (rw (← c.self.view_is) at c.requires.alias) c.in-Some.source.0 c.in-Some.position c.in-Some.ensures.some c.index.result.now c.in-Instance.interface c.index-2.result.now c.index.ensures c.in-Instance.is c.index-2.ensures
+
+pub returns-clause-written : goal.returns-clause-written
+returns-clause-written c places =
+    subst (λ g. IfSome (node_at g c.args.n) (λ node. WritesNode g places c.args.n node (index_in c.args.encoder.now.indexes.items) c.args.encoder.now.components c.args.encoder.now.components (items_of c.args.encoder.now.root.content) (items_of c.alias_export.new.self.content) c.in_ok-alias_export.field-0)) c.self.view_is
+    (alias_added (fields_of c.self.inside) c.self.invariant c.args.n.0 (rw (← c.self.view_is) at c.requires.alias) c.in-Some.source.0 c.in-Some.position c.in-Some.ensures.some c.index.result.now c.in-Instance.interface c.index-2.result.now c.index.ensures c.in-Instance.is c.index-2.ensures
+    places c.index-3.result.now c.index-3.ensures c.name_at-name.result.now c.name_at-name.ensures c.sort_of-sort.result c.sort_of-sort.ensures
+    (index_in c.args.encoder.now.indexes.items) c.index-instance.result.now (index_is c.args.encoder.now.indexes.items c.in-Some.source.0 c.index-instance.result.now (source_noted (fields_of c.self.inside) c.self.invariant c.args.self.now c.self.view_is c.args.encoder.now.indexes.items c.requires.room (alias_edge c.in-Some.source c.args.n c.in-Some.position) c.in-Some.ensures.some) c.index-instance.ensures)
+    c.args.encoder.now.components c.args.encoder.now.components refl
+    (items_of c.args.encoder.now.root.content) (items_of c.alias_export.new.self.content) (grown c.args.encoder.now.root c.alias_export.new.self _ c.in_ok-alias_export.ensures.appended) c.in_ok-alias_export.field-0 (c.in_ok-alias_export.ensures.index ∙ root_count (space c.sort_of-sort.result) c.args.encoder.now.root.content c.requires.right.is_root))
+
+pub index-instance-requires : goal.index-instance-requires
+index-instance-requires c = subst (λ k. c.in-Some.source.0 < k) (sym c.args.encoder.now.indexes.ok.0)
+    (source_noted (fields_of c.self.inside) c.self.invariant c.args.self.now c.self.view_is c.args.encoder.now.indexes.items c.requires.room (alias_edge c.in-Some.source c.args.n c.in-Some.position) c.in-Some.ensures.some)
+
+pub returns-clause-right : goal.returns-clause-right
+returns-clause-right c = stays_right c.rooted_law.ensures.stays c.args.self.now.types c.args.encoder.now.root c.alias_export.new.self _ c.requires.right c.in_ok-alias_export.ensures.appended
+
+pub returns-clause-listed : goal.returns-clause-listed
+returns-clause-listed c = λ a. ap (λ (s : Scope). listing s a) c.in_ok-alias_export.ensures.appended

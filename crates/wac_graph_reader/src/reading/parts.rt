@@ -1,0 +1,126 @@
+//! The parts of a graph that are written without a type encoder: aliases, exports and custom sections.
+ghost use Rattle.std.specs.Prelude.{◌≡◌, ◌++◌, ℕ, IsSomeAnd, false, OnOk, IfOk, IfErr, IfSome, None, List, map};
+ghost use Rattle.wac_binary.specs.declared.sorts.Sort.{Sort as ASort};
+ghost use Rattle.wac_graph_model.specs.causes.Cause.{cause_of};
+ghost use Rattle.wac_edges.specs.declared.node.NodeId.{NodeId as AnId};
+ghost use Rattle.wac_graph_model.specs.private.meaning.Beginning.{Places};
+ghost use Rattle.wac_graph_model.specs.private.meaning.Encoding.{HasRoom, index_in};
+ghost use Rattle.wac_graph_model.specs.meaning.Means.{custom_item, name_customs, AreNames, processor_customs, export_item_of, further_exports};
+ghost use Rattle.wac_graph_model.specs.private.meaning.Writing.{WritesNode};
+ghost use Rattle.wac_graph_model.specs.nodes.Graph.{node_at, alias};
+ghost use Rattle.wac_scopes.specs.Contents.{items_of};
+ghost use Rattle.wac_scopes.specs.Rooted.{IsRightRoot};
+ghost use Rattle.wac_scopes.specs.Scoped.{listing};
+ghost use Rattle.wac_types_shapes.specs.declared.shapes.component.«Type».{«Type» as AnyType};
+ghost use Rattle.wac_types_shapes.specs.primitives.Name.{Name as AName};
+ghost use Rattle.wac_graph_reader.specs.private.writing.Naming.{IsNamed};
+ghost use Rattle.std.specs.List.{flat_map};
+ghost use Rattle.wac_graph_reader.specs.private.writing.Further.{further_at};
+
+use crate::reading::encoder::{Encoder, sort_of};
+use crate::reading::reader::GraphReader;
+use std::alloc::Global;
+use wac_binary::{ComponentBuilder, component_names, producers};
+use wac_graph_model::{EncodeError, NodeId, Processor};
+use wac_scopes::rooted_law;
+use wac_types::ItemKind;
+
+impl<'a> GraphReader<'a> {
+    /// Writes an alias and returns its index.
+    pub fn write_alias(&self, encoder: &mut Encoder, n: NodeId) -> Result<u32, EncodeError>
+        requires alias { IsSomeAnd (node_at self.now n) (λ node. node.kind ≡ alias) }
+        requires right { IsRightRoot self.now.types encoder.old.root }
+        requires room { HasRoom self.now encoder.old.indexes.items }
+        ensures written { IfOk result (λ i. (places : Places) → IfSome (node_at self.now n) (λ node. WritesNode self.now places n node (index_in encoder.old.indexes.items) encoder.old.components encoder.new.components (items_of encoder.old.root.content) (items_of encoder.new.root.content) i)) }
+        ensures right { OnOk result (IsRightRoot self.now.types encoder.new.root) }
+        ensures listed { OnOk result ((a : AnyType) → listing encoder.new.root a ≡ listing encoder.old.root a) }
+        ensures kept { encoder.new.indexes ≡ encoder.old.indexes }
+        ensures fault { IfErr result (λ e. cause_of e ≡ None) }
+    {
+        rooted_law(); // proof only
+        let Some((source, position)) = self.edges.alias_source(n) else {
+            unreachable!()
+        };
+        let ItemKind::Instance(interface) = self.nodes[source.0].item_kind else {
+            unreachable!()
+        };
+        let name = self.types[interface].exports.name_at(position);
+        let sort = sort_of(self.nodes[n.0].item_kind);
+        let instance = encoder.indexes[source.0];
+        Ok(encoder.root.alias_export(sort, instance, name)?)
+    }
+
+    /// Writes the exports in the graph's order, without definitions' first names.
+    pub fn write_exports(
+        &self,
+        component: &mut ComponentBuilder,
+        indexes: &[u32],
+    ) -> Result<(), EncodeError>
+        requires { HasRoom self.now indexes.now }
+        ensures written { OnOk result (component.new ≡ component.old ++ flat_map (export_item_of self.now (index_in indexes.now)) (further_exports self.now)) }
+        ensures fault { IfErr result (λ e. cause_of e ≡ None) }
+    {
+        for i in 0..self.exports.len() {
+            self.write_export(component, indexes, i)?;
+        }
+        Ok(())
+    }
+
+    /// Writes the export at a position, unless its name is a definition's first one.
+    fn write_export(
+        &self,
+        component: &mut ComponentBuilder,
+        indexes: &[u32],
+        i: usize,
+    ) -> Result<(), EncodeError>
+        requires { HasRoom self.now indexes.now }
+        ensures written { OnOk result (component.new ≡ component.old ++ flat_map (export_item_of self.now (index_in indexes.now)) (further_at self.now i)) }
+        ensures fault { IfErr result (λ e. cause_of e ≡ None) }
+    {
+        let Some((name, id)) = self.further_export(i) else {
+            return Ok(());
+        };
+        let sort = sort_of(self.nodes[id.0].item_kind);
+        let index = indexes[id.0];
+        component.export(name, sort, index)?;
+        Ok(())
+    }
+
+    /// Writes the `component-name` section, if any node has a name. `named` says whether one may have.
+    pub fn write_names(
+        &self,
+        component: &mut ComponentBuilder,
+        indexes: &[u32],
+        named: bool,
+    ) -> Result<(), EncodeError>
+        requires room { HasRoom self.now indexes.now }
+        requires named { named ≡ false → (sort : ASort) (n : AnId) → IsNamed self.now sort n → ⊥ }
+        ensures written { OnOk result ((names : List (ASort × ℕ × AName)) × AreNames self.now (index_in indexes.now) names × (component.new ≡ component.old ++ map custom_item (name_customs names))) }
+        ensures fault { IfErr result (λ e. cause_of e ≡ None) }
+    {
+        let names = self.index_names(indexes, named)?;
+        if names.is_empty() {
+            return Ok(());
+        }
+        let content = component_names(self.alloc, &names)?;
+        component.custom("component-name", &content)?;
+        Ok(())
+    }
+}
+
+/// Writes the `producers` section, if a processor is given.
+pub fn write_processor(
+    alloc: Global,
+    component: &mut ComponentBuilder,
+    processor: Option<Processor<'_>>,
+) -> Result<(), EncodeError>
+    ensures written { OnOk result (component.new ≡ component.old ++ map custom_item (processor_customs processor.entry)) }
+    ensures fault { IfErr result (λ e. cause_of e ≡ None) }
+{
+    let Some(processor) = processor else {
+        return Ok(());
+    };
+    let content = producers(alloc, processor.name, processor.version)?;
+    component.custom("producers", &content)?;
+    Ok(())
+}

@@ -1,6 +1,0 @@
-use Rattle.std.proofs.Common.{◌≡◌, take}
-use Rattle.wac_made.specs.Shapes.{pairs}
-use Rattle.wac_made.proofs.shapes.entries.Given as goal
-
-abbrev pub invariant-loop-i : goal.invariant-loop-i
-invariant-loop-i g l = pairs l.entries.items ≡ take l.i l.named

@@ -1,4 +1,0 @@
-pub mod Shapes
-pub mod ShapeHash
-pub mod FormHash
-pub mod Made

@@ -1,0 +1,36 @@
+use Rattle.std.proofs.Common.{◌≡◌, ◌++◌, ◌∷◌, [], refl, sym, ap, subst, List, ℕ, Some, length, map, length-append, slice_index_or, arith}
+use Rattle.std.specs.Prelude.{slice_get}
+use Rattle.std.proofs.lemmas.Option.{slice_get_read, slice_get-get_or}
+use Rattle.wac_merge_classes.specs.entries.Classes.{AreClasses, by_names}
+use Rattle.wac_merge_agreement.specs.private.agreement.Compared.{AreCompared, IsItemOf}
+use Rattle.wac_merge_tables.specs.private.tables.NodeViews.{item_view}
+use Rattle.wac_merge_tables.specs.declared.tables.nodes.Item.{Item as AnItem}
+use Rattle.wac_merge_trees.proofs.lemmas.coding.CodingGrowth.{grown_twice}
+use Rattle.wac_merge_agreement.proofs.lemmas.agreement.Sources.{compared_next, under_own_name}
+use Rattle.wac_merge_agreement.proofs.agreement.compared.entry_items.Goals as goal
+
+pub loop-i-preserved : goal.loop-i-preserved
+loop-i-preserved c =
+    let types = c.args.types.now in
+    let es = c.args.entries.now in
+    let classes = c.args.classes.now in
+    let old = c.loop-i.nodes in
+    let ns = c.entry_item.new.nodes in
+    let numbers = c.numbers-numbers.result.now in
+    let i = c.loop-i.i in
+    let e = c.index-entries-i.result in
+    let xs = c.loop-i.items.items in
+    let x = c.in_ok-entry_item.field-0 in
+    let at : slice_get es i ≡ Some e = slice_get_read es (length es) i e refl c.loop-i-test.true c.index-entries-i.is in
+    let are : AreClasses by_names es numbers classes.positions.items classes.names =
+    subst (λ (l : List ℕ). AreClasses by_names es l classes.positions.items classes.names) (sym c.numbers-numbers.ensures) c.requires.classes in
+    let number : slice_get numbers i ≡ Some (slice_index_or numbers i 0) = slice_get-get_or numbers i 0 (omega (arith, c.loop-i-test.true, are.counted)) in
+    let is : IsItemOf ns types es e.name e.kind (item_view x) =
+    under_own_name types es numbers classes.positions.items classes.names are ns i (slice_index_or numbers i 0) e c.kind-kind.result (item_view x) at number c.kind-kind.ensures c.in_ok-entry_item.ensures.item in
+    let pushed : c.push.new.self.items ≡ xs ++ x ∷ [] = c.in_ok-push.ensures.items in
+    let longer : length c.push.new.self.items ≡ length (xs ++ x ∷ []) = ap (λ (l : List AnItem). length l) pushed in
+    record {
+      counted = omega (arith, longer, length-append xs (x ∷ []), c.loop-i.invariant.counted);
+      grown = grown_twice c.args.nodes.now old ns c.loop-i.invariant.grown c.in_ok-entry_item.ensures.grown;
+      are = subst (λ (l : List AnItem). AreCompared ns types es (map item_view l)) (sym pushed) (compared_next types es old ns xs i e x c.in_ok-entry_item.ensures.grown c.loop-i.invariant.counted at c.loop-i.invariant.are is);
+    }

@@ -1,0 +1,2 @@
+pub mod agreeing
+pub mod agreement

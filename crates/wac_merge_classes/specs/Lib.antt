@@ -1,0 +1,3 @@
+pub mod entries
+pub mod terms
+pub mod private

@@ -1,0 +1,42 @@
+-- How resources are named while scopes are walked outward. Only contracts inside the merge cite this file.
+use Rattle.std.specs.Prelude.{ℕ, suc, ◌+◌, ◌≡◌, ◌≤◌, Bool, true, false, List, length, Option, Some, None, slice_get}
+use Rattle.std.specs.Option.{option_map}
+use Rattle.wac_types_shapes.specs.primitives.Tree.{imported, exported, Place, Leaf}
+use Rattle.wac_types_collection.specs.collection.Collection.{Collection}
+use Rattle.wac_types_collection.specs.collection.Held.{Names}
+use Rattle.wac_types_collection.specs.subtyping.Called.{Called, bound_at, of_class, itself, resource_name}
+use Rattle.wac_types_shapes.specs.declared.shapes.component.ResourceId.{ResourceId}
+use Rattle.wac_merge_classes.specs.declared.entries.scopes.Opener.{Opener}
+use Rattle.wac_merge_classes.specs.declared.entries.scopes.Scope.{Scope}
+use Rattle.wac_merge_classes.specs.entries.Scopes.{binds, called_in}
+use Rattle.wac_merge_classes.specs.entries.Places.{find_resource}
+
+-- For each scope, what it binds.
+pub record AreBound (c : Collection) (ss : List Scope) (bs : List (List (ResourceId × Leaf))) : Type 0 where
+  pub counted : length bs ≡ length ss
+  pub found : (i : ℕ) (s : Scope) (b : List (ResourceId × Leaf)) → slice_get ss i ≡ Some s → slice_get bs i ≡ Some b → (r : ResourceId) → find_resource b r ≡ binds c s.opener r
+
+-- The name of a resource as seen from n scopes further in.
+abbrev pub out_by : ℕ → Called → Called
+out_by n (bound_at l name) = bound_at (record { out = l.out + n; side = l.side; path = l.path }) name
+out_by n (of_class k path name) = of_class k path name
+out_by n (itself r name) = itself r name
+
+-- Seen from `position`, which is `out` scopes out of `start`, the resource has the same name but for the scopes
+-- between.
+pub record IsOut (c : Collection) (ss : List Scope) (start out position : ℕ) (r : ResourceId) : Type 0 where
+  pub near : out + position ≤ start
+  pub same : (root : Opener → Names Called) → called_in c root ss start r ≡ option_map (out_by out) (called_in c root ss position r)
+
+-- Where a class binds a resource, seen from `out` scopes in: as an export of its instance, else as an import one scope
+-- further.
+abbrev pub class_leaf : Bool → ℕ → List Place → Leaf
+class_leaf true out path = record { out = out; side = exported; path = path }
+class_leaf false out path = record { out = suc out; side = imported; path = path }
+
+-- Past the outermost scope a resource is named by what the class binds, else by the first class that binds it, else by
+-- itself.
+abbrev pub past : Collection → ResourceId → Bool → ℕ → Option (List Place) → Option (ℕ × List Place) → Called
+past c r instance out (Some path) first = bound_at (class_leaf instance out path) (resource_name c r)
+past c r instance out None (Some b) = of_class b.0 b.1 (resource_name c r)
+past c r instance out None None = itself r (resource_name c r)

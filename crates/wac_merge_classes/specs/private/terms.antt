@@ -1,0 +1,2 @@
+pub mod MergedKinds
+pub mod ValueBindings

@@ -1,0 +1,10 @@
+pub mod Union
+pub mod ClassOrder
+pub mod NoDisagreement
+pub mod Faults
+pub mod Merge
+pub mod Unions
+pub mod Became
+pub mod Renaming
+pub mod Writing
+pub mod Values

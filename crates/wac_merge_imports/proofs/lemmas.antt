@@ -1,0 +1,2 @@
+pub mod fitting
+pub mod unions

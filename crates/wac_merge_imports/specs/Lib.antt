@@ -1,0 +1,2 @@
+pub mod unions
+pub mod private

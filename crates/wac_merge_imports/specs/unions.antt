@@ -1,0 +1,6 @@
+pub mod MergedClasses
+pub mod WritingSteps
+pub mod SharedUnions
+pub mod OneInterface
+pub mod OneId
+pub mod MergedScope

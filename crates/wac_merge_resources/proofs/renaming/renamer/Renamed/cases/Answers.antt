@@ -1,0 +1,20 @@
+use Rattle.std.proofs.Common.{◌≡◌, true, ap}
+use Rattle.std.specs.Option.{option_map}
+use Rattle.wac_types_collection.specs.collection.Collection.{holds_value}
+use Rattle.wac_merge_resources.specs.private.renaming.RenamingSteps.{GoTogether, IsBecome, IsReady}
+use Rattle.wac_merge_tables.proofs.lemmas.tables.TaskOpenings.{each_case}
+use Rattle.wac_merge_resources.proofs.lemmas.renaming.RenamingLoops.{beside_further, new_beside}
+use Rattle.wac_merge_resources.proofs.renaming.renamer.Renamed.cases.Goals as goal
+
+pub optional-value-requires-clause-held : goal.optional-value-requires-clause-held
+optional-value-requires-clause-held c = each_case (λ v. holds_value c.args.renaming.now.types.now v ≡ true) c.args.cases.now c.loop-i.i c.entry_at.result.1.now (ap (option_map (λ e. e.1)) c.entry_at.ensures) c.requires.held
+
+pub optional-value-requires-clause-ready : goal.optional-value-requires-clause-ready
+optional-value-requires-clause-ready c = each_case (IsReady c.args.self.now) c.args.cases.now c.loop-i.i c.entry_at.result.1.now (ap (option_map (λ e. e.1)) c.entry_at.ensures) c.requires.ready
+
+pub put-requires : goal.put-requires
+put-requires c = new_beside (GoTogether (IsBecome c.args.renaming.now c.args.self.now)) c.args.cases.now c.loop-i.renamed c.loop-i.i c.entry_at.result.0.now c.entry_at.result.1.now c.law.ensures c.entry_at.ensures c.loop-i.invariant
+
+pub loop-i-preserved : goal.loop-i-preserved
+loop-i-preserved c =
+    beside_further (GoTogether (IsBecome c.args.renaming.now c.args.self.now)) c.args.cases.now c.loop-i.i c.entry_at.result.0.now c.entry_at.result.1.now c.optional-value.result c.loop-i.renamed c.put.new.named c.entry_at.ensures c.in_ok-put.ensures c.loop-i.invariant c.optional-value.ensures

@@ -1,0 +1,7 @@
+use Rattle.std.proofs.Common.{take}
+use Rattle.wac_types_collection.specs.collection.Collection.{case_values}
+use Rattle.wac_merge_resources.specs.private.renaming.RenamingSteps.{AllStay}
+use Rattle.wac_merge_resources.proofs.renaming.renamer.Renamed.cases_stay.Given as goal
+
+abbrev pub invariant-loop-i : goal.invariant-loop-i
+invariant-loop-i l = AllStay l.renaming l.self (case_values (take l.i l.cases))

@@ -1,0 +1,6 @@
+use Rattle.std.proofs.Common.{take}
+use Rattle.wac_merge_resources.specs.private.renaming.RenamingSteps.{AllStay}
+use Rattle.wac_merge_resources.proofs.renaming.renamer.Renamed.parts_stay.Given as goal
+
+abbrev pub invariant-loop-i : goal.invariant-loop-i
+invariant-loop-i l = AllStay l.renaming l.self (take l.i l.values)

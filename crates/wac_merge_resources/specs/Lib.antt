@@ -1,0 +1,3 @@
+pub mod values
+pub mod renaming
+pub mod private

@@ -1,0 +1,2 @@
+pub mod FreshSteps
+pub mod RenamingSteps

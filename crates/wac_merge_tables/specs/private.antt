@@ -1,0 +1,2 @@
+pub mod made
+pub mod tables

@@ -1,0 +1,2 @@
+pub mod ShapeHash
+pub mod FormHash

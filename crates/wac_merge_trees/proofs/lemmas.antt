@@ -1,0 +1,2 @@
+pub mod coding
+pub mod trees

@@ -1,0 +1,2 @@
+pub mod uniting
+pub mod uses

@@ -1,0 +1,6 @@
+use Rattle.std.proofs.Common.{◌≡◌, take}
+use Rattle.wac_merge_unions.specs.uses.Using.{keep_from}
+use Rattle.wac_merge_unions.proofs.uses.uses.put_uses.Given as goal
+
+abbrev pub invariant-loop-i : goal.invariant-loop-i
+invariant-loop-i l = l.uses ≡ keep_from l.asked l.place l.fn.uses (take l.i l.used)

@@ -1,0 +1,2 @@
+pub mod uses
+pub mod private

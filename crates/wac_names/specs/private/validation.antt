@@ -1,0 +1,3 @@
+pub mod Views
+pub mod Key
+pub mod Earlier

@@ -1,5 +1,0 @@
-use Rattle.wac_nodes.proofs.AgainLemmas.{second_alias, second_argument, given_back}
-use Rattle.wac_nodes.proofs.laws.again_law.Goals as goal
-
-pub returns : goal.returns
-returns c = record { alias = second_alias; argument = second_argument; unset = given_back }

@@ -1,8 +1,0 @@
-//! The places of a graph's imports in the component: the sort and index of each import, also by import node.
-#![tactic(auto)]
-
-mod indexes;
-mod places;
-
-pub use indexes::import_indexes;
-pub use places::{ImportPlaces, exports_law, import_names};

@@ -1,6 +1,0 @@
-use Rattle.std.proofs.Common.{take}
-use Rattle.wac_plugging.specs.Tracks.{AreFirsts}
-use Rattle.wac_plugging.proofs.matching.first_on_tracks.Given as goal
-
-abbrev pub invariant-loop-i : goal.invariant-loop-i
-invariant-loop-i l = AreFirsts (take l.i l.imports) l.firsts

@@ -1,9 +1,0 @@
-pub mod Refusals
-pub mod Matching
-pub mod Pairs
-pub mod Tracks
-pub mod Positions
-pub mod Fitting
-pub mod Plugging
-pub mod Outcome
-pub mod Naming

@@ -1,7 +1,0 @@
-use Rattle.std.proofs.Common.{◌≡◌, drop}
-use Rattle.wac_collection.specs.Collection.{value_types, case_values}
-use Rattle.wac_reach.specs.Found.{with_all}
-use Rattle.wac_reach.proofs.reached.Reached.put_cases.Given as goal
-
-abbrev pub invariant-loop-i : goal.invariant-loop-i
-invariant-loop-i l = with_all l.self (value_types (case_values (drop l.i l.cases))) ≡ with_all l.initial.self (value_types (case_values l.cases))

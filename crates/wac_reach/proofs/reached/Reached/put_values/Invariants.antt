@@ -1,7 +1,0 @@
-use Rattle.std.proofs.Common.{◌≡◌, drop}
-use Rattle.wac_collection.specs.Collection.{value_types}
-use Rattle.wac_reach.specs.Found.{with_all}
-use Rattle.wac_reach.proofs.reached.Reached.put_values.Given as goal
-
-abbrev pub invariant-loop-value : goal.invariant-loop-value
-invariant-loop-value l = with_all l.self (value_types (drop l.value-index l.values)) ≡ with_all l.initial.self (value_types l.values)

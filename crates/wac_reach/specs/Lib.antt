@@ -1,3 +1,0 @@
-pub mod Hashing
-pub mod Reach
-pub mod Found

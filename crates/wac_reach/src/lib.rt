@@ -1,9 +1,0 @@
-//! The types that a type of a collection reaches: those that it mentions, those that they mention, and so on.
-#![tactic(auto)]
-
-mod hasher;
-mod mentions;
-mod reached;
-
-pub use hasher::{TypeHasher, TypeSet};
-pub use reached::{Reached, reach};

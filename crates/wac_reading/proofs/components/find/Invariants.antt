@@ -1,7 +1,0 @@
-use Rattle.std.proofs.Common.{◌≡◌, drop}
-use Rattle.std.specs.Map.{lookup}
-use Rattle.wac_meaning.specs.Means.{same_package}
-use Rattle.wac_reading.proofs.components.find.Given as goal
-
-abbrev pub invariant-loop-found : goal.invariant-loop-found
-invariant-loop-found l = lookup (same_package l.id) l.entries ≡ lookup (same_package l.id) (drop l.found-index l.entries)

@@ -1,9 +1,0 @@
-use Rattle.std.proofs.Common.{◌∙◌, ap, false}
-use Rattle.wac_primitives.specs.Name.{same_name, option_case}
-use Rattle.wac_shapes.proofs.Names.{same_name-bytes_eq}
-use Rattle.wac_reading.proofs.exports.is_first_name.Goals as goal
-
-pub returns-in-Some : goal.returns-in-Some
-returns-in-Some c =
-    c.eq.ensures ∙ same_name-bytes_eq c.args.name.now c.in-Some.first.now
-    ∙ ap (λ o. option_case o false (same_name c.args.name.now)) c.in-Some.ensures

@@ -1,8 +1,0 @@
--- The value of an encoder.
-use Rattle.wac_reading.specs.declared.encoder.Encoder.{Encoder}
-use Rattle.wac_meaning.specs.Encoding.{Progress}
-use Rattle.wac_scopes.specs.Contents.{items_of}
-
--- The state of writing that the encoder has.
-abbrev pub progress : Encoder → Progress
-progress e = record { items = items_of e.root.content; components = e.components; indexes = e.indexes.items }

@@ -1,7 +1,0 @@
-use Rattle.std.proofs.Common.{take}
-use Rattle.wac_renaming.specs.FreshSteps.{AreAllOwn}
-use Rattle.wac_subtyping.specs.Extended.{IsExtended}
-use Rattle.wac_renaming.proofs.adding.add_all_own.Given as goal
-
-abbrev pub invariant-loop-u : goal.invariant-loop-u
-invariant-loop-u l = record { extended : IsExtended l.initial.merged l.merged; own : AreAllOwn l.initial.merged (take l.u l.unions) l.own.items l.merged }

@@ -1,7 +1,0 @@
-use Rattle.std.proofs.Common.{take}
-use Rattle.wac_renaming.specs.FreshSteps.{AreOwn}
-use Rattle.wac_subtyping.specs.Extended.{IsExtended}
-use Rattle.wac_renaming.proofs.adding.add_own.Given as goal
-
-abbrev pub invariant-loop-i : goal.invariant-loop-i
-invariant-loop-i l = record { extended : IsExtended l.initial.merged l.merged; own : AreOwn l.initial.merged (take l.i l.exports) l.own l.merged }

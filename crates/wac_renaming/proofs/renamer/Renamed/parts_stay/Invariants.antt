@@ -1,6 +1,0 @@
-use Rattle.std.proofs.Common.{take}
-use Rattle.wac_renaming.specs.RenamingSteps.{AllStay}
-use Rattle.wac_renaming.proofs.renamer.Renamed.parts_stay.Given as goal
-
-abbrev pub invariant-loop-i : goal.invariant-loop-i
-invariant-loop-i l = AllStay l.renaming l.self (take l.i l.values)

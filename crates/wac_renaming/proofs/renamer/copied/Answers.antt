@@ -1,5 +1,0 @@
-use Rattle.wac_renaming.proofs.RenamingLoops.{labels_further}
-use Rattle.wac_renaming.proofs.renamer.copied.Goals as goal
-
-pub loop-i-preserved : goal.loop-i-preserved
-loop-i-preserved c = labels_further c.args.labels.now c.loop-i.i c.name_at.result c.loop-i.names.items c.push.new.self.items c.name_at.ensures c.in_ok-push.ensures.items c.loop-i.invariant

@@ -1,6 +1,0 @@
-use Rattle.std.proofs.Common.{◌≡◌, take}
-use Rattle.wac_shapes.specs.Named.{given_names}
-use Rattle.wac_renaming.proofs.renamer.copied.Given as goal
-
-abbrev pub invariant-loop-i : goal.invariant-loop-i
-invariant-loop-i l = given_names l.names.items ≡ take l.i l.labels

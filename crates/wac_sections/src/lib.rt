@@ -1,6 +1,0 @@
-//! The sections of a component: items that are to be written, the finished sections, and the open section.
-#![tactic(auto)]
-
-pub mod item;
-mod item_size;
-pub mod section;

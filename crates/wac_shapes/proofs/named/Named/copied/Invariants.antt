@@ -1,6 +1,0 @@
-use Rattle.std.proofs.Common.{◌≡◌, take}
-use Rattle.wac_shapes.proofs.named.Named.copied.Given as goal
-
--- those so far
-abbrev pub invariant-loop-i : goal.invariant-loop-i
-invariant-loop-i g l = l.copy ≡ take l.i l.self

@@ -1,5 +1,0 @@
-use Rattle.wac_subtyping.proofs.Trees.{aliases_agree}
-use Rattle.wac_subtyping.proofs.laws.aliases_have_the_same_tree.Goals as goal
-
-pub returns : goal.returns
-returns c = aliases_agree c.args.types.now c.law.ensures

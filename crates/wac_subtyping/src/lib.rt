@@ -1,8 +1,0 @@
-//! The subtype relation, the binding of a resource as a value, and laws of both.
-//!
-//! A type is a subtype of another if its tree is, with resources given by their names. The functions of [`laws`] do
-//! nothing: their contracts are laws that proofs cite.
-#![tactic(auto)]
-
-pub mod called;
-pub mod laws;

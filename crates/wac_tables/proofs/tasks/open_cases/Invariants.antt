@@ -1,7 +1,0 @@
-use Rattle.std.proofs.Common.{◌≡◌, ◌++◌, take}
-use Rattle.wac_collection.specs.Collection.{case_values}
-use Rattle.wac_tables.specs.Tasks.{openings}
-use Rattle.wac_tables.proofs.tasks.open_cases.Given as goal
-
-abbrev pub invariant-loop-i : goal.invariant-loop-i
-invariant-loop-i l = l.tasks.items ≡ l.initial.tasks.items ++ openings (case_values (take l.i l.cases))

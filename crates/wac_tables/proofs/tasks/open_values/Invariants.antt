@@ -1,6 +1,0 @@
-use Rattle.std.proofs.Common.{◌≡◌, ◌++◌, take}
-use Rattle.wac_tables.specs.Tasks.{openings}
-use Rattle.wac_tables.proofs.tasks.open_values.Given as goal
-
-abbrev pub invariant-loop-i : goal.invariant-loop-i
-invariant-loop-i l = l.tasks.items ≡ l.initial.tasks.items ++ openings (take l.i l.values)

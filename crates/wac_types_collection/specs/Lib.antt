@@ -1,0 +1,4 @@
+pub mod collection
+pub mod reach
+pub mod subtyping
+pub mod private

@@ -1,0 +1,2 @@
+pub mod collection
+pub mod reach

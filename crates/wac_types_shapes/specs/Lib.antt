@@ -1,0 +1,4 @@
+pub mod primitives
+pub mod keys
+pub mod shapes
+pub mod private

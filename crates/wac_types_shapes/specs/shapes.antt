@@ -1,0 +1,4 @@
+pub mod Named
+pub mod Imports
+pub mod Kinds
+pub mod Words

@@ -1,0 +1,13 @@
+//! Tests of names, of types, and of the binary format, through what the doors make public.
+//!
+//! They are one crate, since a library with tests of its own is proved twice. `examples` has computed examples of the
+//! binary format, as proofs alone.
+#![tactic(auto)]
+
+#[cfg(test)]
+mod binary;
+mod examples;
+#[cfg(test)]
+mod names;
+#[cfg(test)]
+mod types;

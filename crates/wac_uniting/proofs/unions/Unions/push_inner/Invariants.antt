@@ -1,6 +1,0 @@
-use Rattle.std.proofs.Common.{◌≡◌, map, take}
-use Rattle.wac_uniting.specs.UnionSteps.{inside_part}
-use Rattle.wac_uniting.proofs.unions.Unions.push_inner.Given as goal
-
-abbrev pub invariant-loop-index : goal.invariant-loop-index
-invariant-loop-index l = l.parts.items ≡ map (inside_part l.union) (take l.index l.interfaces)

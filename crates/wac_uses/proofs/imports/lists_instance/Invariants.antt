@@ -1,7 +1,0 @@
-use Rattle.std.proofs.Common.{◌≡◌, false, take}
-use Rattle.std.specs.List.{list_any}
-use Rattle.wac_entries.specs.Classes.{is_instance}
-use Rattle.wac_uses.proofs.imports.lists_instance.Given as goal
-
-abbrev pub invariant-loop-i : goal.invariant-loop-i
-invariant-loop-i l = list_any (λ e. is_instance e.1) (take l.i l.listed) ≡ false

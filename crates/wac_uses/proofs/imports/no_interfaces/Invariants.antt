@@ -1,6 +1,0 @@
-use Rattle.std.proofs.Common.{◌≡◌, ℕ, List, [], length, map, slice_get, Some}
-use Rattle.wac_shapes.specs.declared.component.InterfaceId.{InterfaceId}
-use Rattle.wac_uses.proofs.imports.no_interfaces.Given as goal
-
-abbrev pub invariant-loop : goal.invariant-loop
-invariant-loop l = record { counted : length l.lists.items ≡ l.counter; empty : (k : ℕ) (is : List InterfaceId) → slice_get (map (λ is. is.items) l.lists.items) k ≡ Some is → is ≡ [] }

@@ -1,6 +1,0 @@
-use Rattle.std.proofs.Common.{take}
-use Rattle.wac_uses.specs.Using.{HaveListed}
-use Rattle.wac_uses.proofs.nested.listed_users.Given as goal
-
-abbrev pub invariant-loop-i : goal.invariant-loop-i
-invariant-loop-i l = HaveListed l.asked.types.now (take l.i l.users) l.listed l.lists.items

@@ -1,6 +1,0 @@
-use Rattle.std.proofs.Common.{take}
-use Rattle.wac_uses.specs.Using.{HaveMore}
-use Rattle.wac_uses.proofs.nested.put_listed.Given as goal
-
-abbrev pub invariant-loop-i : goal.invariant-loop-i
-invariant-loop-i l = HaveMore l.listed (take l.i l.others) l.fn.lists.items l.lists.items

@@ -1,6 +1,0 @@
-use Rattle.std.proofs.Common.{◌≡◌, take}
-use Rattle.wac_uses.specs.Using.{keep_from}
-use Rattle.wac_uses.proofs.uses.put_uses.Given as goal
-
-abbrev pub invariant-loop-i : goal.invariant-loop-i
-invariant-loop-i l = l.uses ≡ keep_from l.asked l.place l.fn.uses (take l.i l.used)

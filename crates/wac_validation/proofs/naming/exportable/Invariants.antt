@@ -1,7 +1,0 @@
-use Rattle.std.proofs.Common.{ℕ, ◌<◌}
-use Rattle.wac_validation.specs.Valid.{IsExportName, at}
-use Rattle.wac_validation.specs.Views.{name_texts}
-use Rattle.wac_validation.proofs.naming.exportable.Given as goal
-
-abbrev pub invariant-loop-name : goal.invariant-loop-name
-invariant-loop-name l = (k : ℕ) → k < l.name-index → IsExportName (at (name_texts l.names) k)

@@ -1,5 +1,0 @@
-pub mod Valid
-pub mod FirstFault
-pub mod Views
-pub mod Key
-pub mod Earlier
