@@ -13,6 +13,7 @@ pub mod module_type;
 mod put_types;
 pub mod size;
 pub mod type_size;
+pub mod type_writer;
 
 pub use component_type::ComponentType;
 pub use instance_type::InstanceType;
