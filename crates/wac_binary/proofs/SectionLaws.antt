@@ -7,7 +7,7 @@ use Rattle.wac_binary.specs.Items.{Item}
 use Rattle.wac_binary.specs.Bytes.{Section, alone, joins, joined, sections, sections_from, section_id, is_shared}
 use Rattle.wac_binary.specs.Indexes.{indexes, is_in, adds}
 use Rattle.wac_binary.specs.Fits.{SectionFits}
-use Rattle.wac_binary.specs.private.Sections.{one, before, next_section, last_after, last_section, finished, finished_from, open_of, closed_of, closed, open_section}
+use Rattle.wac_binary.specs.private.LastSection.{one, before, next_section, last_after, last_section, finished, finished_from, open_of, closed_of, closed, open_section}
 
 pub last_snoc : (s : Option Section) (xs : List Item) (x : Item) → last_after s (xs ++ x ∷ []) ≡ Some (next_section (last_after s xs) x)
 last_snoc s [] x = refl

@@ -1,5 +1,5 @@
 -- Items and declarations that have a meaning: each index exists and refers to what its use needs, each alias has the
--- sort of its target, and no name is declared twice.
+-- sort of its target, no name is exported twice, and no name is imported twice in a type.
 use Rattle.std.specs.Prelude.{ℕ, ◌≡◌, ◌<◌, T, false, List, [], ◌∷◌, length, map, Option, Some, None}
 use Rattle.std.specs.List.{AllByRecursion, list_any}
 use Rattle.wac_types_shapes.specs.primitives.Core.{CoreItem, no_item}
@@ -184,7 +184,7 @@ ItemHasMeaning r (instantiate i args) = IsSomething (stands_for r s.Component i)
 ItemHasMeaning r (alias_item (export_alias t i n)) = IsSomething (stands_for r s.Instance i) × HasExport t (bound_at r.scope.instances i).type n
 ItemHasMeaning r (alias_item (outer_alias t k i)) = OuterHasMeaning t i (root_scope r k)
 ItemHasMeaning r (type_item t) = TypeHasMeaning t r.scope []
-ItemHasMeaning r (import_item n d) = IsNew n (map (λ e. e.0) r.imports) × DescriptionHasMeaning r.scope d
+ItemHasMeaning r (import_item n d) = DescriptionHasMeaning r.scope d
 ItemHasMeaning r (export_item n t i) = IsNew n (map (λ e. e.name) r.exports) × IsSomething (stands_for r t i)
 
 -- Each item has a meaning after the items before it.

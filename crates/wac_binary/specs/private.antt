@@ -6,7 +6,7 @@ pub mod OneType
 pub mod OneModule
 pub mod OneItem
 pub mod OneText
-pub mod Sections
+pub mod LastSection
 pub mod declarations
 pub mod sections
 pub mod builder

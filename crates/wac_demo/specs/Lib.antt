@@ -1,3 +1,3 @@
 pub mod Composed
 pub mod Printed
-pub mod Word
+pub mod private

@@ -1,7 +1,7 @@
 //! The word given by the program's arguments.
 ghost use Rattle.std.specs.Prelude.{◌≡◌, IfOk, string_bytes};
 ghost use Rattle.std.specs.Vec.Iter.{into_iter_items};
-ghost use Rattle.wac_demo.specs.Word.{word_of as asked};
+ghost use Rattle.wac_demo.specs.private.Word.{word_of as asked};
 
 use std::alloc::{AllocError, Global};
 use std::rt::Env;

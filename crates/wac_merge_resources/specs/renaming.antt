@@ -1,3 +1,1 @@
-pub mod Ways
 pub mod MadeOf
-pub mod RenamedTypes

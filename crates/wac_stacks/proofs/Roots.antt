@@ -34,7 +34,7 @@ good-root c m items more o e g says is keeps ins outs = ((good-pushed c m (top [
 
 pub imports-instance : Reads → ImportsInstance
 imports-instance reads c m items o n i t g new type at = (
-  good-root c m items (items ++ import_item n (e.Instance i) ∷ []) o (now t) g (reads.item_meant items (import_item n (e.Instance i)) g.0.meaning (new, subst IsInstance (sym (at-type_at (meaning items).scope.types i t at)) type)) is (keeps-instance (meaning items).scope (bound t) (meaning items).scope.imports (meaning items).scope.exports) refl refl,
+  good-root c m items (items ++ import_item n (e.Instance i) ∷ []) o (now t) g (reads.item_meant items (import_item n (e.Instance i)) g.0.meaning (subst IsInstance (sym (at-type_at (meaning items).scope.types i t at)) type)) is (keeps-instance (meaning items).scope (bound t) (meaning items).scope.imports (meaning items).scope.exports) refl refl,
   subst (λ (w : Scope). At w.instances (next_instance (holding items o)) (bound t)) (sym is) (subst (λ (k : ℕ). At ((now t).instances) k (bound t)) (reads.instances_counted items) (at-last (meaning items).scope.instances (bound t))),
 )
   where
@@ -49,7 +49,7 @@ imports-instance reads c m items o n i t g new type at = (
 
 pub imports-type : Reads → ImportsType
 imports-type reads c m items o n i t g new type at = (
-  good-root c m items (items ++ import_item n (e.Equal i) ∷ []) o (now t) g (reads.item_meant items (import_item n (e.Equal i)) g.0.meaning (new, subst IsType (sym (at-type_at (meaning items).scope.types i t at)) type)) is (keeps-type (meaning items).scope t (meaning items).scope.imports (meaning items).scope.exports) refl refl,
+  good-root c m items (items ++ import_item n (e.Equal i) ∷ []) o (now t) g (reads.item_meant items (import_item n (e.Equal i)) g.0.meaning (subst IsType (sym (at-type_at (meaning items).scope.types i t at)) type)) is (keeps-type (meaning items).scope t (meaning items).scope.imports (meaning items).scope.exports) refl refl,
   subst (λ (w : Scope). At w.types (next_type (holding items o)) t) (sym is) (subst (λ (k : ℕ). At ((now t).types) k t) (reads.types_counted items) (at-last (meaning items).scope.types t)),
 )
   where
@@ -73,19 +73,19 @@ imports-fresh reads c m items o n r g new bound =
     is = (with-import reads) items n e.Fresh
 
     on : Onward c (m ∷ []) (holding items o ∷ []) (holding (items ++ import_item n e.Fresh ∷ []) o ∷ [])
-    on = good-root c m items (items ++ import_item n e.Fresh ∷ []) o now g (reads.item_meant items (import_item n e.Fresh) g.0.meaning (new, tt)) is (keeps-type (meaning items).scope (resource leaf) (meaning items).scope.imports (meaning items).scope.exports) refl refl
+    on = good-root c m items (items ++ import_item n e.Fresh ∷ []) o now g (reads.item_meant items (import_item n e.Fresh) g.0.meaning tt) is (keeps-type (meaning items).scope (resource leaf) (meaning items).scope.imports (meaning items).scope.exports) refl refl
 
     at : At ((meaning (items ++ import_item n e.Fresh ∷ [])).scope.types) (next_type (holding items o)) (resource leaf)
     at = subst (λ (w : Scope). At w.types (next_type (holding items o)) (resource leaf)) (sym is) (subst (λ (k : ℕ). At (now.types) k (resource leaf)) (reads.types_counted items) (at-last (meaning items).scope.types (resource leaf)))
 
 pub imports-func : Reads → ImportsFunc
-imports-func reads c m items o n i t g new fun at = good-root c m items (items ++ import_item n (e.Func i) ∷ []) o (meaning items).scope g (reads.item_meant items (import_item n (e.Func i)) g.0.meaning (new, subst IsFunction (sym (at-type_at (meaning items).scope.types i t at)) fun)) ((with-import reads) items n (e.Func i)) (keeps-refl (meaning items).scope) refl refl
+imports-func reads c m items o n i t g new fun at = good-root c m items (items ++ import_item n (e.Func i) ∷ []) o (meaning items).scope g (reads.item_meant items (import_item n (e.Func i)) g.0.meaning (subst IsFunction (sym (at-type_at (meaning items).scope.types i t at)) fun)) ((with-import reads) items n (e.Func i)) (keeps-refl (meaning items).scope) refl refl
 
 pub imports-module : Reads → ImportsModule
-imports-module reads c m items o n i t g new module_type at = good-root c m items (items ++ import_item n (e.CoreModule i) ∷ []) o (counted_up (meaning items).scope s.CoreModule) g (reads.item_meant items (import_item n (e.CoreModule i)) g.0.meaning (new, subst IsModule (sym (at-type_at (meaning items).scope.core_types i t at)) module_type)) ((with-import reads) items n (e.CoreModule i)) (record { core_types = λ j u h. h; types = λ j u h. h; instances = λ j b h. h; modules = omega arith; components = omega arith }) refl refl
+imports-module reads c m items o n i t g new module_type at = good-root c m items (items ++ import_item n (e.CoreModule i) ∷ []) o (counted_up (meaning items).scope s.CoreModule) g (reads.item_meant items (import_item n (e.CoreModule i)) g.0.meaning (subst IsModule (sym (at-type_at (meaning items).scope.core_types i t at)) module_type)) ((with-import reads) items n (e.CoreModule i)) (record { core_types = λ j u h. h; types = λ j u h. h; instances = λ j b h. h; modules = omega arith; components = omega arith }) refl refl
 
 pub imports-component : Reads → ImportsComponent
-imports-component reads c m items o n i t g new component_type at = good-root c m items (items ++ import_item n (e.Component i) ∷ []) o (counted_up (meaning items).scope s.Component) g (reads.item_meant items (import_item n (e.Component i)) g.0.meaning (new, subst IsComponent (sym (at-type_at (meaning items).scope.types i t at)) component_type)) ((with-import reads) items n (e.Component i)) (record { core_types = λ j u h. h; types = λ j u h. h; instances = λ j b h. h; modules = omega arith; components = omega arith }) refl refl
+imports-component reads c m items o n i t g new component_type at = good-root c m items (items ++ import_item n (e.Component i) ∷ []) o (counted_up (meaning items).scope s.Component) g (reads.item_meant items (import_item n (e.Component i)) g.0.meaning (subst IsComponent (sym (at-type_at (meaning items).scope.types i t at)) component_type)) ((with-import reads) items n (e.Component i)) (record { core_types = λ j u h. h; types = λ j u h. h; instances = λ j b h. h; modules = omega arith; components = omega arith }) refl refl
 
 pub lists-import : Reads → ListsImport
 lists-import reads items n d = (reads.imports_after items (import_item n d), reads.thing_new items (import_item n d) (described_sort d) refl)

@@ -1,2 +1,3 @@
 pub mod collection
 pub mod reach
+pub mod subtyping

@@ -3,4 +3,3 @@ pub mod Subtype
 pub mod Ranks
 pub mod TreeLaws
 pub mod CalledViews
-pub mod Extended

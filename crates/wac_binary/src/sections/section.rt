@@ -8,7 +8,7 @@ ghost use Rattle.std.specs.List.{flat_map};
 ghost use Rattle.wac_binary.specs.Bytes.{alone, item_bytes, section_bytes, section_id as id_of, is_shared as shared};
 ghost use Rattle.wac_binary.specs.Fits.{SectionFits};
 ghost use Rattle.wac_binary.specs.private.sections.ItemView.{item_of, alone_of};
-ghost use Rattle.wac_binary.specs.private.Sections.{one, before, next_section};
+ghost use Rattle.wac_binary.specs.private.LastSection.{one, before, next_section};
 ghost use Rattle.wac_binary.specs.private.sections.OpenSection.{section, section_of, begun};
 
 use crate::bytes::put::put_unsigned;

@@ -11,7 +11,7 @@ use Rattle.wac_types_shapes.specs.declared.shapes.component.ItemKind.{ItemKind}
 use Rattle.wac_merge_classes.specs.terms.Became.{AreFresh}
 use Rattle.wac_merge_classes.specs.entries.Classes.{Entry}
 use Rattle.wac_merge_resources.specs.renaming.MadeOf.{IsKindMadeOf}
-use Rattle.wac_merge_resources.specs.renaming.RenamedTypes.{AreRenamed, CanRenameAll}
+use Rattle.wac_merge_resources.specs.private.renaming.RenamedTypes.{AreRenamed, CanRenameAll}
 use Rattle.wac_merge_classes.specs.terms.Unions.{AreUnions}
 use Rattle.wac_merge_classes.specs.terms.Writing.{IsWrittenExport}
 use Rattle.wac_merge_resources.specs.declared.renaming.became.Became.{Became}

@@ -24,8 +24,8 @@ ghost use Rattle.wac_merge_imports.specs.unions.MergedClasses.{AreClassUnions, A
 ghost use Rattle.wac_merge_classes.specs.private.terms.MergedKinds.{AreListedOnce};
 ghost use Rattle.wac_merge_resources.specs.renaming.MadeOf.{AreMade, IsKindMadeOf};
 ghost use Rattle.wac_merge_tables.specs.made.Made.{StayMade};
-ghost use Rattle.wac_merge_resources.specs.renaming.RenamedTypes.{CanRenameAll};
-ghost use Rattle.wac_types_collection.specs.subtyping.Extended.{IsExtended};
+ghost use Rattle.wac_merge_resources.specs.private.renaming.RenamedTypes.{CanRenameAll};
+ghost use Rattle.wac_types_collection.specs.private.subtyping.Extended.{IsExtended};
 ghost use Rattle.wac_merge_classes.specs.terms.Unions.{AreUnions};
 ghost use Rattle.wac_merge_classes.specs.terms.Writing.{IsGiven};
 ghost use Rattle.wac_merge_classes.specs.declared.terms.parts.Part.{Part as APart};

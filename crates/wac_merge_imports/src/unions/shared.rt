@@ -7,7 +7,7 @@ ghost use Rattle.std.specs.List.{list_all};
 ghost use Rattle.wac_types_collection.specs.collection.Collection.{HasInterface, holds_all, item_at, kind_types};
 ghost use Rattle.wac_types_collection.specs.collection.Uses.{is_named_right};
 ghost use Rattle.wac_types_shapes.specs.declared.shapes.component.InterfaceId.{InterfaceId as AnId};
-ghost use Rattle.wac_types_collection.specs.subtyping.Extended.{IsExtended};
+ghost use Rattle.wac_types_collection.specs.private.subtyping.Extended.{IsExtended};
 ghost use Rattle.wac_merge_imports.specs.unions.SharedUnions.{Shares, first_in};
 
 use std::alloc::{AllocError, Global};

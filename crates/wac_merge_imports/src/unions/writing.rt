@@ -9,8 +9,8 @@ ghost use Rattle.wac_types_shapes.specs.declared.shapes.component.ItemKind.TheVa
 ghost use Rattle.wac_merge_classes.specs.terms.Became.{AreFresh};
 ghost use Rattle.wac_merge_resources.specs.renaming.MadeOf.{AreMade, IsKindMadeOf};
 ghost use Rattle.wac_merge_tables.specs.made.Made.{StayMade};
-ghost use Rattle.wac_merge_resources.specs.renaming.RenamedTypes.{AreRenamed, CanRename, CanRenameAll, becomes};
-ghost use Rattle.wac_types_collection.specs.subtyping.Extended.{IsExtended};
+ghost use Rattle.wac_merge_resources.specs.private.renaming.RenamedTypes.{AreRenamed, CanRename, CanRenameAll, becomes};
+ghost use Rattle.wac_types_collection.specs.private.subtyping.Extended.{IsExtended};
 ghost use Rattle.wac_merge_classes.specs.terms.Unions.{AreUnions};
 ghost use Rattle.wac_merge_classes.specs.terms.Writing.{AreWritten, IsAliasOf, IsGiven, IsWrittenAs};
 ghost use Rattle.wac_merge_imports.specs.unions.SharedUnions.{AreSharedUnions, IsAloneIn, Shares, first_in};

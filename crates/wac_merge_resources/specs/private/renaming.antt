@@ -1,2 +1,4 @@
 pub mod FreshSteps
 pub mod RenamingSteps
+pub mod RenamedTypes
+pub mod Ways

@@ -8,7 +8,7 @@ ghost use Rattle.wac_merge_classes.specs.entries.Bindings.{AreBindings, AreHeld,
 ghost use Rattle.wac_merge_classes.specs.entries.Classes.{AreClasses, by_names};
 ghost use Rattle.wac_merge_resources.specs.private.renaming.FreshSteps.{AreAllOwn, AreCounted, AreOwn, AreWhole, IsWhole, StayWhole};
 ghost use Rattle.wac_merge_classes.specs.entries.Places.{resource_itself};
-ghost use Rattle.wac_types_collection.specs.subtyping.Extended.{IsExtended};
+ghost use Rattle.wac_types_collection.specs.private.subtyping.Extended.{IsExtended};
 
 use std::alloc::{AllocError, Global};
 use wac_merge_classes::entries::bindings::Bindings;

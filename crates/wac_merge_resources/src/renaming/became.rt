@@ -2,7 +2,7 @@
 ghost use Rattle.std.specs.Prelude.{◌≡◌, ℕ, IfOk, Some, length, slice_get};
 ghost use Rattle.wac_types_collection.specs.collection.Collection.{HasInterface};
 ghost use Rattle.wac_types_collection.specs.collection.Held.{resolved};
-ghost use Rattle.wac_merge_resources.specs.renaming.Ways.{AreOutward};
+ghost use Rattle.wac_merge_resources.specs.private.renaming.Ways.{AreOutward};
 ghost use Rattle.wac_merge_classes.specs.terms.Became.{AreBoundParts, became, became_in_class, became_outside};
 ghost use Rattle.wac_merge_classes.specs.terms.Unions.{AreAround, IsPart};
 ghost use Rattle.wac_merge_classes.specs.declared.terms.parts.Part.{Part as APart};

@@ -1,6 +1,6 @@
 //! The way out of a part, without the enclosing parts that bind nothing.
 ghost use Rattle.std.specs.Prelude.{◌<◌, ◌≤◌, length, slice_get, IfOk, ◌≡◌, Some};
-ghost use Rattle.wac_merge_resources.specs.renaming.Ways.{AreOutward, HaveWays, LeadsOut};
+ghost use Rattle.wac_merge_resources.specs.private.renaming.Ways.{AreOutward, HaveWays, LeadsOut};
 ghost use Rattle.wac_merge_classes.specs.terms.Unions.{AreAround};
 ghost use Rattle.wac_merge_classes.specs.declared.terms.parts.Part.{Part as APart};
 

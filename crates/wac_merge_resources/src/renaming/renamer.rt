@@ -13,10 +13,10 @@ ghost use Rattle.wac_types_shapes.specs.declared.shapes.component.DefinedType.Th
 ghost use Rattle.wac_types_shapes.specs.declared.shapes.component.ValueType.TheVariants as val;
 ghost use Rattle.wac_types_shapes.specs.declared.shapes.component.«Type».TheVariants as ty;
 ghost use Rattle.wac_merge_classes.specs.terms.Became.{AreBoundParts};
-ghost use Rattle.wac_merge_resources.specs.renaming.RenamedTypes.{AreRenamed, CanRename, becomes, defined_in, func_in};
-ghost use Rattle.wac_types_collection.specs.subtyping.Extended.{IsExtended, AreHeldValues};
+ghost use Rattle.wac_merge_resources.specs.private.renaming.RenamedTypes.{AreRenamed, CanRename, becomes, defined_in, func_in};
+ghost use Rattle.wac_types_collection.specs.private.subtyping.Extended.{IsExtended, AreHeldValues};
 ghost use Rattle.wac_merge_classes.specs.terms.Renaming.{IsRenamed};
-ghost use Rattle.wac_merge_resources.specs.renaming.Ways.{AreOutward};
+ghost use Rattle.wac_merge_resources.specs.private.renaming.Ways.{AreOutward};
 ghost use Rattle.wac_merge_resources.specs.private.renaming.RenamingSteps.{AllStay, AreReady, CasesGoTogether, Did, FieldsGoTogether, GoTogether, HasDefinedToo, HasFuncToo, HasSame, HaveOneFuncShape, HaveOneShape, IsBecome, IsDone, IsMore, IsReady, MayBeDone, Stays};
 ghost use Rattle.wac_merge_tables.specs.private.tables.Tasks.{IsHeldTask, IsOpening, parts_of};
 ghost use Rattle.wac_merge_classes.specs.terms.Unions.{AreAround, IsPart};

@@ -6,7 +6,7 @@ use Rattle.wac_types_shapes.specs.declared.shapes.component.DefinedTypeId.{Defin
 use Rattle.wac_types_shapes.specs.declared.shapes.component.FuncType.{FuncType}
 use Rattle.wac_types_shapes.specs.declared.shapes.component.FuncTypeId.{FuncTypeId}
 use Rattle.wac_types_collection.specs.collection.Collection.{Collection, HasDefined, item_at, seconds}
-use Rattle.wac_types_collection.specs.subtyping.Extended.{IsExtended}
+use Rattle.wac_types_collection.specs.private.subtyping.Extended.{IsExtended}
 use Rattle.wac_merge_tables.specs.made.Shapes.{shape_view}
 use Rattle.wac_merge_tables.specs.contracts.made.made.FormPartialEq.TheImpl as FormEq
 use Rattle.wac_merge_tables.specs.contracts.made.made.FuncFormPartialEq.TheImpl as FuncFormEq

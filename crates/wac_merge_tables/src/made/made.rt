@@ -6,7 +6,7 @@ ghost use Rattle.std.specs.Prelude.{◌≡◌, None, Some, IfOk, OnOk};
 ghost use Rattle.std.specs.Option.{unwrap_or};
 ghost use Rattle.wac_types_collection.specs.collection.Collection.{Collection, HasDefined, defined_values, func_values, item_at, seconds};
 ghost use Rattle.wac_types_collection.specs.declared.collection.collection.AddTypeError.TheVariants.{OutOfMemory};
-ghost use Rattle.wac_types_collection.specs.subtyping.Extended.{AreHeldValues, IsExtended};
+ghost use Rattle.wac_types_collection.specs.private.subtyping.Extended.{AreHeldValues, IsExtended};
 ghost use Rattle.wac_merge_tables.specs.made.Made.{AreApart, AreThere, HasMadeFuncToo, HasMadeToo, IsCalledAlike, IsFuncMadeFor, IsMadeFor, NamedTypeOf, StayMade, func_made_in, made_in, IsDefinedBehind, IsFuncBehind};
 ghost use Rattle.wac_merge_tables.specs.made.Shapes.{shape_view};
 ghost use Rattle.wac_merge_tables.specs.private.made.FormHash.{form_alike, form_writes, func_form_alike, func_form_writes};

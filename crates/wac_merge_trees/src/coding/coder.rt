@@ -12,7 +12,7 @@ ghost use Rattle.wac_types_shapes.specs.declared.shapes.component.«Type».TheVa
 ghost use Rattle.wac_merge_tables.specs.private.tables.Nodes.{mentions, node_tree, tree_at, IsSorted};
 ghost use Rattle.wac_merge_tables.specs.private.tables.NodeViews.{node_view};
 ghost use Rattle.wac_merge_tables.specs.private.tables.Tasks.{parts_of, IsHeldTask, IsOpening};
-ghost use Rattle.wac_types_collection.specs.subtyping.Extended.{AreHeldValues};
+ghost use Rattle.wac_types_collection.specs.private.subtyping.Extended.{AreHeldValues};
 ghost use Rattle.wac_merge_trees.specs.private.coding.CallsView.{AreNamed};
 ghost use Rattle.wac_merge_trees.specs.private.coding.Coding.{only_part, source_tree, values_of, IsGrown, HasTree, IsRight, IsMore, IsReady, AreReady, IsDone, MayBeDone, Did, HasOption, AreParts, AreFields, AreCases, Fits, Means};
 

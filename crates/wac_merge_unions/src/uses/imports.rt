@@ -5,7 +5,7 @@ ghost use Rattle.wac_types_shapes.specs.declared.shapes.component.InterfaceId.{I
 ghost use Rattle.wac_merge_classes.specs.entries.Bindings.{AreHeld};
 ghost use Rattle.wac_merge_classes.specs.entries.Classes.{AreClasses, Entry as AnEntry, by_names, is_asked, is_instance};
 ghost use Rattle.wac_merge_classes.specs.terms.Merge.{import_entries};
-ghost use Rattle.wac_types_collection.specs.subtyping.Extended.{IsExtended};
+ghost use Rattle.wac_types_collection.specs.private.subtyping.Extended.{IsExtended};
 ghost use Rattle.wac_merge_unions.specs.uses.KeptUses.{uses_of};
 ghost use Rattle.wac_merge_unions.specs.uses.Using.{AreBare, AreBareImports, AreInterfaces, AreUsers, AreUsing, HasClasses, IsBareIn, IsKindUsing, StaysBare, uses_among};
 

@@ -7,7 +7,7 @@ ghost use Rattle.wac_types_shapes.specs.declared.shapes.component.ItemKind.TheVa
 ghost use Rattle.wac_merge_classes.specs.entries.Bindings.{AreHeld};
 ghost use Rattle.wac_merge_classes.specs.entries.Classes.{by_names};
 ghost use Rattle.wac_merge_classes.specs.terms.Merge.{import_entries};
-ghost use Rattle.wac_types_collection.specs.subtyping.Extended.{IsExtended};
+ghost use Rattle.wac_types_collection.specs.private.subtyping.Extended.{IsExtended};
 ghost use Rattle.wac_merge_unions.specs.uses.KeptUses.{with_instance};
 ghost use Rattle.wac_merge_unions.specs.uses.Using.{AreAlike, AreBare, AreInside, AreInterfaces, AreKnown, HasClasses, HaveListed, HaveMore, HaveUses, IsAmong, IsItemPlaced, IsOpened, IsUsing, IsWithUses, MayHave, placed, placed_from, uses_among};
 

@@ -7,7 +7,7 @@ use Rattle.wac_binary.specs.Items.{Item}
 use Rattle.wac_binary.specs.Bytes.{Section, alone, section_bytes, section_id, preamble, bytes_of, is_shared}
 use Rattle.wac_binary.specs.Indexes.{adds, indexes, is_in}
 use Rattle.wac_binary.specs.Fits.{SectionFits, Fits}
-use Rattle.wac_binary.specs.private.Sections.{one, before, next_section, closed, open_section}
+use Rattle.wac_binary.specs.private.LastSection.{one, before, next_section, closed, open_section}
 use Rattle.wac_binary.specs.private.sections.OpenSection.{section, section_of, begun}
 use Rattle.wac_binary.specs.private.builder.Written.{whole, Written, items, items_are, State}
 use Rattle.wac_binary.specs.declared.sections.section.Open.{Open}

@@ -8,7 +8,7 @@ use Rattle.wac_binary.specs.Items.{Item}
 use Rattle.wac_binary.specs.Bytes.{section_bytes, preamble, bytes_of}
 use Rattle.wac_binary.specs.Indexes.{indexes}
 use Rattle.wac_binary.specs.Fits.{Fits}
-use Rattle.wac_binary.specs.private.Sections.{one, closed, open_section}
+use Rattle.wac_binary.specs.private.LastSection.{one, closed, open_section}
 use Rattle.wac_binary.specs.private.sections.OpenSection.{section_of, begun}
 use Rattle.wac_binary.specs.private.OneText.{one_reading}
 use Rattle.wac_binary.specs.declared.sections.section.Open.{Open}

@@ -20,7 +20,7 @@ use Rattle.wac_merge_classes.specs.entries.Bindings.{AreBindings, ClassBindings,
 use Rattle.wac_merge_classes.specs.entries.Classes.{Entry, by_names, class_names}
 use Rattle.wac_merge_classes.specs.private.terms.MergedKinds.{AreNamedAlike}
 use Rattle.wac_merge_classes.specs.terms.Renaming.{AreEnds}
-use Rattle.wac_types_collection.specs.subtyping.Extended.{IsExtended}
+use Rattle.wac_types_collection.specs.private.subtyping.Extended.{IsExtended}
 use Rattle.wac_merge_classes.specs.terms.Unions.{AreUnions}
 use Rattle.wac_merge_imports.proofs.lemmas.fitting.BecameEndsNames.{IsPathOf, class-bound, held-name, interface-names}
 use Rattle.wac_merge_classes.proofs.lemmas.terms.Found.{no_some}

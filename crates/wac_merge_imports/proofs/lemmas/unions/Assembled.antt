@@ -13,7 +13,7 @@ use Rattle.wac_merge_classes.specs.entries.Bindings.{AreHeld, ClassBindings}
 use Rattle.wac_merge_classes.specs.entries.Classes.{Entry, by_names, class_names}
 use Rattle.wac_merge_classes.specs.terms.ClassOrder.{IsWrittenOrder}
 use Rattle.wac_merge_imports.specs.unions.MergedClasses.{AreAgreed, AreIds, AreImports, AreRoots}
-use Rattle.wac_types_collection.specs.subtyping.Extended.{IsExtended}
+use Rattle.wac_types_collection.specs.private.subtyping.Extended.{IsExtended}
 use Rattle.wac_merge_classes.specs.declared.terms.fresh.Fresh.{Fresh}
 use Rattle.wac_merge_classes.specs.declared.terms.parts.Part.{Part}
 use Rattle.wac_merge_classes.specs.declared.terms.parts.Union.{Union}

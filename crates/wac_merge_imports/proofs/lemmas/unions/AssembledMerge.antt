@@ -19,9 +19,9 @@ use Rattle.wac_merge_classes.specs.entries.Bindings.{AreBindings, AreHeld, Class
 use Rattle.wac_merge_classes.specs.entries.Classes.{Entry, by_names, class_names, members, same_class}
 use Rattle.wac_merge_classes.specs.terms.Merge.{IsMerge}
 use Rattle.wac_merge_imports.specs.unions.MergedClasses.{AreAgreed, AreRoots, with_root}
-use Rattle.wac_merge_resources.specs.renaming.RenamedTypes.{CanRenameAll}
-use Rattle.wac_merge_resources.specs.renaming.Ways.{AreOutward}
-use Rattle.wac_types_collection.specs.subtyping.Extended.{IsExtended}
+use Rattle.wac_merge_resources.specs.private.renaming.RenamedTypes.{CanRenameAll}
+use Rattle.wac_merge_resources.specs.private.renaming.Ways.{AreOutward}
+use Rattle.wac_types_collection.specs.private.subtyping.Extended.{IsExtended}
 use Rattle.wac_merge_classes.specs.terms.Unions.{AreUnions}
 use Rattle.wac_merge_classes.specs.terms.Writing.{AreWritten, IsGiven}
 use Rattle.wac_merge_resources.specs.declared.renaming.became.Became.{Became}

@@ -22,7 +22,7 @@ use Rattle.wac_merge_classes.proofs.lemmas.entries.Lists.{any-at, some-at}
 use Rattle.wac_merge_classes.specs.terms.Became.{AreFresh, became, whole_in}
 use Rattle.wac_merge_classes.specs.terms.ClassOrder.{IsWrittenOrder}
 use Rattle.wac_merge_classes.specs.private.terms.MergedKinds.{AreListedOnce}
-use Rattle.wac_types_collection.specs.subtyping.Extended.{IsExtended}
+use Rattle.wac_types_collection.specs.private.subtyping.Extended.{IsExtended}
 use Rattle.wac_merge_classes.specs.terms.Unions.{IsExport, IsInner, listed_under, united}
 use Rattle.wac_merge_classes.specs.terms.Writing.{IsWrittenAs, IsWrittenExport, written_at}
 use Rattle.wac_merge_classes.specs.declared.terms.parts.Export.{Export}

@@ -8,7 +8,7 @@ use Rattle.wac_merge_classes.specs.entries.Classes.{Entry, by_names}
 use Rattle.wac_merge_classes.specs.declared.terms.fresh.Fresh.{Fresh}
 use Rattle.wac_merge_classes.specs.declared.terms.parts.Part.{Part}
 use Rattle.wac_merge_resources.specs.declared.values.named.NamedTypes.{NamedTypes}
-use Rattle.wac_merge_resources.specs.renaming.RenamedTypes.{CanRenameAll}
+use Rattle.wac_merge_resources.specs.private.renaming.RenamedTypes.{CanRenameAll}
 use Rattle.wac_merge_resources.specs.declared.renaming.became.Became.{Became}
 use Rattle.wac_merge_imports.specs.private.unions.Basis.{IsBasis, IsBecame}
 use Rattle.wac_merge_imports.specs.declared.unions.merged.Basis.{Basis}

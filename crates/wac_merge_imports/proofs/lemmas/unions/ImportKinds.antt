@@ -16,7 +16,7 @@ use Rattle.wac_merge_classes.specs.entries.Bindings.{ClassBindings}
 use Rattle.wac_merge_classes.specs.terms.Became.{became, whole_in}
 use Rattle.wac_merge_classes.specs.entries.Classes.{Entry, AreClasses, by_names, canonical, class_names, members, names_instance, same_class}
 use Rattle.wac_merge_imports.specs.unions.MergedClasses.{AreImports, IsClassKind}
-use Rattle.wac_types_collection.specs.subtyping.Extended.{IsExtended}
+use Rattle.wac_types_collection.specs.private.subtyping.Extended.{IsExtended}
 use Rattle.wac_merge_classes.specs.terms.Writing.{IsGiven, IsWrittenAs}
 use Rattle.wac_merge_classes.specs.declared.terms.fresh.Fresh.{Fresh}
 use Rattle.wac_merge_classes.specs.declared.terms.parts.Part.{Part}

@@ -20,7 +20,7 @@ use Rattle.wac_merge_classes.specs.entries.Bindings.{ClassBindings}
 use Rattle.wac_merge_classes.specs.entries.Classes.{Entry}
 use Rattle.wac_merge_classes.proofs.lemmas.entries.Lists.{push-cases, some-at, zip_all}
 use Rattle.wac_merge_classes.specs.terms.Merge.{import_entries}
-use Rattle.wac_types_collection.specs.subtyping.Extended.{IsExtended}
+use Rattle.wac_types_collection.specs.private.subtyping.Extended.{IsExtended}
 use Rattle.wac_merge_classes.specs.terms.Values.{definition}
 use Rattle.wac_merge_classes.specs.declared.terms.fresh.Fresh.{Fresh}
 use Rattle.wac_merge_classes.specs.declared.terms.parts.Export.{Export}

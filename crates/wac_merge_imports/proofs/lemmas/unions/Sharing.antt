@@ -5,7 +5,7 @@ use Rattle.std.proofs.lemmas.Option.{slice_get_within}
 use Rattle.wac_types_shapes.specs.primitives.Name.{Name}
 use Rattle.wac_types_collection.specs.collection.Collection.{Collection, HasInterface}
 use Rattle.wac_types_shapes.specs.declared.shapes.component.InterfaceId.{InterfaceId}
-use Rattle.wac_types_collection.specs.subtyping.Extended.{IsExtended}
+use Rattle.wac_types_collection.specs.private.subtyping.Extended.{IsExtended}
 use Rattle.wac_merge_classes.specs.declared.terms.parts.Part.{Part}
 use Rattle.wac_merge_classes.specs.declared.terms.parts.Union.{Union}
 use Rattle.wac_merge_classes.proofs.lemmas.entries.Lists.{at-end, at-push, push-cases, some-at}

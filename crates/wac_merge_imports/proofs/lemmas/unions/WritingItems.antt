@@ -22,7 +22,7 @@ use Rattle.wac_types_shapes.specs.declared.shapes.component.«Type».TheVariants
 use Rattle.wac_types_shapes.proofs.lemmas.shapes.Names.{same_name-refl}
 use Rattle.wac_merge_classes.specs.terms.Became.{IsNew, became, own_in}
 use Rattle.wac_merge_classes.specs.entries.Bindings.{ClassBindings}
-use Rattle.wac_types_collection.specs.subtyping.Extended.{IsExtended}
+use Rattle.wac_types_collection.specs.private.subtyping.Extended.{IsExtended}
 use Rattle.wac_merge_classes.specs.terms.Writing.{IsAliasOf, IsWrittenAs, IsWrittenExport, written_at}
 use Rattle.wac_merge_imports.specs.unions.WritingSteps.{AreWrittenItems, HasWritten, IsFoundIn, IsWrittenItem}
 use Rattle.wac_merge_resources.specs.declared.renaming.became.Became.{Became}

@@ -20,8 +20,8 @@ use Rattle.wac_types_shapes.specs.declared.shapes.component.«Type».TheVariants
 use Rattle.wac_types_shapes.proofs.lemmas.shapes.Names.{find_position}
 use Rattle.wac_merge_classes.specs.terms.Became.{IsNew, became, own_in}
 use Rattle.wac_merge_resources.specs.renaming.MadeOf.{AreMade, IsFuncMadeOf, IsMadeOf}
-use Rattle.wac_merge_resources.specs.renaming.RenamedTypes.{AreRenamed, CanRename, CanRenameAll}
-use Rattle.wac_types_collection.specs.subtyping.Extended.{IsExtended}
+use Rattle.wac_merge_resources.specs.private.renaming.RenamedTypes.{AreRenamed, CanRename, CanRenameAll}
+use Rattle.wac_types_collection.specs.private.subtyping.Extended.{IsExtended}
 use Rattle.wac_merge_classes.specs.terms.Renaming.{IsRenamed}
 use Rattle.wac_merge_classes.specs.terms.Unions.{AreUnions, IsExport, IsInner, IsPart, listed_under, part_lists, united}
 use Rattle.wac_merge_classes.specs.terms.Writing.{AreWritten, IsGiven, IsWrittenExport}

@@ -6,9 +6,9 @@ use Rattle.wac_merge_classes.specs.entries.Bindings.{ClassBindings}
 use Rattle.wac_merge_classes.specs.entries.Classes.{Entry}
 use Rattle.wac_merge_classes.specs.terms.Became.{AreBoundParts, AreFresh}
 use Rattle.wac_merge_classes.specs.private.terms.MergedKinds.{AreListedOnce}
-use Rattle.wac_types_collection.specs.subtyping.Extended.{IsExtended}
+use Rattle.wac_types_collection.specs.private.subtyping.Extended.{IsExtended}
 use Rattle.wac_merge_resources.specs.values.NamedTypes.{AreClassed, AreNamedAlike, AreUnited, IsOneType}
-use Rattle.wac_merge_resources.specs.renaming.Ways.{AreOutward}
+use Rattle.wac_merge_resources.specs.private.renaming.Ways.{AreOutward}
 use Rattle.wac_merge_resources.specs.declared.renaming.became.Became.{Became}
 use Rattle.wac_merge_imports.specs.unions.MergedClasses.{AreClassUnions}
 use Rattle.wac_merge_imports.specs.declared.unions.merged.Basis.{Basis}

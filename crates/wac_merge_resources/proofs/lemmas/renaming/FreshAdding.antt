@@ -16,7 +16,7 @@ use Rattle.wac_types_shapes.proofs.lemmas.shapes.Names.{same_name-from, same_nam
 use Rattle.wac_merge_classes.specs.entries.Bindings.{ClassBindings, first_in}
 use Rattle.wac_merge_classes.specs.terms.Became.{AreFresh, IsNew}
 use Rattle.wac_merge_resources.specs.private.renaming.FreshSteps.{AreAllOwn, AreOwn, AreWhole, IsOwn, IsWhole, StayWhole, own_under, whole_under}
-use Rattle.wac_types_collection.specs.subtyping.Extended.{IsExtended}
+use Rattle.wac_types_collection.specs.private.subtyping.Extended.{IsExtended}
 use Rattle.wac_merge_classes.specs.declared.terms.fresh.Fresh.{Fresh}
 use Rattle.wac_merge_classes.specs.declared.terms.parts.Export.{Export}
 use Rattle.wac_merge_classes.specs.declared.terms.parts.Union.{Union}

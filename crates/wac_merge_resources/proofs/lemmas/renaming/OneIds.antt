@@ -15,7 +15,7 @@ use Rattle.wac_types_shapes.specs.declared.shapes.component.ValueType.{ValueType
 use Rattle.wac_types_shapes.specs.declared.shapes.component.ValueType.TheVariants as val
 use Rattle.wac_types_shapes.specs.declared.shapes.component.«Type».TheVariants as ty
 use Rattle.wac_merge_resources.specs.declared.values.named.NamedTypes.{NamedTypes}
-use Rattle.wac_types_collection.specs.subtyping.Extended.{IsExtended}
+use Rattle.wac_types_collection.specs.private.subtyping.Extended.{IsExtended}
 use Rattle.wac_merge_tables.specs.made.Made.{IsFuncMadeFor, IsMadeFor, StayMade, form, func_form}
 use Rattle.wac_merge_resources.specs.renaming.MadeOf.{IsFuncMadeOf, IsKindMadeOf, IsMadeOf, alias, anew, other_name, plain}
 use Rattle.wac_merge_resources.specs.private.renaming.RenamingSteps.{CasesGoTogether, FieldsGoTogether, GoTogether, HaveOneFuncShape, HaveOneShape, IsRenamedIn, aliases, enums, fixed_lists, flags, futures, lists, options, records, results, streams, tuples, variants}

@@ -15,10 +15,10 @@ use Rattle.wac_types_shapes.specs.declared.shapes.component.«Type».TheVariants
 use Rattle.wac_merge_tables.specs.made.Made.{AreApart, AreThere, IsMadeFor, StayMade, IsDefinedBehind, IsFuncBehind}
 use Rattle.wac_merge_resources.specs.renaming.MadeOf.{AreMade, IsFuncMadeOf, IsMadeOf, anew, other_name}
 use Rattle.wac_merge_tables.specs.declared.made.made.Made.{Made}
-use Rattle.wac_merge_resources.specs.renaming.RenamedTypes.{AreRenamed, becomes, defined_at, defined_in, func_at, func_in}
+use Rattle.wac_merge_resources.specs.private.renaming.RenamedTypes.{AreRenamed, becomes, defined_at, defined_in, func_at, func_in}
 use Rattle.wac_merge_tables.specs.private.tables.Tasks.{task_id}
 use Rattle.wac_merge_tables.specs.declared.tables.tasks.Task.{Task}
-use Rattle.wac_types_collection.specs.subtyping.Extended.{IsExtended}
+use Rattle.wac_types_collection.specs.private.subtyping.Extended.{IsExtended}
 use Rattle.wac_merge_classes.specs.terms.Renaming.{IsRenamed}
 use Rattle.wac_merge_resources.specs.private.renaming.RenamingSteps.{HasDefinedToo, HasFuncToo, HasSame, HaveOneFuncShape, HaveOneShape, IsDone, IsMore, IsRenamedIn, IsRenamedValue}
 use Rattle.wac_merge_resources.specs.declared.renaming.renamer.Renamed.{Renamed}

@@ -10,8 +10,8 @@ use Rattle.wac_types_shapes.specs.declared.shapes.component.DefinedTypeId.{Defin
 use Rattle.wac_types_shapes.specs.declared.shapes.component.ValueType.{ValueType}
 use Rattle.wac_types_shapes.specs.declared.shapes.component.ValueType.TheVariants as val
 use Rattle.wac_merge_tables.specs.made.Made.{StayMade}
-use Rattle.wac_merge_resources.specs.renaming.RenamedTypes.{AreRenamed, defined_in}
-use Rattle.wac_types_collection.specs.subtyping.Extended.{IsExtended}
+use Rattle.wac_merge_resources.specs.private.renaming.RenamedTypes.{AreRenamed, defined_in}
+use Rattle.wac_types_collection.specs.private.subtyping.Extended.{IsExtended}
 use Rattle.wac_merge_resources.specs.private.renaming.RenamingSteps.{AreCovered, AreReady, Did, IsAwaited, IsDone, IsMore, IsReady, IsUnderWay, MayBeDone, put_off, renamed}
 use Rattle.wac_merge_tables.specs.private.tables.Tasks.{task_id, opening, openings, parts_of, task_weight, tasks_weight, IsHeldTask, IsOpening, HasTask}
 use Rattle.wac_merge_resources.specs.declared.renaming.renamer.Renamed.{Renamed}

@@ -12,13 +12,13 @@ use Rattle.wac_types_shapes.specs.declared.shapes.component.DefinedTypeId.{Defin
 use Rattle.wac_types_shapes.specs.declared.shapes.component.FuncType.{FuncType}
 use Rattle.wac_types_shapes.specs.declared.shapes.component.ValueType.{ValueType}
 use Rattle.wac_types_shapes.specs.declared.shapes.component.ValueType.TheVariants as val
-use Rattle.wac_types_collection.specs.subtyping.Extended.{AreHeldValues}
+use Rattle.wac_types_collection.specs.private.subtyping.Extended.{AreHeldValues}
 use Rattle.wac_merge_tables.specs.private.tables.Tasks.{IsHeldTask, openings}
 use Rattle.wac_merge_tables.proofs.lemmas.tables.TaskLemmas.{all_joined}
 use Rattle.wac_merge_tables.proofs.lemmas.tables.TaskOpenings.{cases_take, values_take}
 use Rattle.wac_types_collection.proofs.lemmas.subtyping.Taking.{seconds_take}
 use Rattle.wac_merge_resources.specs.renaming.MadeOf.{plain}
-use Rattle.wac_merge_resources.specs.renaming.RenamedTypes.{AreRenamed, CanRename, becomes, defined_in}
+use Rattle.wac_merge_resources.specs.private.renaming.RenamedTypes.{AreRenamed, CanRename, becomes, defined_in}
 use Rattle.wac_merge_resources.specs.private.renaming.RenamingSteps.{AllStay, CasesGoTogether, FieldsGoTogether, GoTogether, HaveOneFuncShape, HaveOneShape, IsBecome, IsRenamedIn, aliases, enums, fixed_lists, flags, futures, lists, options, records, results, streams, tuples, variants}
 use Rattle.wac_merge_resources.specs.declared.renaming.renamer.Renamed.{Renamed}
 use Rattle.wac_merge_resources.specs.declared.renaming.renamer.Renaming.{Renaming}

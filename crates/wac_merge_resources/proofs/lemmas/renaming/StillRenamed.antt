@@ -9,10 +9,10 @@ use Rattle.wac_types_shapes.specs.declared.shapes.component.«Type».{«Type» a
 use Rattle.wac_merge_classes.specs.terms.Became.{AreFresh, IsNew, became}
 use Rattle.wac_merge_classes.specs.entries.Bindings.{ClassBindings}
 use Rattle.wac_merge_classes.specs.terms.Renaming.{AreEnds, IsRenamed}
-use Rattle.wac_types_collection.specs.subtyping.Extended.{IsExtended}
+use Rattle.wac_types_collection.specs.private.subtyping.Extended.{IsExtended}
 use Rattle.wac_merge_resources.specs.renaming.MadeOf.{AreMade, IsFuncMadeOf}
 use Rattle.wac_merge_tables.specs.declared.made.made.Made.{Made}
-use Rattle.wac_merge_resources.specs.renaming.RenamedTypes.{AreRenamed, CanRename, CanRenameAll, becomes}
+use Rattle.wac_merge_resources.specs.private.renaming.RenamedTypes.{AreRenamed, CanRename, CanRenameAll, becomes}
 use Rattle.wac_merge_classes.specs.terms.Writing.{IsAliasOf}
 use Rattle.wac_merge_resources.specs.declared.renaming.became.Became.{Became}
 use Rattle.wac_merge_classes.specs.declared.terms.fresh.Fresh.{Fresh}

@@ -11,7 +11,7 @@ use Rattle.wac_merge_classes.specs.terms.Became.{AreBoundParts}
 use Rattle.wac_merge_classes.specs.terms.Unions.{AreAround}
 use Rattle.wac_merge_classes.specs.declared.terms.fresh.Fresh.{Fresh}
 use Rattle.wac_merge_classes.specs.declared.terms.parts.Part.{Part}
-use Rattle.wac_merge_resources.specs.renaming.Ways.{LeadsOut, outermost, binding, beyond, HaveWays}
+use Rattle.wac_merge_resources.specs.private.renaming.Ways.{LeadsOut, outermost, binding, beyond, HaveWays}
 use Rattle.wac_merge_resources.proofs.lemmas.renaming.BecameWalks.{IsAround, around-on}
 
 some-same : {A : Type 0} (x y : A) → Some x ≡ Some y → x ≡ y

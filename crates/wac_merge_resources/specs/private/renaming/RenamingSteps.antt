@@ -16,11 +16,11 @@ use Rattle.wac_types_shapes.specs.declared.shapes.component.ValueType.{ValueType
 use Rattle.wac_types_shapes.specs.declared.shapes.component.ValueType.TheVariants as val
 use Rattle.wac_types_shapes.specs.declared.shapes.component.Variant.{Variant}
 use Rattle.wac_types_shapes.specs.declared.shapes.component.«Type».TheVariants as ty
-use Rattle.wac_merge_resources.specs.renaming.RenamedTypes.{AreRenamed, becomes, defined_in, func_in, value_in}
+use Rattle.wac_merge_resources.specs.private.renaming.RenamedTypes.{AreRenamed, becomes, defined_in, func_in, value_in}
 use Rattle.wac_merge_resources.specs.renaming.MadeOf.{IsMadeOf}
 use Rattle.wac_merge_tables.specs.made.Made.{StayMade}
 use Rattle.wac_merge_tables.specs.declared.made.made.Made.{Made}
-use Rattle.wac_types_collection.specs.subtyping.Extended.{IsExtended}
+use Rattle.wac_types_collection.specs.private.subtyping.Extended.{IsExtended}
 use Rattle.wac_merge_classes.specs.terms.Renaming.{IsRenamed}
 use Rattle.wac_merge_tables.specs.private.tables.Tasks.{task_id, parts_of, openings, IsHeldTask, HasTask}
 use Rattle.wac_merge_resources.specs.declared.renaming.renamer.Renamed.{Renamed}

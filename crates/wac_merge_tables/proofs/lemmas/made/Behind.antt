@@ -11,7 +11,7 @@ use Rattle.wac_types_shapes.specs.declared.shapes.component.FuncType.{FuncType}
 use Rattle.wac_types_shapes.specs.declared.shapes.component.FuncTypeId.{FuncTypeId}
 use Rattle.wac_types_shapes.specs.declared.shapes.component.ValueType.{ValueType}
 use Rattle.wac_types_collection.specs.subtyping.TreeLaws.{GrowthKeepsTrees}
-use Rattle.wac_types_collection.specs.subtyping.Extended.{AreHeldValues}
+use Rattle.wac_types_collection.specs.private.subtyping.Extended.{AreHeldValues}
 use Rattle.wac_merge_tables.specs.made.Made.{IsDefinedBehind, IsFuncBehind}
 use Rattle.wac_merge_tables.proofs.lemmas.made.Extending.{extended_defined, extended_func}
 

@@ -22,7 +22,7 @@ use Rattle.wac_types_shapes.specs.declared.shapes.component.«Type».{«Type» a
 use Rattle.wac_types_shapes.specs.declared.shapes.component.«Type».TheVariants as ty
 use Rattle.wac_types_collection.specs.subtyping.Subtype.{held_name, resource_names}
 use Rattle.wac_types_collection.specs.subtyping.TreeLaws.{GrowthKeepsTrees}
-use Rattle.wac_types_collection.specs.subtyping.Extended.{IsExtended}
+use Rattle.wac_types_collection.specs.private.subtyping.Extended.{IsExtended}
 use Rattle.wac_merge_tables.specs.made.Made.{AreThere, IsOfForm}
 use Rattle.wac_merge_tables.specs.made.Shapes.{shape_view}
 use Rattle.wac_merge_tables.specs.declared.made.made.FuncForm.{FuncForm}

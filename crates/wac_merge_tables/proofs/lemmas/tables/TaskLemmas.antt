@@ -14,7 +14,7 @@ use Rattle.wac_types_shapes.specs.declared.shapes.component.ValueType.TheVariant
 use Rattle.wac_merge_tables.specs.declared.tables.tasks.Task.{Task}
 use Rattle.wac_merge_tables.specs.declared.tables.tasks.Task.TheVariants.{Open, Close}
 use Rattle.wac_merge_tables.specs.private.tables.Tasks.{task_id, opening, openings, parts_of, total, weight_to, task_weight, tasks_weight, HasTask, IsHeldTask, IsOpening}
-use Rattle.wac_types_collection.specs.subtyping.Extended.{AreHeldValues}
+use Rattle.wac_types_collection.specs.private.subtyping.Extended.{AreHeldValues}
 
 -- ---- lists
 pub all_each : {A : Type 0} (P Q : A → Type 0) → ((x : A) → P x → Q x) → (xs : List A) → AllByRecursion P xs → AllByRecursion Q xs

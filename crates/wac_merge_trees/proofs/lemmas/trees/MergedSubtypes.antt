@@ -26,7 +26,7 @@ use Rattle.wac_merge_classes.specs.terms.Became.{AreFresh, became, own_in}
 use Rattle.wac_merge_classes.specs.entries.Bindings.{ClassBindings}
 use Rattle.wac_merge_classes.specs.entries.Places.{own_resource}
 use Rattle.wac_merge_classes.specs.terms.Renaming.{AreEnds}
-use Rattle.wac_types_collection.specs.subtyping.Extended.{IsExtended}
+use Rattle.wac_types_collection.specs.private.subtyping.Extended.{IsExtended}
 use Rattle.wac_merge_classes.specs.terms.Unions.{AreUnions, IsExport, IsInner, instances_in, is_own_of, listed_under, part, part_lists, united}
 use Rattle.wac_merge_classes.specs.terms.Writing.{AreWritten, IsWrittenAs, IsWrittenExport, written_at}
 use Rattle.wac_merge_classes.specs.declared.terms.fresh.Fresh.{Fresh}

@@ -27,7 +27,7 @@ use Rattle.wac_merge_classes.specs.entries.Agreement.{Agree}
 use Rattle.wac_merge_classes.specs.terms.Became.{IsNew}
 use Rattle.wac_merge_classes.specs.entries.Places.{own_resource}
 use Rattle.wac_merge_classes.specs.terms.Renaming.{AreEnds}
-use Rattle.wac_types_collection.specs.subtyping.Extended.{IsExtended}
+use Rattle.wac_types_collection.specs.private.subtyping.Extended.{IsExtended}
 use Rattle.wac_merge_classes.specs.terms.Writing.{IsAliasOf, IsWrittenAs}
 use Rattle.wac_merge_classes.proofs.lemmas.terms.Alike.{agree_at}
 use Rattle.wac_merge_classes.proofs.lemmas.terms.Found.{no_some, some_same}

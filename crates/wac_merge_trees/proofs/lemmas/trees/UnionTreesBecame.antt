@@ -21,7 +21,7 @@ use Rattle.wac_types_shapes.specs.declared.shapes.component.ItemKind.TheVariants
 use Rattle.wac_merge_classes.specs.entries.Bindings.{ClassBindings, first_in, path_in}
 use Rattle.wac_merge_classes.specs.terms.Became.{AreFresh, IsNew, became, became_in_class, became_outside, became_to, new_at, or_itself, own_in, own_of_part}
 use Rattle.wac_merge_classes.specs.entries.Places.{own_resource, resource_itself}
-use Rattle.wac_types_collection.specs.subtyping.Extended.{IsExtended}
+use Rattle.wac_types_collection.specs.private.subtyping.Extended.{IsExtended}
 use Rattle.wac_merge_classes.specs.terms.Unions.{is_own_of}
 use Rattle.wac_merge_classes.specs.declared.terms.fresh.Fresh.{Fresh}
 use Rattle.wac_merge_classes.specs.declared.terms.parts.Part.{Part}

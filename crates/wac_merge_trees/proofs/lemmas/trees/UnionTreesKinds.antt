@@ -18,7 +18,7 @@ use Rattle.wac_types_shapes.specs.declared.shapes.component.ItemKind.TheVariants
 use Rattle.wac_types_collection.specs.subtyping.Called.{Called}
 use Rattle.wac_merge_classes.specs.entries.Agreement.{Agree}
 use Rattle.wac_merge_classes.specs.terms.Renaming.{Fits}
-use Rattle.wac_types_collection.specs.subtyping.Extended.{IsExtended}
+use Rattle.wac_types_collection.specs.private.subtyping.Extended.{IsExtended}
 use Rattle.wac_merge_classes.specs.terms.Union.{union}
 use Rattle.wac_merge_classes.specs.terms.Writing.{IsAliasOf, IsWrittenAs}
 use Rattle.wac_merge_trees.proofs.lemmas.trees.UnionTreesNames.{is_fresh, union_type}

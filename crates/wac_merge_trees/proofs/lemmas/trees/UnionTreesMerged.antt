@@ -19,7 +19,7 @@ use Rattle.wac_merge_classes.specs.terms.Became.{AreFresh, became}
 use Rattle.wac_merge_classes.specs.entries.Classes.{Entry, by_names, class_names, members, names_instance}
 use Rattle.wac_merge_classes.specs.terms.NoDisagreement.{HasNoDisagreement}
 use Rattle.wac_merge_classes.specs.terms.Renaming.{Fits}
-use Rattle.wac_types_collection.specs.subtyping.Extended.{IsExtended}
+use Rattle.wac_types_collection.specs.private.subtyping.Extended.{IsExtended}
 use Rattle.wac_merge_classes.specs.terms.Union.{inside_member, merged}
 use Rattle.wac_merge_classes.specs.terms.Unions.{AreUnions, part}
 use Rattle.wac_merge_classes.specs.terms.Writing.{AreWritten}

@@ -25,7 +25,7 @@ use Rattle.wac_merge_classes.specs.terms.NoDisagreement.{HasNoDisagreement}
 use Rattle.wac_merge_classes.specs.terms.Merge.{position_in}
 use Rattle.wac_merge_classes.specs.entries.Places.{find_resource}
 use Rattle.wac_merge_classes.specs.terms.Renaming.{Fits}
-use Rattle.wac_types_collection.specs.subtyping.Extended.{IsExtended}
+use Rattle.wac_types_collection.specs.private.subtyping.Extended.{IsExtended}
 use Rattle.wac_merge_classes.specs.terms.Union.{member_tree, merged, union, union_all}
 use Rattle.wac_merge_classes.specs.terms.Writing.{IsAliasOf, IsWrittenAs}
 use Rattle.wac_merge_classes.specs.declared.terms.fresh.Fresh.{Fresh}

@@ -26,7 +26,7 @@ use Rattle.wac_merge_classes.proofs.lemmas.entries.Lists.{at-end, some-at}
 use Rattle.wac_merge_classes.proofs.lemmas.entries.Opening.{below}
 use Rattle.wac_merge_classes.proofs.lemmas.entries.Places.{exports_held, held_at}
 use Rattle.wac_merge_classes.specs.terms.Merge.{import_under, listed_resource}
-use Rattle.wac_types_collection.specs.subtyping.Extended.{IsExtended}
+use Rattle.wac_types_collection.specs.private.subtyping.Extended.{IsExtended}
 use Rattle.wac_merge_classes.proofs.lemmas.terms.Found.{find_at, no_some, some_same}
 use Rattle.wac_merge_unions.specs.uses.KeptUses.{imported_interface, instance_of, lists_resource}
 use Rattle.wac_merge_unions.specs.uses.Using.{IsWithUses, MayHave, kept_use, kept_uses, may_use, with_use}

@@ -4,7 +4,7 @@ use Rattle.wac_merge_imports.specs.unions.MergedClasses.{AreImports}
 use Rattle.wac_merge_resources.specs.renaming.MadeOf.{AreMade}
 use Rattle.wac_merge_tables.specs.made.Made.{StayMade}
 use Rattle.wac_merge_imports.specs.unions.WritingSteps.{AreImportsMadeOf}
-use Rattle.wac_types_collection.specs.subtyping.Extended.{IsExtended}
+use Rattle.wac_types_collection.specs.private.subtyping.Extended.{IsExtended}
 use Rattle.wac_merge_imports.proofs.unions.merged.class_imports.Given as goal
 
 abbrev pub invariant-loop-i : goal.invariant-loop-i

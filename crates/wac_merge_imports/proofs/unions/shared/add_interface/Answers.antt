@@ -1,6 +1,6 @@
 use Rattle.std.proofs.Common.{sym, subst, arith}
 use Rattle.wac_types_collection.specs.collection.Collection.{Collection}
-use Rattle.wac_types_collection.specs.subtyping.Extended.{IsExtended}
+use Rattle.wac_types_collection.specs.private.subtyping.Extended.{IsExtended}
 use Rattle.wac_merge_tables.proofs.lemmas.made.Extending.{extended_interface}
 use Rattle.wac_merge_unions.proofs.lemmas.uses.Growing.{interface-added}
 use Rattle.wac_merge_imports.proofs.unions.shared.add_interface.Goals as goal

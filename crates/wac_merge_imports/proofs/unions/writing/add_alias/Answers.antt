@@ -1,6 +1,6 @@
 use Rattle.std.proofs.Common.{sym, subst}
 use Rattle.wac_types_collection.specs.collection.Collection.{Collection}
-use Rattle.wac_types_collection.specs.subtyping.Extended.{IsExtended}
+use Rattle.wac_types_collection.specs.private.subtyping.Extended.{IsExtended}
 use Rattle.wac_merge_tables.proofs.lemmas.made.Extending.{extended_resource}
 use Rattle.wac_merge_imports.proofs.lemmas.unions.WritingItems.{alias-added}
 use Rattle.wac_merge_imports.proofs.unions.writing.add_alias.Goals as goal

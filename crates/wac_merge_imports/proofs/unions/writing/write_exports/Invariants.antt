@@ -1,5 +1,5 @@
 use Rattle.std.proofs.Common.{◌≡◌, map, length, take}
-use Rattle.wac_types_collection.specs.subtyping.Extended.{IsExtended}
+use Rattle.wac_types_collection.specs.private.subtyping.Extended.{IsExtended}
 use Rattle.wac_merge_tables.specs.made.Made.{StayMade}
 use Rattle.wac_merge_imports.specs.unions.WritingSteps.{AreItemsMadeOf, AreRenamedIn, AreWrittenItems}
 use Rattle.wac_merge_imports.proofs.unions.writing.write_exports.Given as goal

@@ -4,7 +4,7 @@ use Rattle.wac_types_collection.specs.collection.Collection.{HasInterface}
 use Rattle.wac_types_shapes.specs.declared.shapes.component.InterfaceId.{InterfaceId}
 use Rattle.wac_merge_resources.specs.renaming.MadeOf.{AreMade}
 use Rattle.wac_merge_tables.specs.made.Made.{StayMade}
-use Rattle.wac_types_collection.specs.subtyping.Extended.{IsExtended}
+use Rattle.wac_types_collection.specs.private.subtyping.Extended.{IsExtended}
 use Rattle.wac_merge_classes.specs.declared.terms.parts.Union.{Union}
 use Rattle.wac_merge_imports.specs.unions.SharedUnions.{AreShared, IsWrittenLast, first_in}
 use Rattle.wac_merge_imports.specs.unions.WritingSteps.{IsUnionMadeOf}

@@ -3,7 +3,7 @@ use Rattle.wac_types_collection.specs.collection.Collection.{Collection}
 use Rattle.wac_types_shapes.specs.primitives.Name.{Name}
 use Rattle.wac_types_shapes.specs.declared.shapes.component.Resource.{Resource}
 use Rattle.wac_merge_classes.specs.terms.Became.{IsNew}
-use Rattle.wac_types_collection.specs.subtyping.Extended.{IsExtended}
+use Rattle.wac_types_collection.specs.private.subtyping.Extended.{IsExtended}
 use Rattle.wac_merge_tables.proofs.lemmas.made.Extending.{extended_resource}
 use Rattle.wac_merge_resources.proofs.lemmas.renaming.FreshAdding.{new-added}
 use Rattle.wac_merge_resources.proofs.renaming.adding.add.Goals as goal

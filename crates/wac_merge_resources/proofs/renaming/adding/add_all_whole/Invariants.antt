@@ -4,7 +4,7 @@ use Rattle.wac_merge_classes.specs.entries.Bindings.{first_in}
 use Rattle.wac_merge_classes.specs.entries.Classes.{Entry, by_names, class_names}
 use Rattle.wac_merge_resources.specs.private.renaming.FreshSteps.{AreWhole, IsWhole}
 use Rattle.wac_merge_classes.specs.entries.Places.{resource_itself}
-use Rattle.wac_types_collection.specs.subtyping.Extended.{IsExtended}
+use Rattle.wac_types_collection.specs.private.subtyping.Extended.{IsExtended}
 use Rattle.wac_merge_resources.proofs.renaming.adding.add_all_whole.Given as goal
 
 abbrev pub invariant-loop-i : goal.invariant-loop-i

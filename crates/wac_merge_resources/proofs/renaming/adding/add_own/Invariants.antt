@@ -1,6 +1,6 @@
 use Rattle.std.proofs.Common.{take}
 use Rattle.wac_merge_resources.specs.private.renaming.FreshSteps.{AreOwn}
-use Rattle.wac_types_collection.specs.subtyping.Extended.{IsExtended}
+use Rattle.wac_types_collection.specs.private.subtyping.Extended.{IsExtended}
 use Rattle.wac_merge_resources.proofs.renaming.adding.add_own.Given as goal
 
 abbrev pub invariant-loop-i : goal.invariant-loop-i

@@ -1,6 +1,6 @@
 use Rattle.std.proofs.Common.{◌≡◌, ℕ, ◌+◌, ◌∷◌, [], length, Option, List, sym, subst, ap, arith}
 use Rattle.std.proofs.lemmas.List.{length-append}
-use Rattle.wac_merge_resources.specs.renaming.Ways.{HaveWays}
+use Rattle.wac_merge_resources.specs.private.renaming.Ways.{HaveWays}
 use Rattle.wac_merge_resources.proofs.lemmas.renaming.Ways.{ways-more}
 use Rattle.wac_merge_resources.proofs.renaming.outward.outward_in.Goals as goal
 

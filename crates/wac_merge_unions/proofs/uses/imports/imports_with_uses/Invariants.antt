@@ -2,7 +2,7 @@ use Rattle.std.proofs.Common.{take}
 use Rattle.wac_merge_classes.specs.entries.Bindings.{AreHeld}
 use Rattle.wac_merge_classes.specs.entries.Classes.{by_names}
 use Rattle.wac_merge_classes.specs.terms.Merge.{import_entries}
-use Rattle.wac_types_collection.specs.subtyping.Extended.{IsExtended}
+use Rattle.wac_types_collection.specs.private.subtyping.Extended.{IsExtended}
 use Rattle.wac_merge_unions.specs.uses.Using.{AreUsing}
 use Rattle.wac_merge_unions.proofs.uses.imports.imports_with_uses.Given as goal
 

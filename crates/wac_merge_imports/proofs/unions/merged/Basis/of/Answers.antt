@@ -4,7 +4,7 @@ use Rattle.wac_types_shapes.specs.declared.shapes.component.ResourceId.{Resource
 use Rattle.wac_merge_classes.specs.terms.Became.{AreBoundParts, AreFresh}
 use Rattle.wac_merge_classes.specs.declared.terms.parts.Part.{Part}
 use Rattle.wac_merge_classes.specs.declared.terms.parts.Union.{Union}
-use Rattle.wac_merge_resources.specs.renaming.Ways.{AreOutward}
+use Rattle.wac_merge_resources.specs.private.renaming.Ways.{AreOutward}
 use Rattle.wac_merge_tables.proofs.lemmas.made.Extending.{extended_twice}
 use Rattle.wac_merge_imports.proofs.unions.merged.Basis.of.Goals as goal
 

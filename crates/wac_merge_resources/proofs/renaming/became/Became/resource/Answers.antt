@@ -4,7 +4,7 @@ use Rattle.wac_merge_classes.specs.terms.Became.{became, new_at, or_itself}
 use Rattle.wac_types_collection.specs.subtyping.CalledViews.{path_view}
 use Rattle.wac_merge_classes.specs.entries.Places.{find_resource, place_view}
 use Rattle.wac_merge_classes.specs.terms.Unions.{IsPart}
-use Rattle.wac_merge_resources.specs.renaming.Ways.{LeadsOut}
+use Rattle.wac_merge_resources.specs.private.renaming.Ways.{LeadsOut}
 use Rattle.wac_merge_resources.proofs.lemmas.renaming.BecameWalks.{around-bound, around-past, around-start, itself-or, no-part}
 use Rattle.wac_merge_resources.proofs.lemmas.renaming.Ways.{around-way, ends, way-below}
 use Rattle.wac_merge_resources.proofs.renaming.became.Became.resource.Goals as goal

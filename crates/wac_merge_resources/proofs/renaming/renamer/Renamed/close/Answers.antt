@@ -5,7 +5,7 @@ use Rattle.wac_types_shapes.specs.declared.shapes.component.DefinedType.TheVaria
 use Rattle.wac_types_shapes.specs.declared.shapes.component.ValueType.{ValueType}
 use Rattle.wac_types_shapes.specs.declared.shapes.component.ValueType.TheVariants as val
 use Rattle.wac_merge_resources.specs.values.NamedTypes.{named_type}
-use Rattle.wac_merge_resources.specs.renaming.RenamedTypes.{becomes}
+use Rattle.wac_merge_resources.specs.private.renaming.RenamedTypes.{becomes}
 use Rattle.wac_merge_tables.specs.made.Made.{IsMadeFor}
 use Rattle.wac_merge_resources.specs.renaming.MadeOf.{IsMadeOf, alias}
 use Rattle.wac_merge_resources.specs.private.renaming.RenamingSteps.{AreReady, HaveOneShape, IsBecome, IsRenamedIn, IsRenamedValue}

@@ -1,7 +1,7 @@
 use Rattle.std.proofs.Common.{inl, inr, refl, sym, ◌∙◌, subst}
 use Rattle.wac_merge_tables.proofs.lemmas.tables.TaskLemmas.{func_values_hold}
 use Rattle.wac_merge_resources.specs.values.NamedTypes.{named_type}
-use Rattle.wac_merge_resources.specs.renaming.RenamedTypes.{becomes}
+use Rattle.wac_merge_resources.specs.private.renaming.RenamedTypes.{becomes}
 use Rattle.wac_merge_resources.specs.renaming.MadeOf.{IsFuncMadeOf}
 use Rattle.wac_merge_tables.specs.made.Made.{StayMade}
 use Rattle.wac_merge_resources.specs.private.renaming.RenamingSteps.{IsBecome, IsRenamedIn, IsRenamedValue}

@@ -2,7 +2,7 @@ use Rattle.std.proofs.Common.{◌≡◌, ℕ, List, [], Option, Some, sym, ap, �
 use Rattle.wac_types_shapes.specs.declared.shapes.component.DefinedTypeId.{DefinedTypeId}
 use Rattle.wac_types_shapes.specs.declared.shapes.component.FuncTypeId.{FuncTypeId}
 use Rattle.wac_merge_resources.specs.values.NamedTypes.{named_type}
-use Rattle.wac_merge_resources.specs.renaming.RenamedTypes.{defined_at, func_at}
+use Rattle.wac_merge_resources.specs.private.renaming.RenamedTypes.{defined_at, func_at}
 use Rattle.wac_merge_resources.proofs.renaming.renamer.Renamed.new.Goals as goal
 
 none_defined : (ns : List (Option ℕ)) (d e : DefinedTypeId) → ns ≡ [] → defined_at ns d ≡ Some e → ⊥

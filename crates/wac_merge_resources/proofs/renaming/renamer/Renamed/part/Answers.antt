@@ -3,7 +3,7 @@ use Rattle.std.specs.Option.{option_map}
 use Rattle.wac_types_shapes.specs.declared.shapes.component.ValueType.{ValueType}
 use Rattle.wac_types_shapes.specs.declared.shapes.component.ValueType.TheVariants as val
 use Rattle.wac_types_shapes.specs.declared.shapes.component.ResourceId.{ResourceId}
-use Rattle.wac_merge_resources.specs.renaming.RenamedTypes.{value_in}
+use Rattle.wac_merge_resources.specs.private.renaming.RenamedTypes.{value_in}
 use Rattle.wac_merge_resources.proofs.renaming.renamer.Renamed.part.Goals as goal
 
 pub returns-in-Primitive : goal.returns-in-Primitive

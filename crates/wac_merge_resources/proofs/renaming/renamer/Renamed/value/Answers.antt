@@ -2,7 +2,7 @@ use Rattle.std.proofs.Common.{◌≡◌, sym, ◌∙◌, subst}
 use Rattle.wac_types_shapes.specs.declared.shapes.component.ValueType.{ValueType}
 use Rattle.wac_types_shapes.specs.declared.shapes.component.ValueType.TheVariants as val
 use Rattle.wac_merge_resources.specs.renaming.MadeOf.{IsMadeOf}
-use Rattle.wac_merge_resources.specs.renaming.RenamedTypes.{becomes}
+use Rattle.wac_merge_resources.specs.private.renaming.RenamedTypes.{becomes}
 use Rattle.wac_merge_resources.specs.private.renaming.RenamingSteps.{IsBecome, IsRenamedIn, IsRenamedValue}
 use Rattle.wac_merge_tables.proofs.lemmas.made.Extending.{extended_none}
 use Rattle.wac_merge_resources.proofs.lemmas.renaming.StillRenamed.{still_can}

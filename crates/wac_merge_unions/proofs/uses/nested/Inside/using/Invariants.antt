@@ -3,7 +3,7 @@ use Rattle.std.specs.Global.{Global}
 use Rattle.wac_types_shapes.specs.declared.shapes.component.InterfaceId.{InterfaceId}
 use Rattle.wac_merge_classes.specs.entries.Classes.{by_names}
 use Rattle.wac_merge_classes.specs.terms.Merge.{import_entries}
-use Rattle.wac_types_collection.specs.subtyping.Extended.{IsExtended}
+use Rattle.wac_types_collection.specs.private.subtyping.Extended.{IsExtended}
 use Rattle.wac_merge_unions.specs.uses.Using.{AreUsingFrom, uses_among}
 use Rattle.wac_merge_unions.proofs.uses.nested.Inside.using.Given as goal
 

@@ -16,9 +16,9 @@ use Rattle.wac_merge_resources.specs.declared.renaming.became.Became.{Became}
 use Rattle.wac_merge_resources.specs.declared.renaming.renamer.Renamed.{Renamed}
 use Rattle.wac_merge_resources.specs.declared.renaming.renamer.Renaming.{Renaming}
 use Rattle.wac_merge_resources.specs.renaming.MadeOf.{AreMade, IsFuncMadeOf, IsMadeOf}
-use Rattle.wac_merge_resources.specs.renaming.Ways.{AreOutward}
+use Rattle.wac_merge_resources.specs.private.renaming.Ways.{AreOutward}
 use Rattle.wac_merge_classes.specs.terms.Renaming.{AreEnds, IsRenamed}
-use Rattle.wac_types_collection.specs.subtyping.Extended.{IsExtended}
+use Rattle.wac_types_collection.specs.private.subtyping.Extended.{IsExtended}
 
 -- What a resource without alias becomes, where types are rewritten.
 abbrev pub becomes : Renaming → ResourceId → ResourceId
