@@ -2,83 +2,131 @@
 
 use anyhow::{Result, bail};
 use std::alloc::Global;
-use wac_graph::{CompositionGraph, plug};
-use wac_graph_model::{EncodeOptions, NodeId, PackageId};
-use wac_measures::graph::Graph;
-use wac_measures::types::Collection;
-use wac_types::{DefinedType, FuncType, Interface, ItemKind, ValueType, World};
+use wac_graph::types::{
+    DefinedType, FuncType, Interface, InterfaceId, ItemKind, Resource, ResourceId, Type, Types,
+    ValueType, World, WorldId,
+};
+use wac_graph::{CompositionGraph, EncodeOptions, NodeId, PackageId, plug};
 
 /// A component with nothing in it.
 const EMPTY_COMPONENT: [u8; 8] = [0x00, 0x61, 0x73, 0x6d, 0x0d, 0x00, 0x01, 0x00];
 
-/// A composition graph that is measured.
-pub struct Measured {
+/// A composition graph. Its methods have no contract, so that a workload is proved without those of the graph.
+#[derive(Drop)]
+pub struct Graph {
+    pub alloc: Global,
     graph: CompositionGraph,
 }
 
-impl Drop for Measured {
-    fn drop(self) {
-        let Measured { graph: _ } = self;
+/// Returns what a call made, or an error if it was refused.
+pub fn refused<T>(made: Option<T>) -> Result<T> {
+    match made {
+        Some(made) => Ok(made),
+        None => bail!("a call is refused"),
     }
 }
 
-impl Collection for Measured {
-    fn defined(&mut self, defined: DefinedType) -> Result<ValueType> {
+impl Graph {
+    /// Creates an empty graph.
+    pub fn new(alloc: Global) -> Graph {
+        let graph = CompositionGraph::new(alloc);
+        Graph { alloc, graph }
+    }
+
+    /// The graph's collection of types.
+    pub fn types(&self) -> &Types {
+        self.graph.types()
+    }
+
+    /// Adds a defined type.
+    pub fn defined(&mut self, defined: DefinedType) -> Result<ValueType> {
         Ok(ValueType::Defined(self.graph.add_defined_type(defined)?))
     }
 
-    fn func(&mut self, function: FuncType) -> Result<ItemKind> {
+    /// Adds a resource.
+    pub fn resource(&mut self, resource: Resource) -> Result<ResourceId> {
+        Ok(self.graph.add_resource(resource)?)
+    }
+
+    /// Adds a function type.
+    pub fn function(
+        &mut self,
+        params: &[(&str, ValueType)],
+        returned: Option<ValueType>,
+    ) -> Result<ItemKind> {
+        let function = FuncType::new(self.alloc, params, returned, false)?;
         Ok(ItemKind::Func(self.graph.add_func_type(function)?))
     }
 
-    fn instance(&mut self, interface: Interface) -> Result<ItemKind> {
-        Ok(ItemKind::Instance(self.graph.add_interface(interface)?))
-    }
-}
-
-impl Graph for Measured {
-    fn new(alloc: Global) -> Measured {
-        Measured {
-            graph: CompositionGraph::new(alloc),
-        }
+    /// Adds an interface.
+    pub fn interface(&mut self, interface: Interface) -> Result<InterfaceId> {
+        Ok(self.graph.add_interface(interface)?)
     }
 
-    fn register(
+    /// Adds an interface that uses no other.
+    pub fn instance(&mut self, id: Option<&str>, exports: &[(&str, ItemKind)]) -> Result<ItemKind> {
+        let interface = Interface::new(self.alloc, id, exports)?;
+        Ok(ItemKind::Instance(self.interface(interface)?))
+    }
+
+    /// Adds a world.
+    pub fn world(
         &mut self,
-        alloc: Global,
+        imports: &[(&str, ItemKind)],
+        exports: &[(&str, ItemKind)],
+    ) -> Result<WorldId> {
+        let world = World::new(self.alloc, None, imports, exports)?;
+        Ok(self.graph.add_world(world)?)
+    }
+
+    /// Registers an empty component of a new world.
+    pub fn register(
+        &mut self,
         name: &str,
         imports: &[(&str, ItemKind)],
         exports: &[(&str, ItemKind)],
     ) -> Result<PackageId> {
-        let world = World::new(alloc, None, imports, exports)?;
+        let world = World::new(self.alloc, None, imports, exports)?;
         let world = self.graph.add_world(world)?;
-        let bytes = Vec::from_array(alloc, EMPTY_COMPONENT)?;
+        let bytes = Vec::from_array(self.alloc, EMPTY_COMPONENT)?;
         let package = self.graph.new_package(name, None, bytes, world)?;
         Ok(self.graph.register_package(package)?)
     }
 
-    fn import(&mut self, name: &str, kind: ItemKind) -> Option<NodeId> {
+    /// Imports an item.
+    pub fn import(&mut self, name: &str, kind: ItemKind) -> Option<NodeId> {
         if !self.graph.types().contains(kind.ty()) {
             return None;
         }
         self.graph.import(name, kind).ok()
     }
 
-    fn instantiate(&mut self, package: PackageId) -> Option<NodeId> {
+    /// Defines a type.
+    pub fn define(&mut self, name: &str, ty: Type) -> Option<NodeId> {
+        if !self.graph.types().contains(ty) {
+            return None;
+        }
+        self.graph.define_type(name, ty).ok()
+    }
+
+    /// Makes an instance of a package.
+    pub fn instantiate(&mut self, package: PackageId) -> Option<NodeId> {
         if !self.graph.has_package(package) {
             return None;
         }
         self.graph.instantiate(package).ok()
     }
 
-    fn alias(&mut self, instance: NodeId, name: &str) -> Option<NodeId> {
+    /// Makes an alias of an export.
+    pub fn alias(&mut self, instance: NodeId, name: &str) -> Option<NodeId> {
         if !self.graph.has_node(instance) {
             return None;
         }
         self.graph.alias_instance_export(instance, name).ok()
     }
 
-    fn pass(&mut self, instance: NodeId, name: &str, argument: NodeId) -> Option<()> {
+    /// Sets an argument of an instance.
+    pub fn set_argument(&mut self, instance: NodeId, name: &str, argument: NodeId) -> Option<()> {
         if !self.graph.has_node(instance) || !self.graph.has_node(argument) {
             return None;
         }
@@ -87,7 +135,8 @@ impl Graph for Measured {
             .ok()
     }
 
-    fn take_back(&mut self, instance: NodeId, name: &str, argument: NodeId) -> Option<()> {
+    /// Unsets an argument of an instance.
+    pub fn unset_argument(&mut self, instance: NodeId, name: &str, argument: NodeId) -> Option<()> {
         if !self.graph.has_node(instance) {
             return None;
         }
@@ -96,14 +145,16 @@ impl Graph for Measured {
             .ok()
     }
 
-    fn export(&mut self, node: NodeId, name: &str) -> Option<()> {
+    /// Exports a node.
+    pub fn export(&mut self, node: NodeId, name: &str) -> Option<()> {
         if !self.graph.has_node(node) {
             return None;
         }
         self.graph.export(node, name).ok()
     }
 
-    fn remove(&mut self, node: NodeId) -> Option<()> {
+    /// Removes a node.
+    pub fn remove(&mut self, node: NodeId) -> Option<()> {
         if !self.graph.has_node(node) {
             return None;
         }
@@ -111,17 +162,19 @@ impl Graph for Measured {
         Some(())
     }
 
-    fn plug(&mut self, alloc: Global, giver: PackageId, taker: PackageId) -> Result<()> {
+    /// Plugs a package into another.
+    pub fn plug(&mut self, giver: PackageId, taker: PackageId) -> Result<()> {
         if !self.graph.has_package(giver) || !self.graph.has_package(taker) {
             bail!("a package is not registered");
         }
-        let plugs = vec![in alloc; giver]?;
+        let plugs = vec![in self.alloc; giver]?;
         Ok(plug(&mut self.graph, plugs, taker)?)
     }
 
-    fn encode(&self) -> Result<Vec<u8>> {
+    /// Encodes the graph, its outer names unvalidated. Returns the number of bytes.
+    pub fn encode(&self) -> Result<usize> {
         let mut options = EncodeOptions::default();
         options.validate = false;
-        Ok(self.graph.encode(options)?)
+        Ok(self.graph.encode(options)?.len())
     }
 }

@@ -1,22 +1,27 @@
-//! Measures how long calls of the libraries take: `names` reads names, `comparing` adds and compares items, `merging` merges
-//! imports, `writing` writes components; `chain`, `fan`, `aliases`, `plug` and `shared` make graphs and encode them, `churn`
-//! removes nodes and makes them again, and `wide` makes and encodes graphs of many imported interfaces. With such a word it takes a
-//! workload at some counts and prints its times and by which power of the count they grow, of graphs both alone and (but for
-//! `wide`) in equal memory; without one it does a little of
-//! each and prints no time. With the word of graphs, a count and a step (`prepared`, `made`, `turned`, `encoded`) it takes one graph
-//! up to that step, and with `comparing`, what is compared, a count and a step (`added`, `compared`) two items, for what counts from
-//! outside (`tools/growth`). Another word ends it with status 2.
+//! Measures how the work of the libraries grows. `tools/growth` runs it under a counter of instructions, at three counts of each
+//! workload, and prints by which power of the count each step grows.
+//!
+//! Without words it does a little of each workload, and prints what comes of it. With the words WORKLOAD COUNT STEP it does the
+//! steps of a workload up to this one, and prints nothing. Other words end it with status 2.
 #![tactic(auto)]
 
+mod churn;
+mod comparing;
+mod deep;
 mod graph;
+mod graphs;
+mod merging;
+mod nodes;
+mod texts;
+mod types;
+mod workloads;
 
 use anyhow::Result;
-use graph::Measured;
 use std::env::{self, Env};
 use std::process::ExitCode;
-use wac_measures::program::run;
+use workloads::{Step, WORKLOADS};
 
-/// The words behind the program's name.
+/// The words after the program's name.
 fn words<R: Env + AllocGlobal>(rt: &R) -> Result<Vec<String>> {
     let mut words = Vec::new(rt.alloc());
     for word in env::args(rt)?.skip(1) {
@@ -25,12 +30,44 @@ fn words<R: Env + AllocGlobal>(rt: &R) -> Result<Vec<String>> {
     Ok(words)
 }
 
+/// Does a little of each workload, and prints what comes of it.
+fn show(rt: &HostRuntime) -> Result<()> {
+    for (word, sort, few) in WORKLOADS {
+        let counted = sort.take(rt.alloc(), *few, Step::Measure)?;
+        println!(rt; "{word} {few}: {counted}")?;
+    }
+    Ok(())
+}
+
+/// Does the steps of a workload up to one. Returns whether there are such a workload and step.
+fn take(rt: &HostRuntime, word: &str, count: &str, step: &str) -> Result<bool> {
+    let found = WORKLOADS.iter().find(|(of, _, _)| *of == word);
+    let (Some((_, sort, _)), Some(step)) = (found, Step::of_word(step)) else {
+        return Ok(false);
+    };
+    let Ok(count) = count.parse::<u64>() else {
+        return Ok(false);
+    };
+    let _counted = sort.take(rt.alloc(), count, step)?;
+    Ok(true)
+}
+
+/// Does what the words ask for. Returns whether they ask for anything.
+fn run(rt: &HostRuntime, words: &[String]) -> Result<bool> {
+    match words {
+        [] => {
+            show(rt)?;
+            Ok(true)
+        }
+        [word, count, step] => take(rt, word.as_str(), count.as_str(), step.as_str()),
+        _ => Ok(false),
+    }
+}
+
 fn main(rt: HostRuntime) -> Result<ExitCode> {
-    if run::<Measured>(&rt, &words(&rt)?)? {
+    if run(&rt, &words(&rt)?)? {
         return Ok(ExitCode::SUCCESS);
     }
-    println!(rt;
-        "names, comparing, merging, writing, chain, fan, aliases, plug, shared, churn or wide"
-    )?;
+    println!(rt; "no words, or WORKLOAD COUNT STEP")?;
     Ok(ExitCode::from(2))
 }

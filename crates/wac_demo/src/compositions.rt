@@ -9,9 +9,8 @@ ghost use Rattle.wac_graph_model.specs.nodes.Stays.{Stays};
 
 use anyhow::Result;
 use std::alloc::Global;
-use wac_graph::{CompositionGraph, plug};
-use wac_graph_model::{EncodeError, EncodeOptions, PackageId, Processor};
-use wac_types::{FuncType, Interface, ItemKind, World};
+use wac_graph::types::{FuncType, Interface, ItemKind, World};
+use wac_graph::{CompositionGraph, EncodeError, EncodeOptions, PackageId, Processor, plug};
 
 /// The bytes of a component without sections.
 pub const EMPTY_COMPONENT: [u8; 8] = [0x00, 0x61, 0x73, 0x6d, 0x0d, 0x00, 0x01, 0x00];

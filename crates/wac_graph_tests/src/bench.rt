@@ -6,13 +6,13 @@ use crate::parts::{self, encode, function, instance, package_name};
 use std::alloc::{AllocError, Global};
 use std::fmt::Display;
 use std::process::Abort;
-use wac_graph::CompositionGraph;
-use wac_graph_model::{EncodeError, EncodeOptions, NodeId, NodeKind, PackageId, Processor};
-use wac_merge::MergeFault;
-use wac_names::validation::ValidationFault;
-use wac_types::{
+use wac_graph::types::{
     CoreExtern, CoreFuncType, DefinedType, Enum, ItemKind, ModuleType, PrimitiveType, Type,
     ValueType, WorldId,
+};
+use wac_graph::{
+    CompositionGraph, EncodeError, EncodeOptions, MergeFault, NodeId, NodeKind, PackageId,
+    Processor, ValidationFault,
 };
 
 const PREAMBLE: &str = "0061736d0d000100";
@@ -154,7 +154,8 @@ fn is_refused(answer: &str) -> bool {
     answer == "out of memory" || answer == "OutOfMemory" || answer == "memory allocation failed"
 }
 
-fn core_module(rt: &impl Abort, alloc: Global, graph: &mut CompositionGraph) -> ItemKind {
+fn core_module(rt: &impl Abort, graph: &mut CompositionGraph) -> ItemKind {
+    let alloc = graph.types().allocator();
     let mut module = ModuleType::new(alloc);
     let function = CoreFuncType::new(alloc, &[], &[]).expect(rt, "a function type");
     let imported = module.import(alloc, "m", "f", CoreExtern::Func(function));
@@ -171,17 +172,13 @@ fn core_module(rt: &impl Abort, alloc: Global, graph: &mut CompositionGraph) -> 
 }
 
 // A world of this id that imports a function `f` and exports a function `g`.
-fn sides(
-    rt: &impl Abort,
-    alloc: Global,
-    graph: &mut CompositionGraph,
-    id: Option<&str>,
-) -> WorldId {
-    let item = function(rt, alloc, graph, &[], None);
-    parts::world(rt, alloc, graph, id, &[("f", item)], &[("g", item)])
+fn sides(rt: &impl Abort, graph: &mut CompositionGraph, id: Option<&str>) -> WorldId {
+    let item = function(rt, graph, &[], None);
+    parts::world(rt, graph, id, &[("f", item)], &[("g", item)])
 }
 
-fn enumeration(rt: &impl Abort, alloc: Global, graph: &mut CompositionGraph) -> ItemKind {
+fn enumeration(rt: &impl Abort, graph: &mut CompositionGraph) -> ItemKind {
+    let alloc = graph.types().allocator();
     let cases = Enum::new(alloc, &["a"]).expect(rt, "an enumeration");
     let value = parts::defined(rt, graph, DefinedType::Enum(cases));
     ItemKind::TypeItem(Type::Value(value))
@@ -189,23 +186,15 @@ fn enumeration(rt: &impl Abort, alloc: Global, graph: &mut CompositionGraph) -> 
 
 fn using_instance(
     rt: &impl Abort,
-    alloc: Global,
     graph: &mut CompositionGraph,
     id: &str,
     name: &str,
     used: &str,
 ) -> ItemKind {
-    let item = enumeration(rt, alloc, graph);
-    match instance(rt, alloc, graph, Some(used), &[], &[(name, item)]) {
+    let item = enumeration(rt, graph);
+    match instance(rt, graph, Some(used), &[], &[(name, item)]) {
         ItemKind::Instance(of) => {
-            instance(
-                rt,
-                alloc,
-                graph,
-                Some(id),
-                &[(name, of, None)],
-                &[(name, item)],
-            )
+            instance(rt, graph, Some(id), &[(name, of, None)], &[(name, item)])
         }
         _ => panic!(rt; "no instance"),
     }
@@ -260,24 +249,24 @@ impl Bench {
     }
 
     fn kind(&mut self, rt: &impl Abort, item: Item) -> ItemKind {
-        let (alloc, graph) = (self.alloc, &mut self.graph);
+        let graph = &mut self.graph;
         match item {
-            Item::Plain => function(rt, alloc, graph, &[], None),
-            Item::Other => function(rt, alloc, graph, &[("p", BOOL)], None),
-            Item::Telling => function(rt, alloc, graph, &[], Some(BOOL)),
+            Item::Plain => function(rt, graph, &[], None),
+            Item::Other => function(rt, graph, &[("p", BOOL)], None),
+            Item::Telling => function(rt, graph, &[], Some(BOOL)),
             Item::Exporting(name) => {
-                let item = function(rt, alloc, graph, &[], None);
-                instance(rt, alloc, graph, None, &[], &[(name, item)])
+                let item = function(rt, graph, &[], None);
+                instance(rt, graph, None, &[], &[(name, item)])
             }
             Item::ExportingTelling(name) => {
-                let item = function(rt, alloc, graph, &[], Some(BOOL));
-                instance(rt, alloc, graph, None, &[], &[(name, item)])
+                let item = function(rt, graph, &[], Some(BOOL));
+                instance(rt, graph, None, &[], &[(name, item)])
             }
-            Item::Empty => instance(rt, alloc, graph, None, &[], &[]),
-            Item::Module => core_module(rt, alloc, graph),
-            Item::Component => ItemKind::Component(sides(rt, alloc, graph, None)),
-            Item::World => ItemKind::TypeItem(Type::World(sides(rt, alloc, graph, Some("n:p/w")))),
-            Item::Using(id, name, used) => using_instance(rt, alloc, graph, id, name, used),
+            Item::Empty => instance(rt, graph, None, &[], &[]),
+            Item::Module => core_module(rt, graph),
+            Item::Component => ItemKind::Component(sides(rt, graph, None)),
+            Item::World => ItemKind::TypeItem(Type::World(sides(rt, graph, Some("n:p/w")))),
+            Item::Using(id, name, used) => using_instance(rt, graph, id, name, used),
         }
     }
 
@@ -303,8 +292,8 @@ impl Bench {
     ) -> String {
         let imports = self.kinds(rt, imports);
         let exports = self.kinds(rt, exports);
-        let (alloc, graph) = (self.alloc, &mut self.graph);
-        match parts::register(rt, alloc, graph, (name, None), &imports, &exports) {
+        let graph = &mut self.graph;
+        match parts::register(rt, graph, (name, None), &imports, &exports) {
             Ok(id) => {
                 self.packages.push(id).expect(rt, "room for a package");
                 String::new(self.alloc)

@@ -10,9 +10,8 @@ use crate::tables::Step::{
 use crate::tables::Want::{Parts, Text, Unexportable};
 use crate::tables::{Calls, Case, Made, Row};
 use std::process::Abort;
-use wac_graph::CompositionGraph;
-use wac_graph_model::{DefineTypeError, EncodeOptions, NodeId};
-use wac_types::Type;
+use wac_graph::types::Type;
+use wac_graph::{CompositionGraph, DefineTypeError, EncodeOptions, NodeId};
 
 /// Defines a type. Where memory was refused nothing changed: made again the call answers as if it had not been refused.
 pub fn answer(

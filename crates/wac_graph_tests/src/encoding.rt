@@ -6,7 +6,7 @@ use super::bench::Call::{
 use super::bench::How::{Plain as Usual, Processed};
 use super::bench::Item::{Empty, Exporting, ExportingTelling, Other, Plain, Telling, Using};
 use super::bench::{How, Rows, assert_tables};
-use wac_graph_model::EncodeOptions;
+use wac_graph::EncodeOptions;
 
 const NOT_YET: &str = "the graph holds something that is not written yet";
 

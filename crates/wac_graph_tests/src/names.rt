@@ -1,8 +1,6 @@
 // Names of imports and exports, each with the fault that it is refused by.
 use crate::parts::{assert_row, export, function, import};
-use wac_graph::CompositionGraph;
-use wac_graph_model::{ExportError, ImportError, NodeId};
-use wac_names::NameFault;
+use wac_graph::{CompositionGraph, ExportError, ImportError, NameFault, NodeId};
 
 const IMPORTS: &[(&str, NameFault)] = &[
     ("", NameFault::Empty),
@@ -38,7 +36,7 @@ fn export_fault(answer: Result<(), ExportError>) -> Option<NameFault> {
 #[test]
 fn names_are_refused_by_their_fault(rt: HostRuntime) {
     let mut graph = CompositionGraph::new(rt.alloc());
-    let kind = function(&rt, rt.alloc(), &mut graph, &[], None);
+    let kind = function(&rt, &mut graph, &[], None);
     let node = import(&rt, &mut graph, "x", kind).expect(&rt, "a node");
     for (name, want) in IMPORTS {
         let answer = import(&rt, &mut graph, name, kind);

@@ -1,16 +1,15 @@
 // What the graphs of tests are made of. What a graph is asked is called here, each call in one function.
 use semver::Version;
-use std::alloc::{AllocError, Global};
+use std::alloc::AllocError;
 use std::fmt::Display;
 use std::process::Abort;
-use wac_graph::CompositionGraph;
-use wac_graph_model::{
-    DefineTypeError, EncodeError, EncodeOptions, ExportError, ImportError,
-    InstantiationArgumentError, NodeId, PackageId, RegisterPackageError, UnexportError,
-};
-use wac_types::{
+use wac_graph::types::{
     DefinedType, FuncType, Interface, InterfaceId, ItemKind, ModuleType, Type, ValueType, World,
     WorldId,
+};
+use wac_graph::{
+    CompositionGraph, DefineTypeError, EncodeError, EncodeOptions, ExportError, ImportError,
+    InstantiationArgumentError, NodeId, PackageId, RegisterPackageError, UnexportError,
 };
 
 // A component with nothing in it: the eight bytes of the preamble alone.
@@ -30,25 +29,27 @@ pub fn assert_displayed<T: Display>(rt: &(impl Abort + AllocGlobal), value: &T, 
 /// A function of a new type.
 pub fn function(
     rt: &impl Abort,
-    alloc: Global,
     graph: &mut CompositionGraph,
     params: &[(&str, ValueType)],
     returned: Option<ValueType>,
 ) -> ItemKind {
-    let function = FuncType::new(alloc, params, returned, false).expect(rt, "a function type");
+    let function = FuncType::new(graph.types().allocator(), params, returned, false).expect(
+        rt,
+        "a function type",
+    );
     ItemKind::Func(graph.add_func_type(function).expect(rt, "its id"))
 }
 
 /// An instance of a new interface, which uses and lists these.
 pub fn instance(
     rt: &impl Abort,
-    alloc: Global,
     graph: &mut CompositionGraph,
     id: Option<&str>,
     uses: &[(&str, InterfaceId, Option<&str>)],
     items: &[(&str, ItemKind)],
 ) -> ItemKind {
-    let interface = Interface::with_uses(alloc, id, uses, items).expect(rt, "an interface");
+    let interface = Interface::with_uses(graph.types().allocator(), id, uses, items);
+    let interface = interface.expect(rt, "an interface");
     ItemKind::Instance(graph.add_interface(interface).expect(rt, "its id"))
 }
 
@@ -69,29 +70,28 @@ pub fn module(rt: &impl Abort, graph: &mut CompositionGraph, module: ModuleType)
 /// A new world, which imports and exports these.
 pub fn world(
     rt: &impl Abort,
-    alloc: Global,
     graph: &mut CompositionGraph,
     id: Option<&str>,
     imports: &[(&str, ItemKind)],
     exports: &[(&str, ItemKind)],
 ) -> WorldId {
-    let world = World::new(alloc, id, imports, exports).expect(rt, "a world");
+    let world = World::new(graph.types().allocator(), id, imports, exports);
+    let world = world.expect(rt, "a world");
     graph.add_world(world).expect(rt, "its id")
 }
 
 /// Registers a package of a new world with these imports and exports, its bytes an empty component.
 pub fn register(
     rt: &impl Abort,
-    alloc: Global,
     graph: &mut CompositionGraph,
     key: (&str, Option<&Version>),
     imports: &[(&str, ItemKind)],
     exports: &[(&str, ItemKind)],
 ) -> Result<PackageId, RegisterPackageError> {
-    let world = world(rt, alloc, graph, None, imports, exports);
+    let world = world(rt, graph, None, imports, exports);
     let held = graph.types().contains(Type::World(world));
     assert!(rt; held);
-    let bytes = Vec::from_array(alloc, EMPTY_COMPONENT).expect(rt, "bytes");
+    let bytes = Vec::from_array(graph.types().allocator(), EMPTY_COMPONENT).expect(rt, "bytes");
     let package = graph.new_package(key.0, key.1, bytes, world);
     graph.register_package(package.expect(rt, "a package"))
 }

@@ -7,8 +7,9 @@ use crate::parts::{assert_displayed, assert_row, package_name};
 use crate::tables::Row::{Func, Instance};
 use crate::tables::{Item, Made, Row, Want, assert_encoded};
 use std::process::Abort;
-use wac_graph::{CompositionGraph, PlugError, PlugFault, plug};
-use wac_graph_model::{ExportError, Node, NodeKind, PackageId};
+use wac_graph::{
+    CompositionGraph, ExportError, Node, NodeKind, PackageId, PlugError, PlugFault, plug,
+};
 
 // The second of two plugs.
 #[derive(Clone, Copy)]
@@ -106,14 +107,13 @@ fn plugged(
 
 // Registers the packages of a row.
 fn registered(rt: &(impl Abort + AllocGlobal), made: &mut Made, row: &Plugging) -> Packages {
-    let alloc = rt.alloc();
-    let first = made.registered(rt, alloc, "my:plug0", &[], row.first);
+    let first = made.registered(rt, "my:plug0", &[], row.first);
     let second = match row.second {
         Second::Absent => None,
         Second::Same => Some(first),
-        Second::Other(exports) => Some(made.registered(rt, alloc, "my:plug1", &[], exports)),
+        Second::Other(exports) => Some(made.registered(rt, "my:plug1", &[], exports)),
     };
-    let socket = made.registered(rt, alloc, "my:socket", row.imports, row.exports);
+    let socket = made.registered(rt, "my:socket", row.imports, row.exports);
     (first, second, socket)
 }
 

@@ -8,13 +8,12 @@ use crate::redefined::REDEFINED;
 use crate::writable::{DEPENDENCIES, WRITABLE};
 use std::alloc::Global;
 use std::process::Abort;
-use wac_graph::CompositionGraph;
-use wac_graph_model::{EncodeError, EncodeOptions, NodeId, PackageId};
-use wac_names::validation::ValidationFault;
-use wac_scopes::WriteFault;
-use wac_types::{
+use wac_graph::types::{
     DefinedType, Enum, InterfaceId, ItemKind, ModuleType, PrimitiveType, Record, Resource,
     ResourceId, Type, ValueType,
+};
+use wac_graph::{
+    CompositionGraph, EncodeError, EncodeOptions, NodeId, PackageId, ValidationFault, WriteFault,
 };
 
 const PREAMBLE: &str = "0061736d0d000100";
@@ -140,13 +139,17 @@ impl Made {
             package: None,
         };
         for row in rows {
-            let kind = made.item(rt, rt.alloc(), *row);
+            let kind = made.item(rt, *row);
             made.kinds.push(kind).expect(rt, "room for an item");
         }
         for step in steps {
             made.call(rt, *step);
         }
         made
+    }
+
+    fn alloc(&self) -> Global {
+        self.graph.types().allocator()
     }
 
     fn kind(&self, rt: &impl Abort, place: usize) -> ItemKind {
@@ -174,22 +177,25 @@ impl Made {
         }
     }
 
-    fn item(&mut self, rt: &impl Abort, alloc: Global, row: Row) -> ItemKind {
+    fn item(&mut self, rt: &impl Abort, row: Row) -> ItemKind {
         match row {
             Row::Bool => value_item(ValueType::Primitive(PrimitiveType::Bool)),
             Row::Byte => value_item(ValueType::Primitive(PrimitiveType::U8)),
             Row::Value => ItemKind::Value(ValueType::Primitive(PrimitiveType::Bool)),
-            Row::Doubled(of, levels) => self.doubled(rt, alloc, of, levels),
-            Row::Resource => self.new_resource(rt, alloc),
+            Row::Doubled(of, levels) => self.doubled(rt, of, levels),
+            Row::Resource => self.new_resource(rt),
             Row::Own(of) => value_item(ValueType::Own(self.resource(rt, of))),
-            Row::Func(params, returned) => self.function(rt, alloc, params, returned),
-            Row::Using(id, used, items) => self.using(rt, alloc, id, used, items),
-            Row::Instance(id, items) => self.instance(rt, alloc, id, items),
-            Row::Component(id, imports, exports) => self.component(rt, alloc, id, imports, exports),
-            Row::Module => parts::module(rt, &mut self.graph, ModuleType::new(alloc)),
+            Row::Func(params, returned) => self.function(rt, params, returned),
+            Row::Using(id, used, items) => self.using(rt, id, used, items),
+            Row::Instance(id, items) => self.instance(rt, id, items),
+            Row::Component(id, imports, exports) => self.component(rt, id, imports, exports),
+            Row::Module => {
+                let module = ModuleType::new(self.alloc());
+                parts::module(rt, &mut self.graph, module)
+            }
             Row::TypeOf(of) => ItemKind::TypeItem(self.kind(rt, of).ty()),
             row => {
-                let definition = self.definition(rt, alloc, row);
+                let definition = self.definition(rt, row);
                 value_item(self.defined(rt, definition))
             }
         }
@@ -199,47 +205,42 @@ impl Made {
         parts::defined(rt, &mut self.graph, definition)
     }
 
-    fn definition(&self, rt: &impl Abort, alloc: Global, row: Row) -> DefinedType {
+    fn definition(&self, rt: &impl Abort, row: Row) -> DefinedType {
         match row {
             Row::Enumeration(case) => {
-                DefinedType::Enum(Enum::new(alloc, &[case]).expect(rt, "an enumeration"))
+                DefinedType::Enum(Enum::new(self.alloc(), &[case]).expect(rt, "an enumeration"))
             }
             Row::List(of) => DefinedType::List(self.value(rt, of)),
             Row::Optional(of) => DefinedType::Option(self.value(rt, of)),
             Row::Alias(of) => DefinedType::Alias(self.value(rt, of)),
             Row::Pair(first, second) => {
                 let parts = [self.value(rt, first), self.value(rt, second)];
-                DefinedType::tuple(alloc, &parts).expect(rt, "a tuple")
+                DefinedType::tuple(self.alloc(), &parts).expect(rt, "a tuple")
             }
             Row::Record(of) => {
                 let field = ("b", self.value(rt, of));
-                DefinedType::Record(Record::new(alloc, &[field]).expect(rt, "a record"))
+                DefinedType::Record(Record::new(self.alloc(), &[field]).expect(rt, "a record"))
             }
             _ => panic!(rt; "no definition"),
         }
     }
 
-    fn doubled(&mut self, rt: &impl Abort, alloc: Global, of: usize, levels: u32) -> ItemKind {
+    fn doubled(&mut self, rt: &impl Abort, of: usize, levels: u32) -> ItemKind {
         let mut value = self.value(rt, of);
         for _ in 0..levels {
-            let pair = DefinedType::tuple(alloc, &[value, value]).expect(rt, "a tuple");
+            let pair = DefinedType::tuple(self.alloc(), &[value, value]).expect(rt, "a tuple");
             value = self.defined(rt, pair);
         }
         value_item(value)
     }
 
-    fn new_resource(&mut self, rt: &impl Abort, alloc: Global) -> ItemKind {
-        let resource = Resource::new(alloc, "r").expect(rt, "a resource");
+    fn new_resource(&mut self, rt: &impl Abort) -> ItemKind {
+        let resource = Resource::new(self.alloc(), "r").expect(rt, "a resource");
         ItemKind::TypeItem(Type::Resource(self.graph.add_resource(resource).expect(rt, "its id")))
     }
 
-    fn params(
-        &self,
-        rt: &impl Abort,
-        alloc: Global,
-        items: &[Item],
-    ) -> Vec<(&'static str, ValueType)> {
-        let mut params = Vec::new(alloc);
+    fn params(&self, rt: &impl Abort, items: &[Item]) -> Vec<(&'static str, ValueType)> {
+        let mut params = Vec::new(self.alloc());
         for (name, place) in items {
             let value = self.value(rt, *place);
             params
@@ -249,28 +250,17 @@ impl Made {
         params
     }
 
-    fn function(
-        &mut self,
-        rt: &impl Abort,
-        alloc: Global,
-        params: &[Item],
-        returned: Option<usize>,
-    ) -> ItemKind {
-        let params = self.params(rt, alloc, params);
+    fn function(&mut self, rt: &impl Abort, params: &[Item], returned: Option<usize>) -> ItemKind {
+        let params = self.params(rt, params);
         let returned = match returned {
             Some(place) => Some(self.value(rt, place)),
             None => None,
         };
-        parts::function(rt, alloc, &mut self.graph, &params, returned)
+        parts::function(rt, &mut self.graph, &params, returned)
     }
 
-    fn named(
-        &self,
-        rt: &impl Abort,
-        alloc: Global,
-        items: &[Item],
-    ) -> Vec<(&'static str, ItemKind)> {
-        let mut named = Vec::new(alloc);
+    fn named(&self, rt: &impl Abort, items: &[Item]) -> Vec<(&'static str, ItemKind)> {
+        let mut named = Vec::new(self.alloc());
         for (name, place) in items {
             let kind = self.kind(rt, *place);
             named.push((*name, kind)).expect(rt, "room for an item");
@@ -278,48 +268,27 @@ impl Made {
         named
     }
 
-    fn instance(
-        &mut self,
-        rt: &impl Abort,
-        alloc: Global,
-        id: Option<&str>,
-        items: &[Item],
-    ) -> ItemKind {
-        let items = self.named(rt, alloc, items);
-        parts::instance(rt, alloc, &mut self.graph, id, &[], &items)
+    fn instance(&mut self, rt: &impl Abort, id: Option<&str>, items: &[Item]) -> ItemKind {
+        let items = self.named(rt, items);
+        parts::instance(rt, &mut self.graph, id, &[], &items)
     }
 
-    fn using(
-        &mut self,
-        rt: &impl Abort,
-        alloc: Global,
-        id: &str,
-        used: Item,
-        items: &[Item],
-    ) -> ItemKind {
+    fn using(&mut self, rt: &impl Abort, id: &str, used: Item, items: &[Item]) -> ItemKind {
         let of = self.interface(rt, used.1);
-        let items = self.named(rt, alloc, items);
-        parts::instance(
-            rt,
-            alloc,
-            &mut self.graph,
-            Some(id),
-            &[(used.0, of, None)],
-            &items,
-        )
+        let items = self.named(rt, items);
+        parts::instance(rt, &mut self.graph, Some(id), &[(used.0, of, None)], &items)
     }
 
     fn component(
         &mut self,
         rt: &impl Abort,
-        alloc: Global,
         id: Option<&str>,
         imports: &[Item],
         exports: &[Item],
     ) -> ItemKind {
-        let imports = self.named(rt, alloc, imports);
-        let exports = self.named(rt, alloc, exports);
-        ItemKind::Component(parts::world(rt, alloc, &mut self.graph, id, &imports, &exports))
+        let imports = self.named(rt, imports);
+        let exports = self.named(rt, exports);
+        ItemKind::Component(parts::world(rt, &mut self.graph, id, &imports, &exports))
     }
 
     fn call(&mut self, rt: &(impl Abort + AllocGlobal), step: Step) {
@@ -333,7 +302,7 @@ impl Made {
                 export(rt, &mut self.graph, NodeId(node), name).expect(rt, "an export");
             }
             Step::Register(imports) => {
-                self.package = Some(self.registered(rt, rt.alloc(), "my:package", imports, &[]));
+                self.package = Some(self.registered(rt, "my:package", imports, &[]));
             }
             Step::Instantiate => {
                 let package = self.package.expect(rt, "a package");
@@ -381,14 +350,13 @@ impl Made {
     pub fn registered(
         &mut self,
         rt: &impl Abort,
-        alloc: Global,
         name: &str,
         imports: &[Item],
         exports: &[Item],
     ) -> PackageId {
-        let imports = self.named(rt, alloc, imports);
-        let exports = self.named(rt, alloc, exports);
-        parts::register(rt, alloc, &mut self.graph, (name, None), &imports, &exports).expect(
+        let imports = self.named(rt, imports);
+        let exports = self.named(rt, exports);
+        parts::register(rt, &mut self.graph, (name, None), &imports, &exports).expect(
             rt,
             "a package",
         )

@@ -3,7 +3,7 @@ use crate::tables::Row::{Component, Enumeration, Func, Instance, Module, TypeOf,
 use crate::tables::Step::{Define, Import, Instantiate, Register, Set};
 use crate::tables::Want::{Fault, Parts, Text};
 use crate::tables::{Case, Row, Step, Want};
-use wac_scopes::WriteFault;
+use wac_graph::WriteFault;
 
 // A function, a value, an instance that lists the type of a core module, and an instance of the empty interface.
 const LOWEST: &[Row] = &[

@@ -6,6 +6,8 @@
 #[cfg(test)]
 mod adding;
 #[cfg(test)]
+mod asserts;
+#[cfg(test)]
 mod collection;
 #[cfg(test)]
 mod edges;

@@ -1,5 +1,5 @@
+use crate::names::asserts::{assert_displayed, assert_row};
 use crate::names::plain::plain;
-use crate::names::rows::{assert_displayed, assert_row};
 use semver::Version;
 use std::alloc::Global;
 use std::cmp::Ordering;

@@ -1,5 +1,5 @@
 //! Names that may stand together, and the first fault of others.
-use crate::names::rows::{assert_displayed, assert_row};
+use crate::names::asserts::{assert_displayed, assert_row};
 use std::alloc::Global;
 use std::process::Abort;
 use wac_names::validation::{ValidationError, ValidationFault, validate};

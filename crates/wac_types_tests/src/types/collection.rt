@@ -1,7 +1,8 @@
 // Which items a collection takes, and what it answers of them.
 use crate::types::adding::{Adding, Refusal, add};
+use crate::types::asserts::{assert_displayed, assert_told};
 use crate::types::rows::Row::{Adds, Holds, Interfaces, NoResource, Refuses, Resource, Value};
-use crate::types::rows::{Table, assert_displayed, assert_tables, assert_told, made};
+use crate::types::rows::{Table, assert_tables, made};
 use wac_types_collection::collection::*;
 
 // The definitions, by their places.

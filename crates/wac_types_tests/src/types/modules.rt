@@ -1,6 +1,6 @@
 // Core modules, what they import, and under which names.
 use crate::types::adding::Refusal;
-use crate::types::rows::assert_told;
+use crate::types::asserts::assert_told;
 use std::alloc::Global;
 use wac_types::*;
 

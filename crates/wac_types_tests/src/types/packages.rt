@@ -1,7 +1,8 @@
 // Packages of the first world of a collection, and the keys under which they are known.
 use crate::types::adding::{Adding, BOOL};
+use crate::types::asserts::{assert_displayed, assert_shown};
 use crate::types::rows::Row::Adds;
-use crate::types::rows::{Table, assert_displayed, assert_shown, made};
+use crate::types::rows::{Table, made};
 use semver::Version;
 use std::process::Abort;
 use wac_types_collection::collection::*;

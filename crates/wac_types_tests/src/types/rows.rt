@@ -2,7 +2,6 @@
 use crate::types::adding::{Adding, Refusal, add, adds};
 use crate::types::reach::reaches;
 use crate::types::subtyping::is_subtype;
-use std::fmt::{Debug, Display};
 use std::process::Abort;
 use wac_types::*;
 
@@ -72,21 +71,4 @@ pub fn assert_tables(rt: &(impl Abort + AllocGlobal), tables: &[Table]) {
     for table in tables {
         let _types = made(rt, *table);
     }
-}
-
-/// What is told is true, and nothing was refused.
-pub fn assert_told(rt: &impl Abort, told: Result<bool, Refusal>, what: &str) {
-    assert!(rt; told == Ok(true), "{what}");
-}
-
-/// A value is displayed as this text.
-pub fn assert_displayed<T: Display>(rt: &(impl Abort + AllocGlobal), value: &T, want: &str) {
-    let text = format!(in rt.alloc(); "{value}").expect(rt, want);
-    assert!(rt; text.as_str() == want, "{want}");
-}
-
-/// A value is shown as this text to who debugs.
-pub fn assert_shown<T: Debug>(rt: &(impl Abort + AllocGlobal), value: &T, want: &str) {
-    let text = format!(in rt.alloc(); "{value:?}").expect(rt, want);
-    assert!(rt; text.as_str() == want, "{want}");
 }

@@ -1,6 +1,6 @@
 // Shapes keep what they are given, and show it.
 use crate::types::adding::{BOOL, Refusal, U32};
-use crate::types::rows::{assert_shown, assert_told};
+use crate::types::asserts::{assert_shown, assert_told};
 use std::alloc::Global;
 use std::process::Abort;
 use wac_types_collection::collection::*;

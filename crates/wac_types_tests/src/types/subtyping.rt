@@ -1,7 +1,8 @@
 // Which items are subtypes of which.
 use crate::types::adding::{Adding, BOOL, U32, add};
+use crate::types::asserts::assert_displayed;
 use crate::types::rows::Row::{Adds, Subtype};
-use crate::types::rows::{Table, assert_displayed, assert_tables};
+use crate::types::rows::{Table, assert_tables};
 use std::alloc::Global;
 use wac_types::*;
 

@@ -1,4 +1,4 @@
-// What each test asks of the rows of its table.
+// What each test asserts of the rows of its table.
 use std::fmt::Display;
 use std::process::Abort;
 

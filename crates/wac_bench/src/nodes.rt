@@ -1,0 +1,137 @@
+//! Graphs of packages, instances and aliases.
+
+use crate::graph::{Graph, refused};
+use crate::types::{BOOL, STRING, U32, all_numbered, numbered, records, versioned};
+use crate::workloads::Step;
+use anyhow::Result;
+use wac_graph::types::{ItemKind, ValueType};
+use wac_graph::{NodeId, PackageId};
+
+/// How many arguments each instance of a fan has.
+const ARGUMENTS: u64 = 8;
+
+/// The parameters of the functions that are exported.
+const PARAMS: &[(&str, ValueType)] = &[("x", U32), ("y", STRING)];
+
+/// Adds a function type for each name.
+fn functions<'a>(graph: &mut Graph, names: &'a [String]) -> Result<Vec<(&'a str, ItemKind)>> {
+    let mut items = Vec::new(graph.alloc);
+    for name in names {
+        let kind = graph.function(PARAMS, Some(BOOL))?;
+        items.push((name.as_str(), kind))?;
+    }
+    Ok(items)
+}
+
+/// Registers a package with an export under each name.
+fn giver(graph: &mut Graph, names: &[String]) -> Result<PackageId> {
+    let exports = functions(graph, names)?;
+    graph.register("n:giver", &[], &exports)
+}
+
+/// Registers a package with an import under each name, and the export `run`.
+fn taker(graph: &mut Graph, names: &[String]) -> Result<PackageId> {
+    let imports = functions(graph, names)?;
+    let run = graph.function(&[], None)?;
+    graph.register("n:taker", &imports, &[("run", run)])
+}
+
+/// Registers the package of a number, with the import `b` and the export `a`, and makes an instance. Returns its `a`.
+fn link(graph: &mut Graph, kind: ItemKind, number: u64, b: Option<NodeId>) -> Result<NodeId> {
+    let name = numbered(graph.alloc, "n:p", number)?;
+    let package = graph.register(name.as_str(), &[("b", kind)], &[("a", kind)])?;
+    let instance = refused(graph.instantiate(package))?;
+    if let Some(b) = b {
+        refused(graph.set_argument(instance, "b", b))?;
+    }
+    refused(graph.alias(instance, "a"))
+}
+
+/// Makes a chain of instances, each with `a` of the one before as its `b`, and exports `a` of the last.
+pub fn chain(graph: &mut Graph, count: u64) -> Result<()> {
+    let kind = graph.function(&[], None)?;
+    let mut last = None;
+    for number in 0..count {
+        last = Some(link(graph, kind, number, last)?);
+    }
+    match last {
+        Some(a) => refused(graph.export(a, "out")),
+        None => Ok(()),
+    }
+}
+
+/// Makes an instance of a package, and aliases of these exports.
+fn aliased(graph: &mut Graph, giver: PackageId, names: &[String]) -> Result<Vec<NodeId>> {
+    let instance = refused(graph.instantiate(giver))?;
+    let mut aliases = Vec::new(graph.alloc);
+    for name in names {
+        aliases.push(refused(graph.alias(instance, name.as_str()))?)?;
+    }
+    Ok(aliases)
+}
+
+/// Makes an instance of a package with these arguments.
+fn pass_all(
+    graph: &mut Graph,
+    taker: PackageId,
+    names: &[String],
+    arguments: &[NodeId],
+) -> Option<()> {
+    let instance = graph.instantiate(taker)?;
+    for (name, argument) in names.iter().zip(arguments) {
+        graph.set_argument(instance, name.as_str(), *argument)?;
+    }
+    Some(())
+}
+
+/// Makes an instance with eight exports, and instances that each have all eight as arguments.
+pub fn fan(graph: &mut Graph, count: u64) -> Result<()> {
+    let names = all_numbered(graph.alloc, "f", ARGUMENTS)?;
+    let giver = giver(graph, &names)?;
+    let taker = taker(graph, &names)?;
+    let arguments = aliased(graph, giver, &names)?;
+    for _ in 0..count {
+        refused(pass_all(graph, taker, &names, &arguments))?;
+    }
+    Ok(())
+}
+
+/// Registers a package with many exports, and makes aliases of them, up to a step.
+pub fn aliases(graph: &mut Graph, count: u64, last: Step) -> Result<()> {
+    let names = all_numbered(graph.alloc, "f", count)?;
+    let giver = giver(graph, &names)?;
+    if last == Step::Prepare {
+        return Ok(());
+    }
+    let _aliases = aliased(graph, giver, &names)?;
+    Ok(())
+}
+
+/// Registers a plug and its socket, and plugs, up to a step.
+pub fn plug(graph: &mut Graph, count: u64, last: Step) -> Result<()> {
+    let names = all_numbered(graph.alloc, "f", count)?;
+    let giver = giver(graph, &names)?;
+    let taker = taker(graph, &names)?;
+    if last == Step::Prepare {
+        return Ok(());
+    }
+    graph.plug(giver, taker)
+}
+
+/// Registers the package of a number, which imports an interface of its own, and makes an instance.
+fn import_own(graph: &mut Graph, number: u64) -> Result<()> {
+    let id = versioned(graph.alloc, number)?;
+    let kind = records(graph, id.as_str())?;
+    let name = numbered(graph.alloc, "n:c", number)?;
+    let package = graph.register(name.as_str(), &[(id.as_str(), kind)], &[])?;
+    let _instance = refused(graph.instantiate(package))?;
+    Ok(())
+}
+
+/// Makes instances of packages that each import an interface of their own.
+pub fn wide(graph: &mut Graph, count: u64) -> Result<()> {
+    for number in 0..count {
+        import_own(graph, number)?;
+    }
+    Ok(())
+}

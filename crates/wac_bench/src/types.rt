@@ -1,0 +1,89 @@
+//! Types and names that workloads are made of.
+
+use crate::graph::Graph;
+use anyhow::Result;
+use std::alloc::{AllocError, Global};
+use wac_graph::types::{
+    DefinedType, Interface, ItemKind, Named, PrimitiveType, Record, Text, Type, ValueType,
+};
+
+/// How many functions an interface over a record exports.
+const FUNCTIONS: u64 = 20;
+
+pub const BOOL: ValueType = ValueType::Primitive(PrimitiveType::Bool);
+
+pub const U32: ValueType = ValueType::Primitive(PrimitiveType::U32);
+
+pub const STRING: ValueType = ValueType::Primitive(PrimitiveType::String);
+
+/// Adds a tuple.
+pub fn tuple(graph: &mut Graph, members: &[ValueType]) -> Result<ValueType> {
+    graph.defined(DefinedType::tuple(graph.alloc, members)?)
+}
+
+/// Adds tuples, each of the one before twice.
+pub fn tuples(graph: &mut Graph, count: u64) -> Result<ValueType> {
+    let mut value = BOOL;
+    for _ in 0..count {
+        value = tuple(graph, &[value, value])?;
+    }
+    Ok(value)
+}
+
+/// Adds a list, an option, and a record with fields of them.
+pub fn record(graph: &mut Graph) -> Result<ValueType> {
+    let list = graph.defined(DefinedType::List(ValueType::Primitive(PrimitiveType::U8)))?;
+    let option = graph.defined(DefinedType::Option(ValueType::Primitive(PrimitiveType::U64)))?;
+    let fields = [("a", U32), ("b", STRING), ("c", list), ("d", option)];
+    let record = Record::new(graph.alloc, &fields)?;
+    graph.defined(DefinedType::Record(record))
+}
+
+/// Adds a function over a list of a type, and inserts it as an export.
+fn insert_function(
+    graph: &mut Graph,
+    exports: &mut Named<ItemKind>,
+    number: u64,
+    ty: ValueType,
+) -> Result<()> {
+    let list = graph.defined(DefinedType::List(ty))?;
+    let option = graph.defined(DefinedType::Option(ty))?;
+    let kind = graph.function(&[("x", ty), ("y", list)], Some(option))?;
+    let name = numbered(graph.alloc, "f", number)?;
+    exports.insert(graph.alloc, name.as_str(), kind)?;
+    Ok(())
+}
+
+/// Adds an interface of a record and of functions over it.
+pub fn records(graph: &mut Graph, id: &str) -> Result<ItemKind> {
+    let mut exports = Named::new(graph.alloc);
+    let ty = record(graph)?;
+    exports.insert(graph.alloc, "rec", ItemKind::TypeItem(Type::Value(ty)))?;
+    for number in 0..FUNCTIONS {
+        insert_function(graph, &mut exports, number, ty)?;
+    }
+    let id = Some(Text::new(graph.alloc, id)?);
+    let uses = Named::new(graph.alloc);
+    let interface = graph.interface(Interface { id, uses, exports })?;
+    Ok(ItemKind::Instance(interface))
+}
+
+/// The name of a version on a track: four to each.
+pub fn versioned(alloc: Global, number: u64) -> Result<String, AllocError> {
+    let (track, minor) = (number / 4, number % 4);
+    format!(in alloc; "n:w/i{track}@1.{minor}.0")
+}
+
+/// A text with a number after it.
+pub fn numbered(alloc: Global, text: &str, number: u64) -> Result<String, AllocError> {
+    format!(in alloc; "{text}{number}")
+}
+
+/// A text with each number below the count after it.
+pub fn all_numbered(alloc: Global, text: &str, count: u64) -> Result<Vec<String>, AllocError> {
+    let mut names = Vec::new(alloc);
+    for number in 0..count {
+        names.push(numbered(alloc, text, number)?)?;
+    }
+    Ok(names)
+}
