@@ -3,7 +3,7 @@ use Rattle.std.specs.Prelude.{◌≡◌, List, [], ◌∷◌, None, Some, true, 
 use Rattle.std.proofs.Common.{arith, rules}
 use Rattle.wac_types_shapes.specs.primitives.Core.{core_function}
 use Rattle.wac_types_shapes.specs.declared.primitives.component.PrimitiveType.TheVariants as p
-use Rattle.wac_types_shapes.specs.primitives.Tree.{Tree, imported, position, named, absent, resource, primitive, function, type_equal, result_of, stream_of, items_in}
+use Rattle.wac_types_shapes.specs.primitives.Tree.{Tree, imported, position, named, absent, resource, primitive, function, type_equal, fresh, result_of, stream_of, items_in}
 use Rattle.wac_binary.specs.declared.types.ComponentValType.TheVariants.{Index}
 use Rattle.wac_binary.specs.declared.sorts.Sort.TheVariants as s
 use Rattle.wac_binary.specs.declared.sorts.Description.TheVariants as e
@@ -204,10 +204,12 @@ imported_twice h = h.0.1.0.0
 imported_and_exported : HasMeaning (type_item (component_def (next (import_decl (97 ∷ []) e.Fresh) (next (export_decl (97 ∷ []) e.Fresh) end))) ∷ [])
 imported_and_exported = search rules
 
-root_imported_twice : HasMeaning (import_item (97 ∷ []) e.Fresh ∷ import_item (97 ∷ []) e.Fresh ∷ []) → ⊥
-root_imported_twice h = no h.1.0.0 where
-  no : true ≡ false → ⊥
-  no e = cc
+-- the root may import one name twice: each import is there under its own position
+root_imported_twice : HasMeaning (import_item (97 ∷ []) e.Fresh ∷ import_item (97 ∷ []) e.Fresh ∷ [])
+root_imported_twice = search rules
+
+root_imports_twice : (meaning (import_item (97 ∷ []) e.Fresh ∷ import_item (97 ∷ []) e.Fresh ∷ [])).imports ≡ (97 ∷ [], fresh) ∷ (97 ∷ [], fresh) ∷ []
+root_imports_twice = refl
 
 root_exported_twice : HasMeaning (nested preamble ∷ export_item (97 ∷ []) s.Component 0 ∷ export_item (97 ∷ []) s.Component 0 ∷ []) → ⊥
 root_exported_twice h = no h.1.1.0.0 where
@@ -258,16 +260,16 @@ missing_export h = h.1.0.1
 
 -- an import of what its type is not
 import_of_value : HasMeaning (a_string ∷ import_item (97 ∷ []) (e.Func 0) ∷ []) → ⊥
-import_of_value h = h.1.0.1
+import_of_value h = h.1.0
 
 module_import_row : HasMeaning (core_type with_function ∷ import_item (97 ∷ []) (e.CoreModule 0) ∷ [])
 module_import_row = search rules
 
 import_of_missing_module_type : HasMeaning (core_type with_function ∷ import_item (97 ∷ []) (e.CoreModule 1) ∷ []) → ⊥
-import_of_missing_module_type h = h.1.0.1
+import_of_missing_module_type h = h.1.0
 
 import_of_missing_type : HasMeaning (import_item (97 ∷ []) (e.Equal 0) ∷ []) → ⊥
-import_of_missing_type h = h.0.1
+import_of_missing_type h = h.0
 
 -- names of indexes: those of each sort rise, whatever stands between them
 rising : AreRising ((s.Func, 0, 97 ∷ []) ∷ (s.Type, 0, 98 ∷ []) ∷ (s.Func, 2, 99 ∷ []) ∷ [])
