@@ -15,3 +15,4 @@ pub mod AskedMembers
 pub mod MergeLemmas
 pub mod OrderLemmas
 pub mod PlainLemmas
+pub mod OnceLemmas

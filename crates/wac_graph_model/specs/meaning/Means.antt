@@ -16,7 +16,7 @@ use Rattle.wac_types_shapes.specs.declared.shapes.component.ItemKind.TheVariants
 use Rattle.wac_types_shapes.specs.declared.shapes.component.ItemKind.TheVariants.{TypeItem}
 use Rattle.wac_binary.specs.declared.sorts.Sort.{Sort}
 use Rattle.wac_binary.specs.declared.sorts.Sort.TheVariants as sort
-use Rattle.wac_binary.specs.Items.{Item, custom, instantiate, alias_item, export_alias, export_item}
+use Rattle.wac_binary.specs.Items.{Item, custom, instantiate, alias_item, export_alias, import_item, export_item}
 use Rattle.wac_binary.specs.Customs as custom_section
 use Rattle.wac_binary.specs.Customs.{of_sort, AreRising, names_bytes, producers_bytes}
 use Rattle.wac_binary.specs.Indexes.{space, indexes, sort_added}
@@ -153,8 +153,9 @@ pub data IsThing (g : Graph) (at : NodeId → Thing) (order : List NodeId) (n : 
 abbrev pub is_first : GraphNode → Name → Bool
 is_first node name = option_case node.first_name false (same_name name)
 
--- The item is the one that the node is written as; for a definition it is the export under its first name.
+-- The item is the one that the node is written as: of an import the import, of a definition its first name's export.
 abbrev pub is_own_item : GraphNode → Kind → Item → Bool
+is_own_item node (import name) (import_item text d) = true
 is_own_item node definition (export_item name sort.«Type» i) = is_first node name
 is_own_item node instantiation (instantiate c arguments) = true
 is_own_item node alias (alias_item (export_alias t i name)) = true
@@ -231,7 +232,7 @@ pub record Means (items : List Item) (g : Graph) (o : EncodeOptions) : Type 0 wh
   pub in_order : Writes g.edges (is_written g) order
   pub at : NodeId → Thing
   pub index : NodeId → ℕ
-  -- The items are well-formed: each index exists when it is used, and no name is imported or exported twice.
+  -- The items are well-formed: each index exists when it is used, and no name is exported twice.
   pub meant : HasMeaning items
   -- The imports are the merged classes under their canonical names, followed by the packages that are not defined.
   pub classes : List (Name × Tree)
@@ -246,9 +247,9 @@ pub record Means (items : List Item) (g : Graph) (o : EncodeOptions) : Type 0 wh
   pub stand : (n : NodeId) (node : GraphNode) → node_at g n ≡ Some node → stands_for (meaning items) (sort_of_kind node.item_kind) (index n) ≡ at n
   -- The exports are exactly the graph's: definitions' first names in written order, then the rest in the graph's order.
   pub exports : map shown (meaning items).exports ≡ flat_map (first_export g at) order ++ flat_map (export_of g at) (further_exports g)
-  -- Each written node has an item of its own, in written order.
+  -- Each node has an item of its own, which adds its index: an import node its import, the others in written order.
   pub place : NodeId → ℕ
-  pub own_items : (n : NodeId) (node : GraphNode) → node_at g n ≡ Some node → is_import node.kind ≡ false → HasItem items node (index n) (place n)
+  pub own_items : (n : NodeId) (node : GraphNode) → node_at g n ≡ Some node → HasItem items node (index n) (place n)
   pub in_place : (i j : ℕ) (n m : NodeId) → i < j → slice_get order i ≡ Some n → slice_get order j ≡ Some m → place n < place m
   -- The custom sections are the names of the nodes and the processor.
   pub names : List (Sort × ℕ × Name)

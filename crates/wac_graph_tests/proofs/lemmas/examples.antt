@@ -13,3 +13,5 @@ pub mod PlugExample
 pub mod BeginningRows
 pub mod KindRows
 pub mod ListingRows
+pub mod FitRows
+pub mod ImportItemRows

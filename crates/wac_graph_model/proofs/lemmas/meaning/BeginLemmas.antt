@@ -15,7 +15,7 @@ use Rattle.wac_binary.specs.Indexes.{space, described_sort, indexes}
 use Rattle.wac_binary.specs.Unfold.{Scope, Bound, bound_at, type_at, described_item, with_bound}
 use Rattle.wac_binary.specs.Meaning.{Thing, import_at, Root, start, stands_for, things, thing_at, meaning}
 use Rattle.wac_binary.specs.HasMeaning.{ItemHasMeaning, AllHaveMeaning, HasMeaning}
-use Rattle.wac_graph_model.specs.private.meaning.Beginning.{Places, Begins}
+use Rattle.wac_graph_model.specs.private.meaning.Beginning.{Places, HasImport, Begins}
 use Rattle.wac_graph_model.proofs.lemmas.meaning.MeaningLemmas.{Laws, Rest, rest, meaning-push, rest-with_thing, things-with_thing, thing_at-last, bound_at-last, indexes-push}
 use Rattle.wac_graph_model.proofs.lemmas.meaning.MeantLemmas.{meant-push}
 use Rattle.wac_graph_model.proofs.lemmas.meaning.QuietLemmas.{IsQuiet, quiet_rest, all_behind, first_all}
@@ -32,6 +32,7 @@ nothing_begins = record {
   customs = refl;
   count = refl;
   stand = λ p t i wrong. no_such (t, i) wrong;
+  own = λ p t i wrong. no_such (t, i) wrong;
   typed = λ p i x wrong _. no_such (_, i) wrong;
 } where
   no_such : {A : Type 0} {P : Type 0} (x : A) → None ≡ Some x → P
@@ -63,12 +64,28 @@ import_stands laws items n d =
     ∙ ap (thing_at (things (meaning items) t ++ x ∷ [])) (sym (laws.counted items t))
     ∙ thing_at-last (things (meaning items) t) x
 
+-- an import stays where it is
+HasImport-push : (items : List Item) (x : Item) (t : Sort) (i k : ℕ) → HasImport items t i k → HasImport (items ++ x ∷ []) t i k
+HasImport-push items x t i k h = record {
+  name = h.name;
+  description = h.description;
+  before = h.before;
+  after = h.after ++ x ∷ [];
+  split = ap (λ xs. xs ++ x ∷ []) h.split ∙ append_assoc h.before (import_item h.name h.description ∷ h.after) (x ∷ []);
+  here = h.here;
+  sorted = h.sorted;
+  counted = h.counted;
+}
+
 module _ (laws : Laws) (imports : List (Name × Tree)) (places : Places) (items : List Item) (b : Begins imports places items) where
   -- what is imported stays where it is
   stays : (x : Item) (p : ℕ) (t : Sort) (i : ℕ) → slice_get places p ≡ Some (t, i) → (i < indexes (space t) (items ++ x ∷ [])) × (stands_for (meaning (items ++ x ∷ [])) t i ≡ import_at p)
   stays x p t i placed =
       let s = b.stand p t i placed in
       (omega (arith, s.0, indexes-push (space t) items x), laws.earlier items (x ∷ []) t i s.0 ∙ s.1)
+
+  still_own : (x : Item) (p : ℕ) (t : Sort) (i : ℕ) → slice_get places p ≡ Some (t, i) → (k : ℕ) × HasImport (items ++ x ∷ []) t i k
+  still_own x p t i placed = let (k, h) = b.own p t i placed in (k, HasImport-push items x t i k h)
 
   still_typed : (x : Item) (p i : ℕ) (y : Name × Tree) → slice_get places p ≡ Some (sort.Instance, i) → slice_get imports p ≡ Some y → y.1 ≡ instance_item (bound_at (meaning (items ++ x ∷ [])).scope.instances i).type
   still_typed x p i y placed there = b.typed p i y placed there ∙ ap (λ (z : Bound). instance_item z.type) (sym (laws.bounds_earlier items (x ∷ []) i (b.stand p sort.Instance i placed).0))
@@ -86,6 +103,7 @@ module _ (laws : Laws) (imports : List (Name × Tree)) (places : Places) (items 
         customs = ap (λ r. r.customs) same ∙ b.customs;
         count = b.count;
         stand = stays x;
+        own = still_own x;
         typed = still_typed x;
       }
 
@@ -105,6 +123,7 @@ module _ (laws : Laws) (imports : List (Name × Tree)) (places : Places) (items 
         customs = ap (λ (r : Rest). r.customs) same ∙ b.customs;
         count = length-append places _ ∙ ap (λ k. k + 1) b.count ∙ sym (length-append imports _);
         stand = λ p t i placed. stand p t i (slice_get-push places (described_sort d, indexes (space (described_sort d)) items) p (t, i) placed);
+        own = λ p t i placed. own p t i (slice_get-push places (described_sort d, indexes (space (described_sort d)) items) p (t, i) placed);
         typed = λ p i y placed there. typed p i y (slice_get-push places (described_sort d, indexes (space (described_sort d)) items) p (sort.Instance, i) placed) (slice_get-push imports (n, described_item (meaning items).scope d) p y there);
       } where
         stand : (p : ℕ) (t : Sort) (i : ℕ) → (slice_get places p ≡ Some (t, i)) ⊎ ((p ≡ length places) × (◌≡◌ {A = Sort × ℕ} (t, i) (described_sort d, indexes (space (described_sort d)) items)))
@@ -112,6 +131,12 @@ module _ (laws : Laws) (imports : List (Name × Tree)) (places : Places) (items 
         stand p t i (inl before) = stays (import_item n d) p t i before
         stand p t i (inr (last, is)) = subst (λ (x : Sort × ℕ). (x.1 < indexes (space x.0) (items ++ import_item n d ∷ [])) × (stands_for (meaning (items ++ import_item n d ∷ [])) x.0 x.1 ≡ import_at p)) (sym is)
             (counted_up (described_sort d) items (import_item n d) refl, import_stands laws items n d ∙ ap import_at (ap length b.imports_are ∙ sym b.count ∙ sym last))
+
+        own : (p : ℕ) (t : Sort) (i : ℕ) → (slice_get places p ≡ Some (t, i)) ⊎ ((p ≡ length places) × (◌≡◌ {A = Sort × ℕ} (t, i) (described_sort d, indexes (space (described_sort d)) items)))
+            → (k : ℕ) × HasImport (items ++ import_item n d ∷ []) t i k
+        own p t i (inl before) = still_own (import_item n d) p t i before
+        own p t i (inr (last, is)) = subst (λ (x : Sort × ℕ). (k : ℕ) × HasImport (items ++ import_item n d ∷ []) x.0 x.1 k) (sym is)
+            (length items, record { name = n; description = d; before = items; after = []; split = refl; here = refl; sorted = refl; counted = refl })
 
         typed : (p i : ℕ) (y : Name × Tree) → (slice_get places p ≡ Some (sort.Instance, i)) ⊎ ((p ≡ length places) × (◌≡◌ {A = Sort × ℕ} (sort.Instance, i) (described_sort d, indexes (space (described_sort d)) items)))
             → (slice_get imports p ≡ Some y) ⊎ ((p ≡ length imports) × (y ≡ (n, described_item (meaning items).scope d))) → y.1 ≡ instance_item (bound_at (meaning (items ++ import_item n d ∷ [])).scope.instances i).type

@@ -15,7 +15,7 @@ use Rattle.wac_types_shapes.specs.declared.shapes.component.«Type».{«Type» a
 use Rattle.wac_types_shapes.specs.primitives.Tree.{Tree, instance_item}
 use Rattle.wac_binary.specs.declared.sorts.Sort.{Sort}
 use Rattle.wac_binary.specs.declared.sorts.Sort.TheVariants as sort
-use Rattle.wac_binary.specs.Items.{Item, custom, alias_item, export_alias, export_item}
+use Rattle.wac_binary.specs.Items.{Item, custom, alias_item, export_alias, import_item, export_item}
 use Rattle.wac_binary.specs.Indexes.{space, indexes}
 use Rattle.wac_binary.specs.Unfold.{bound_at}
 use Rattle.wac_binary.specs.Meaning.{Thing, import_at, projection, projected, stands_for, meaning}
@@ -29,8 +29,8 @@ use Rattle.wac_graph_model.specs.nodes.OuterImports.{AreOuterImports, IsImportPl
 use Rattle.wac_graph_model.specs.nodes.Sound.{IsSound}
 use Rattle.wac_edges.specs.Order.{Writes, IsLowestReady}
 use Rattle.wac_graph_model.specs.meaning.Listing.{listing_of, IsDefined}
-use Rattle.wac_graph_model.specs.meaning.Means.{node_is, is_import, is_instantiation, is_written, instantiations, IsThing, sort_of_kind, with_package, used_after, used_packages, package_bytes, HasItem, shown, first_export, export_of, export_item_of, AreNames, Means, further_exports, name_customs, processor_customs, custom_item}
-use Rattle.wac_graph_model.specs.private.meaning.Beginning.{Places, Begins, Covers, IsPlacedNode}
+use Rattle.wac_graph_model.specs.meaning.Means.{node_is, is_import, is_instantiation, is_written, instantiations, IsThing, sort_of_kind, with_package, used_after, used_packages, package_bytes, HasItem, is_own_item, shown, first_export, export_of, export_item_of, AreNames, Means, further_exports, name_customs, processor_customs, custom_item}
+use Rattle.wac_graph_model.specs.private.meaning.Beginning.{Places, HasImport, Begins, Covers, IsPlacedNode}
 use Rattle.wac_graph_model.specs.private.meaning.Encoding.{Progress, index_in, HasRoom}
 use Rattle.wac_graph_model.specs.private.meaning.Writing.{WritesNode, writes_instantiation, writes_alias, IsDefinedBehind, writes_definition, Wrote, WroteAll}
 use Rattle.wac_edges.proofs.WrittenOrder.{has, minus, minus-push, minus-true, same, same-true, all_in, slice_get-middle}
@@ -50,6 +50,22 @@ clash false h _ = cc
 the_node : (o : Option GraphNode) → IsSome o → (node : GraphNode) × (o ≡ Some node)
 the_node None h = cc
 the_node (Some node) h = (node, refl)
+
+one_node : (x y : GraphNode) → Some x ≡ Some y → x ≡ y
+one_node x y e = cc
+
+-- an import is an import node's own item
+own_import : (items : List Item) (node : GraphNode) (name : Name) (i k : ℕ) → node.kind ≡ graph.import name → HasImport items (sort_of_kind node.item_kind) i k → HasItem items node i k
+own_import items node name i k kind h = record {
+  it = import_item h.name h.description;
+  before = h.before;
+  after = h.after;
+  split = h.split;
+  here = h.here;
+  own = ap (λ q. is_own_item node q (import_item h.name h.description)) kind;
+  adds = ap Some h.sorted;
+  counted = h.counted;
+}
 
 -- what a definition stands for behind items where the imports stand
 defined_behind : (g : Graph) (places : Places) (items : List Item) → ((p : ℕ) (t : Sort) (i : ℕ) → slice_get places p ≡ Some (t, i) → (i < indexes (space t) items) × (stands_for (meaning items) t i ≡ import_at p))
@@ -131,8 +147,8 @@ module _ (laws : Laws) (g : Graph) (sound : IsSound g) (one_place : OneImportPla
     asked_for = begins.stand;
     stand = λ n node here there. stand n node there (an_import n node here);
     known = λ n node here there i is. known n node there i is (an_import n node here);
-    place = λ _. 0;
-    own = λ n node here there no_import. let (name, kind) = an_import n node here in absurd (clash (is_import node.kind) (ap is_import kind) no_import);
+    place = λ n. (own_at n (node_at g n) refl).0;
+    own = λ n node here there. (own_at n (node_at g n) refl).1 node there (an_import n node here);
     in_place = λ i j n m less wrong other. cc;
   } where
     import_of : (k : Kind) → is_import k ≡ true → (name : Name) × (k ≡ graph.import name)
@@ -144,6 +160,22 @@ module _ (laws : Laws) (g : Graph) (sound : IsSound g) (one_place : OneImportPla
     an_import : (n : NodeId) (node : GraphNode) → Stands [] n node → (name : Name) × (node.kind ≡ graph.import name)
     an_import n node (inl is) = import_of node.kind is
     an_import n node (inr wrong) = cc
+
+    -- an import node's item is the import
+    own_at : (n : NodeId) (o : Option GraphNode) → node_at g n ≡ o → (k : ℕ) × ((node : GraphNode) → o ≡ Some node → (name : Name) × (node.kind ≡ graph.import name) → HasItem begin node (index n) k)
+    own_at n None there = (0, λ node wrong import. cc)
+    own_at n (Some x) there = by_kind x.kind refl where
+      other : (node : GraphNode) → Some x ≡ Some node → is_import x.kind ≡ false → (name : Name) × (node.kind ≡ graph.import name) → HasItem begin node (index n) 0
+      other node same no_import (name, kind) = absurd (clash (is_import x.kind) (ap (λ (y : GraphNode). is_import y.kind) (one_node x node same) ∙ ap is_import kind) no_import)
+
+      by_kind : (kind : Kind) → x.kind ≡ kind → (k : ℕ) × ((node : GraphNode) → Some x ≡ Some node → (name : Name) × (node.kind ≡ graph.import name) → HasItem begin node (index n) k)
+      by_kind (graph.import name) is =
+          let i = imports n x name there is in
+          let (k, h) = begins.own i.p (sort_of_kind x.item_kind) (index n) i.known.placed in
+          (k, λ node same import. subst (λ (y : GraphNode). HasItem begin y (index n) k) (one_node x node same) (own_import begin x name (index n) k is h))
+      by_kind graph.instantiation is = (0, λ node same import. other node same (ap is_import is) import)
+      by_kind graph.alias is = (0, λ node same import. other node same (ap is_import is) import)
+      by_kind graph.definition is = (0, λ node same import. other node same (ap is_import is) import)
 
     stand : (n : NodeId) (node : GraphNode) → node_at g n ≡ Some node → (name : Name) × (node.kind ≡ graph.import name)
         → (index n < indexes (space (sort_of_kind node.item_kind)) begin) × (stands_for (meaning begin) (sort_of_kind node.item_kind) (index n) ≡ at n)
@@ -172,7 +204,7 @@ module _ (laws : Laws) (g : Graph) (sound : IsSound g) (one_place : OneImportPla
     pub exports : map shown (meaning items).exports ≡ flat_map (first_export g at) order ++ flat_map (export_of g at) es
     pub stand : (n : NodeId) (node : GraphNode) → node_at g n ≡ Some node
         → (index n < indexes (space (sort_of_kind node.item_kind)) items) × (stands_for (meaning items) (sort_of_kind node.item_kind) (index n) ≡ at n)
-    pub own : (n : NodeId) (node : GraphNode) → node_at g n ≡ Some node → is_import node.kind ≡ false → HasItem items node (index n) (place n)
+    pub own : (n : NodeId) (node : GraphNode) → node_at g n ≡ Some node → HasItem items node (index n) (place n)
 
   pub no_exports : (items : List Item) (components : List (PackageId × ℕ)) (index : NodeId → ℕ) → Writes g.edges (is_written g) order → (w : Done order items components index) → Exported items [] items index w.place
   no_exports items components index writes w = record {
@@ -184,7 +216,7 @@ module _ (laws : Laws) (g : Graph) (sound : IsSound g) (one_place : OneImportPla
     made = w.made;
     exports = w.exports ∙ sym (append-nil (flat_map (first_export g at) order));
     stand = λ n node there. w.stand n node (stands n node there) there;
-    own = λ n node there no_import. w.own n node (stands n node there) there no_import;
+    own = λ n node there. w.own n node (stands n node there) there;
   } where
     stands : (n : NodeId) (node : GraphNode) → node_at g n ≡ Some node → Stands order n node
     stands n node there = split (is_import node.kind) refl where
@@ -216,7 +248,7 @@ module _ (laws : Laws) (g : Graph) (sound : IsSound g) (one_place : OneImportPla
         stand = λ n other other_there.
             let s = e.stand n other other_there in
             (indexes_rise (space (sort_of_kind other.item_kind)) items x (index n) s.0, laws.earlier items (x ∷ []) (sort_of_kind other.item_kind) (index n) s.0 ∙ s.1);
-        own = λ n other other_there no_import. HasItem-push items x other (index n) (place n) (e.own n other other_there no_import);
+        own = λ n other other_there. HasItem-push items x other (index n) (place n) (e.own n other other_there);
       } where
         indexes_rise : (k : ℕ) (its : List Item) (x : Item) (j : ℕ) → j < indexes k its → j < indexes k (its ++ x ∷ [])
         indexes_rise k its x j small = omega (arith, indexes-push k its x)
@@ -232,7 +264,7 @@ module _ (laws : Laws) (g : Graph) (sound : IsSound g) (one_place : OneImportPla
     pub exports : map shown (meaning items).exports ≡ flat_map (first_export g at) order ++ flat_map (export_of g at) (further_exports g)
     pub stand : (n : NodeId) (node : GraphNode) → node_at g n ≡ Some node
         → (index n < indexes (space (sort_of_kind node.item_kind)) items) × (stands_for (meaning items) (sort_of_kind node.item_kind) (index n) ≡ at n)
-    pub own : (n : NodeId) (node : GraphNode) → node_at g n ≡ Some node → is_import node.kind ≡ false → HasItem items node (index n) (place n)
+    pub own : (n : NodeId) (node : GraphNode) → node_at g n ≡ Some node → HasItem items node (index n) (place n)
 
   no_customs : (base items : List Item) (index place : NodeId → ℕ) → Exported base (further_exports g) items index place → Closed base [] items index place
   no_customs base items index place e = record {
@@ -265,7 +297,7 @@ module _ (laws : Laws) (g : Graph) (sound : IsSound g) (one_place : OneImportPla
         stand = λ n node there.
             let s = c.stand n node there in
             (indexes_rise (space (sort_of_kind node.item_kind)) (index n) s.0, laws.earlier items (x ∷ []) (sort_of_kind node.item_kind) (index n) s.0 ∙ s.1);
-        own = λ n node there no_import. HasItem-push items x node (index n) (place n) (c.own n node there no_import);
+        own = λ n node there. HasItem-push items x node (index n) (place n) (c.own n node there);
       } where
         indexes_rise : (k : ℕ) (j : ℕ) → j < indexes k items → j < indexes k (items ++ custom name bytes ∷ [])
         indexes_rise k j small = omega (arith, indexes-push k items (custom name bytes))

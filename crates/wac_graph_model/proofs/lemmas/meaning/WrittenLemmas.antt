@@ -30,7 +30,7 @@ use Rattle.wac_graph_model.specs.nodes.Graph as graph
 use Rattle.wac_graph_model.specs.nodes.Graph.{Graph, GraphNode, Kind, node_at, export_at, imports_of, exports_of, IsAliasOf, IsArgumentOf}
 use Rattle.wac_graph_model.specs.nodes.Sound.{IsSound}
 use Rattle.wac_edges.specs.Order.{Writes, IsLowestReady}
-use Rattle.wac_graph_model.specs.meaning.Means.{node_is, is_import, is_instantiation, is_written, instantiations, IsThing, as_import, as_instantiation, as_alias, sort_of_kind, same_package, with_package, used_after, used_packages, package_bytes, IsArgument, given, AreArguments, HasItem, is_first, is_own_item, as_definition, asked, shown, first_export}
+use Rattle.wac_graph_model.specs.meaning.Means.{node_is, is_instantiation, is_written, instantiations, IsThing, as_import, as_instantiation, as_alias, sort_of_kind, same_package, with_package, used_after, used_packages, package_bytes, IsArgument, given, AreArguments, HasItem, is_first, is_own_item, as_definition, asked, shown, first_export}
 use Rattle.wac_graph_model.specs.meaning.Listing.{listing_of, IsDefined}
 use Rattle.wac_graph_model.specs.private.meaning.Beginning.{Places}
 use Rattle.wac_graph_model.specs.private.meaning.Encoding.{HasComponent}
@@ -70,7 +70,7 @@ slice_get-map f (x ∷ xs) (suc k) y h = slice_get-map f xs k y h
 same_package_itself : (p : PackageId) → same_package p p ≡ true
 same_package_itself p = rw (eqb_same p.slot) (eqb_same p.generation)
 
-any_package : (id : PackageId) (xs : List PackageId) (k : ℕ) → slice_get xs k ≡ Some id → list_any (same_package id) xs ≡ true
+pub any_package : (id : PackageId) (xs : List PackageId) (k : ℕ) → slice_get xs k ≡ Some id → list_any (same_package id) xs ≡ true
 any_package id [] k h = cc
 any_package id (x ∷ xs) zero h = let e : x ≡ id = cc in rw e (ap (λ b. b || list_any (same_package id) xs) (same_package_itself id))
 any_package id (x ∷ xs) (suc k) h = rw (any_package id xs k h) (or_yes (same_package id x)) where
@@ -146,7 +146,7 @@ module _ (laws : Laws) (g : Graph) (sound : IsSound g) (order : List NodeId) (at
         → (index n < indexes (space (sort_of_kind node.item_kind)) items) × (stands_for (meaning items) (sort_of_kind node.item_kind) (index n) ≡ at n)
     pub known : (n : NodeId) (node : GraphNode) → Stands done n node → node_at g n ≡ Some node → (i : InterfaceId) → node.item_kind ≡ item.Instance i → IsKnown g.types i (bound_at (meaning items).scope.instances (index n))
     pub place : NodeId → ℕ
-    pub own : (n : NodeId) (node : GraphNode) → Stands done n node → node_at g n ≡ Some node → is_import node.kind ≡ false → HasItem items node (index n) (place n)
+    pub own : (n : NodeId) (node : GraphNode) → Stands done n node → node_at g n ≡ Some node → HasItem items node (index n) (place n)
     pub in_place : (i j : ℕ) (n m : NodeId) → i < j → slice_get done i ≡ Some n → slice_get done j ≡ Some m → place n < place m
 
   module _ (done : List NodeId) (used : List PackageId) (items : List Item) (components : List (PackageId × ℕ)) (index : NodeId → ℕ) (w : Written done used items components index) where
@@ -191,7 +191,7 @@ module _ (laws : Laws) (g : Graph) (sound : IsSound g) (order : List NodeId) (at
           stand = stand-push x;
           known = known-push x;
           place = w.place;
-          own = λ n node here there no_import. HasItem-push items x node (index n) (w.place n) (w.own n node here there no_import);
+          own = λ n node here there. HasItem-push items x node (index n) (w.place n) (w.own n node here there);
           in_place = w.in_place;
         }
 
@@ -215,7 +215,7 @@ module _ (laws : Laws) (g : Graph) (sound : IsSound g) (order : List NodeId) (at
           stand = stand-push (nested (package_bytes g id));
           known = known-push (nested (package_bytes g id));
           place = w.place;
-          own = λ n node here there no_import. HasItem-push items (nested (package_bytes g id)) node (index n) (w.place n) (w.own n node here there no_import);
+          own = λ n node here there. HasItem-push items (nested (package_bytes g id)) node (index n) (w.place n) (w.own n node here there);
           in_place = w.in_place;
         } where
           numbers : length (meaning items).nested_bytes ≡ length components → (k : ℕ) (e : PackageId × ℕ)
@@ -322,22 +322,22 @@ module _ (laws : Laws) (g : Graph) (sound : IsSound g) (order : List NodeId) (at
     -- the last item is the node's own, and stands after the others
     placed : (used : List PackageId) (items : List Item) (components : List (PackageId × ℕ)) → Written done used items components index → (x : Item) → is_own_item node node.kind x ≡ true → sort_added x ≡ Some (sort_of_kind node.item_kind) → i ≡ indexes (space (sort_of_kind node.item_kind)) items
         → (place : NodeId → ℕ)
-        × ((m : NodeId) (other : GraphNode) → Stands (done ++ n ∷ []) m other → node_at g m ≡ Some other → is_import other.kind ≡ false → HasItem (items ++ x ∷ []) other (index' m) (place m))
+        × ((m : NodeId) (other : GraphNode) → Stands (done ++ n ∷ []) m other → node_at g m ≡ Some other → HasItem (items ++ x ∷ []) other (index' m) (place m))
         × ((a b : ℕ) (k m : NodeId) → a < b → slice_get (done ++ n ∷ []) a ≡ Some k → slice_get (done ++ n ∷ []) b ≡ Some m → place k < place m)
     placed used items components w x own sorted counts = (
       place' w.place (length items),
-      each (λ m other. is_import other.kind ≡ false → HasItem (items ++ x ∷ []) other (index' m) (place' w.place (length items) m))
-          (λ m other was other_there no_import.
+      each (λ m other. HasItem (items ++ x ∷ []) other (index' m) (place' w.place (length items) m))
+          (λ m other was other_there.
           subst (λ k. HasItem (items ++ x ∷ []) other (index' m) k) (sym (place-other w.place (length items) m (stands_apart g done m n other ready.here other_there was)))
-          (subst (λ k. HasItem (items ++ x ∷ []) other k (w.place m)) (sym (index_kept m other was other_there)) (HasItem-push items x other (index m) (w.place m) (w.own m other was other_there no_import))))
-          (λ no_import. subst (λ k. HasItem (items ++ x ∷ []) node (index' n) k) (sym (place-here w.place (length items)))
+          (subst (λ k. HasItem (items ++ x ∷ []) other k (w.place m)) (sym (index_kept m other was other_there)) (HasItem-push items x other (index m) (w.place m) (w.own m other was other_there))))
+          (subst (λ k. HasItem (items ++ x ∷ []) node (index' n) k) (sym (place-here w.place (length items)))
           (record { it = x; before = items; after = []; split = refl; here = refl; own = own; adds = sorted; counted = now ∙ counts })),
       λ a b k m less at_a at_b. rising a b k m less (slice_get-push done n a k at_a) (slice_get-push done n b m at_b),
     ) where
       within : (k : NodeId) → has done k ≡ true → w.place k < length items
       within k was =
-          let (other, other_there, no_import) = node_of_written g k (w.nodes k was) in
-          HasItem-within items other (index k) (w.place k) (w.own k other (inr was) other_there no_import)
+          let (other, other_there, _) = node_of_written g k (w.nodes k was) in
+          HasItem-within items other (index k) (w.place k) (w.own k other (inr was) other_there)
 
       rising : (a b : ℕ) (k m : NodeId) → a < b → (slice_get done a ≡ Some k) ⊎ ((a ≡ length done) × (k ≡ n)) → (slice_get done b ≡ Some m) ⊎ ((b ≡ length done) × (m ≡ n)) → place' w.place (length items) k < place' w.place (length items) m
       rising a b k m less (inl at_a) (inl at_b) =

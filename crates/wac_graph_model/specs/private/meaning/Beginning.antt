@@ -1,5 +1,5 @@
 -- Items that begin a component with its imports, and the indexes of the imports.
-use Rattle.std.specs.Prelude.{ℕ, ◌≡◌, ◌<◌, List, [], ◌∷◌, length, Some, slice_get}
+use Rattle.std.specs.Prelude.{ℕ, ◌≡◌, ◌<◌, List, [], ◌∷◌, ◌++◌, length, Some, slice_get}
 use Rattle.wac_types_shapes.specs.primitives.Name.{Name}
 use Rattle.wac_types_shapes.specs.declared.shapes.component.InterfaceId.{InterfaceId}
 use Rattle.wac_types_shapes.specs.declared.shapes.component.ItemKind.{ItemKind}
@@ -8,8 +8,9 @@ use Rattle.wac_types_shapes.specs.primitives.Tree.{Tree, instance_item, items_in
 use Rattle.wac_types_collection.specs.collection.Collection.{Collection, interface_exports}
 use Rattle.wac_binary.specs.declared.sorts.Sort.{Sort}
 use Rattle.wac_binary.specs.declared.sorts.Sort.TheVariants as sort
-use Rattle.wac_binary.specs.Items.{Item}
-use Rattle.wac_binary.specs.Indexes.{space, indexes}
+use Rattle.wac_binary.specs.declared.sorts.Description.{Description}
+use Rattle.wac_binary.specs.Items.{Item, import_item}
+use Rattle.wac_binary.specs.Indexes.{space, described_sort, indexes}
 use Rattle.wac_binary.specs.Unfold.{bound_at, bound_instance}
 use Rattle.wac_binary.specs.Meaning.{import_at, meaning, stands_for}
 use Rattle.wac_binary.specs.HasMeaning.{HasMeaning, IsOfSort}
@@ -28,6 +29,17 @@ pub record IsPlacedAt (g : Graph) (places : Places) (name : Name) (t : Sort) (i 
   pub fell : IsImportPlace g name p
   pub placed : slice_get places p ≡ Some (t, i)
 
+-- The item at position k is an import and adds index i of sort t.
+pub record HasImport (items : List Item) (t : Sort) (i k : ℕ) : Type 0 where
+  pub name : Name
+  pub description : Description
+  pub before : List Item
+  pub after : List Item
+  pub split : items ≡ before ++ import_item name description ∷ after
+  pub here : length before ≡ k
+  pub sorted : described_sort description ≡ t
+  pub counted : i ≡ indexes (space t) before
+
 -- The items import exactly these, at these places, and otherwise contain only types and aliases.
 pub record Begins (imports : List (Name × Tree)) (places : Places) (items : List Item) : Type 0 where
   pub meant : HasMeaning items
@@ -38,6 +50,8 @@ pub record Begins (imports : List (Name × Tree)) (places : Places) (items : Lis
   pub customs : (meaning items).customs ≡ []
   pub count : length places ≡ length imports
   pub stand : (p : ℕ) (t : Sort) (i : ℕ) → slice_get places p ≡ Some (t, i) → (i < indexes (space t) items) × (stands_for (meaning items) t i ≡ import_at p)
+  -- Each place is that of an import item.
+  pub own : (p : ℕ) (t : Sort) (i : ℕ) → slice_get places p ≡ Some (t, i) → (k : ℕ) × HasImport items t i k
   -- The type of an imported instance is the imported one.
   pub typed : (p i : ℕ) (e : Name × Tree) → slice_get places p ≡ Some (sort.Instance, i) → slice_get imports p ≡ Some e → e.1 ≡ instance_item (bound_at (meaning items).scope.instances i).type
 

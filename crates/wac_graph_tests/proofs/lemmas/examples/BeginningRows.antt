@@ -10,20 +10,23 @@ use Rattle.wac_types_shapes.specs.primitives.Tree.{Tree, absent, function, insta
 use Rattle.wac_binary.specs.declared.sorts.Sort.{Sort}
 use Rattle.wac_binary.specs.declared.sorts.Sort.TheVariants as s
 use Rattle.wac_binary.specs.declared.sorts.Description.TheVariants as e
-use Rattle.wac_binary.specs.Items.{func_def, instance_def, end, next, type_decl, export_decl, Item, type_item, import_item, export_item}
+use Rattle.wac_binary.specs.Items.{func_def, instance_def, Decls, end, next, type_decl, export_decl, Item, type_item, import_item, export_item}
 use Rattle.wac_binary.specs.Indexes.{space, indexes}
 use Rattle.wac_binary.specs.Unfold.{bound_at}
 use Rattle.wac_binary.specs.Meaning.{import_at, meaning, stands_for}
 use Rattle.wac_binary.specs.HasMeaning.{IsOfSort}
 use Rattle.wac_graph_model.specs.meaning.Means.{sort_of_kind}
-use Rattle.wac_graph_model.specs.private.meaning.Beginning.{Places, Begins, HasInside, itself, inside, item_inside, Covers}
+use Rattle.wac_graph_model.specs.private.meaning.Beginning.{Places, HasImport, Begins, HasInside, itself, inside, item_inside, Covers}
 
 some_same : {A : Type 0} (x y : A) → Some x ≡ Some y → x ≡ y
 some_same x y e = cc
 
 -- an imported interface with the function `a`
+abbrev exporting_a : Decls
+exporting_a = next (type_decl (func_def false [] None)) (next (export_decl (codes "a") (e.Func 0)) end)
+
 abbrev beginning : List Item
-beginning = type_item (instance_def (next (type_decl (func_def false [] None)) (next (export_decl (codes "a") (e.Func 0)) end))) ∷ import_item (codes "i") (e.Instance 0) ∷ []
+beginning = type_item (instance_def exporting_a) ∷ import_item (codes "i") (e.Instance 0) ∷ []
 
 abbrev imports : List (Name × Tree)
 imports = (meaning beginning).imports
@@ -41,11 +44,17 @@ begins = record {
   customs = refl;
   count = refl;
   stand = stand;
+  own = own;
   typed = typed;
 } where
   stand : (p : ℕ) (t : Sort) (i : ℕ) → slice_get places p ≡ Some (t, i) → (i < indexes (space t) beginning) × (stands_for (meaning beginning) t i ≡ import_at p)
   stand zero t i at = subst (λ (x : Sort × ℕ). (x.1 < indexes (space x.0) beginning) × (stands_for (meaning beginning) x.0 x.1 ≡ import_at 0)) (some_same (s.Instance, 0) (t, i) at) (omega arith, refl)
   stand (suc p) t i at = cc
+
+  own : (p : ℕ) (t : Sort) (i : ℕ) → slice_get places p ≡ Some (t, i) → (k : ℕ) × HasImport beginning t i k
+  own zero t i at = subst (λ (x : Sort × ℕ). (k : ℕ) × HasImport beginning x.0 x.1 k) (some_same (s.Instance, 0) (t, i) at)
+      (1, record { name = codes "i"; description = e.Instance 0; before = type_item (instance_def exporting_a) ∷ []; after = []; split = refl; here = refl; sorted = refl; counted = refl })
+  own (suc p) t i at = cc
 
   typed : (p i : ℕ) (x : Name × Tree) → slice_get places p ≡ Some (s.Instance, i) → slice_get imports p ≡ Some x → x.1 ≡ instance_item (bound_at (meaning beginning).scope.instances i).type
   typed zero i x at there =

@@ -45,7 +45,7 @@ use Rattle.wac_graph_model.specs.nodes.Graph.{Graph, GraphNode, node_at}
 use Rattle.wac_edges.specs.Order.{Edges, Leads, IsAcyclic}
 use Rattle.wac_graph_model.specs.nodes.Asked.{Entry, asked_by, imported_by}
 use Rattle.wac_graph_model.specs.nodes.Entries.{once, with_used, asked_entries, to_merge}
-use Rattle.wac_graph_model.specs.causes.Cause.{HasNoConflict, IsMergeConflict, Stands, implicit_merge, explicit_merge, import_circle}
+use Rattle.wac_graph_model.specs.causes.Cause.{HasNoConflict, IsMergeConflict, CauseKind, a_disagreement, Occurs, Stands, implicit_merge, explicit_merge, import_circle}
 use Rattle.wac_graph_model.proofs.lemmas.causes.StandsLemmas.{stands_implicit, stands_explicit, stands_circle}
 use Rattle.wac_graph_tests.proofs.lemmas.examples.Ordered.{edge_cmp_total}
 use Rattle.wac_graph_tests.proofs.lemmas.examples.ImportExample.{no_entries, no_items}
@@ -200,6 +200,10 @@ clash_stands o = stands_implicit clashing o (codes "x") (node_number 0) (node_nu
   by_first = refl;
   by_second = refl;
 })
+
+-- so a kind of cause occurs, and bytes are not answered
+clash_occurs : (o : EncodeOptions) → ((kind : CauseKind) → Occurs clashing o kind → ⊥) → ⊥
+clash_occurs o none = none a_disagreement (clash_stands o).0.0
 
 -- ---- import nodes of two versions of an interface, whose functions `f` differ
 abbrev version_types : Collection

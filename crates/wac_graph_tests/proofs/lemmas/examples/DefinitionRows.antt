@@ -116,7 +116,7 @@ definition_means = record {
   stand = by_one base defined (λ n node. stands_for (meaning two_names) (sort_of_kind node.item_kind) 1 ≡ bool_at n) refl;
   exports = bool_exports;
   place = λ n. suc n.0;
-  own_items = λ n node there _. by_one base defined (λ k x. HasItem two_names x 1 (suc k.0))
+  own_items = λ n node there. by_one base defined (λ k x. HasItem two_names x 1 (suc k.0))
       (record { it = export_item (codes "foo") s.«Type» 0; before = type_item (value_def (primitive_def prim.Bool)) ∷ []; after = export_item (codes "bar") s.«Type» 1 ∷ []; split = refl; here = refl; own = refl; adds = refl; counted = refl }) n node there;
   in_place = λ i j n m less a b. in_one i j n m (λ k. suc k.0) less a b;
   names = [];

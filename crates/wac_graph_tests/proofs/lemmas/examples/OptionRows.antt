@@ -70,7 +70,7 @@ processor_means p = record {
   stand = λ n node there. by_none n node there;
   exports = refl;
   place = λ n. n.0;
-  own_items = λ n node there _. by_none n node there;
+  own_items = λ n node there. by_none n node there;
   in_place = λ i j n m _ here. absurd (none_some here);
   names = [];
   named = no_names nothing (λ n. n.0) (λ n node there. by_none n node there);
@@ -207,7 +207,7 @@ called_mean = record {
   stand = by_one readme_graph called (λ n node. stands_for (meaning called_items) (sort_of_kind node.item_kind) n.0 ≡ instance_at n.0) refl;
   exports = rw (node_0 readme_graph called) refl;
   place = λ n. suc n.0;
-  own_items = λ n node there _. by_one readme_graph called (λ k x. HasItem called_items x k.0 (suc k.0))
+  own_items = λ n node there. by_one readme_graph called (λ k x. HasItem called_items x k.0 (suc k.0))
       (record { it = instantiate 0 []; before = nested preamble ∷ []; after = custom custom_section.component_name (names_bytes names_of_one) ∷ []; split = refl; here = refl; own = refl; adds = refl; counted = refl }) n node there;
   in_place = λ i j n m less a b. in_one i j n m (λ k. suc k.0) less a b;
   names = names_of_one;

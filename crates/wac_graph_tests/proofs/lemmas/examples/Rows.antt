@@ -376,7 +376,7 @@ readme_means = record {
   stand = readme_stand;
   exports = rw (node_0, node_1, node_2) refl;
   place = readme_place;
-  own_items = λ n node there _. readme_items n node there;
+  own_items = λ n node there. readme_items n node there;
   in_place = readme_in_place;
   names = [];
   named = no_names readme_graph readme_index (by_node (λ _ node. node.name ≡ None) refl refl refl);
@@ -526,7 +526,7 @@ twice_means = record {
   stand = by_twice (λ n node. stands_for (meaning twice) (sort_of_kind node.item_kind) (twice_index n) ≡ twice_at n) refl refl;
   exports = rw (twice_0, twice_1) refl;
   place = twice_place;
-  own_items = λ n node there _. by_twice (λ k x. HasItem twice x (twice_index k) (twice_place k))
+  own_items = λ n node there. by_twice (λ k x. HasItem twice x (twice_index k) (twice_place k))
       (record { it = instantiate 0 []; before = nested preamble ∷ []; after = instantiate 0 [] ∷ []; split = refl; here = refl; own = refl; adds = refl; counted = refl })
       (record { it = instantiate 0 []; before = nested preamble ∷ instantiate 0 [] ∷ []; after = []; split = refl; here = refl; own = refl; adds = refl; counted = refl })
       n node there;
@@ -659,7 +659,7 @@ exporting_means = record {
   stand = by_exporting (λ n node. stands_for (meaning exporting) (sort_of_kind node.item_kind) (readme_index n) ≡ readme_at n) refl refl;
   exports = exporting_exports;
   place = readme_place;
-  own_items = λ n node there _. by_exporting (λ k x. HasItem exporting x (readme_index k) (readme_place k))
+  own_items = λ n node there. by_exporting (λ k x. HasItem exporting x (readme_index k) (readme_place k))
       (record { it = instantiate 0 []; before = nested preamble ∷ []; after = alias_item (export_alias s.Func 0 (97 ∷ [])) ∷ export_item (120 ∷ []) s.Func 0 ∷ []; split = refl; here = refl; own = refl; adds = refl; counted = refl })
       (record { it = alias_item (export_alias s.Func 0 (97 ∷ [])); before = nested preamble ∷ instantiate 0 [] ∷ []; after = export_item (120 ∷ []) s.Func 0 ∷ []; split = refl; here = refl; own = refl; adds = refl; counted = refl })
       n node there;
