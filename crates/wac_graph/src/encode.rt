@@ -1,13 +1,14 @@
 //! Encoding a graph as a component.
 ghost use Rattle.std.specs.Prelude.{◌≡◌, true, false, IsSomeAnd, IsTrue, OnOk, IfOk, IfErr, IfSome, List};
 ghost use Rattle.wac_binary.specs.Bytes.{bytes_of};
+ghost use Rattle.wac_binary.specs.Fits.{Fits};
 ghost use Rattle.wac_binary.specs.Items.{Item as AnItem};
 ghost use Rattle.wac_graph_model.specs.meaning.Means.{Means};
 ghost use Rattle.wac_graph_model.specs.private.meaning.Beginning.{Begins};
 ghost use Rattle.wac_graph_model.specs.private.meaning.MergedImports.{merged_imports};
 ghost use Rattle.wac_graph_encode.specs.private.places.Places.{IsMergedFor, ArePlaced};
 ghost use Rattle.std.specs.Result.{IsErrAnd};
-ghost use Rattle.wac_graph_model.specs.causes.Cause.{AnswersFor, Cause, cause_of, HasMerge, HasNoConflict, Stands};
+ghost use Rattle.wac_graph_model.specs.causes.Cause.{AnswersFor, Cause, CauseKind, cause_of, HasMerge, HasNoConflict, Occurs, Stands};
 ghost use Rattle.wac_graph_model.specs.causes.OuterNames.{export_names, import_names};
 ghost use Rattle.wac_graph_model.specs.causes.NotYet.{AllDefinable, AllImportable, IsNotYet};
 ghost use Rattle.wac_graph_model.specs.causes.TypeFaults.{HasNoTypeFault};
@@ -54,12 +55,14 @@ impl CompositionGraph {
     /// - [`ValidationFailure`](EncodeError::ValidationFailure) if `validate` is set and a name of an import or export
     ///   is invalid or clashes with another.
     pub fn encode(&self, options: EncodeOptions<'_>) -> Result<Vec<u8>, EncodeError>
-        // The bytes are those of items that mean this graph.
-        ensures means { IfOk result (λ bytes. (items : List AnItem) × (bytes.items ≡ bytes_of items) × Means items self.now options.entry) }
+        // The bytes are those of items that fit 32-bit sizes and mean this graph.
+        ensures means { IfOk result (λ bytes. (items : List AnItem) × (bytes.items ≡ bytes_of items) × Fits items × Means items self.now options.entry) }
         // A reported cause exists and is the first one.
         ensures cause { IfErr result (λ e. IfSome (cause_of e) (Stands self.now options.entry)) }
         // If there is a cause, the result is an error that reports the first one.
         ensures refused { (cause : Cause) → Stands self.now options.entry cause → IsErrAnd result (AnswersFor cause) }
+        // If bytes are returned, there is no cause of any kind.
+        ensures none { OnOk result ((kind : CauseKind) → Occurs self.now options.entry kind → ⊥) }
         // If names are validated, those of the component are valid together.
         ensures valid { IfOk result (λ bytes. IsTrue options.entry.validate → (items : List AnItem) × (bytes.items ≡ bytes_of items) × AreValid (import_names items) (export_names items)) }
     {

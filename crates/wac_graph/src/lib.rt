@@ -40,6 +40,7 @@ mod encode;
 mod graph;
 mod imports;
 mod iterators;
+pub mod laws;
 mod lookups;
 mod merging;
 mod plugging;
@@ -57,11 +58,10 @@ pub use graph::CompositionGraph;
 pub use imports::Imports;
 pub use iterators::{NodeIds, Nodes, Packages};
 pub use plugging::plug;
-pub use wac_graph_model::nodes::laws;
 pub use wac_graph_model::{
     AliasError, DefineTypeError, EncodeError, EncodeOptions, ExportError, ImportError,
     InstantiationArgumentError, Node, NodeId, NodeKind, PackageId, Processor, RegisterPackageError,
-    UnexportError, one_export_answer,
+    UnexportError,
 };
 pub use wac_merge::MergeFault;
 pub use wac_names::NameFault;

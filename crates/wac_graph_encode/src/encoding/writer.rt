@@ -1,6 +1,7 @@
 //! From a graph and its written imports to the bytes of a component.
 ghost use Rattle.std.specs.Prelude.{◌≡◌, ℕ, ◌<◌, IsSomeAnd, true, false, OnOk, IfOk, IfErr, IfSome, IfNone, Some, None, List, length, slice_get};
 ghost use Rattle.wac_binary.specs.Bytes.{bytes_of};
+ghost use Rattle.wac_binary.specs.Fits.{Fits};
 ghost use Rattle.wac_binary.specs.Items.{Item as AnItem};
 ghost use Rattle.wac_binary.specs.Views.{arguments_of};
 ghost use Rattle.wac_binary.specs.declared.sorts.Sort.{Sort as ASort};
@@ -61,7 +62,7 @@ pub fn write(
     requires importable { AllImportable reader.now }
     requires ordered { HasNoCircle by_names reader.now.types (outer_entries reader.now) }
     requires defined { options.define_components ≡ true }
-    ensures means { IfOk result (λ bytes. (items : List AnItem) × (bytes.items ≡ bytes_of items) × Means items reader.now options.entry) }
+    ensures means { IfOk result (λ bytes. (items : List AnItem) × (bytes.items ≡ bytes_of items) × Fits items × Means items reader.now options.entry) }
     ensures fault { IfErr result (λ e. cause_of e ≡ None) }
 {
     wac_binary::laws::law(); // proof only

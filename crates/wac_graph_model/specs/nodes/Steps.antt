@@ -233,3 +233,4 @@ Unexports old id (Ok _) new = IfSome (node_at old id) (λ n. (n.kind ≡ graph.d
   exports = without (λ m. m.0 == id.0) old.exports;
 }))
 Unexports old id (Err unexport.MustExportDefinition) new = (new ≡ old) × IfSome (node_at old id) (λ n. n.kind ≡ graph.definition)
+Unexports old id (Err unexport.OutOfMemory) new = ⊥

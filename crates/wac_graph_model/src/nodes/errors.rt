@@ -176,6 +176,19 @@ pub enum UnexportError {
     /// The node is a type definition, which must stay exported.
     #[error("cannot unexport a type definition")]
     MustExportDefinition,
+    /// Out of memory. `unexport` allocates nothing, so it never returns this.
+    #[error("out of memory")]
+    OutOfMemory,
+}
+
+impl From<AllocError> for UnexportError {
+    ghost use Rattle.wac_graph_model.specs.declared.nodes.errors.UnexportError.TheVariants.{OutOfMemory};
+
+    ghost from_gives = { λ _ e. e ≡ OutOfMemory };
+
+    fn from(_e: AllocError) -> UnexportError {
+        UnexportError::OutOfMemory
+    }
 }
 
 /// The error of `set_instantiation_argument` and `unset_instantiation_argument`.

@@ -23,7 +23,7 @@ use Rattle.wac_merge_classes.specs.entries.Classes.{by_names}
 use Rattle.wac_merge_classes.specs.terms.NoDisagreement.{HasNoDisagreement}
 use Rattle.wac_graph_model.specs.nodes.Asked.{Entry}
 use Rattle.wac_graph_model.specs.nodes.Entries.{asked_entries, to_merge}
-use Rattle.wac_graph_model.specs.causes.Cause.{IsFirstConflict, HasNoConflict, HasMerge, IsMergeConflict, IsImplicitMerge, IsExplicitMerge, IsImportCircle, Cause, cycle, conflict, implicit_merge, explicit_merge, import_circle, unwritable, not_yet, invalid, a_disagreement, an_invalid_name, rank, kind_of_cause, Stands, cause_of, AnswersFor}
+use Rattle.wac_graph_model.specs.causes.Cause.{IsFirstConflict, HasNoConflict, HasMerge, IsMergeConflict, IsImplicitMerge, IsExplicitMerge, IsImportCircle, Cause, cycle, conflict, implicit_merge, explicit_merge, import_circle, unwritable, not_yet, invalid, CauseKind, a_disagreement, an_invalid_name, rank, kind_of_cause, Occurs, Stands, cause_of, AnswersFor}
 use Rattle.wac_graph_model.specs.causes.TypeFaults.{wanted_entries, IsEntryFault, IsTypeFault, HasNoTypeFault}
 use Rattle.wac_graph_model.specs.private.causes.Search.{IsRefused}
 use Rattle.wac_scopes.specs.declared.fault.WriteFault.{WriteFault}
@@ -225,9 +225,9 @@ refused_for g sound law o e (inr (named, names, before, there)) cause stands = i
 abbrev pub IsChecked : Graph → EncodeOptions → Type 0
 IsChecked g o = IsAcyclic g.edges × HasNoConflict g × HasMerge g × HasNoTypeFault g × (IsNotYet g o → ⊥)
 
--- where the names are valid, or none asks whether they are, no cause stands
-pub none_stands : (g : Graph) → (o : EncodeOptions) → IsChecked g o → (IsTrue o.validate → (fault : names.Fault) → IsOuterFault g o fault → ⊥) → (cause : Cause) → Stands g o cause → ⊥
-none_stands g o h valid cause s = none_there g o h.0 h.1 h.2 h.3 h.4 valid (kind_of_cause cause) s.0.0
+-- where the names are valid, or none asks whether they are, no cause of any kind occurs
+pub none_occurs : (g : Graph) → (o : EncodeOptions) → IsChecked g o → (IsTrue o.validate → (fault : names.Fault) → IsOuterFault g o fault → ⊥) → (kind : CauseKind) → Occurs g o kind → ⊥
+none_occurs g o h valid = none_there g o h.0 h.1 h.2 h.3 h.4 valid
 
 -- where a size does not fit names alone may be at fault as well
 pub too_large : (g : Graph) → (o : EncodeOptions) → IsChecked g o → (cause : Cause) → Stands g o cause → AnswersFor cause error.TooLarge

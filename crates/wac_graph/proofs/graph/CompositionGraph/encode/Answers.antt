@@ -1,7 +1,8 @@
 use Rattle.std.proofs.Common.{◌≡◌, ◌∙◌, List, IfSome, ap, refl, sym, subst}
 use Rattle.wac_binary.specs.Bytes.{bytes_of}
+use Rattle.wac_binary.specs.Fits.{Fits}
 use Rattle.wac_binary.specs.Items.{Item}
-use Rattle.wac_graph_model.specs.causes.Cause.{AnswersFor, Stands, cause_of}
+use Rattle.wac_graph_model.specs.causes.Cause.{AnswersFor, CauseKind, Occurs, Stands, cause_of, kind_of_cause}
 use Rattle.wac_graph_model.specs.causes.NotYet.{AllDefinable, AllImportable}
 use Rattle.wac_graph_model.specs.private.causes.Search.{IsRefused}
 use Rattle.wac_merge_classes.specs.entries.Classes.{by_names}
@@ -13,7 +14,7 @@ use Rattle.wac_graph_model.specs.meaning.Means.{Means, is_written}
 use Rattle.wac_graph_model.specs.nodes.Graph.{Graph}
 use Rattle.wac_graph_reader.specs.private.reading.Seen.{open_numbers}
 use Rattle.wac_graph_encode.specs.private.places.Places.{ArePlaced}
-use Rattle.wac_graph_reader.proofs.lemmas.writing.CauseLemmas.{names_cause, refused_for, begun_cause, begun_refused, none_stands, nameless_answers, exit_cause, exit_refused}
+use Rattle.wac_graph_reader.proofs.lemmas.writing.CauseLemmas.{names_cause, refused_for, begun_cause, begun_refused, none_occurs, nameless_answers, exit_cause, exit_refused}
 use Rattle.wac_graph_encode.proofs.lemmas.places.OuterNameLemmas.{items_valid, names_valid, fault_stands, fault_answers}
 use Rattle.wac_graph.proofs.WantedAskedLemmas.{IsDefinition}
 use Rattle.wac_graph.proofs.graph.CompositionGraph.encode.Goals as goal
@@ -72,9 +73,14 @@ returns-in_err-check_names-clause-refused c = λ cause stands. exit_refused (Ans
     (fault_answers c.args.self.now c.law.ensures c.args.options c.in_ok-root.ensures.defined c.class_laws.ensures (λ t es order w. (c.order_law.ensures t es order w).each) c.in_ok-root.imports.merge c.in_ok-root.ensures.placed.merged c.deref-2.result.now (subst (λ ns. Writes c.args.self.now.edges (is_written c.args.self.now) ns) (sym c.deref-2.ensures.value) (subst (λ g. Writes g.edges (is_written g) c.in_ok-ordered.ordered.order.items) c.reader-reader.ensures c.in_ok-ordered.ensures.whole)) ((subst (λ g. IsAcyclic g.edges) c.reader-reader.ensures c.in_ok-ordered.ensures.acyclic), c.in_ok-check_conflicts.ensures.none, c.in_ok-merge.ensures.merges, c.in_ok-check_types.ensures.none, c.in_ok-root.ensures.written c.args.options refl)
     (c.in_err-check_names.field-0).0 c.in_err-check_names.ensures.fault.1 cause stands)
 
+pub returns-clause-none : goal.returns-clause-none
+returns-clause-none c = none_occurs c.args.self.now c.args.options ((subst (λ g. IsAcyclic g.edges) c.reader-reader.ensures c.in_ok-ordered.ensures.acyclic), c.in_ok-check_conflicts.ensures.none, c.in_ok-merge.ensures.merges, c.in_ok-check_types.ensures.none, c.in_ok-root.ensures.written c.args.options refl)
+    (names_valid c.args.self.now c.law.ensures c.args.options c.in_ok-root.ensures.defined c.class_laws.ensures (λ t es order w. (c.order_law.ensures t es order w).each) c.in_ok-root.imports.merge c.in_ok-root.ensures.placed.merged c.deref-2.result.now (subst (λ ns. Writes c.args.self.now.edges (is_written c.args.self.now) ns) (sym c.deref-2.ensures.value) (subst (λ g. Writes g.edges (is_written g) c.in_ok-ordered.ordered.order.items) c.reader-reader.ensures c.in_ok-ordered.ensures.whole)) c.in_ok-check_names.ensures.none)
+
 pub returns-clause-refused : goal.returns-clause-refused
-returns-clause-refused c = λ cause stands. absurd (none_stands c.args.self.now c.args.options ((subst (λ g. IsAcyclic g.edges) c.reader-reader.ensures c.in_ok-ordered.ensures.acyclic), c.in_ok-check_conflicts.ensures.none, c.in_ok-merge.ensures.merges, c.in_ok-check_types.ensures.none, c.in_ok-root.ensures.written c.args.options refl)
-    (names_valid c.args.self.now c.law.ensures c.args.options c.in_ok-root.ensures.defined c.class_laws.ensures (λ t es order w. (c.order_law.ensures t es order w).each) c.in_ok-root.imports.merge c.in_ok-root.ensures.placed.merged c.deref-2.result.now (subst (λ ns. Writes c.args.self.now.edges (is_written c.args.self.now) ns) (sym c.deref-2.ensures.value) (subst (λ g. Writes g.edges (is_written g) c.in_ok-ordered.ordered.order.items) c.reader-reader.ensures c.in_ok-ordered.ensures.whole)) c.in_ok-check_names.ensures.none) cause stands)
+returns-clause-refused c =
+    let none : (kind : CauseKind) → Occurs c.args.self.now c.args.options kind → ⊥ = returns-clause-none c in
+    λ cause stands. absurd (none (kind_of_cause cause) stands.0.0)
 
 pub check_conflicts-requires : goal.check_conflicts-requires
 check_conflicts-requires c = subst (λ g. IsAcyclic g.edges) c.reader-reader.ensures c.in_ok-ordered.ensures.acyclic
@@ -113,9 +119,9 @@ pub write-requires-clause-whole : goal.write-requires-clause-whole
 write-requires-clause-whole c = subst (λ ns. Writes c.reader-reader.result.edges (is_written c.reader-reader.result) ns) (sym c.deref.ensures.value) c.in_ok-ordered.ensures.whole
 
 pub returns-clause-means : goal.returns-clause-means
-returns-clause-means c = subst (λ g. (items : List Item) × (c.in_ok-bytes.bytes.items ≡ bytes_of items) × Means items g c.args.options) c.reader-reader.ensures c.in_ok-bytes.ensures.means
+returns-clause-means c = subst (λ g. (items : List Item) × (c.in_ok-bytes.bytes.items ≡ bytes_of items) × Fits items × Means items g c.args.options) c.reader-reader.ensures c.in_ok-bytes.ensures.means
 
 pub returns-clause-valid : goal.returns-clause-valid
 returns-clause-valid c = λ asked.
-    let (items, written, means) = returns-clause-means c in
+    let (items, written, _, means) = returns-clause-means c in
     (items, written, items_valid c.args.self.now c.law.ensures c.args.options c.in_ok-root.ensures.defined c.class_laws.ensures (λ t es order w. (c.order_law.ensures t es order w).each) c.in_ok-root.imports.merge c.in_ok-root.ensures.placed.merged c.deref-2.result.now (subst (λ ns. Writes c.args.self.now.edges (is_written c.args.self.now) ns) (sym c.deref-2.ensures.value) (subst (λ g. Writes g.edges (is_written g) c.in_ok-ordered.ordered.order.items) c.reader-reader.ensures c.in_ok-ordered.ensures.whole)) asked c.in_ok-check_names.ensures.valid items means)

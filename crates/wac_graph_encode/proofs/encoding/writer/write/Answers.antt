@@ -39,6 +39,7 @@ returns-clause-means c =
     let noted = ap (λ v. v.items) c.finish-component.ensures.indexes in (
       c.write_processor.new.component,
       c.in_ok-into_bytes.ensures.bytes,
+      c.in_ok-into_bytes.ensures.fits,
       means_merged (record { counted = c.law.ensures.counted; earlier = c.law.ensures.earlier; bounds_counted = c.law.ensures.instances_counted; bounds_earlier = c.law.ensures.instances_earlier }) c.class_laws.ensures (λ t es order w. (c.order_law.ensures t es order w).each) c.args.reader.now (λ order w. (c.order_law.ensures c.args.reader.now.types (outer_entries c.args.reader.now) order w).once c.requires.ordered) c.law-2.ensures
           c.args.imports.now.merge.merge (c.requires.placed.merged).whole c.args.order.now c.requires.whole c.args.options c.requires.defined
           c.args.imports.now.places.items c.args.root c.in_ok-indexes.indexes.items c.requires.begins c.in_ok-indexes.ensures.found c.in_ok-indexes.ensures.room
