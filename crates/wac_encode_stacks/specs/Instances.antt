@@ -1,0 +1,111 @@
+-- What an instance in scope has, and what the root's imports give.
+use Rattle.std.specs.Prelude.{ℕ, ◌≡◌, ◌⊎◌, true, List, [], ◌∷◌, ◌++◌, length, map, Some, None}
+use Rattle.wac_types_shapes.specs.primitives.Name.{Name, find_name}
+use Rattle.wac_types_shapes.specs.declared.shapes.component.ResourceId.{ResourceId}
+use Rattle.wac_types_shapes.specs.declared.shapes.component.InterfaceId.{InterfaceId}
+use Rattle.wac_types_shapes.specs.declared.shapes.component.Interface.{Interface}
+use Rattle.wac_types_shapes.specs.declared.shapes.component.DefinedTypeId.{DefinedTypeId}
+use Rattle.wac_types_shapes.specs.declared.shapes.component.ValueType.{ValueType}
+use Rattle.wac_types_shapes.specs.declared.shapes.component.ValueType.TheVariants as val
+use Rattle.wac_types_shapes.specs.declared.shapes.component.«Type».{«Type» as AnyType}
+use Rattle.wac_types_shapes.specs.declared.shapes.component.«Type».TheVariants as ty
+use Rattle.wac_types_shapes.specs.declared.shapes.component.ItemKind.TheVariants as kind
+use Rattle.wac_types_shapes.specs.primitives.Tree.{Side, imported, exported, Place, position, named, Leaf, Tree, resource, items_in}
+use Rattle.wac_types_collection.specs.collection.Collection.{Collection, IsWellFormed, item_at, holds_value}
+use Rattle.wac_types_collection.specs.collection.Aliases.{value_resolved}
+use Rattle.wac_types_collection.specs.collection.Bound.{Bindings, own_name, inside_interface}
+use Rattle.wac_binary.specs.declared.sorts.Description.{Description}
+use Rattle.wac_binary.specs.declared.sorts.Description.TheVariants as e
+use Rattle.wac_binary.specs.Indexes.{space, described_sort, indexes}
+use Rattle.wac_binary.specs.Items.{Item, import_item}
+use Rattle.wac_binary.specs.Unfold.{Bound, described_item}
+use Rattle.wac_binary.specs.Meaning.{import_at, stands_for, meaning}
+use Rattle.wac_binary.specs.HasMeaning.{IsType, IsFunction, IsInstance, IsComponent, IsModule}
+use Rattle.wac_encode_stacks.specs.Scopes.{root, at_type, at_export, Open, Stack, env, envs, next_type, next_instance, bind_at, export_at}
+use Rattle.wac_encode_stacks.specs.Good.{At, Stands, IsHeld, IsClosed, Good, Onward}
+use Rattle.wac_encode_stacks.specs.Laws.{Adds}
+use Rattle.wac_encode_stacks.specs.Listed.{IsItem, calling}
+
+-- m calls the interface's own resources as an instance of it under this path binds them
+abbrev pub BindsInstance : Collection → Interface → Side → List Place → Bindings → Type 0
+BindsInstance c it side path m = (r : ResourceId) (n : Name) → own_name c it.uses it.exports r ≡ Some n → m r ≡ Some (record { out = 0; side = side; path = path ++ named n ∷ [] })
+
+-- an instance has the type items of the interface, as they are held inside it; it may have fewer or more of the other items
+abbrev pub Shows : Collection → Bindings → Interface → Bound → Type 0
+Shows c m it b = (n : Name) (a : AnyType) → find_name it.exports n ≡ Some (kind.TypeItem a) → IsItem c (inside_interface c it m) exported n (kind.TypeItem a) (items_in b.type n)
+
+-- an instance of the whole interface has them
+abbrev pub ShowsWhole : Type 0
+ShowsWhole = (c : Collection) → IsWellFormed c → (m : Bindings) (i : InterfaceId) (it : Interface) (b : Bound)
+    → item_at c.interfaces i.0 ≡ Some it → IsHeld c m (ty.Interface i) b.type → Shows c m it b
+
+abbrev pub taken_leaf : Bound → Name → Leaf
+taken_leaf b n = record { out = 0; side = b.side; path = b.path ++ named n ∷ [] }
+
+-- an instance in scope has its interface's own resource
+abbrev pub HasOwn : Type 0
+HasOwn = (c : Collection) (m : Bindings) (o : Open) (os : Stack) (it : Interface) (j : ℕ) (b : Bound) (r : ResourceId) (n : Name)
+    → At ((env o (envs os)).instances) j b → Shows c m it b → find_name it.exports n ≡ Some (kind.TypeItem (ty.Resource r)) → own_name c it.uses it.exports r ≡ Some n
+    → Stands (env o (envs os)) (resource (taken_leaf b n)) (at_export j n)
+
+-- A value type that the interface lists is there, and may be so recorded, if m calls the interface's own resources as the instance binds them,
+-- or if the type means no resource.
+abbrev pub HasExported : Type 0
+HasExported = (c : Collection) → IsWellFormed c → (m : Bindings) (ms : List Bindings) (o : Open) (os : Stack) (it : Interface) (j : ℕ) (b : Bound) (v : ValueType) (d : DefinedTypeId) (n : Name)
+    → Good c (m ∷ ms) (o ∷ os) → At ((env o (envs os)).instances) j b → Shows c m it b
+    → find_name it.exports n ≡ Some (kind.TypeItem (ty.Value v)) → holds_value c v ≡ true → value_resolved c v ≡ val.Defined d
+    → BindsInstance c it b.side b.path m ⊎ IsClosed c (ty.Value v)
+    → Onward c (m ∷ ms) (o ∷ os) (export_at d (at_export j n) o ∷ os)
+
+-- the root's next import is the item that is described, under its position
+abbrev pub position_of : List Item → Place
+position_of items = position (length (meaning items).imports)
+
+abbrev pub holding : List Item → Open → Open
+holding items o = record o { content = root items }
+
+-- an import of an instance into the root
+abbrev pub ImportsInstance : Type 0
+ImportsInstance = (c : Collection) (m : Bindings) (items : List Item) (o : Open) (n : Name) (i : ℕ) (t : Tree)
+    → Good c (m ∷ []) (holding items o ∷ []) → IsInstance t → At ((meaning items).scope.types) i t
+    → Onward c (m ∷ []) (holding items o ∷ []) (holding (items ++ import_item n (e.Instance i) ∷ []) o ∷ [])
+    × At ((meaning (items ++ import_item n (e.Instance i) ∷ [])).scope.instances) (next_instance (holding items o)) (record { type = t; side = imported; path = position_of items ∷ [] })
+
+-- an import of a type into the root
+abbrev pub ImportsType : Type 0
+ImportsType = (c : Collection) (m : Bindings) (items : List Item) (o : Open) (n : Name) (i : ℕ) (t : Tree)
+    → Good c (m ∷ []) (holding items o ∷ []) → IsType t → At ((meaning items).scope.types) i t
+    → Adds c (m ∷ []) (holding items o ∷ []) (holding (items ++ import_item n (e.Equal i) ∷ []) o ∷ []) (next_type (holding items o)) t
+
+abbrev pub import_leaf : List Item → Leaf
+import_leaf items = record { out = 0; side = imported; path = position_of items ∷ [] }
+
+-- an import of a fresh resource that nothing bound before into the root
+abbrev pub ImportsFresh : Type 0
+ImportsFresh = (c : Collection) (m : Bindings) (items : List Item) (o : Open) (n : Name) (r : ResourceId)
+    → Good c (m ∷ []) (holding items o ∷ []) → m r ≡ None
+    → Adds c (calling r (import_leaf items) m ∷ []) (holding items o ∷ []) (bind_at r (at_type (next_type (holding items o))) (holding (items ++ import_item n e.Fresh ∷ []) o) ∷ []) (next_type (holding items o)) (resource (import_leaf items))
+
+-- an import of a function into the root
+abbrev pub ImportsFunc : Type 0
+ImportsFunc = (c : Collection) (m : Bindings) (items : List Item) (o : Open) (n : Name) (i : ℕ) (t : Tree)
+    → Good c (m ∷ []) (holding items o ∷ []) → IsFunction t → At ((meaning items).scope.types) i t
+    → Onward c (m ∷ []) (holding items o ∷ []) (holding (items ++ import_item n (e.Func i) ∷ []) o ∷ [])
+
+-- an import of a core module into the root
+abbrev pub ImportsModule : Type 0
+ImportsModule = (c : Collection) (m : Bindings) (items : List Item) (o : Open) (n : Name) (i : ℕ) (t : Tree)
+    → Good c (m ∷ []) (holding items o ∷ []) → IsModule t → At ((meaning items).scope.core_types) i t
+    → Onward c (m ∷ []) (holding items o ∷ []) (holding (items ++ import_item n (e.CoreModule i) ∷ []) o ∷ [])
+
+-- an import of a component into the root
+abbrev pub ImportsComponent : Type 0
+ImportsComponent = (c : Collection) (m : Bindings) (items : List Item) (o : Open) (n : Name) (i : ℕ) (t : Tree)
+    → Good c (m ∷ []) (holding items o ∷ []) → IsComponent t → At ((meaning items).scope.types) i t
+    → Onward c (m ∷ []) (holding items o ∷ []) (holding (items ++ import_item n (e.Component i) ∷ []) o ∷ [])
+
+-- an import stands behind those before it, and the index that it adds is the import of that position
+abbrev pub ListsImport : Type 0
+ListsImport = (items : List Item) (n : Name) (d : Description)
+    → ((meaning (items ++ import_item n d ∷ [])).imports ≡ (meaning items).imports ++ (n, described_item (meaning items).scope d) ∷ [])
+    × (stands_for (meaning (items ++ import_item n d ∷ [])) (described_sort d) (indexes (space (described_sort d)) items) ≡ import_at (length (meaning items).imports))

@@ -1,0 +1,166 @@
+//! What each step of a type encoder keeps and gives, for proofs about one. Each call does nothing else.
+
+ghost use Rattle.wac_encode_stacks.specs.Laws.{DefinesValue, DefinesFunc, DefinesPrimitive, DefinesHandles, Reaches, BringsResource, BringsType, SettlesResource, SettlesValue, RecordsType, GoesOnAround, Follows, StaysIs, IsRecorded, IsExported, StandsRecorded, IsItsTree, IsItsEnd, StaysOnward};
+ghost use Rattle.wac_encode_stacks.specs.Listed.{ListsEqual, ListsFresh, ListsOwn, ListsFunc, ListsComponent, ListsModule, ListsInstance, ListsOneMore, ListsInAnyOrder, ListedUnderMore, OpensInterface, CallsOneMore, CallsNoMore, CallsAll, ClosesInstance, HoldsInterface, OpensWorld, BindsMore, ClosesComponent, HoldsWorld, FreshInInterface, CallsOwn};
+ghost use Rattle.wac_encode_stacks.specs.Instances.{ShowsWhole, HasOwn, HasExported, ImportsInstance, ImportsType, ImportsFresh, ImportsFunc, ImportsModule, ImportsComponent, ListsImport};
+ghost use Rattle.wac_encode_stacks.specs.Inside.{ByStep, ByItem, ByBoth, KeepsIs, SettlesThere, HasIndexHere, HasIndexAround, StartsRoot, RootGoesOn};
+ghost use Rattle.wac_encode_stacks.specs.Brought.{GoodOnce, FindsOrUnbound, KnowsType, KnowsExport, SettlesValueThere, BringsFrom, StillPass};
+ghost use Rattle.wac_encode_stacks.specs.HeldParts.{HeldCarried, HeldFurtherIn, HeldUnderMore, HoldsValue, HoldsParts, HoldsFuncParts, HoldsItems, HandlesAreBound, ResourceIsBound};
+ghost use Rattle.wac_encode_stacks.specs.Beside.{GoesOnBeside};
+ghost use Rattle.wac_encode_stacks.specs.private.Reads.{Reads};
+ghost use Rattle.wac_encode_stacks.specs.Modules.{DefinesModule, HoldsModule};
+
+use wac_binary::laws::{has_meaning_law, listed_law, scope_law};
+
+/// How items and declarations are read.
+fn binary_laws()
+    ensures reads { Reads }
+{
+    wac_binary::laws::law();
+    scope_law();
+    has_meaning_law();
+    listed_law();
+}
+
+/// One more type index in an open scope, and the stack of scopes around it.
+pub fn step_law()
+    ensures defines_value { DefinesValue }
+    ensures defines_func { DefinesFunc }
+    ensures defines_primitive { DefinesPrimitive }
+    ensures defines_handles { DefinesHandles }
+    ensures reaches { Reaches }
+    ensures brings_resource { BringsResource }
+    ensures brings_type { BringsType }
+    ensures settles_resource { SettlesResource }
+    ensures settles_value { SettlesValue }
+    ensures records_type { RecordsType }
+    ensures goes_on_around { GoesOnAround }
+    ensures follows { Follows }
+    ensures stays_is { StaysIs }
+    ensures is_recorded { IsRecorded }
+    ensures is_exported { IsExported }
+    ensures stands_recorded { StandsRecorded }
+    ensures is_its_tree { IsItsTree }
+{
+    binary_laws();
+}
+
+/// One more import or export in a type that is open.
+pub fn listing_law()
+    ensures lists_equal { ListsEqual }
+    ensures lists_fresh { ListsFresh }
+    ensures lists_own { ListsOwn }
+    ensures lists_func { ListsFunc }
+    ensures lists_component { ListsComponent }
+    ensures lists_module { ListsModule }
+    ensures lists_instance { ListsInstance }
+    ensures lists_one_more { ListsOneMore }
+    ensures lists_in_any_order { ListsInAnyOrder }
+    ensures listed_under_more { ListedUnderMore }
+{
+    binary_laws();
+}
+
+/// Types that are opened and closed: interfaces and worlds.
+pub fn closing_law()
+    ensures opens_interface { OpensInterface }
+    ensures calls_one_more { CallsOneMore }
+    ensures calls_no_more { CallsNoMore }
+    ensures calls_all { CallsAll }
+    ensures closes_instance { ClosesInstance }
+    ensures holds_interface { HoldsInterface }
+    ensures opens_world { OpensWorld }
+    ensures binds_more { BindsMore }
+    ensures closes_component { ClosesComponent }
+    ensures holds_world { HoldsWorld }
+    ensures fresh_in_interface { FreshInInterface }
+    ensures calls_own { CallsOwn }
+{
+    binary_laws();
+}
+
+/// What an instance in scope has.
+pub fn instance_law()
+    ensures shows_whole { ShowsWhole }
+    ensures has_own { HasOwn }
+    ensures has_exported { HasExported }
+{
+    binary_laws();
+}
+
+/// What is recorded somewhere in the stack, and how it is brought in.
+pub fn bringing_law()
+    ensures good_once { GoodOnce }
+    ensures finds_or_unbound { FindsOrUnbound }
+    ensures knows_type { KnowsType }
+    ensures knows_export { KnowsExport }
+    ensures settles_value_there { SettlesValueThere }
+    ensures brings_from { BringsFrom }
+    ensures still_pass { StillPass }
+{
+    binary_laws();
+}
+
+/// The parts of what is held, and what is held elsewhere.
+pub fn part_law()
+    ensures held_carried { HeldCarried }
+    ensures held_further_in { HeldFurtherIn }
+    ensures held_under_more { HeldUnderMore }
+    ensures holds_value { HoldsValue }
+    ensures holds_parts { HoldsParts }
+    ensures holds_func_parts { HoldsFuncParts }
+    ensures holds_items { HoldsItems }
+    ensures handles_are_bound { HandlesAreBound }
+    ensures resource_is_bound { ResourceIsBound }
+{}
+
+/// The root: its imports, and all else that is added to it.
+pub fn root_law()
+    ensures imports_instance { ImportsInstance }
+    ensures imports_type { ImportsType }
+    ensures imports_fresh { ImportsFresh }
+    ensures imports_func { ImportsFunc }
+    ensures imports_module { ImportsModule }
+    ensures imports_component { ImportsComponent }
+    ensures lists_import { ListsImport }
+    ensures starts_root { StartsRoot }
+    ensures root_goes_on { RootGoesOn }
+{
+    binary_laws();
+}
+
+/// Work inside an open scope, and resources through all of them.
+pub fn inside_law()
+    ensures by_step { ByStep }
+    ensures by_item { ByItem }
+    ensures by_both { ByBoth }
+    ensures keeps_is { KeepsIs }
+    ensures settles_there { SettlesThere }
+    ensures has_index_here { HasIndexHere }
+    ensures has_index_around { HasIndexAround }
+{
+    binary_laws();
+}
+
+/// Core module types.
+pub fn module_law()
+    ensures defines_module { DefinesModule }
+    ensures holds_module { HoldsModule }
+{
+    binary_laws();
+}
+
+/// Types of two collections in the same scopes.
+pub fn beside_law()
+    ensures goes_on_beside { GoesOnBeside }
+{}
+
+/// Aliases of value types.
+pub fn alias_law()
+    ensures { IsItsEnd }
+{}
+
+/// A stack to which nothing is done.
+pub fn still_law()
+    ensures { StaysOnward }
+{}

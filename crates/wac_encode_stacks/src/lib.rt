@@ -1,0 +1,10 @@
+//! Stacks of open scopes: what it says that what is written in them is what is held, and what each step of a type encoder keeps and gives.
+//! Definitions, laws and lemmas; no code.
+#![tactic(auto)]
+
+pub mod laws;
+
+pub use laws::{
+    alias_law, beside_law, bringing_law, closing_law, inside_law, instance_law, listing_law,
+    module_law, part_law, root_law, step_law, still_law,
+};
