@@ -1,0 +1,9 @@
+pub mod lemmas
+pub mod Lowest
+pub mod Listing
+pub mod Insides
+pub mod Dependencies
+pub mod Reached
+pub mod Needed
+pub mod Twice
+pub mod Examples

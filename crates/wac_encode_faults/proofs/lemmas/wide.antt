@@ -1,0 +1,4 @@
+pub mod Members
+pub mod Wide
+pub mod Once
+pub mod WideWalk

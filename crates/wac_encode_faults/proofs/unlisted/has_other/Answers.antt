@@ -1,0 +1,32 @@
+use Rattle.std.proofs.Common.{◌≡◌, true, false, refl, sym, ◌∙◌, arith, Contains}
+use Rattle.wac_encode_faults.proofs.lemmas.wide.Members.{at_in}
+use Rattle.wac_encode_faults.proofs.lemmas.wide.Once.{among_in, in_among}
+use Rattle.wac_encode_faults.proofs.Dependencies.{all_none, all_next, all_before}
+use Rattle.wac_encode_faults.proofs.unlisted.has_other.Goals as goal
+
+pub loop-i-init : goal.loop-i-init
+loop-i-init c = all_none (Contains c.args.listed.now.keys) c.args.interfaces.now.keys
+
+pub interface_at-id-requires : goal.interface_at-id-requires
+interface_at-id-requires c = let l = c.len-i-end.ensures.len in let t = c.loop-i-test.true in omega (arith, l, t)
+
+pub loop-i-preserved : goal.loop-i-preserved
+loop-i-preserved c =
+    all_next (Contains c.args.listed.now.keys) c.args.interfaces.now.keys c.loop-i.i c.interface_at-id.result c.interface_at-id.ensures
+    (among_in c.args.listed.now.keys c.interface_at-id.result (sym c.contains.ensures ∙ c.if-not-contains.false)) c.loop-i.invariant
+
+pub returns-then-not-contains : goal.returns-then-not-contains
+returns-then-not-contains c = (
+  λ t. (
+    c.interface_at-id.result,
+    at_in c.args.interfaces.now.keys c.loop-i.i c.interface_at-id.result c.interface_at-id.ensures,
+    λ h. let wrong : false ≡ true = sym c.if-not-contains.true ∙ (c.contains.ensures ∙ in_among c.args.listed.now.keys c.interface_at-id.result h) in cc,
+  ),
+  λ h. refl,
+)
+
+pub returns : goal.returns
+returns c =
+    let past = c.loop-i-test.false in
+    let counted = c.len-i-end.ensures.len in
+    (λ t. cc, λ h. absurd (h.2 (all_before (Contains c.args.listed.now.keys) c.args.interfaces.now.keys c.loop-i.i h.0 (omega (arith, past, counted)) c.loop-i.invariant h.1)))

@@ -1,0 +1,6 @@
+pub mod wide
+pub mod Sides
+pub mod Free
+pub mod Cycle
+pub mod Faults
+pub mod private

@@ -1,0 +1,2 @@
+pub mod wide
+pub mod Search
