@@ -1,0 +1,127 @@
+-- Scopes that are begun, opened and closed, and what is listed in them.
+use Rattle.std.specs.Prelude.{ℕ, ◌≡◌, Bool, true, false, not, List, [], ◌∷◌, ◌++◌, None}
+use Rattle.std.proofs.Common.{refl, ap, ◌∙◌, sym, subst}
+use Rattle.wac_types_shapes.specs.primitives.Name.{Name}
+use Rattle.wac_types_shapes.specs.primitives.Tree.{Side, imported, exported, Tree, type_equal, function_item, instance_item, component_item, module_item, instance}
+use Rattle.wac_types_collection.specs.collection.Collection.{Collection}
+use Rattle.wac_types_collection.specs.collection.Bound.{Bindings}
+use Rattle.wac_binary.specs.declared.sorts.Description.{Description}
+use Rattle.wac_binary.specs.declared.sorts.Description.TheVariants as e
+use Rattle.wac_binary.specs.Items.{TypeDef, Decl, Item, decls, instance_def}
+use Rattle.wac_binary.specs.HasMeaning.{ImportNothing}
+use Rattle.wac_encode_scopes.specs.declared.book.Book.{Book}
+use Rattle.wac_encode_scopes.specs.declared.encodable.Encodable.{Encodable}
+use Rattle.wac_encode_scopes.specs.declared.encodable.Encodable.TheVariants.{Builder, Instance, Component}
+use Rattle.wac_encode_scopes.specs.declared.scope.Scope.{Scope}
+use Rattle.wac_encode_scopes.specs.declared.state.State.{State}
+use Rattle.wac_encode_scopes.specs.Contents.{content_of, and_type, and_item, HasSide, IsInstanceType, declarations_of}
+use Rattle.wac_encode_scopes.specs.Books.{binds_in, types_in, exports_in, recorded, book_of, opened}
+use Rattle.wac_encode_scopes.specs.States.{outward, stack}
+use Rattle.wac_encode_scopes.specs.Listing.{Describes, ListsItem}
+use Rattle.wac_encode_scopes.specs.private.Steps.{empty_scope, either}
+use Rattle.wac_encode_stacks.specs.Scopes.{Content, declarations, root, Open, Stack, env, envs, next_type, type_count, and_def, with_def, opening}
+use Rattle.wac_encode_stacks.specs.Good.{Good, nothing_bound, innermost}
+use Rattle.wac_encode_stacks.specs.Laws.{Adds}
+use Rattle.wac_encode_stacks.specs.Listed.{side_decl, IsNewName, Lists, ListsEqual, ListsFunc, ListsInstance, ListsComponent, ListsModule, ClosesInstance, OpensWorld}
+use Rattle.wac_encode_stacks.specs.Inside.{StartsRoot}
+use Rattle.wac_encode_scopes.proofs.Outward.{outward-append}
+
+-- a book in which nothing is recorded
+pub new-book : (book : Book) (passes : Bool) (x : Content) → book.passes ≡ passes → ((a : _) → types_in book a ≡ None) → ((d : _) → exports_in book d ≡ None) → ((r : _) → binds_in book r ≡ None) → recorded book x ≡ empty_scope x passes
+new-book book passes x p t d r = λ i. record { content = x; passes = p i; binds = λ q. r q i; types = λ a. t a i; exports = λ k. d k i }
+
+both-true : (b : Bool) → either b true true ≡ true
+both-true true = refl
+both-true false = refl
+
+-- a bottom scope without content
+good-bottom : (c : Collection) (b : Bool) (o p : Open) (ss : List Scope) → Good c (nothing_bound ∷ []) (p ∷ []) → ss ≡ [] → o ≡ p → Good c (nothing_bound ∷ []) (o ∷ outward b ss)
+good-bottom c b o p ss good none is = subst (λ (zs : List Scope). Good c (nothing_bound ∷ []) (o ∷ outward b zs)) (sym none) (subst (λ (q : Open). Good c (nothing_bound ∷ []) (q ∷ [])) (sym is) good)
+
+pub good-root : StartsRoot → (c : Collection) (b : Bool) (o : Open) (ss : List Scope) (xs : List Item) → ss ≡ [] → xs ≡ [] → o ≡ empty_scope (root xs) (either b true true) → Good c (nothing_bound ∷ []) (o ∷ outward b ss)
+good-root law c b o ss xs none items is = good-bottom c b o (empty_scope (root []) true) ss (law c true) none (is ∙ ap (λ (ys : List Item). empty_scope (root ys) (either b true true)) items ∙ ap (empty_scope (root [])) (both-true b))
+
+pub good-component : OpensWorld → (c : Collection) (b : Bool) (o : Open) (ss : List Scope) (ds : List Decl) → ss ≡ [] → ds ≡ [] → o ≡ empty_scope (declarations ds) (either b true true) → Good c (nothing_bound ∷ []) (o ∷ outward b ss)
+good-component law c b o ss ds none items is = good-bottom c b o (opening true) ss (law c true).0 none (is ∙ ap (λ (ys : List Decl). empty_scope (declarations ys) (either b true true)) items ∙ ap (empty_scope (declarations [])) (both-true b))
+
+-- an instance type without declarations
+pub instance-one : (b : Bool) (passes other_passes : Bool) (s : Scope) → b ≡ true → ((d : Bool) → opened d s ≡ empty_scope (declarations []) (either d passes other_passes)) → (opened b s ≡ opening passes) × (opened (not b) s ≡ opening other_passes)
+instance-one true passes other_passes s is h = (h true, h false)
+instance-one false passes other_passes s is h = let both : false ≡ true = is in cc
+
+pub instance-two : (b : Bool) (passes other_passes : Bool) (s : Scope) → b ≡ false → ((d : Bool) → opened d s ≡ empty_scope (declarations []) (either d other_passes passes)) → (opened b s ≡ opening passes) × (opened (not b) s ≡ opening other_passes)
+instance-two false passes other_passes s is h = (h false, h true)
+instance-two true passes other_passes s is h = let both : true ≡ false = is in cc
+
+-- the stack with one scope more
+pub one-more : (b passes : Bool) (here old scope : Scope) (ss ts : List Scope) → here ≡ scope → ts ≡ ss ++ old ∷ [] → opened b scope ≡ opening passes → opened b here ∷ outward b ts ≡ opening passes ∷ opened b old ∷ outward b ss
+one-more b passes here old scope ss ts is items open_ =
+    ap (λ (s : Scope). opened b s ∷ outward b ts) is
+    ∙ ap (λ (zs : List Scope). opened b scope ∷ outward b zs) items
+    ∙ ap (λ (zs : Stack). opened b scope ∷ zs) (outward-append b ss (old ∷ []))
+    ∙ ap (λ (o : Open). o ∷ opened b old ∷ outward b ss) open_
+
+-- with other content, the books are as they were
+book-kept : (b : Bool) (s : Scope) (x : Encodable) → book_of b (record s { content = x }) ≡ book_of b s
+book-kept true s x = refl
+book-kept false s x = refl
+
+content-def : (t : TypeDef) (x : Encodable) → content_of (and_type t x) ≡ and_def t (content_of x)
+content-def t (Builder items) = refl
+content-def t (Instance ds) = refl
+content-def t (Component ds) = refl
+
+opened-def : (b : Bool) (t : TypeDef) (s : Scope) → opened b (record s { content = and_type t s.content }) ≡ with_def t (opened b s)
+opened-def b t s = ap (λ (k : Book). recorded k (content_of (and_type t s.content))) (book-kept b s (and_type t s.content)) ∙ ap (recorded (book_of b s)) (content-def t s.content)
+
+-- an item is listed
+
+module _ (equal : ListsEqual) (func : ListsFunc) (inst : ListsInstance) (comp : ListsComponent) (mod_ : ListsModule) where
+  lists-item : (c : Collection) (m : Bindings) (ms : List Bindings) (book : Book) (ds : List Decl) (os : Stack) (side : Side) (n : Name) (d : Description) (t : Tree) → Good c (m ∷ ms) (recorded book (declarations ds) ∷ os) → IsNewName (recorded book (declarations ds)) os side n → Describes (env (recorded book (declarations ds)) (envs os)) d t → Lists c m ms (recorded book (declarations ds)) (recorded book (declarations (ds ++ side_decl side n d ∷ []))) os side n t
+  lists-item c m ms book ds os side n (e.Equal i) (type_equal t) g new h = (equal c m ms ds (recorded book (declarations ds)) os side n i t g new h.0 h.1).0
+  lists-item c m ms book ds os side n (e.Func i) (function_item t) g new h = func c m ms ds (recorded book (declarations ds)) os side n i t g new h.0 h.1
+  lists-item c m ms book ds os side n (e.Instance i) (instance_item t) g new h = (inst c m ms ds (recorded book (declarations ds)) os side n i t g new h.0 h.1).0
+  lists-item c m ms book ds os side n (e.Component i) (component_item t) g new h = comp c m ms ds (recorded book (declarations ds)) os side n i t g new h.0 h.1
+  lists-item c m ms book ds os side n (e.CoreModule i) (module_item t) g new h = mod_ c m ms ds (recorded book (declarations ds)) os side n i t g new h.0 h.1
+  lists-item c m ms book ds os side n d t g new h = absurd h
+
+  lists-content : (c : Collection) (m : Bindings) (ms : List Bindings) (book : Book) (x : Encodable) (os : Stack) (side : Side) (n : Name) (d : Description) (t : Tree) → HasSide side x → Good c (m ∷ ms) (recorded book (content_of x) ∷ os) → IsNewName (recorded book (content_of x)) os side n → Describes (env (recorded book (content_of x)) (envs os)) d t → Lists c m ms (recorded book (content_of x)) (recorded book (content_of (and_item side n d x))) os side n t
+  lists-content c m ms book (Component ds) os side n d t has g new h = lists-item c m ms book ds os side n d t g new h
+  lists-content c m ms book (Instance ds) os side n d t has g new h = lists-item c m ms book ds os side n d t g new h
+  lists-content c m ms book (Builder items) os side n d t has g new h = absurd (no-root side has)
+    where
+      no-root : (side : Side) → HasSide side (Builder items) → ⊥
+      no-root imported h = h
+      no-root exported h = h
+
+  pub lists-state : (side : Side) (n : Name) (d : Description) (st : State) (here : Scope) → HasSide side st.here.content → here ≡ record st.here { content = and_item side n d st.here.content } → ListsItem side n d st (record st { here = here })
+  lists-state side n d st here has is c b m ms t g new h =
+      let listed = lists-content c m ms (book_of b st.here) st.here.content (outward b st.around.items) side n d t has g new h in
+      (refl, subst (λ (s : Scope). Lists c m ms (opened b st.here) (opened b s) (outward b st.around.items) side n t) (sym is) (subst (λ (k : Book). Lists c m ms (opened b st.here) (recorded k (content_of (and_item side n d st.here.content))) (outward b st.around.items) side n t) (sym (book-kept b st.here (and_item side n d st.here.content))) listed))
+
+-- a scope is closed
+
+closes-content : ClosesInstance → (c : Collection) (inner m : Bindings) (ms : List Bindings) (book : Book) (x : Encodable) (o : Open) (os : Stack) → IsInstanceType x → ImportNothing (decls (declarations_of x)) → Good c (inner ∷ m ∷ ms) (recorded book (content_of x) ∷ o ∷ os) → Adds c (m ∷ ms) (o ∷ os) (with_def (instance_def (decls (declarations_of x))) o ∷ os) (next_type o) (instance ((env (recorded book (content_of x)) (env o (envs os) ∷ envs os)).exports))
+closes-content law c inner m ms book (Instance ds) o os is none g = law c inner m ms ds (recorded book (declarations ds)) o os g none
+closes-content law c inner m ms book (Builder items) o os is none g = absurd is
+closes-content law c inner m ms book (Component ds) o os is none g = absurd is
+
+pub closes-state : ClosesInstance → (st : State) (ss : List Scope) (outer dest scope new : Scope) (k : ℕ) → st.around.items ≡ ss ++ outer ∷ [] → scope ≡ st.here → dest ≡ outer → IsInstanceType st.here.content → ImportNothing (decls (declarations_of st.here.content)) → k ≡ type_count (content_of dest.content) → new ≡ record dest { content = and_type (instance_def (decls (declarations_of scope.content))) dest.content }
+    → (c : Collection) (b : Bool) (inner m : Bindings) (ms : List Bindings) → Good c (inner ∷ m ∷ ms) (stack b st) → Adds c (m ∷ ms) (outward b st.around.items) (opened b new ∷ outward b ss) k (instance ((innermost (stack b st)).exports))
+closes-state law st ss outer dest scope new k items same_here same_outer is none index is_new c b inner m ms g =
+    subst (λ (zs : Stack). Adds c (m ∷ ms) zs (opened b new ∷ outward b ss) k (instance ((env (opened b st.here) (envs zs)).exports))) (sym split)
+    (subst (λ (o : Open). Adds c (m ∷ ms) (opened b outer ∷ outward b ss) (o ∷ outward b ss) k (instance ((env (opened b st.here) (envs (opened b outer ∷ outward b ss))).exports))) (sym opened_new)
+    (subst (λ (j : ℕ). Adds c (m ∷ ms) (opened b outer ∷ outward b ss) (with_def (instance_def (decls (declarations_of st.here.content))) (opened b outer) ∷ outward b ss) j (instance ((env (opened b st.here) (envs (opened b outer ∷ outward b ss))).exports))) (sym (index ∙ ap (λ (s : Scope). type_count (content_of s.content)) same_outer)) closed))
+  where
+    split : outward b st.around.items ≡ opened b outer ∷ outward b ss
+    split = ap (outward b) items ∙ outward-append b ss (outer ∷ [])
+
+    opened_new : opened b new ≡ with_def (instance_def (decls (declarations_of st.here.content))) (opened b outer)
+    opened_new =
+        ap (opened b) is_new
+        ∙ ap (λ (s : Scope). opened b (record s { content = and_type (instance_def (decls (declarations_of scope.content))) s.content })) same_outer
+        ∙ ap (λ (s : Scope). opened b (record outer { content = and_type (instance_def (decls (declarations_of s.content))) outer.content })) same_here
+        ∙ opened-def b (instance_def (decls (declarations_of st.here.content))) outer
+
+    closed : Adds c (m ∷ ms) (opened b outer ∷ outward b ss) (with_def (instance_def (decls (declarations_of st.here.content))) (opened b outer) ∷ outward b ss) (next_type (opened b outer)) (instance ((env (opened b st.here) (envs (opened b outer ∷ outward b ss))).exports))
+    closed = closes-content law c inner m ms (book_of b st.here) st.here.content (opened b outer) (outward b ss) is none (subst (λ (zs : Stack). Good c (inner ∷ m ∷ ms) (opened b st.here ∷ zs)) split g)

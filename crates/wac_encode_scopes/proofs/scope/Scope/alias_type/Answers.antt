@@ -1,0 +1,12 @@
+use Rattle.std.proofs.Common.{sym, subst, ◌∙◌}
+use Rattle.wac_binary.specs.declared.sorts.Sort.TheVariants as s
+use Rattle.wac_binary.specs.Items.{outer_alias}
+use Rattle.wac_encode_scopes.specs.Contents.{AddsTypes}
+use Rattle.wac_encode_scopes.proofs.Added.{adds-alias}
+use Rattle.wac_encode_scopes.proofs.scope.Scope.alias_type.Goals as goal
+
+pub returns-in_err-record_type-clause-types : goal.returns-in_err-record_type-clause-types
+returns-in_err-record_type-clause-types c = subst (AddsTypes c.args.self.now.content) (sym (c.record_type.ensures.content ∙ c.in_ok-own.ensures.appended)) (adds-alias (outer_alias s.Type c.args.count c.args.index) tt c.args.self.now.content)
+
+pub returns-clause-types : goal.returns-clause-types
+returns-clause-types c = subst (AddsTypes c.args.self.now.content) (sym (c.record_type.ensures.content ∙ c.in_ok-own.ensures.appended)) (adds-alias (outer_alias s.Type c.args.count c.args.index) tt c.args.self.now.content)

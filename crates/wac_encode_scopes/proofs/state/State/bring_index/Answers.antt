@@ -1,0 +1,28 @@
+use Rattle.std.proofs.Common.{subst}
+use Rattle.wac_encode_stacks.specs.Scopes.{at_type}
+use Rattle.wac_encode_stacks.specs.Parts.{IsReached}
+use Rattle.wac_encode_scopes.specs.States.{stack}
+use Rattle.wac_encode_scopes.proofs.Outward.{positive}
+use Rattle.wac_encode_scopes.proofs.Stepped.{on-ok, both-ok, goes-none, all-none, all-here, resource-here, goes-brought-from, resource-brought-from, tried}
+use Rattle.wac_encode_scopes.proofs.state.State.bring_index.Goals as goal
+
+pub returns-then-out-eq0-clause-goes : goal.returns-then-out-eq0-clause-goes
+returns-then-out-eq0-clause-goes c = goes-none c.still_law.ensures c.args.merged c.args.self.now
+
+pub returns-then-out-eq0-clause-is : goal.returns-then-out-eq0-clause-is
+returns-then-out-eq0-clause-is c = resource-here c.inside_law.ensures.has_index_here c.args.merged c.args.self.now c.args.resource c.args.index (subst (λ k. IsReached (stack c.args.merged c.args.self.now) c.args.resource k (at_type c.args.index)) c.if-out-eq0.true c.requires)
+
+pub returns-then-out-eq0-clause-types : goal.returns-then-out-eq0-clause-types
+returns-then-out-eq0-clause-types c = all-none c.args.self.now
+
+pub returns-in_default-clause-types : goal.returns-in_default-clause-types
+returns-in_default-clause-types c = all-none c.args.self.now
+
+pub returns-clause-types : goal.returns-clause-types
+returns-clause-types c = all-here c.args.self.now c.alias_resource.new.self c.alias_resource.ensures.types
+
+pub returns-clause-goes : goal.returns-clause-goes
+returns-clause-goes c = on-ok c.alias_resource.result (λ h. goes-brought-from c.inside_law.ensures.has_index_around c.args.merged c.args.self.now c.alias_resource.new.self c.args.resource c.args.out c.in-Ok.count c.args.index (positive c.args.out c.if-out-eq0.false) (tried _ c.try_from.result c.in-Ok.count c.args.out c.in-Ok.is c.try_from.ensures) c.requires h c.alias_resource.ensures.types) c.alias_resource.ensures.step
+
+pub returns-clause-is : goal.returns-clause-is
+returns-clause-is c = both-ok c.alias_resource.result (λ i is h. resource-brought-from c.inside_law.ensures.has_index_here c.args.merged c.args.self.now c.alias_resource.new.self c.args.resource c.in-Ok.count c.args.index i is h) c.alias_resource.ensures.index c.alias_resource.ensures.step

@@ -1,0 +1,5 @@
+pub mod Contents
+pub mod Books
+pub mod States
+pub mod Listing
+pub mod private

@@ -1,0 +1,54 @@
+-- Types that are opened and closed in the scopes of the code, and what is listed in them.
+use Rattle.std.specs.Prelude.{ℕ, ◌≡◌, Bool, true, not, List, [], ◌∷◌, ◌++◌}
+use Rattle.wac_types_shapes.specs.primitives.Name.{Name}
+use Rattle.wac_types_shapes.specs.primitives.Tree.{Side, Tree, type_equal, function_item, instance_item, component_item, module_item, instance}
+use Rattle.wac_types_collection.specs.collection.Collection.{Collection}
+use Rattle.wac_types_collection.specs.collection.Bound.{Bindings}
+use Rattle.wac_binary.specs.declared.sorts.Description.{Description}
+use Rattle.wac_binary.specs.declared.sorts.Description.TheVariants as e
+use Rattle.wac_binary.specs.Unfold.{Scope as Env}
+use Rattle.wac_binary.specs.HasMeaning.{IsType, IsFunction, IsInstance, IsComponent, IsModule}
+use Rattle.wac_encode_scopes.specs.declared.encodable.Encodable.TheVariants.{Instance}
+use Rattle.wac_encode_scopes.specs.declared.scope.Scope.{Scope}
+use Rattle.wac_encode_scopes.specs.declared.state.State.{State}
+use Rattle.wac_encode_scopes.specs.Books.{opened}
+use Rattle.wac_encode_scopes.specs.States.{outward, stack}
+use Rattle.wac_encode_stacks.specs.Scopes.{opening}
+use Rattle.wac_encode_stacks.specs.Good.{At, Good, innermost}
+use Rattle.wac_encode_stacks.specs.Laws.{Adds}
+use Rattle.wac_encode_stacks.specs.Listed.{IsNewName, Lists}
+
+-- the item that is described by an index in scope
+abbrev pub Describes : Env → Description → Tree → Type 0
+Describes w (e.Equal i) (type_equal t) = IsType t × At w.types i t
+Describes w (e.Func i) (function_item t) = IsFunction t × At w.types i t
+Describes w (e.Instance i) (instance_item t) = IsInstance t × At w.types i t
+Describes w (e.Component i) (component_item t) = IsComponent t × At w.types i t
+Describes w (e.CoreModule i) (module_item t) = IsModule t × At w.core_types i t
+Describes w _ _ = ⊥
+
+-- an item is listed on a side of the innermost scope, under a name that is new there; nothing else changes
+abbrev pub ListsItem : Side → Name → Description → State → State → Type 0
+ListsItem side n d old new = (c : Collection) (b : Bool) (m : Bindings) (ms : List Bindings) (t : Tree)
+    → Good c (m ∷ ms) (stack b old) → IsNewName (opened b old.here) (outward b old.around.items) side n → Describes (innermost (stack b old)) d t
+    → (new.around ≡ old.around) × Lists c m ms (opened b old.here) (opened b new.here) (outward b old.around.items) side n t
+
+-- an instance type is opened; nothing is recorded in it, and for the other collection it passes
+pub record Opens (b passes : Bool) (old new : State) : Type 0 where
+  pub content : new.here.content ≡ Instance []
+  pub around : new.around.items ≡ old.around.items ++ old.here ∷ []
+  pub opened : stack b new ≡ opening passes ∷ stack b old
+  pub beside : stack (not b) new ≡ opening true ∷ stack (not b) old
+
+-- the innermost scope is closed, and is a type of the scope around it
+abbrev pub Closes : State → State → ℕ → Type 0
+Closes old new k = (c : Collection) (b : Bool) (inner m : Bindings) (ms : List Bindings) → Good c (inner ∷ m ∷ ms) (stack b old)
+    → Adds c (m ∷ ms) (outward b old.around.items) (stack b new) k (instance ((innermost (stack b old)).exports))
+
+-- the same scopes
+abbrev pub IsSame : State → State → Type 0
+IsSame old new = (new.here ≡ old.here) × (new.around.items ≡ old.around.items)
+
+abbrev pub IsNonempty : List Scope → Type 0
+IsNonempty [] = ⊥
+IsNonempty (s ∷ ss) = Unit {0}

@@ -1,0 +1,69 @@
+-- What a call does to one scope, and to the scope so many out. Private functions alone cite this.
+use Rattle.std.specs.Prelude.{ℕ, ◌≡◌, Bool, true, false, not, Option, Some, None}
+use Rattle.wac_types_shapes.specs.declared.shapes.component.ResourceId.{ResourceId}
+use Rattle.wac_binary.specs.declared.sorts.Sort.TheVariants as s
+use Rattle.wac_binary.specs.Items.{export_alias}
+use Rattle.wac_encode_scopes.specs.declared.encodable.Encodable.{Encodable}
+use Rattle.wac_encode_scopes.specs.declared.book.Book.{Book}
+use Rattle.wac_encode_scopes.specs.declared.scope.Scope.{Scope}
+use Rattle.wac_encode_scopes.specs.declared.state.State.{State}
+use Rattle.wac_encode_scopes.specs.Contents.{and_alias_of}
+use Rattle.wac_encode_scopes.specs.Books.{recorded, opened}
+use Rattle.wac_encode_scopes.specs.States.{stack}
+use Rattle.wac_encode_stacks.specs.Scopes.{Content, Where, at_type, at_export, Open, opening}
+use Rattle.wac_encode_stacks.specs.Beside.{written_as, all_written_as}
+use Rattle.wac_encode_stacks.specs.Inside.{changed_at, aliased_there}
+use Rattle.wac_types_shapes.specs.declared.shapes.component.DefinedTypeId.{DefinedTypeId}
+use Rattle.wac_encode_stacks.specs.Brought.{aliased_value}
+
+-- more is recorded in a book
+abbrev pub Records : (Open → Open) → Book → Book → Type 0
+Records f old new = (x : Content) → recorded new x ≡ f (recorded old x)
+
+-- a scope changes for the types of one collection, and is only so written for those of the other
+abbrev pub ScopeChanges : Bool → (Open → Open) → Scope → Scope → Type 0
+ScopeChanges b f old new = (opened b new ≡ f (opened b old)) × (opened (not b) new ≡ written_as (opened b new) (opened (not b) old))
+
+-- the scope so many out changes so
+abbrev pub StateChanges : Bool → ℕ → (Open → Open) → State → State → Type 0
+StateChanges b k f old new = (stack b new ≡ changed_at k f (stack b old)) × (stack (not b) new ≡ all_written_as (stack b new) (stack (not b) old))
+
+-- a type index and true, or the index of an instance and false
+abbrev pub export_of : Option Where → Option (ℕ × Bool)
+export_of None = None
+export_of (Some (at_type i)) = Some (i, true)
+export_of (Some (at_export j n)) = Some (j, false)
+
+-- what an instance exports is aliased
+abbrev pub IsExported : Option Where → Type 0
+IsExported (Some (at_export j n)) = Unit {0}
+IsExported _ = ⊥
+
+abbrev pub aliased_from : Option Where → Encodable → Encodable
+aliased_from (Some (at_export j n)) e = and_alias_of (export_alias s.Type j n) e
+aliased_from _ e = e
+
+-- a resource that is recorded as an instance's export is aliased, and recorded at the alias
+abbrev pub settled_from : ResourceId → Option Where → Open → Open
+settled_from r (Some (at_export j n)) o = aliased_there r j n o
+settled_from r _ o = o
+
+abbrev pub settled : ResourceId → Open → Open
+settled r o = settled_from r (o.binds r) o
+
+-- a scope in which nothing is recorded
+abbrev pub empty_scope : Content → Bool → Open
+empty_scope x passes = record (opening passes) { content = x }
+
+-- what is given for the one collection, or for the other
+abbrev pub either : Bool → Bool → Bool → Bool
+either true merged graph = merged
+either false merged graph = graph
+
+-- and a value type
+abbrev pub settled_value_from : DefinedTypeId → Option Where → Open → Open
+settled_value_from d (Some (at_export j n)) o = aliased_value d j n o
+settled_value_from d _ o = o
+
+abbrev pub settled_value : DefinedTypeId → Open → Open
+settled_value d o = settled_value_from d (o.exports d) o

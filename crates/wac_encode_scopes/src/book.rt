@@ -1,0 +1,208 @@
+//! What is recorded of the types of one collection in an open scope.
+
+ghost use Rattle.std.specs.Prelude.{◌≡◌, false, IfOk, OnOk, OnErr, None};
+ghost use Rattle.wac_encode_stacks.specs.Scopes.{bind_at, index_at, export_at, type_count};
+ghost use Rattle.wac_encode_scopes.specs.Contents.{content_of};
+ghost use Rattle.wac_encode_scopes.specs.Books.{where_of, how_of, binds_in, types_in, exports_in, maybe_where, maybe_indexed};
+ghost use Rattle.wac_encode_scopes.specs.private.Steps.{Records, IsExported, aliased_from, export_of};
+
+use crate::encodable::Encodable;
+use std::alloc::Global;
+use std::collections::HashMap;
+use std::hash::BuildHasherDefault;
+use wac_binary::BinaryFault;
+use wac_types_collection::{DefinedTypeId, ResourceId, Text, Type, TypeHasher};
+
+/// Types are hashed by their positions in a collection.
+type TypeHash = BuildHasherDefault<TypeHasher>;
+
+/// How a type got its type index in a scope.
+#[derive(Clone, Copy)]
+pub enum How {
+    /// Its definition is written there.
+    Defined,
+    /// An outer alias is.
+    Brought,
+    /// A type import or a type export is.
+    Listed,
+}
+
+/// The type index of a type, and how it got it.
+#[derive(Clone, Copy)]
+pub(crate) struct Entry {
+    /// The type index.
+    pub(crate) index: u32,
+    /// How the type got it.
+    pub(crate) how: How,
+}
+
+/// Where a resource is, or a value type that an instance exports.
+#[derive(Drop)]
+pub(crate) enum Place {
+    /// At this type index.
+    Index(u32),
+    /// It is not aliased yet from the instance with this index, which exports it under this name.
+    Export(u32, Text),
+}
+
+/// What is recorded of the types of one collection in an open scope.
+pub(crate) struct Book {
+    /// Whether all that the scopes around call is called in the scope as there.
+    passes: bool,
+    /// The type indexes of types.
+    types: HashMap<Type, Entry, TypeHash>,
+    /// Where value types are that instances of the scope export.
+    exports: HashMap<DefinedTypeId, Place, TypeHash>,
+    /// Where resources are.
+    resources: HashMap<ResourceId, Place, TypeHash>,
+}
+
+// By hand: a derived `Drop` is proved again wherever one goes out of scope.
+impl Drop for Book {
+    fn drop(self) {
+        let Book {
+            passes: _,
+            types: _,
+            exports: _,
+            resources: _,
+        } = self;
+    }
+}
+
+impl Book {
+    /// A book in which nothing is recorded.
+    pub(crate) fn new(alloc: Global, passes: bool) -> Book
+        ensures passes { result.passes ≡ passes }
+        ensures types { (a : _) → types_in result a ≡ None }
+        ensures exports { (d : _) → exports_in result d ≡ None }
+        ensures resources { (r : _) → binds_in result r ≡ None }
+    {
+        Book {
+            passes,
+            types: HashMap::with_hasher(alloc, BuildHasherDefault::new()),
+            exports: HashMap::with_hasher(alloc, BuildHasherDefault::new()),
+            resources: HashMap::with_hasher(alloc, BuildHasherDefault::new()),
+        }
+    }
+
+    /// The type index of a type, and how it got it.
+    pub(crate) fn entry(&self, ty: Type) -> Option<Entry>
+        ensures { maybe_indexed result ≡ types_in self.now ty }
+    {
+        match self.types.get(&ty) {
+            Some(entry) => Some(*entry),
+            None => None,
+        }
+    }
+
+    /// Whether any resource is recorded.
+    pub(crate) fn has_resources(&self) -> bool
+        ensures { result ≡ false → (r : _) → binds_in self.now r ≡ None }
+    {
+        !self.resources.is_empty()
+    }
+
+    /// Adds an alias of a resource that is recorded as an instance's export, and returns its type index.
+    ///
+    /// # Errors
+    /// - `TooLarge` if the alias would not fit 32-bit sizes.
+    /// - `OutOfMemory`.
+    ///
+    /// On an error the content is unchanged.
+    pub(crate) fn alias_resource(
+        &self,
+        content: &mut Encodable,
+        resource: ResourceId,
+    ) -> Result<u32, BinaryFault>
+        requires { IsExported (binds_in self.now resource) }
+        ensures index { IfOk result (λ i. i ≡ type_count (content_of content.old)) }
+        ensures appended { OnOk result (content.new ≡ aliased_from (binds_in self.now resource) content.old) }
+        ensures refused { OnErr result (content.new ≡ content.old) }
+    {
+        match self.resources.get(&resource) {
+            Some(Place::Export(instance, name)) => content.alias_export(*instance, name.as_str()),
+            Some(Place::Index(_)) | None => unreachable!(),
+        }
+    }
+
+    /// Where a value type is that an instance exports: a type index and `true`, or the index of the instance and `false`.
+    pub(crate) fn export(&self, definition: DefinedTypeId) -> Option<(u32, bool)>
+        ensures { result ≡ export_of (exports_in self.now definition) }
+    {
+        match self.exports.get(&definition) {
+            Some(Place::Index(index)) => Some((*index, true)),
+            Some(Place::Export(instance, _)) => Some((*instance, false)),
+            None => None,
+        }
+    }
+
+    /// Adds an alias of a value type that is recorded as an instance's export, and returns its type index.
+    ///
+    /// # Errors
+    /// As [`Self::alias_resource`].
+    pub(crate) fn alias_export(
+        &self,
+        content: &mut Encodable,
+        definition: DefinedTypeId,
+    ) -> Result<u32, BinaryFault>
+        requires { IsExported (exports_in self.now definition) }
+        ensures index { IfOk result (λ i. i ≡ type_count (content_of content.old)) }
+        ensures appended { OnOk result (content.new ≡ aliased_from (exports_in self.now definition) content.old) }
+        ensures refused { OnErr result (content.new ≡ content.old) }
+    {
+        match self.exports.get(&definition) {
+            Some(Place::Export(instance, name)) => content.alias_export(*instance, name.as_str()),
+            Some(Place::Index(_)) | None => unreachable!(),
+        }
+    }
+
+    /// Whether all that the scopes around call is called as there.
+    pub(crate) fn passes(&self) -> bool
+        ensures { result ≡ self.now.passes }
+    {
+        self.passes
+    }
+
+    /// Where a resource is: a type index and `true`, or the index of the instance that exports it and `false`.
+    pub(crate) fn resource(&self, resource: ResourceId) -> Option<(u32, bool)>
+        ensures { result ≡ export_of (binds_in self.now resource) }
+    {
+        match self.resources.get(&resource) {
+            Some(Place::Index(index)) => Some((*index, true)),
+            Some(Place::Export(instance, _)) => Some((*instance, false)),
+            None => None,
+        }
+    }
+
+    /// Records where a resource is.
+    pub(crate) fn record_resource(
+        &mut self,
+        resource: ResourceId,
+        place: Place,
+    ) -> Result<(), BinaryFault>
+        ensures { OnOk result (Records (bind_at resource (where_of place)) self.old self.new) }
+    {
+        self.resources.insert(resource, place)?;
+        Ok(())
+    }
+
+    /// Records the type index of a type.
+    pub(crate) fn record_type(&mut self, ty: Type, how: How, index: u32) -> Result<(), BinaryFault>
+        ensures { OnOk result (Records (index_at ty (how_of how) index) self.old self.new) }
+    {
+        self.types.insert(ty, Entry { index, how })?;
+        Ok(())
+    }
+
+    /// Records where a value type is that an instance exports.
+    pub(crate) fn record_export(
+        &mut self,
+        definition: DefinedTypeId,
+        place: Place,
+    ) -> Result<(), BinaryFault>
+        ensures { OnOk result (Records (export_at definition (where_of place)) self.old self.new) }
+    {
+        self.exports.insert(definition, place)?;
+        Ok(())
+    }
+}

@@ -1,0 +1,136 @@
+//! What is being written in a scope.
+
+ghost use Rattle.std.specs.Prelude.{◌≡◌, IfOk, OnOk, OnErr};
+ghost use Rattle.wac_binary.specs.declared.sorts.Sort.TheVariants as s;
+ghost use Rattle.wac_binary.specs.Items.{value_def, instance_def, decls, export_alias, outer_alias};
+ghost use Rattle.wac_binary.specs.Indexes.{space, described_sort};
+ghost use Rattle.wac_binary.specs.Views.{defined_of, func_of};
+ghost use Rattle.wac_encode_stacks.specs.Scopes.{type_count};
+ghost use Rattle.wac_encode_scopes.specs.Contents.{content_of, and_type, and_alias_of, and_item, HasSide, side_of, count_of};
+
+use crate::side::Side;
+use wac_binary::{
+    BinaryFault, ComponentBuilder, ComponentType, DefinedType, Description, FuncType, InstanceType,
+    Sort,
+};
+
+/// What is being written in a scope: a component, or a type that is open.
+#[derive(Drop)]
+pub enum Encodable {
+    /// A component, item by item: the root.
+    Builder(ComponentBuilder),
+    /// An instance type.
+    Instance(InstanceType),
+    /// A component type.
+    Component(ComponentType),
+}
+
+impl Encodable {
+    /// Adds a value type and returns its type index.
+    ///
+    /// # Errors
+    /// - `TooLarge` if it would not fit 32-bit sizes.
+    /// - `OutOfMemory`.
+    ///
+    /// On an error the content is unchanged.
+    pub(crate) fn defined_type(&mut self, t: &DefinedType<'_>) -> Result<u32, BinaryFault>
+        ensures index { IfOk result (λ i. i ≡ type_count (content_of self.old)) }
+        ensures appended { OnOk result (self.new ≡ and_type (value_def (defined_of t.now)) self.old) }
+        ensures refused { OnErr result (self.new ≡ self.old) }
+    {
+        match self {
+            Encodable::Builder(content) => content.defined_type(t),
+            Encodable::Instance(content) => content.defined_type(t),
+            Encodable::Component(content) => content.defined_type(t),
+        }
+    }
+
+    /// Adds a function type and returns its type index.
+    ///
+    /// # Errors
+    /// As [`Self::defined_type`].
+    pub(crate) fn func_type(&mut self, f: &FuncType<'_>) -> Result<u32, BinaryFault>
+        ensures index { IfOk result (λ i. i ≡ type_count (content_of self.old)) }
+        ensures appended { OnOk result (self.new ≡ and_type (func_of f.now) self.old) }
+        ensures refused { OnErr result (self.new ≡ self.old) }
+    {
+        match self {
+            Encodable::Builder(content) => content.func_type(f),
+            Encodable::Instance(content) => content.func_type(f),
+            Encodable::Component(content) => content.func_type(f),
+        }
+    }
+
+    /// Adds an alias of a type of an enclosing scope, so many scopes out, and returns its type index.
+    ///
+    /// # Errors
+    /// As [`Self::defined_type`].
+    pub(crate) fn alias_outer(&mut self, count: u32, index: u32) -> Result<u32, BinaryFault>
+        ensures index { IfOk result (λ i. i ≡ type_count (content_of self.old)) }
+        ensures appended { OnOk result (self.new ≡ and_alias_of (outer_alias s.Type count index) self.old) }
+        ensures refused { OnErr result (self.new ≡ self.old) }
+    {
+        match self {
+            Encodable::Builder(content) => content.alias_outer(Sort::Type, count, index),
+            Encodable::Instance(content) => content.alias_outer(Sort::Type, count, index),
+            Encodable::Component(content) => content.alias_outer(Sort::Type, count, index),
+        }
+    }
+
+    /// Adds an alias of a type that an instance exports and returns its type index.
+    ///
+    /// # Errors
+    /// As [`Self::defined_type`].
+    pub(crate) fn alias_export(&mut self, instance: u32, name: &str) -> Result<u32, BinaryFault>
+        ensures index { IfOk result (λ i. i ≡ type_count (content_of self.old)) }
+        ensures appended { OnOk result (self.new ≡ and_alias_of (export_alias s.Type instance name.now) self.old) }
+        ensures refused { OnErr result (self.new ≡ self.old) }
+    {
+        match self {
+            Encodable::Builder(content) => content.alias_export(Sort::Type, instance, name),
+            Encodable::Instance(content) => content.alias_export(Sort::Type, instance, name),
+            Encodable::Component(content) => content.alias_export(Sort::Type, instance, name),
+        }
+    }
+
+    /// Adds an instance type with these declarations, which are not copied if they are the longer part, and returns its type index.
+    ///
+    /// # Errors
+    /// As [`Self::defined_type`].
+    pub(crate) fn instance_type(&mut self, t: InstanceType) -> Result<u32, BinaryFault>
+        ensures index { IfOk result (λ i. i ≡ type_count (content_of self.old)) }
+        ensures appended { OnOk result (self.new ≡ and_type (instance_def (decls t)) self.old) }
+        ensures refused { OnErr result (self.new ≡ self.old) }
+    {
+        match self {
+            Encodable::Builder(content) => content.instance_type(&t),
+            Encodable::Instance(content) => content.take_instance_type(t),
+            Encodable::Component(content) => content.take_instance_type(t),
+        }
+    }
+
+    /// Lists an item on a side of a type that is open, and returns its index of the sort that is described.
+    ///
+    /// # Errors
+    /// As [`Self::defined_type`].
+    pub(crate) fn list(
+        &mut self,
+        side: Side,
+        name: &str,
+        d: Description,
+    ) -> Result<u32, BinaryFault>
+        requires { HasSide (side_of side) self.old }
+        ensures index { IfOk result (λ i. i ≡ count_of (space (described_sort d)) self.old) }
+        ensures appended { OnOk result (self.new ≡ and_item (side_of side) name.now d self.old) }
+        ensures refused { OnErr result (self.new ≡ self.old) }
+    {
+        match self {
+            Encodable::Builder(_) => unreachable!(),
+            Encodable::Instance(content) => content.export(name, d),
+            Encodable::Component(content) => match side {
+                Side::Import => content.import(name, d),
+                Side::Export => content.export(name, d),
+            },
+        }
+    }
+}

@@ -1,0 +1,390 @@
+//! An open scope.
+
+ghost use Rattle.std.specs.Prelude.{◌≡◌, ◌⊎◌, true, false, not, [], IfOk, OnOk, OnErr, None};
+ghost use Rattle.wac_binary.specs.declared.sorts.Sort.TheVariants as s;
+ghost use Rattle.wac_binary.specs.Items.{value_def, instance_def, decls, outer_alias};
+ghost use Rattle.wac_binary.specs.Indexes.{space, described_sort};
+ghost use Rattle.wac_binary.specs.Views.{defined_of, func_of};
+ghost use Rattle.wac_types_shapes.specs.declared.shapes.component.«Type».TheVariants as ty;
+ghost use Rattle.wac_encode_stacks.specs.Scopes.{at_type, opening, defined, brought, bind_at, export_at, index_at, with_alias_of, with_def, next_type, type_count};
+ghost use Rattle.wac_encode_scopes.specs.Contents.{content_of, and_type, and_item, count_of, declarations_of, AddsTypes, HasSide, IsInstanceType, side_of};
+ghost use Rattle.wac_encode_scopes.specs.declared.encodable.Encodable.TheVariants.{Instance};
+ghost use Rattle.wac_encode_scopes.specs.States.{named_in};
+ghost use Rattle.wac_encode_scopes.specs.Books.{where_of, how_of, maybe_indexed, opened, binds_in, book_of};
+ghost use Rattle.wac_encode_scopes.specs.private.Steps.{ScopeChanges, IsExported, aliased_from, settled, settled_value, export_of, empty_scope, either};
+
+use crate::book::{Book, Entry, How, Place};
+use crate::encodable::Encodable;
+use crate::side::Side;
+use std::alloc::Global;
+use wac_binary::{BinaryFault, DefinedType, Description, FuncType, InstanceType};
+use wac_types_collection::{DefinedTypeId, FuncTypeId, ResourceId, Type, ValueType};
+
+/// An open scope: its content, and what is recorded in it of the types of the merged collection and of the graph's own.
+pub struct Scope {
+    /// What is written.
+    content: Encodable,
+    /// What is recorded of the merged collection's types.
+    merged: Book,
+    /// What is recorded of the graph's types.
+    graph: Book,
+}
+
+// By hand: a derived `Drop` is proved again wherever one goes out of scope.
+impl Drop for Scope {
+    fn drop(self) {
+        let Scope {
+            content: _,
+            merged: _,
+            graph: _,
+        } = self;
+    }
+}
+
+impl Scope {
+    /// Records where a resource is.
+    fn record_resource(
+        &mut self,
+        merged: bool,
+        resource: ResourceId,
+        place: Place,
+    ) -> Result<(), BinaryFault>
+        ensures recorded { OnOk result (ScopeChanges merged (bind_at resource (where_of place)) self.old self.new) }
+        ensures content { self.new.content ≡ self.old.content }
+    {
+        if merged {
+            self.merged.record_resource(resource, place)
+        } else {
+            self.graph.record_resource(resource, place)
+        }
+    }
+
+    /// Records the type index of a type.
+    pub(crate) fn record_type(
+        &mut self,
+        merged: bool,
+        ty: Type,
+        how: How,
+        index: u32,
+    ) -> Result<(), BinaryFault>
+        ensures recorded { OnOk result (ScopeChanges merged (index_at ty (how_of how) index) self.old self.new) }
+        ensures content { self.new.content ≡ self.old.content }
+    {
+        if merged {
+            self.merged.record_type(ty, how, index)
+        } else {
+            self.graph.record_type(ty, how, index)
+        }
+    }
+
+    /// Where a resource is: a type index and `true`, or the index of the instance that exports it and `false`.
+    pub(crate) fn resource(&self, merged: bool, resource: ResourceId) -> Option<(u32, bool)>
+        ensures { result ≡ export_of (binds_in (book_of merged self.now) resource) }
+    {
+        if merged {
+            self.merged.resource(resource)
+        } else {
+            self.graph.resource(resource)
+        }
+    }
+
+    /// Adds an alias of a resource that is recorded as an instance's export, and returns its type index.
+    fn alias_own(&mut self, merged: bool, resource: ResourceId) -> Result<u32, BinaryFault>
+        requires { IsExported ((opened merged self.old).binds resource) }
+        ensures index { IfOk result (λ i. i ≡ next_type (opened merged self.old)) }
+        ensures appended { OnOk result (self.new ≡ record self.old { content = aliased_from ((opened merged self.old).binds resource) self.old.content }) }
+        ensures refused { OnErr result (self.new ≡ self.old) }
+    {
+        if merged {
+            self.merged.alias_resource(&mut self.content, resource)
+        } else {
+            self.graph.alias_resource(&mut self.content, resource)
+        }
+    }
+
+    /// Whether any resource is recorded of this collection's.
+    pub(crate) fn has_resources(&self, merged: bool) -> bool
+        ensures { result ≡ false → (r : _) → binds_in (book_of merged self.now) r ≡ None }
+    {
+        if merged {
+            self.merged.has_resources()
+        } else {
+            self.graph.has_resources()
+        }
+    }
+
+    /// Aliases a resource that is recorded as an instance's export, records it at the alias, and returns its type index.
+    ///
+    /// # Errors
+    /// - `TooLarge` if the alias would not fit 32-bit sizes.
+    /// - `OutOfMemory`.
+    ///
+    /// After an error the alias may have been added.
+    pub(crate) fn settle_resource(
+        &mut self,
+        merged: bool,
+        resource: ResourceId,
+    ) -> Result<u32, BinaryFault>
+        requires { IsExported ((opened merged self.old).binds resource) }
+        ensures index { IfOk result (λ i. i ≡ next_type (opened merged self.old)) }
+        ensures step { OnOk result (ScopeChanges merged (settled resource) self.old self.new) }
+        ensures types { AddsTypes self.old.content self.new.content }
+    {
+        let own = self.alias_own(merged, resource)?;
+        self.record_resource(merged, resource, Place::Index(own))?;
+        Ok(own)
+    }
+
+    /// Adds an outer alias of a resource's type index so many scopes out, and records it.
+    ///
+    /// # Errors
+    /// - `TooLarge` if the alias would not fit 32-bit sizes.
+    /// - `OutOfMemory`.
+    ///
+    /// After an error the alias may have been added.
+    pub(crate) fn alias_resource(
+        &mut self,
+        merged: bool,
+        resource: ResourceId,
+        count: u32,
+        index: u32,
+    ) -> Result<u32, BinaryFault>
+        ensures index { IfOk result (λ i. i ≡ next_type (opened merged self.old)) }
+        ensures step { OnOk result (ScopeChanges merged (λ o. bind_at resource (at_type (next_type o)) (with_alias_of (outer_alias s.Type count index) o)) self.old self.new) }
+        ensures types { AddsTypes self.old.content self.new.content }
+    {
+        let own = self.content.alias_outer(count, index)?;
+        self.record_resource(merged, resource, Place::Index(own))?;
+        Ok(own)
+    }
+
+    /// Adds the definition of a value type, records its type index and returns it.
+    ///
+    /// # Errors
+    /// As [`Self::alias_resource`].
+    pub(crate) fn define(
+        &mut self,
+        merged: bool,
+        value: ValueType,
+        definition: &DefinedType<'_>,
+    ) -> Result<u32, BinaryFault>
+        ensures index { IfOk result (λ i. i ≡ next_type (opened merged self.old)) }
+        ensures step { OnOk result (ScopeChanges merged (λ o. index_at (ty.Value value) defined (next_type o) (with_def (value_def (defined_of definition.now)) o)) self.old self.new) }
+        ensures types { AddsTypes self.old.content self.new.content }
+    {
+        let own = self.content.defined_type(definition)?;
+        self.record_type(merged, Type::Value(value), How::Defined, own)?;
+        Ok(own)
+    }
+
+    /// Adds a function type, records its type index and returns it.
+    ///
+    /// # Errors
+    /// As [`Self::alias_resource`].
+    pub(crate) fn define_func(
+        &mut self,
+        merged: bool,
+        id: FuncTypeId,
+        f: &FuncType<'_>,
+    ) -> Result<u32, BinaryFault>
+        ensures index { IfOk result (λ i. i ≡ next_type (opened merged self.old)) }
+        ensures step { OnOk result (ScopeChanges merged (λ o. index_at (ty.Func id) defined (next_type o) (with_def (func_of f.now) o)) self.old self.new) }
+        ensures types { AddsTypes self.old.content self.new.content }
+    {
+        let own = self.content.func_type(f)?;
+        self.record_type(merged, Type::Func(id), How::Defined, own)?;
+        Ok(own)
+    }
+
+    /// A scope with this content, in which nothing is recorded; whether it passes is given for each of the collections.
+    pub(crate) fn new(alloc: Global, content: Encodable, merged: bool, graph: bool) -> Scope
+        ensures content { result.content ≡ content }
+        ensures opened { (b : _) → opened b result ≡ empty_scope (content_of content) (either b merged graph) }
+    {
+        Scope {
+            content,
+            merged: Book::new(alloc, merged),
+            graph: Book::new(alloc, graph),
+        }
+    }
+
+    /// An instance type without declarations, in which nothing is recorded. It passes for the one collection if `passes` says so, and for
+    /// the other.
+    pub(crate) fn instance(alloc: Global, merged: bool, passes: bool) -> Scope
+        ensures content { result.content ≡ Instance [] }
+        ensures opened { opened merged result ≡ opening passes }
+        ensures beside { opened (not merged) result ≡ opening true }
+    {
+        let content = Encodable::Instance(InstanceType::new(alloc));
+        if merged {
+            Scope::new(alloc, content, passes, true)
+        } else {
+            Scope::new(alloc, content, true, passes)
+        }
+    }
+
+    /// The type index of a type that is recorded here, and how it got it.
+    pub(crate) fn entry(&self, merged: bool, ty: Type) -> Option<Entry>
+        ensures { maybe_indexed result ≡ (opened merged self.now).types ty }
+    {
+        if merged {
+            self.merged.entry(ty)
+        } else {
+            self.graph.entry(ty)
+        }
+    }
+
+    /// Lists an item on a side of a type that is open, and returns its index of the sort that is described.
+    ///
+    /// # Errors
+    /// As [`Encodable::defined_type`].
+    pub(crate) fn list(
+        &mut self,
+        side: Side,
+        name: &str,
+        d: Description,
+    ) -> Result<u32, BinaryFault>
+        requires { HasSide (side_of side) self.old.content }
+        ensures index { IfOk result (λ i. i ≡ count_of (space (described_sort d)) self.old.content) }
+        ensures appended { OnOk result (self.new ≡ record self.old { content = and_item (side_of side) name.now d self.old.content }) }
+        ensures refused { OnErr result (self.new ≡ self.old) }
+    {
+        self.content.list(side, name, d)
+    }
+
+    /// Adds an instance type with the content of a scope, and returns its type index.
+    ///
+    /// # Errors
+    /// As [`Encodable::defined_type`].
+    pub(crate) fn add_instance_type(&mut self, inner: Scope) -> Result<u32, BinaryFault>
+        requires { IsInstanceType inner.content }
+        ensures index { IfOk result (λ i. i ≡ type_count (content_of self.old.content)) }
+        ensures appended { OnOk result (self.new ≡ record self.old { content = and_type (instance_def (decls (declarations_of inner.content))) self.old.content }) }
+        ensures refused { OnErr result (self.new ≡ self.old) }
+    {
+        let Scope {
+            content,
+            merged: _,
+            graph: _,
+        } = inner;
+        let Encodable::Instance(declarations) = content else {
+            unreachable!()
+        };
+        self.content.instance_type(declarations)
+    }
+
+    /// Records where a value type is that an instance exports.
+    pub(crate) fn record_export(
+        &mut self,
+        merged: bool,
+        definition: DefinedTypeId,
+        place: Place,
+    ) -> Result<(), BinaryFault>
+        ensures recorded { OnOk result (ScopeChanges merged (export_at definition (where_of place)) self.old self.new) }
+        ensures content { self.new.content ≡ self.old.content }
+    {
+        if merged {
+            self.merged.record_export(definition, place)
+        } else {
+            self.graph.record_export(definition, place)
+        }
+    }
+
+    /// Where a value type is that an instance exports: a type index and `true`, or the index of the instance and `false`.
+    fn export(&self, merged: bool, definition: DefinedTypeId) -> Option<(u32, bool)>
+        ensures { result ≡ export_of ((opened merged self.now).exports definition) }
+    {
+        if merged {
+            self.merged.export(definition)
+        } else {
+            self.graph.export(definition)
+        }
+    }
+
+    /// Where a value type is that has a name here, as [`Self::resource`] has it: its type index is not of its definition.
+    pub(crate) fn named(&self, merged: bool, definition: DefinedTypeId) -> Option<(u32, bool)>
+        ensures { result ≡ export_of (named_in definition (opened merged self.now)) }
+    {
+        let ty = Type::Value(ValueType::Defined(definition));
+        match self.entry(merged, ty) {
+            Some(
+                Entry {
+                    index,
+                    how: How::Brought | How::Listed,
+                },
+            ) => Some((index, true)),
+            _ => self.export(merged, definition),
+        }
+    }
+
+    /// Whether what is recorded further out may be used here, of a type that means no resource if `is_closed`.
+    pub(crate) fn may_cross(&self, merged: bool, is_closed: bool) -> bool
+        ensures { result ≡ true → (is_closed ≡ true) ⊎ ((opened merged self.now).passes ≡ true) }
+    {
+        if is_closed {
+            return true;
+        }
+        if merged {
+            self.merged.passes()
+        } else {
+            self.graph.passes()
+        }
+    }
+
+    /// Adds an alias of a value type that is recorded as an instance's export, and returns its type index.
+    fn alias_own_export(
+        &mut self,
+        merged: bool,
+        definition: DefinedTypeId,
+    ) -> Result<u32, BinaryFault>
+        requires { IsExported ((opened merged self.old).exports definition) }
+        ensures index { IfOk result (λ i. i ≡ next_type (opened merged self.old)) }
+        ensures appended { OnOk result (self.new ≡ record self.old { content = aliased_from ((opened merged self.old).exports definition) self.old.content }) }
+        ensures refused { OnErr result (self.new ≡ self.old) }
+    {
+        if merged {
+            self.merged.alias_export(&mut self.content, definition)
+        } else {
+            self.graph.alias_export(&mut self.content, definition)
+        }
+    }
+
+    /// Aliases a value type that is recorded as an instance's export, records it at the alias, and returns its type index.
+    ///
+    /// # Errors
+    /// As [`Self::settle_resource`].
+    pub(crate) fn settle_export(
+        &mut self,
+        merged: bool,
+        definition: DefinedTypeId,
+    ) -> Result<u32, BinaryFault>
+        requires { IsExported ((opened merged self.old).exports definition) }
+        ensures index { IfOk result (λ i. i ≡ next_type (opened merged self.old)) }
+        ensures step { OnOk result (ScopeChanges merged (settled_value definition) self.old self.new) }
+        ensures types { AddsTypes self.old.content self.new.content }
+    {
+        let own = self.alias_own_export(merged, definition)?;
+        self.record_export(merged, definition, Place::Index(own))?;
+        Ok(own)
+    }
+
+    /// Adds an outer alias of a type's index so many scopes out, records it and returns its own index.
+    ///
+    /// # Errors
+    /// As [`Self::alias_resource`].
+    pub(crate) fn alias_type(
+        &mut self,
+        merged: bool,
+        ty: Type,
+        count: u32,
+        index: u32,
+    ) -> Result<u32, BinaryFault>
+        ensures index { IfOk result (λ i. i ≡ next_type (opened merged self.old)) }
+        ensures step { OnOk result (ScopeChanges merged (λ o. index_at ty brought (next_type o) (with_alias_of (outer_alias s.Type count index) o)) self.old self.new) }
+        ensures types { AddsTypes self.old.content self.new.content }
+    {
+        let own = self.content.alias_outer(count, index)?;
+        self.record_type(merged, ty, How::Brought, own)?;
+        Ok(own)
+    }
+}

@@ -1,0 +1,471 @@
+//! The scopes that are open.
+
+ghost use Rattle.std.specs.Prelude.{◌≡◌, ◌≤◌, ◌∷◌, ◌++◌, [], length, ℕ, IfOk, OnOk, OnErr, IfSome, None, Some, true};
+ghost use Rattle.wac_types_shapes.specs.primitives.Name.{Name};
+ghost use Rattle.wac_types_shapes.specs.declared.shapes.component.DefinedType.{DefinedType as Definition};
+ghost use Rattle.wac_types_shapes.specs.declared.shapes.component.FuncType.{FuncType as Function};
+ghost use Rattle.wac_types_shapes.specs.declared.shapes.component.ValueType.TheVariants as val;
+ghost use Rattle.wac_types_shapes.specs.declared.shapes.component.«Type».TheVariants as ty;
+ghost use Rattle.wac_types_collection.specs.collection.Collection.{Collection, IsWellFormed, item_at};
+ghost use Rattle.wac_types_collection.specs.collection.Held.{resolved};
+ghost use Rattle.wac_binary.specs.Views.{defined_of, func_of};
+ghost use Rattle.wac_encode_stacks.specs.Scopes.{Where, at_type, at_export, How as AnyHow, defined};
+ghost use Rattle.wac_encode_stacks.specs.Good.{Good, IsClosed, nothing_bound};
+ghost use Rattle.wac_binary.specs.Items.{decls};
+ghost use Rattle.wac_binary.specs.Indexes.{space, described_sort};
+ghost use Rattle.wac_binary.specs.HasMeaning.{ImportNothing};
+ghost use Rattle.wac_encode_scopes.specs.declared.encodable.Encodable.TheVariants.{Builder, Component};
+ghost use Rattle.wac_encode_scopes.specs.Contents.{HasSide, IsInstanceType, side_of, declarations_of, count_of, and_item};
+ghost use Rattle.wac_encode_scopes.specs.Books.{opened, how_of};
+ghost use Rattle.wac_encode_scopes.specs.Listing.{ListsItem, Opens, Closes, IsSame, IsNonempty};
+ghost use Rattle.wac_encode_stacks.specs.Parts.{IsReached};
+ghost use Rattle.wac_encode_stacks.specs.Inside.{next_type_at};
+ghost use Rattle.wac_encode_scopes.specs.States.{stack, named_in, IsNamedAt, Crosses, AllAddTypes, Goes, GoesForAll, SaysWritten, SaysWrittenFunc, IsRecordedAt, IsTypeAt, IsBound, IsResourceAt, IsPlace};
+ghost use Rattle.wac_encode_scopes.specs.private.Steps.{StateChanges, settled, settled_value};
+
+use crate::book::How;
+use crate::encodable::Encodable;
+use crate::scope::Scope;
+use crate::side::Side;
+use std::alloc::Global;
+use std::mem::replace;
+use wac_binary::{
+    BinaryFault, ComponentBuilder, ComponentType, DefinedType, Description, FuncType,
+};
+use wac_encode_stacks::{
+    bringing_law, closing_law, inside_law, listing_law, root_law, step_law, still_law,
+};
+use wac_types_collection::{DefinedTypeId, FuncTypeId, ResourceId, Type, ValueType};
+
+/// The scopes that are open: those around, the bottom first, and the innermost. After an error each has its content, and types and
+/// aliases of types after it; what is recorded is no longer to be used.
+pub struct State {
+    around: Vec<Scope>,
+    here: Scope,
+}
+
+// By hand: a derived `Drop` is proved again wherever one goes out of scope.
+impl Drop for State {
+    fn drop(self) {
+        let State { around: _, here: _ } = self;
+    }
+}
+
+impl State {
+    /// Where a resource is in the innermost scope that records it: how many scopes out, and there a type index and `true`, or the index of the
+    /// instance that exports it and `false`; and how many scopes were asked.
+    pub fn find(&self, merged: bool, resource: ResourceId) -> (Option<(usize, u32, bool)>, usize)
+        ensures found { IfSome result.0 (λ f. (w : Where) × IsReached (stack merged self.now) resource f.0 w × IsPlace w f.1 f.2) }
+        ensures none { result.0 ≡ None → (k : ℕ) (w : Where) → IsReached (stack merged self.now) resource k w → ⊥ }
+        ensures probes { result.1 ≤ length (stack merged self.now) }
+    {
+        if let Some((index, is_type)) = self.here.resource(merged, resource) {
+            return (Some((0, index, is_type)), 1);
+        }
+        let mut left = self.around.len();
+        let mut out = 0;
+        let mut probes = 1;
+        while left > 0 {
+            left -= 1;
+            out += 1;
+            if self.around[left].has_resources(merged) {
+                probes += 1;
+                if let Some((index, is_type)) = self.around[left].resource(merged, resource) {
+                    return (Some((out, index, is_type)), probes);
+                }
+            }
+        }
+        (None, probes)
+    }
+
+    /// Aliases a resource in the scope so many out, which records it as an instance's export, and returns its type index there.
+    fn alias_there(
+        &mut self,
+        merged: bool,
+        out: usize,
+        resource: ResourceId,
+    ) -> Result<u32, BinaryFault>
+        requires { (j : ℕ) × (n : Name) × IsReached (stack merged self.old) resource out (at_export j n) }
+        ensures index { IfOk result (λ i. i ≡ next_type_at out (stack merged self.old)) }
+        ensures step { OnOk result (StateChanges merged out (settled resource) self.old self.new) }
+        ensures types { AllAddTypes self.old self.new }
+    {
+        if out == 0 {
+            return self.here.settle_resource(merged, resource);
+        }
+        let at = self.around.len() - out;
+        self.around[at].settle_resource(merged, resource)
+    }
+
+    /// How many scopes out a resource is, and its type index there; it is aliased there if it has none yet.
+    fn reach_resource(
+        &mut self,
+        merged: bool,
+        resource: ResourceId,
+    ) -> Result<(usize, u32), BinaryFault>
+        requires { IsBound merged self.old resource }
+        ensures goes { OnOk result (GoesForAll merged self.old self.new) }
+        ensures reached { IfOk result (λ x. IsReached (stack merged self.new) resource x.0 (at_type x.1)) }
+        ensures types { AllAddTypes self.old self.new }
+    {
+        bringing_law();
+        inside_law();
+        still_law();
+        let Some((out, index, is_type)) = self.find(merged, resource).0 else {
+            unreachable!()
+        };
+        if is_type {
+            return Ok((out, index));
+        }
+        let own = self.alias_there(merged, out, resource)?;
+        Ok((out, own))
+    }
+
+    /// Brings a resource with a type index so many scopes out into the innermost scope, and returns its type index here.
+    fn bring_index(
+        &mut self,
+        merged: bool,
+        resource: ResourceId,
+        out: usize,
+        index: u32,
+    ) -> Result<u32, BinaryFault>
+        requires { IsReached (stack merged self.old) resource out (at_type index) }
+        ensures goes { OnOk result (GoesForAll merged self.old self.new) }
+        ensures is { IfOk result (IsResourceAt merged self.new resource) }
+        ensures types { AllAddTypes self.old self.new }
+    {
+        inside_law();
+        still_law();
+        if out == 0 {
+            return Ok(index);
+        }
+        let Ok(count) = u32::try_from(out) else {
+            return Err(BinaryFault::TooLarge);
+        };
+        self.here.alias_resource(merged, resource, count, index)
+    }
+
+    /// Returns the type index of a resource in the innermost scope. If it has none there, one outer alias brings it in from the innermost
+    /// scope that records it, where it is first aliased from its instance if need be.
+    ///
+    /// # Errors
+    /// - `TooLarge` if an alias would not fit 32-bit sizes.
+    /// - `OutOfMemory`.
+    pub fn bring_resource(&mut self, merged: bool, resource: ResourceId) -> Result<u32, BinaryFault>
+        requires { IsBound merged self.old resource }
+        ensures goes { OnOk result (GoesForAll merged self.old self.new) }
+        ensures is { IfOk result (IsResourceAt merged self.new resource) }
+        ensures types { AllAddTypes self.old self.new }
+    {
+        step_law();
+        let (out, index) = self.reach_resource(merged, resource)?;
+        self.bring_index(merged, resource, out, index)
+    }
+
+    /// Adds the definition of a value type to the innermost scope, records its type index and returns it.
+    ///
+    /// # Errors
+    /// - `TooLarge` if it would not fit 32-bit sizes.
+    /// - `OutOfMemory`.
+    pub fn define(
+        &mut self,
+        merged: bool,
+        id: DefinedTypeId,
+        definition: &DefinedType<'_>,
+    ) -> Result<u32, BinaryFault>
+        ensures goes { OnOk result ((c : Collection) (x : Definition) → IsWellFormed c → item_at c.defined id.0 ≡ Some x → SaysWritten c merged self.old x (defined_of definition.now) → Goes c merged self.old self.new) }
+        ensures recorded { IfOk result (IsRecordedAt merged self.new (ty.Value (val.Defined id)) defined) }
+        ensures types { AllAddTypes self.old self.new }
+    {
+        step_law();
+        self.here.define(merged, ValueType::Defined(id), definition)
+    }
+
+    /// Adds a function type to the innermost scope, records its type index and returns it.
+    ///
+    /// # Errors
+    /// As [`Self::define`].
+    pub fn define_func(
+        &mut self,
+        merged: bool,
+        id: FuncTypeId,
+        f: &FuncType<'_>,
+    ) -> Result<u32, BinaryFault>
+        ensures goes { OnOk result ((c : Collection) (x : Function) → IsWellFormed c → item_at c.funcs id.0 ≡ Some x → SaysWrittenFunc c merged self.old x (func_of f.now) → Goes c merged self.old self.new) }
+        ensures recorded { IfOk result (IsRecordedAt merged self.new (ty.Func id) defined) }
+        ensures types { AllAddTypes self.old self.new }
+    {
+        step_law();
+        self.here.define_func(merged, id, f)
+    }
+
+    /// Adds an owned handle to a resource that is no alias to the innermost scope, records its type index and returns it.
+    ///
+    /// # Errors
+    /// As [`Self::bring_resource`].
+    pub fn own(&mut self, merged: bool, resource: ResourceId) -> Result<u32, BinaryFault>
+        requires { IsBound merged self.old resource }
+        ensures goes { OnOk result ((c : Collection) → resolved c resource ≡ resource → Goes c merged self.old self.new) }
+        ensures recorded { IfOk result (IsRecordedAt merged self.new (ty.Value (val.Own resource)) defined) }
+        ensures types { AllAddTypes self.old self.new }
+    {
+        step_law();
+        let index = self.bring_resource(merged, resource)?;
+        let handle = ValueType::Own(resource);
+        self.here.define(merged, handle, &DefinedType::Own(index))
+    }
+
+    /// Adds a borrowed handle to a resource that is no alias to the innermost scope, records its type index and returns it.
+    ///
+    /// # Errors
+    /// As [`Self::bring_resource`].
+    pub fn borrow(&mut self, merged: bool, resource: ResourceId) -> Result<u32, BinaryFault>
+        requires { IsBound merged self.old resource }
+        ensures goes { OnOk result ((c : Collection) → resolved c resource ≡ resource → Goes c merged self.old self.new) }
+        ensures recorded { IfOk result (IsRecordedAt merged self.new (ty.Value (val.Borrow resource)) defined) }
+        ensures types { AllAddTypes self.old self.new }
+    {
+        step_law();
+        let index = self.bring_resource(merged, resource)?;
+        let handle = ValueType::Borrow(resource);
+        self.here
+            .define(merged, handle, &DefinedType::Borrow(index))
+    }
+
+    /// A component without items.
+    pub fn root(alloc: Global) -> State
+        ensures good { (c : Collection) (b : _) → Good c (nothing_bound ∷ []) (stack b result) }
+        ensures content { result.here.content ≡ Builder [] }
+    {
+        root_law();
+        let content = Encodable::Builder(ComponentBuilder::new(alloc));
+        State {
+            around: Vec::new(alloc),
+            here: Scope::new(alloc, content, true, true),
+        }
+    }
+
+    /// A component type without declarations. It sees nothing outside.
+    pub fn component(alloc: Global) -> State
+        ensures good { (c : Collection) (b : _) → Good c (nothing_bound ∷ []) (stack b result) }
+        ensures content { result.here.content ≡ Component [] }
+    {
+        closing_law();
+        let content = Encodable::Component(ComponentType::new(alloc));
+        State {
+            around: Vec::new(alloc),
+            here: Scope::new(alloc, content, true, true),
+        }
+    }
+
+    /// The type index of a type in the innermost scope, if it is recorded there.
+    pub fn index(&self, merged: bool, ty: Type) -> Option<u32>
+        ensures some { IfSome result (λ i. (how : AnyHow) × IsRecordedAt merged self.now ty how i) }
+        ensures none { result ≡ None → (opened merged self.now.here).types ty ≡ None }
+    {
+        match self.here.entry(merged, ty) {
+            Some(entry) => Some(entry.index),
+            None => None,
+        }
+    }
+
+    /// Opens an instance type without declarations in the innermost scope. `passes` says that all that is bound around is called in it as there.
+    ///
+    /// # Errors
+    /// - `OutOfMemory`.
+    pub fn open(&mut self, alloc: Global, merged: bool, passes: bool) -> Result<(), BinaryFault>
+        ensures opened { OnOk result (Opens merged passes self.old self.new) }
+        ensures refused { OnErr result (IsSame self.old self.new) }
+    {
+        let scope = Scope::instance(alloc, merged, passes);
+        self.around.reserve(1)?;
+        let outer = replace(&mut self.here, scope);
+        match self.around.push(outer) {
+            Ok(()) => Ok(()),
+            Err(_) => unreachable!(),
+        }
+    }
+
+    /// Lists an item on a side of the innermost scope, which is a type that is open, and returns its index of the sort that is described.
+    ///
+    /// # Errors
+    /// - `TooLarge` if it would not fit 32-bit sizes.
+    /// - `OutOfMemory`.
+    ///
+    /// On an error nothing is changed.
+    pub fn list(&mut self, side: Side, name: &str, d: Description) -> Result<u32, BinaryFault>
+        requires { HasSide (side_of side) self.old.here.content }
+        ensures lists { OnOk result (ListsItem (side_of side) name.now d self.old self.new) }
+        ensures index { IfOk result (λ i. i ≡ count_of (space (described_sort d)) self.old.here.content) }
+        ensures content { OnOk result (self.new.here.content ≡ and_item (side_of side) name.now d self.old.here.content) }
+        ensures refused { OnErr result (self.new ≡ self.old) }
+    {
+        listing_law();
+        self.here.list(side, name, d)
+    }
+
+    /// Closes the innermost scope: its declarations become an instance type of the scope around it. Returns that type's index.
+    ///
+    /// # Errors
+    /// - `TooLarge` if it would not fit 32-bit sizes.
+    /// - `OutOfMemory`.
+    ///
+    /// After an error the scopes around are as they were.
+    pub fn close(&mut self) -> Result<u32, BinaryFault>
+        requires around { IsNonempty self.old.around.items }
+        requires instance { IsInstanceType self.old.here.content }
+        requires imports { ImportNothing (decls (declarations_of self.old.here.content)) }
+        ensures closes { IfOk result (Closes self.old self.new) }
+        ensures refused { OnErr result (self.old.around.items ≡ self.new.around.items ++ self.new.here ∷ []) }
+    {
+        closing_law();
+        let Some(outer) = self.around.pop() else {
+            unreachable!()
+        };
+        let inner = replace(&mut self.here, outer);
+        self.here.add_instance_type(inner)
+    }
+
+    /// Records the type index of a type in the innermost scope, and how it got it.
+    ///
+    /// # Errors
+    /// - `OutOfMemory`.
+    pub fn record(
+        &mut self,
+        merged: bool,
+        ty: Type,
+        how: How,
+        index: u32,
+    ) -> Result<(), BinaryFault>
+        ensures goes { OnOk result ((c : Collection) → IsTypeAt c merged self.old ty index → Goes c merged self.old self.new) }
+        ensures recorded { OnOk result (IsRecordedAt merged self.new ty (how_of how) index) }
+        ensures types { AllAddTypes self.old self.new }
+    {
+        step_law();
+        self.here.record_type(merged, ty, how, index)
+    }
+
+    /// Where a value type is in the innermost scope in which it has a name, as [`Self::find`] has it. A scope that does not pass is crossed
+    /// only if `is_closed` says that the type means no resource.
+    fn find_named(
+        &self,
+        merged: bool,
+        definition: DefinedTypeId,
+        is_closed: bool,
+    ) -> Option<(usize, u32, bool)>
+        ensures found { IfSome result (λ f. (w : Where) × IsNamedAt (stack merged self.now) definition f.0 w × IsPlace w f.1 f.2 × Crosses is_closed f.0 (stack merged self.now)) }
+        ensures here { result ≡ None → named_in definition (opened merged self.now.here) ≡ None }
+    {
+        if let Some((index, is_type)) = self.here.named(merged, definition) {
+            return Some((0, index, is_type));
+        }
+        let mut crosses = self.here.may_cross(merged, is_closed);
+        let mut left = self.around.len();
+        let mut out = 0;
+        while crosses && left > 0 {
+            left -= 1;
+            out += 1;
+            if let Some((index, is_type)) = self.around[left].named(merged, definition) {
+                return Some((out, index, is_type));
+            }
+            crosses = self.around[left].may_cross(merged, is_closed);
+        }
+        None
+    }
+
+    /// Aliases a value type in the scope so many out, which records it as an instance's export, and returns its type index there.
+    fn alias_value_there(
+        &mut self,
+        merged: bool,
+        out: usize,
+        definition: DefinedTypeId,
+    ) -> Result<u32, BinaryFault>
+        requires { (j : ℕ) × (n : Name) × IsNamedAt (stack merged self.old) definition out (at_export j n) }
+        ensures index { IfOk result (λ i. i ≡ next_type_at out (stack merged self.old)) }
+        ensures step { OnOk result (StateChanges merged out (settled_value definition) self.old self.new) }
+        ensures types { AllAddTypes self.old self.new }
+    {
+        if out == 0 {
+            return self.here.settle_export(merged, definition);
+        }
+        let at = self.around.len() - out;
+        self.around[at].settle_export(merged, definition)
+    }
+
+    /// How many scopes out a value type has a name, and its type index there; it is aliased there if it has none yet.
+    fn reach_named(
+        &mut self,
+        merged: bool,
+        definition: DefinedTypeId,
+        is_closed: bool,
+    ) -> Result<Option<(usize, u32)>, BinaryFault>
+        ensures goes { OnOk result (GoesForAll merged self.old self.new) }
+        ensures reached { IfOk result (λ x. IfSome x (λ f. IsNamedAt (stack merged self.new) definition f.0 (at_type f.1) × Crosses is_closed f.0 (stack merged self.new))) }
+        ensures none { IfOk result (λ x. x ≡ None → (self.new ≡ self.old) × (named_in definition (opened merged self.old.here) ≡ None)) }
+        ensures types { AllAddTypes self.old self.new }
+    {
+        bringing_law();
+        still_law();
+        let Some((out, index, is_type)) = self.find_named(merged, definition, is_closed) else {
+            return Ok(None);
+        };
+        if is_type {
+            return Ok(Some((out, index)));
+        }
+        let own = self.alias_value_there(merged, out, definition)?;
+        Ok(Some((out, own)))
+    }
+
+    /// Brings a value type with a type index so many scopes out into the innermost scope, and returns its type index here.
+    fn bring_named(
+        &mut self,
+        merged: bool,
+        definition: DefinedTypeId,
+        is_closed: bool,
+        out: usize,
+        index: u32,
+    ) -> Result<u32, BinaryFault>
+        requires named { IsNamedAt (stack merged self.old) definition out (at_type index) }
+        requires crosses { Crosses is_closed out (stack merged self.old) }
+        ensures goes { OnOk result ((c : Collection) → (is_closed ≡ true → IsClosed c (ty.Value (val.Defined definition))) → Goes c merged self.old self.new) }
+        ensures named { IfOk result (λ i. named_in definition (opened merged self.new.here) ≡ Some (at_type i)) }
+        ensures types { AllAddTypes self.old self.new }
+    {
+        bringing_law();
+        still_law();
+        if out == 0 {
+            return Ok(index);
+        }
+        let Ok(count) = u32::try_from(out) else {
+            return Err(BinaryFault::TooLarge);
+        };
+        let ty = Type::Value(ValueType::Defined(definition));
+        self.here.alias_type(merged, ty, count, index)
+    }
+
+    /// Returns the type index under which a value type has a name in the innermost scope. If it has none there, one outer alias brings it in
+    /// from the innermost scope in which it has one, where it is first aliased from its instance if need be. None if no scope has a name for
+    /// it, as far as the scopes between pass; `is_closed` says that the type means no resource, so that it may cross those that do not.
+    ///
+    /// # Errors
+    /// - `TooLarge` if an alias would not fit 32-bit sizes.
+    /// - `OutOfMemory`.
+    pub fn bring(
+        &mut self,
+        merged: bool,
+        definition: DefinedTypeId,
+        is_closed: bool,
+    ) -> Result<Option<u32>, BinaryFault>
+        ensures goes { OnOk result ((c : Collection) → (is_closed ≡ true → IsClosed c (ty.Value (val.Defined definition))) → Goes c merged self.old self.new) }
+        ensures named { IfOk result (λ x. IfSome x (λ i. named_in definition (opened merged self.new.here) ≡ Some (at_type i))) }
+        ensures none { IfOk result (λ x. x ≡ None → (self.new ≡ self.old) × (named_in definition (opened merged self.old.here) ≡ None)) }
+        ensures types { AllAddTypes self.old self.new }
+    {
+        step_law();
+        let Some((out, index)) = self.reach_named(merged, definition, is_closed)? else {
+            return Ok(None);
+        };
+        let own = self.bring_named(merged, definition, is_closed, out, index)?;
+        Ok(Some(own))
+    }
+}
