@@ -1,5 +1,5 @@
 -- Which interfaces are listed under their ids, and which worlds use others.
-use Rattle.std.proofs.Common.{ℕ, zero, suc, ◌+◌, ◌<◌, ◌≤◌, Bool, true, false, ◌||◌, if◌then◌else◌, List, [], ◌∷◌, ◌++◌, length, drop, Contains, Option, Some, None, ◌≡◌, ◌⊎◌, ◌↔◌, inl, inr, refl, ap, sym, ◌∙◌, subst, arith, flat_map, slice_get}
+use Rattle.std.proofs.Common.{ℕ, zero, suc, ◌+◌, ◌<◌, ◌≤◌, Bool, true, false, ◌||◌, if◌then◌else◌, List, [], ◌∷◌, ◌++◌, length, drop, Contains, Option, Some, None, ◌≡◌, ◌⊎◌, ◌↔◌, inl, inr, refl, ap, sym, ◌∙◌, subst, arith, slice_get}
 use Rattle.std.specs.List.{list_any}
 use Rattle.std.specs.Option.{option_map}
 use Rattle.wac_types_shapes.specs.primitives.Name.{Name, same_name, option_case}
@@ -9,22 +9,20 @@ use Rattle.wac_types_shapes.specs.declared.shapes.component.Interface.{Interface
 use Rattle.wac_types_shapes.specs.declared.shapes.component.InterfaceId.{InterfaceId}
 use Rattle.wac_types_shapes.specs.declared.shapes.component.ItemKind.{ItemKind}
 use Rattle.wac_types_shapes.specs.declared.shapes.component.ItemKind.TheVariants as kind
-use Rattle.wac_types_shapes.specs.declared.shapes.component.UsedType.{UsedType}
 use Rattle.wac_types_shapes.specs.declared.shapes.component.World.{World}
 use Rattle.wac_types_shapes.specs.declared.shapes.component.WorldId.{WorldId}
-use Rattle.wac_types_shapes.specs.declared.shapes.component.«Type».{«Type» as AnyType}
 use Rattle.wac_types_shapes.specs.declared.shapes.component.«Type».TheVariants as ty
-use Rattle.wac_types_collection.specs.collection.Collection.{Collection, IsWellFormed, HasInterface, holds_type, item_at, kind_types, used_types, world_imports, world_exports, world_mentions}
+use Rattle.wac_types_collection.specs.collection.Collection.{Collection, IsWellFormed, holds_type, item_at, kind_types, used_types, world_imports, world_exports, world_mentions}
 use Rattle.wac_types_collection.specs.reach.Reach.{IsIn, mentions}
 use Rattle.wac_types_collection.proofs.lemmas.collection.Steady.{within}
 use Rattle.wac_types_collection.proofs.lemmas.reach.Lists.{in_left as is_in_left, in_right as is_in_right}
 use Rattle.wac_types_collection.proofs.lemmas.reach.Reaching.{mentioned_held}
-use Rattle.wac_encode_faults.specs.wide.Wide.{world_uses, instances_of, wide_uses, wide_uses_of_items, UsesWidely, is_among, with_each, each_once}
+use Rattle.wac_encode_faults.specs.wide.Wide.{world_uses, instances_of, wide_uses, wide_uses_of_items, UsesWidely, with_each, each_once}
 use Rattle.wac_encode_faults.specs.Sides.{under_id, listed_interface, listed_interfaces}
 use Rattle.wac_encode_faults.specs.Faults.{HasUnlisted, by_world, by_import, by_export}
 use Rattle.wac_encode_faults.specs.wide.Wide.{AreThere}
 use Rattle.wac_encode_faults.specs.private.Search.{AreHeld, IsIdOf, UsesOther, HasOther}
-use Rattle.wac_encode_faults.proofs.lemmas.wide.Members.{in_none, in_first, in_rest, in_parts, in_left, in_right, in_either, at_in, in_at, in_flat, flat_in, flat_joined}
+use Rattle.wac_encode_faults.proofs.lemmas.wide.Members.{in_none, in_parts, in_left, in_right, in_either, in_at, in_flat, flat_in, flat_joined}
 use Rattle.wac_encode_faults.proofs.lemmas.wide.Wide.{instance_listed, listed_instance, wide_law}
 use Rattle.wac_encode_faults.proofs.lemmas.wide.Once.{each_old, each_new, each_only, each_joined}
 

@@ -1,8 +1,8 @@
 -- Worked examples: what interfaces use widely, sides of component types, and items that cannot be written.
 use Rattle.std.specs.Prelude.{false}
-use Rattle.std.proofs.Common.{◌≡◌, ℕ, zero, suc, inl, inr, lit<, ap, arith, List, [], ◌∷◌, Option, Some, None, Contains, refl, codes}
+use Rattle.std.proofs.Common.{◌≡◌, ℕ, zero, suc, lit<, ap, arith, List, [], ◌∷◌, Option, Some, None, Contains, refl}
 use Rattle.wac_types_shapes.specs.primitives.Name.{Name}
-use Rattle.wac_types_shapes.specs.primitives.Tree.{imported, exported, Leaf, named}
+use Rattle.wac_types_shapes.specs.primitives.Tree.{imported, Leaf, named}
 use Rattle.wac_types_shapes.specs.declared.shapes.component.Resource.{Resource}
 use Rattle.wac_types_shapes.specs.declared.shapes.component.ResourceId.{ResourceId}
 use Rattle.wac_types_shapes.specs.declared.shapes.component.FuncType.{FuncType}
@@ -16,17 +16,16 @@ use Rattle.wac_types_shapes.specs.declared.shapes.component.ItemKind.{ItemKind}
 use Rattle.wac_types_shapes.specs.declared.shapes.component.ItemKind.TheVariants as kind
 use Rattle.wac_types_shapes.specs.declared.shapes.component.ValueType.{ValueType}
 use Rattle.wac_types_shapes.specs.declared.shapes.component.ValueType.TheVariants as val
-use Rattle.wac_types_shapes.specs.declared.shapes.component.DefinedType.TheVariants as def
 use Rattle.wac_types_shapes.specs.declared.shapes.component.«Type».TheVariants as ty
 use Rattle.wac_types_collection.specs.declared.collection.collection.Held.{Held}
 use Rattle.wac_types_collection.specs.collection.Collection.{Collection, empty}
 use Rattle.wac_encode_faults.specs.declared.fault.WriteFault.TheVariants as fault
 use Rattle.wac_encode_faults.specs.declared.faults.Role.TheVariants as role
 use Rattle.wac_encode_faults.specs.wide.Wide.{UsesWidely, by_itself, by_instance, wide_uses, each_once}
-use Rattle.wac_encode_faults.specs.Sides.{Sides, world_sides, interface_sides, completed_sides, unlisted, listed_interfaces}
-use Rattle.wac_encode_faults.specs.Free.{IsFree, SideItem, IsFreeInItem, of_import, HasUnboundItem}
+use Rattle.wac_encode_faults.specs.Sides.{world_sides, interface_sides, completed_sides, unlisted, listed_interfaces}
+use Rattle.wac_encode_faults.specs.Free.{IsFree, SideItem, of_import, HasUnboundItem}
 use Rattle.wac_encode_faults.specs.Free as free
-use Rattle.wac_encode_faults.specs.Cycle.{ItemDependsOn, by_resource, LeadsToItem, one, more, HasItemCycle}
+use Rattle.wac_encode_faults.specs.Cycle.{ItemDependsOn, by_resource, one, more, HasItemCycle}
 use Rattle.wac_encode_faults.specs.Faults.{HasUnlisted, by_import, HasFault}
 use Rattle.wac_encode_faults.specs.Faults as faults
 

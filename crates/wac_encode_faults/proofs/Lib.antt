@@ -6,4 +6,5 @@ pub mod Dependencies
 pub mod Reached
 pub mod Needed
 pub mod Twice
+pub mod Mentioned
 pub mod Examples

@@ -1,5 +1,5 @@
 -- What interfaces reach by their own uses.
-use Rattle.std.proofs.Common.{ℕ, zero, suc, ◌+◌, ◌-◌, ◌<◌, ◌≤◌, ◌==◌, Bool, true, false, not, cond, if◌then◌else◌, List, [], ◌∷◌, ◌++◌, length, drop, filter, Contains, Option, Some, None, ◌≡◌, ◌⊎◌, ◌↔◌, inl, inr, refl, ap, sym, ◌∙◌, subst, arith, flat_map, slice_get, append_assoc}
+use Rattle.std.proofs.Common.{ℕ, zero, suc, ◌+◌, ◌-◌, ◌<◌, ◌≤◌, Bool, true, false, if◌then◌else◌, List, [], ◌∷◌, ◌++◌, length, Contains, Option, Some, None, ◌≡◌, ◌⊎◌, ◌↔◌, inl, inr, refl, ap, sym, ◌∙◌, subst, arith, slice_get, append_assoc}
 use Rattle.std.proofs.lemmas.List.{append-nil}
 use Rattle.std.specs.List.{AllByRecursion}
 use Rattle.wac_types_shapes.specs.primitives.Name.{Name, option_case}
@@ -12,12 +12,12 @@ use Rattle.wac_types_shapes.specs.declared.shapes.component.«Type».{«Type» a
 use Rattle.wac_types_shapes.specs.declared.shapes.component.«Type».TheVariants as ty
 use Rattle.wac_types_collection.specs.declared.collection.collection.Held.{Held}
 use Rattle.wac_types_collection.specs.collection.Collection.{Collection, IsWellFormed, IsBefore, AddedBefore, HasInterface, size, item_of, item_at, kind_types, used_types}
-use Rattle.wac_encode_faults.specs.wide.Wide.{interface_uses, used_interfaces, UsesWidely, by_itself, by_instance, is_among, with_each, each_once}
-use Rattle.wac_encode_faults.specs.Sides.{reached_to, reached, without}
+use Rattle.wac_encode_faults.specs.wide.Wide.{interface_uses, used_interfaces, UsesWidely, by_itself, by_instance, is_among, with_each}
+use Rattle.wac_encode_faults.specs.Sides.{reached_to, reached}
 use Rattle.wac_encode_faults.specs.wide.Wide.{AreThere}
 use Rattle.wac_encode_faults.specs.private.Search.{IsReached, first, onward}
-use Rattle.wac_encode_faults.proofs.lemmas.wide.Members.{in_none, in_first, in_rest, in_parts, in_one, in_left, in_right, in_either, at_in, in_at, in_map, in_flat, flat_in}
-use Rattle.wac_encode_faults.proofs.lemmas.wide.Once.{among_in, in_among, each_old, each_new, each_only, each_joined}
+use Rattle.wac_encode_faults.proofs.lemmas.wide.Members.{in_none, in_first, in_parts, in_one, in_left, in_right, in_either, at_in, in_at, in_map, in_flat, flat_in}
+use Rattle.wac_encode_faults.proofs.lemmas.wide.Once.{each_old, each_new, each_only}
 
 -- ---- used interfaces were added before
 all_left : (P : AnyType → Type 0) (xs ys : List AnyType) → AllByRecursion P (xs ++ ys) → AllByRecursion P xs

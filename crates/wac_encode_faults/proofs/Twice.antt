@@ -1,5 +1,5 @@
 -- Names of additional imports: which are there twice.
-use Rattle.std.proofs.Common.{ℕ, zero, suc, ◌+◌, ◌<◌, ◌≤◌, Bool, true, false, ◌||◌, if◌then◌else◌, List, [], ◌∷◌, ◌++◌, length, take, Contains, Option, Some, None, IsSome, ◌≡◌, ◌⊎◌, ◌↔◌, inl, inr, refl, ap, sym, ◌∙◌, subst, arith, flat_map, slice_get}
+use Rattle.std.proofs.Common.{ℕ, zero, suc, ◌+◌, ◌≤◌, Bool, true, false, if◌then◌else◌, List, [], ◌∷◌, ◌++◌, length, take, Contains, Option, Some, None, IsSome, ◌≡◌, inl, inr, refl, ap, sym, ◌∙◌, subst, flat_map, slice_get}
 use Rattle.std.specs.List.{IsDistinct, AllByRecursion}
 use Rattle.std.proofs.lemmas.List.{take_all, append-nil}
 use Rattle.std.proofs.lemmas.Map.Keys.{IsDistinct-head, IsDistinct-tail}
@@ -15,8 +15,8 @@ use Rattle.wac_types_collection.specs.collection.Collection.{Collection, item_at
 use Rattle.wac_encode_faults.specs.Sides.{under_id}
 use Rattle.wac_encode_faults.specs.Faults.{HasNameTwice, of_import, of_additional}
 use Rattle.wac_encode_faults.specs.private.Search.{IsIdOf, named, sides_of, IsNamedAgain, IsNoImport}
-use Rattle.wac_encode_faults.proofs.lemmas.wide.Members.{in_none, in_first, in_rest, in_parts, in_one, in_left, in_right, in_either, at_in, in_at, in_flat, flat_in, flat_joined}
-use Rattle.wac_encode_faults.proofs.lemmas.wide.Once.{same_id, id_itself}
+use Rattle.wac_encode_faults.proofs.lemmas.wide.Members.{in_none, in_first, in_rest, in_parts, in_one, at_in, in_flat, flat_in, flat_joined}
+use Rattle.wac_encode_faults.proofs.lemmas.wide.Once.{id_itself}
 use Rattle.wac_encode_faults.proofs.Dependencies.{AllBefore, all_before}
 
 -- ---- names in a list

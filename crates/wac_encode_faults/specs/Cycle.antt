@@ -1,5 +1,5 @@
 -- Which imports and exports of a component type depend on each other.
-use Rattle.std.specs.Prelude.{◌≡◌, ◌++◌, List, ◌∷◌, Some, Contains}
+use Rattle.std.specs.Prelude.{◌≡◌, List, ◌∷◌, Some, Contains}
 use Rattle.wac_types_shapes.specs.primitives.Name.{Name}
 use Rattle.wac_types_shapes.specs.primitives.Tree.{Side, imported, exported, Leaf, Place, named}
 use Rattle.wac_types_shapes.specs.declared.shapes.component.InterfaceId.{InterfaceId}

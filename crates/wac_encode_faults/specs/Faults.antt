@@ -3,7 +3,6 @@ use Rattle.std.specs.Prelude.{ℕ, ◌≡◌, ◌≤◌, ◌⊎◌, ◌++◌, Li
 use Rattle.wac_types_shapes.specs.primitives.Name.{Name, option_case}
 use Rattle.wac_types_shapes.specs.shapes.Kinds.{kind_type}
 use Rattle.wac_types_shapes.specs.declared.shapes.component.InterfaceId.{InterfaceId}
-use Rattle.wac_types_shapes.specs.declared.shapes.component.ResourceId.{ResourceId}
 use Rattle.wac_types_shapes.specs.declared.shapes.component.World.{World}
 use Rattle.wac_types_shapes.specs.declared.shapes.component.WorldId.{WorldId}
 use Rattle.wac_types_shapes.specs.declared.shapes.component.ItemKind.{ItemKind}

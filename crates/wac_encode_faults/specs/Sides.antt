@@ -1,5 +1,5 @@
 -- The two sides of a component type: of a world, and of the definition of an interface or a world.
-use Rattle.std.specs.Prelude.{ℕ, zero, suc, Bool, not, if◌then◌else◌, List, [], ◌∷◌, ◌++◌, filter, Option, Some, None}
+use Rattle.std.specs.Prelude.{ℕ, zero, suc, not, if◌then◌else◌, List, [], ◌∷◌, ◌++◌, filter, Option, Some, None}
 use Rattle.std.specs.List.{flat_map, list_any}
 use Rattle.wac_types_shapes.specs.primitives.Name.{Name, same_name, option_case, first_some}
 use Rattle.wac_types_shapes.specs.primitives.Tree.{Side, imported, exported}

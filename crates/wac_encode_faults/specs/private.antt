@@ -1,2 +1,3 @@
 pub mod wide
 pub mod Search
+pub mod Near

@@ -10,6 +10,7 @@ mod fault;
 mod faults;
 mod inside;
 mod names;
+mod parts;
 mod unlisted;
 pub mod wide;
 

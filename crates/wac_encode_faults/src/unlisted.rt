@@ -1,5 +1,5 @@
 //! Which worlds use interfaces that they do not list.
-ghost use Rattle.std.specs.Prelude.{◌≡◌, ◌↔◌, true, IfOk, OnOk, IsTrue, Contains};
+ghost use Rattle.std.specs.Prelude.{◌≡◌, ◌↔◌, true, IfOk, OnOk, IsTrue};
 ghost use Rattle.wac_types_collection.specs.collection.Collection.{holds_type};
 ghost use Rattle.wac_types_shapes.specs.declared.shapes.component.«Type».TheVariants as ty;
 ghost use Rattle.wac_types_shapes.specs.shapes.Kinds.{kind_type};

@@ -1,5 +1,5 @@
 -- How faults are found; private functions alone cite this.
-use Rattle.std.specs.Prelude.{ℕ, ◌≡◌, ◌⊎◌, IsSome, Bool, true, false, nat_lt, cond, List, [], ◌∷◌, ◌++◌, Option, Some, None, Contains}
+use Rattle.std.specs.Prelude.{◌≡◌, ◌⊎◌, IsSome, Bool, true, false, nat_lt, cond, List, [], ◌∷◌, ◌++◌, Option, Some, None, Contains}
 use Rattle.std.specs.List.{flat_map}
 use Rattle.wac_types_shapes.specs.primitives.Name.{Name, find_name, option_case}
 use Rattle.wac_types_shapes.specs.shapes.Kinds.{kind_type}

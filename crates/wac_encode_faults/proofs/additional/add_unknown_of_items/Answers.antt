@@ -1,4 +1,3 @@
-use Rattle.std.proofs.Common.{◌≡◌, ◌++◌}
 use Rattle.std.proofs.lemmas.Result.{on_ok_weaker}
 use Rattle.wac_encode_faults.proofs.Dependencies.{instances_there}
 use Rattle.wac_encode_faults.proofs.Needed.{items_added}

@@ -1,7 +1,4 @@
-use Rattle.std.proofs.Common.{◌≡◌, ◌∙◌, ap, sym, subst, ◌↔◌, Contains}
 use Rattle.std.proofs.lemmas.Result.{on_ok_weaker}
-use Rattle.wac_types_shapes.specs.declared.shapes.component.InterfaceId.{InterfaceId}
-use Rattle.wac_encode_faults.specs.private.Search.{IsReached}
 use Rattle.wac_encode_faults.proofs.Needed.{needed_same, two_there, unlisted_added}
 use Rattle.wac_encode_faults.proofs.additional.add_unlisted.Goals as goal
 

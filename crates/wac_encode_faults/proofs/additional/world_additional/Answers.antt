@@ -1,4 +1,4 @@
-use Rattle.std.proofs.Common.{◌≡◌, ◌∙◌, ap, sym, subst, ◌↔◌, ◌++◌, Contains, Some, None}
+use Rattle.std.proofs.Common.{◌≡◌, ◌∙◌, ap, sym, subst, ◌++◌, Some}
 use Rattle.wac_types_shapes.specs.declared.shapes.component.World.{World}
 use Rattle.wac_encode_faults.specs.Sides.{unlisted}
 use Rattle.wac_encode_faults.proofs.Dependencies.{imports_held, exports_held}

@@ -1,4 +1,4 @@
-use Rattle.std.proofs.Common.{◌≡◌, [], ap, ◌∙◌, ◌≤◌, length, arith, refl}
+use Rattle.std.proofs.Common.{ap, ◌∙◌, ◌≤◌, length, arith, refl}
 use Rattle.wac_types_collection.specs.private.reach.Found.{with_all}
 use Rattle.wac_types_collection.proofs.lemmas.reach.Lists.{in_at, read_at}
 use Rattle.wac_types_collection.proofs.lemmas.reach.Universe.{types_of, found_few}

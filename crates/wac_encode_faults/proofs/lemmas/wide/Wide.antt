@@ -1,5 +1,5 @@
 -- The list of what an interface uses widely has exactly what it uses widely, and begins with its own uses.
-use Rattle.std.proofs.Common.{ℕ, zero, suc, ◌+◌, ◌<◌, ◌≤◌, true, List, [], ◌∷◌, ◌++◌, length, Contains, Option, Some, None, ◌≡◌, ◌⊎◌, ◌↔◌, inl, inr, refl, ap, sym, ◌∙◌, subst, arith, flat_map, slice_get}
+use Rattle.std.proofs.Common.{ℕ, zero, suc, ◌+◌, ◌<◌, List, [], ◌∷◌, ◌++◌, length, Contains, Option, Some, None, ◌≡◌, ◌↔◌, inl, inr, refl, ap, sym, ◌∙◌, subst, arith, flat_map, slice_get}
 use Rattle.std.specs.List.{AllByRecursion}
 use Rattle.wac_types_shapes.specs.primitives.Name.{Name, option_case}
 use Rattle.wac_types_shapes.specs.shapes.Kinds.{kind_type}
@@ -9,13 +9,10 @@ use Rattle.wac_types_shapes.specs.declared.shapes.component.ItemKind.{ItemKind}
 use Rattle.wac_types_shapes.specs.declared.shapes.component.ItemKind.TheVariants as kind
 use Rattle.wac_types_shapes.specs.declared.shapes.component.UsedType.{UsedType}
 use Rattle.wac_types_shapes.specs.declared.shapes.component.«Type».{«Type» as AnyType}
-use Rattle.wac_types_shapes.specs.declared.shapes.component.«Type».TheVariants as ty
 use Rattle.wac_types_collection.specs.declared.collection.collection.Held.{Held}
-use Rattle.wac_types_collection.specs.collection.Collection.{Collection, IsWellFormed, IsBefore, AddedBefore, HasInterface, size, item_of, item_at, interface_exports, interface_mentions, kind_types, used_types}
-use Rattle.wac_types_collection.specs.reach.Reach.{IsIn}
-use Rattle.wac_types_collection.proofs.lemmas.reach.Lists.{in_right as is_in_right}
+use Rattle.wac_types_collection.specs.collection.Collection.{Collection, IsWellFormed, IsBefore, AddedBefore, HasInterface, size, item_of, interface_exports, kind_types, used_types}
 use Rattle.wac_encode_faults.specs.wide.Wide.{interface_uses, used_interfaces, instance_of, instances_of, UsesWidely, by_itself, by_instance, wide_uses_to, wide_uses}
-use Rattle.wac_encode_faults.proofs.lemmas.wide.Members.{in_none, in_first, in_rest, in_parts, in_one, in_left, in_right, in_either, at_in, in_at, in_map, map_in, in_flat, flat_in, flat_same}
+use Rattle.wac_encode_faults.proofs.lemmas.wide.Members.{in_none, in_first, in_parts, in_one, in_left, in_right, in_either, in_map, map_in, in_flat, flat_in, flat_same}
 
 -- ---- instances among items
 instance_is : (k : ItemKind) (i : InterfaceId) → Contains (instance_of k) i → k ≡ kind.Instance i

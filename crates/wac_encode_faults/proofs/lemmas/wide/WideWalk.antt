@@ -1,5 +1,5 @@
 -- The walk that finds wide uses: what is pending, and what was seen.
-use Rattle.std.proofs.Common.{ℕ, zero, suc, ◌+◌, ◌-◌, ◌*◌, ◌<◌, ◌≤◌, true, false, Bool, if◌then◌else◌, List, [], ◌∷◌, ◌++◌, length, reverse, drop, Contains, Option, Some, None, ◌≡◌, ◌⊎◌, ◌↔◌, inl, inr, refl, ap, sym, ◌∙◌, subst, arith, flat_map, slice_get, append_assoc, length-append}
+use Rattle.std.proofs.Common.{ℕ, zero, suc, ◌+◌, ◌-◌, ◌*◌, ◌<◌, ◌≤◌, true, false, Bool, if◌then◌else◌, List, [], ◌∷◌, ◌++◌, length, reverse, drop, Contains, Some, ◌≡◌, ◌⊎◌, inl, inr, refl, ap, sym, ◌∙◌, subst, arith, flat_map, slice_get, append_assoc, length-append}
 use Rattle.std.specs.Prelude.{Result, Ok, Err, OnOk}
 use Rattle.std.specs.Option.{option_map}
 use Rattle.std.proofs.Math.Nat.{suc-mul}
@@ -15,7 +15,7 @@ use Rattle.wac_types_collection.proofs.lemmas.reach.Lists.{drop_second}
 use Rattle.wac_encode_faults.specs.wide.Wide.{interface_uses, used_interfaces, instance_of, instances_of, UsesWidely, wide_uses, is_among, with_each}
 use Rattle.wac_encode_faults.specs.private.wide.WideWalk.{AreWhole}
 use Rattle.wac_encode_faults.specs.wide.Wide.{AreThere}
-use Rattle.wac_encode_faults.proofs.lemmas.wide.Members.{in_none, in_first, in_rest, in_parts, in_one, in_left, in_right, in_either, in_flat, in_reversed, flat_joined}
+use Rattle.wac_encode_faults.proofs.lemmas.wide.Members.{in_none, in_first, in_rest, in_one, in_left, in_right, in_either, flat_joined}
 use Rattle.wac_encode_faults.proofs.lemmas.wide.Wide.{IsBelow, instance_below, not_below_itself, below_below, below_there, wide_unfolds, wide_law}
 use Rattle.wac_encode_faults.proofs.lemmas.wide.Once.{among_in, each_old, each_new, each_only, each_joined, each_known}
 

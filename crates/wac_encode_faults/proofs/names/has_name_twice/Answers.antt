@@ -1,4 +1,4 @@
-use Rattle.std.proofs.Common.{◌≡◌, true, false, refl, sym, ◌∙◌, arith}
+use Rattle.std.proofs.Common.{true, false, refl, arith}
 use Rattle.wac_encode_faults.specs.private.Search.{IsNoImport}
 use Rattle.wac_encode_faults.proofs.lemmas.wide.Members.{at_in}
 use Rattle.wac_encode_faults.proofs.Dependencies.{all_none, all_next}

@@ -1,4 +1,3 @@
-use Rattle.std.proofs.Common.{◌↔◌}
 use Rattle.wac_encode_faults.specs.wide.Wide.{wide_uses_of_items}
 use Rattle.wac_encode_faults.proofs.Dependencies.{instances_there, other_once}
 use Rattle.wac_encode_faults.proofs.unlisted.items_use_other.Goals as goal

@@ -1,4 +1,4 @@
-use Rattle.std.proofs.Common.{◌≡◌, [], reverse, ap, ◌∙◌, subst, sym, flat_map, Contains}
+use Rattle.std.proofs.Common.{reverse, ap, ◌∙◌, subst, flat_map, Contains}
 use Rattle.wac_encode_faults.specs.wide.Wide.{wide_uses, with_each}
 use Rattle.wac_encode_faults.proofs.lemmas.wide.Members.{in_none}
 use Rattle.wac_encode_faults.proofs.wide.found_from.Goals as goal

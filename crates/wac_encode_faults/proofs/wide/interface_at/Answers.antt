@@ -1,4 +1,4 @@
-use Rattle.std.proofs.Common.{arith, length, ap, ◌∙◌, sym, refl}
+use Rattle.std.proofs.Common.{length, refl}
 use Rattle.wac_encode_faults.proofs.lemmas.wide.Members.{read_here}
 use Rattle.wac_encode_faults.proofs.wide.interface_at.Goals as goal
 

@@ -1,4 +1,4 @@
-use Rattle.std.proofs.Common.{◌≡◌, ◌∷◌, [], ◌++◌, ◌+◌, ◌-◌, ◌*◌, ◌<◌, suc, arith, reverse, subst, ap, sym, length}
+use Rattle.std.proofs.Common.{◌+◌, ◌-◌, ◌*◌, ◌<◌, suc, arith, reverse, subst, sym, length}
 use Rattle.wac_encode_faults.proofs.lemmas.wide.Once.{few}
 use Rattle.wac_encode_faults.proofs.lemmas.wide.Members.{in_reversed}
 use Rattle.wac_encode_faults.proofs.lemmas.wide.WideWalk.{IsWalk, most, first_walk, popped_there, visited, visited_less, walk_done, empty_is}

@@ -1,4 +1,4 @@
-use Rattle.std.proofs.Common.{◌≡◌, [], ◌∷◌, ◌++◌, reverse, ap, ◌∙◌, subst, sym, flat_map, Contains}
+use Rattle.std.proofs.Common.{◌++◌, reverse, ap, ◌∙◌, subst, flat_map, Contains}
 use Rattle.std.proofs.lemmas.List.{reverse-reverse}
 use Rattle.std.proofs.lemmas.Result.{IfOk-weaker}
 use Rattle.wac_encode_faults.specs.wide.Wide.{wide_uses, instances_of, each_once}

@@ -1,0 +1,10 @@
+use Rattle.std.proofs.Common.{ap, sym, ◌∙◌, drop, ◌+◌}
+use Rattle.wac_types_collection.specs.collection.Collection.{value_types, seconds}
+use Rattle.wac_types_collection.specs.private.reach.Found.{with_all}
+use Rattle.wac_types_collection.proofs.lemmas.reach.Lists.{drop_second}
+use Rattle.wac_encode_faults.proofs.parts.add_fields.Goals as goal
+
+pub loop-i-preserved : goal.loop-i-preserved
+loop-i-preserved c =
+    let (_, is) = drop_second c.args.fields.now c.loop-i.i c.value_at.result.now c.value_at.ensures in
+    ap (λ ts. with_all ts (value_types (seconds (drop (c.loop-i.i + 1) c.args.fields.now)))) c.in_ok-add.ensures ∙ sym (ap (λ xs. with_all c.loop-i.found.keys (value_types (seconds xs))) is) ∙ c.loop-i.invariant
