@@ -1,8 +1,8 @@
 -- Scopes that are begun, opened and closed, and what is listed in them.
-use Rattle.std.specs.Prelude.{ℕ, ◌≡◌, Bool, true, false, not, List, [], ◌∷◌, ◌++◌, None}
+use Rattle.std.specs.Prelude.{ℕ, ◌≡◌, Bool, true, false, not, List, [], ◌∷◌, ◌++◌, None, Some}
 use Rattle.std.proofs.Common.{refl, ap, ◌∙◌, sym, subst}
 use Rattle.wac_types_shapes.specs.primitives.Name.{Name}
-use Rattle.wac_types_shapes.specs.primitives.Tree.{Side, imported, exported, Tree, type_equal, function_item, instance_item, component_item, module_item, instance}
+use Rattle.wac_types_shapes.specs.primitives.Tree.{Side, imported, exported, Tree, type_equal, function_item, instance_item, component_item, module_item, instance, resource, fresh}
 use Rattle.wac_types_collection.specs.collection.Collection.{Collection}
 use Rattle.wac_types_collection.specs.collection.Bound.{Bindings}
 use Rattle.wac_binary.specs.declared.sorts.Description.{Description}
@@ -17,14 +17,16 @@ use Rattle.wac_encode_scopes.specs.declared.state.State.{State}
 use Rattle.wac_encode_scopes.specs.Contents.{content_of, and_type, and_item, HasSide, IsInstanceType, declarations_of}
 use Rattle.wac_encode_scopes.specs.Books.{binds_in, types_in, exports_in, recorded, book_of, opened}
 use Rattle.wac_encode_scopes.specs.States.{outward, stack}
-use Rattle.wac_encode_scopes.specs.Listing.{Describes, ListsItem}
-use Rattle.wac_encode_scopes.specs.private.Steps.{empty_scope, either}
-use Rattle.wac_encode_stacks.specs.Scopes.{Content, declarations, root, Open, Stack, env, envs, next_type, type_count, and_def, with_def, opening}
-use Rattle.wac_encode_stacks.specs.Good.{Good, nothing_bound, innermost}
+use Rattle.wac_encode_scopes.specs.Listing.{Describes, ListsItem, ListsResource, BindsExport}
+use Rattle.wac_encode_scopes.specs.private.Steps.{empty_scope, either, ScopeChanges, and_fresh, with_fresh}
+use Rattle.wac_encode_stacks.specs.Scopes.{Content, declarations, root, Open, Stack, env, envs, next_type, type_count, and_def, with_def, opening, at_type, at_export, bind_at}
+use Rattle.wac_encode_stacks.specs.Good.{Good, nothing_bound, innermost, Stands, Onward, top}
 use Rattle.wac_encode_stacks.specs.Laws.{Adds}
-use Rattle.wac_encode_stacks.specs.Listed.{side_decl, IsNewName, Lists, ListsEqual, ListsFunc, ListsInstance, ListsComponent, ListsModule, ClosesInstance, OpensWorld}
+use Rattle.wac_encode_stacks.specs.Listed.{side_decl, IsNewName, Lists, ListsEqual, ListsFunc, ListsInstance, ListsComponent, ListsModule, ClosesInstance, OpensWorld, calling, listed_leaf, RecordsNoType, ListsFresh, ListsOwn, BindsMore}
 use Rattle.wac_encode_stacks.specs.Inside.{StartsRoot}
 use Rattle.wac_encode_scopes.proofs.Outward.{outward-append}
+use Rattle.wac_types_shapes.specs.declared.shapes.component.ResourceId.{ResourceId}
+use Rattle.wac_encode_scopes.proofs.Stepped.{bound-there}
 
 -- a book in which nothing is recorded
 pub new-book : (book : Book) (passes : Bool) (x : Content) → book.passes ≡ passes → ((a : _) → types_in book a ≡ None) → ((d : _) → exports_in book d ≡ None) → ((r : _) → binds_in book r ≡ None) → recorded book x ≡ empty_scope x passes
@@ -125,3 +127,35 @@ closes-state law st ss outer dest scope new k items same_here same_outer is none
 
     closed : Adds c (m ∷ ms) (opened b outer ∷ outward b ss) (with_def (instance_def (decls (declarations_of st.here.content))) (opened b outer) ∷ outward b ss) (next_type (opened b outer)) (instance ((env (opened b st.here) (envs (opened b outer ∷ outward b ss))).exports))
     closed = closes-content law c inner m ms (book_of b st.here) st.here.content (opened b outer) (outward b ss) is none (subst (λ (zs : Stack). Good c (inner ∷ m ∷ ms) (opened b st.here ∷ zs)) split g)
+
+-- a fresh resource is listed
+
+fresh-content : ListsFresh → (c : Collection) (m : Bindings) (ms : List Bindings) (book : Book) (x : Encodable) (os : Stack) (side : Side) (n : Name) (r : ResourceId) → HasSide side x → Good c (m ∷ ms) (recorded book (content_of x) ∷ os) → IsNewName (recorded book (content_of x)) os side n → m r ≡ None → Lists c (calling r (listed_leaf side n) m) ms (recorded book (content_of x)) (with_fresh side n r (recorded book (content_of x))) os side n fresh
+fresh-content law c m ms book (Component ds) os side n r has g new none = law c m ms ds (recorded book (declarations ds)) os side n r g new none
+fresh-content law c m ms book (Instance ds) os side n r has g new none = law c m ms ds (recorded book (declarations ds)) os side n r g new none
+fresh-content law c m ms book (Builder items) os imported n r has g new none = absurd has
+fresh-content law c m ms book (Builder items) os exported n r has g new none = absurd has
+
+own-content : ListsOwn → (c : Collection) (m : Bindings) (ms : List Bindings) (book : Book) (x : Encodable) (os : Stack) (n : Name) (r : ResourceId) → HasSide exported x → Good c (m ∷ ms) (recorded book (content_of x) ∷ os) → IsNewName (recorded book (content_of x)) os exported n → RecordsNoType (recorded book (content_of x)) → (book.passes ≡ true → top ms r ≡ None) → Lists c (calling r (listed_leaf exported n) m) ms (recorded book (content_of x)) (with_fresh exported n r (recorded book (content_of x))) os exported n fresh
+own-content law c m ms book (Component ds) os n r has g new none apart = law c m ms ds (recorded book (declarations ds)) os n r g new none apart
+own-content law c m ms book (Instance ds) os n r has g new none apart = law c m ms ds (recorded book (declarations ds)) os n r g new none apart
+own-content law c m ms book (Builder items) os n r has g new none apart = absurd has
+
+pub lists-resource : ListsFresh → ListsOwn → (b : Bool) (side : Side) (n : Name) (r : ResourceId) (st : State) (here : Scope) (i : ℕ) → HasSide side st.here.content → i ≡ next_type (opened b st.here) → ScopeChanges b (with_fresh side n r) st.here here → ListsResource b side n r st (record st { here = here }) i
+lists-resource fresh_law own_law b side n r st here i has is step = record {
+  around = refl;
+  index = ap (λ (o : Open). o.binds r) step.0 ∙ bound-there r (at_type (next_type (opened b st.here))) (record (opened b st.here) { content = and_fresh side n (content_of st.here.content) }) ∙ ap (λ (k : ℕ). Some (at_type k)) (sym is);
+  unbound = λ c m ms g new none. subst (λ (o : Open). Lists c (calling r (listed_leaf side n) m) ms (opened b st.here) o (outward b st.around.items) side n fresh) (sym step.0) (fresh-content fresh_law c m ms (book_of b st.here) st.here.content (outward b st.around.items) side n r has g new none);
+  own = by_side side has step;
+}
+  where
+    by_side : (z : Side) → HasSide z st.here.content → ScopeChanges b (with_fresh z n r) st.here here → z ≡ exported → (c : Collection) (m : Bindings) (ms : List Bindings) → Good c (m ∷ ms) (stack b st) → IsNewName (opened b st.here) (outward b st.around.items) exported n → RecordsNoType (opened b st.here) → ((opened b st.here).passes ≡ true → top ms r ≡ None) → Lists c (calling r (listed_leaf exported n) m) ms (opened b st.here) (opened b here) (outward b st.around.items) exported n fresh
+    by_side imported h change e c m ms g new none apart = let no : imported ≡ exported = e in cc
+    by_side exported h change e c m ms g new none apart = subst (λ (o : Open). Lists c (calling r (listed_leaf exported n) m) ms (opened b st.here) o (outward b st.around.items) exported n fresh) (sym change.0) (own-content own_law c m ms (book_of b st.here) st.here.content (outward b st.around.items) n r h g new none apart)
+
+-- a bottom scope binds what one of its instances has
+pub binds-state : BindsMore → (b : Bool) (st : State) (here : Scope) (r : ResourceId) (j : ℕ) (n : Name) → ScopeChanges b (bind_at r (at_export j n)) st.here here → BindsExport b r j n st (record st { here = here })
+binds-state law b st here r j n step c m l none good unbound at =
+    subst (λ (o : Open). Onward c (calling r l m ∷ []) (stack b st) (o ∷ outward b st.around.items)) (sym step.0)
+    (subst (λ (ss : List Scope). Onward c (calling r l m ∷ []) (opened b st.here ∷ outward b ss) (bind_at r (at_export j n) (opened b st.here) ∷ outward b ss)) (sym none)
+    (law c m (opened b st.here) r l (at_export j n) (subst (λ (ss : List Scope). Good c (m ∷ []) (opened b st.here ∷ outward b ss)) none good) unbound (subst (λ (ss : List Scope). Stands (env (opened b st.here) (envs (outward b ss))) (resource l) (at_export j n)) none at)))

@@ -1,5 +1,5 @@
 -- What a change of one scope is for the open scopes, and what follows for all that is good.
-use Rattle.std.specs.Prelude.{ℕ, zero, suc, ◌≡◌, ◌<◌, ◌+◌, IfOk, IfSome, Bool, true, false, not, List, [], ◌∷◌, ◌++◌, length, take, Some, None, slice_get, Result, Ok, Err, OnOk, Option, if◌then◌else◌, OkIff}
+use Rattle.std.specs.Prelude.{ℕ, zero, suc, ◌≡◌, ◌<◌, ◌+◌, IfOk, IfSome, Bool, true, false, not, List, [], ◌∷◌, ◌++◌, length, take, Some, None, slice_get, Result, Ok, Err, OnOk, Option, if◌then◌else◌, OkIff, OnErr}
 use Rattle.std.specs.List.{AllZip}
 use Rattle.std.proofs.Common.{refl, ap, ◌∙◌, sym, subst, arith}
 use Rattle.std.proofs.Math.ListN.{drop, set}
@@ -41,6 +41,10 @@ use Rattle.wac_encode_scopes.proofs.Types.{type-same, type-itself}
 pub on-ok : {T E P Q : Type 0} → (res : Result T E) → (P → Q) → OnOk res P → OnOk res Q
 on-ok (Ok x) f h = f h
 on-ok (Err e) f h = h
+
+pub on-err : {T E P Q : Type 0} → (res : Result T E) → (P → Q) → OnErr res P → OnErr res Q
+on-err (Ok x) f h = h
+on-err (Err e) f h = f h
 
 -- more in one of the two books
 pub merged-changes : (b : Bool) (f : Open → Open) (s : Scope) (book : Book) → b ≡ true → Records f s.merged book → ScopeChanges b f s (record s { merged = book })
@@ -196,7 +200,7 @@ settled-there r j n [] k h = absurd h
 settled-there r j n (o ∷ os) zero h = ap (λ (w : Option Where). settled_from r w o ∷ os) h
 settled-there r j n (o ∷ os) (suc k) h = ap (λ (zs : Stack). o ∷ zs) (settled-there r j n os k h.1)
 
-bound-there : (r : ResourceId) (w : Where) (o : Open) → (bind_at r w o).binds r ≡ Some w
+pub bound-there : (r : ResourceId) (w : Where) (o : Open) → (bind_at r w o).binds r ≡ Some w
 bound-there r w o = ap (λ b. if b then Some w else o.binds r) (eq-eqb r.0 r.0 refl)
 
 reached-settled : (r : ResourceId) (j : ℕ) (n : Name) (st : Stack) (k : ℕ) → IsReached st r k (at_export j n) → IsReached (changed_at k (aliased_there r j n) st) r k (at_type (next_type_at k st))

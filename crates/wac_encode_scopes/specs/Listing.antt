@@ -1,7 +1,7 @@
 -- Types that are opened and closed in the scopes of the code, and what is listed in them.
-use Rattle.std.specs.Prelude.{ℕ, ◌≡◌, Bool, true, not, List, [], ◌∷◌, ◌++◌}
+use Rattle.std.specs.Prelude.{ℕ, ◌≡◌, Bool, true, not, List, [], ◌∷◌, ◌++◌, Some, None}
 use Rattle.wac_types_shapes.specs.primitives.Name.{Name}
-use Rattle.wac_types_shapes.specs.primitives.Tree.{Side, Tree, type_equal, function_item, instance_item, component_item, module_item, instance}
+use Rattle.wac_types_shapes.specs.primitives.Tree.{Side, Tree, type_equal, function_item, instance_item, component_item, module_item, instance, exported, Leaf, resource, fresh}
 use Rattle.wac_types_collection.specs.collection.Collection.{Collection}
 use Rattle.wac_types_collection.specs.collection.Bound.{Bindings}
 use Rattle.wac_binary.specs.declared.sorts.Description.{Description}
@@ -13,10 +13,12 @@ use Rattle.wac_encode_scopes.specs.declared.scope.Scope.{Scope}
 use Rattle.wac_encode_scopes.specs.declared.state.State.{State}
 use Rattle.wac_encode_scopes.specs.Books.{opened}
 use Rattle.wac_encode_scopes.specs.States.{outward, stack}
-use Rattle.wac_encode_stacks.specs.Scopes.{opening}
-use Rattle.wac_encode_stacks.specs.Good.{At, Good, innermost}
+use Rattle.wac_encode_stacks.specs.Scopes.{opening, at_type, at_export, export_at}
+use Rattle.wac_encode_stacks.specs.Good.{At, Good, innermost, Stands, Onward, top}
 use Rattle.wac_encode_stacks.specs.Laws.{Adds}
-use Rattle.wac_encode_stacks.specs.Listed.{IsNewName, Lists}
+use Rattle.wac_encode_stacks.specs.Listed.{IsNewName, Lists, calling, listed_leaf, RecordsNoType}
+use Rattle.wac_types_shapes.specs.declared.shapes.component.ResourceId.{ResourceId}
+use Rattle.wac_types_shapes.specs.declared.shapes.component.DefinedTypeId.{DefinedTypeId}
 
 -- the item that is described by an index in scope
 abbrev pub Describes : Env → Description → Tree → Type 0
@@ -52,3 +54,24 @@ IsSame old new = (new.here ≡ old.here) × (new.around.items ≡ old.around.ite
 abbrev pub IsNonempty : List Scope → Type 0
 IsNonempty [] = ⊥
 IsNonempty (s ∷ ss) = Unit {0}
+
+-- a fresh resource is listed under a name that is new, and recorded at its type index
+pub record ListsResource (b : Bool) (side : Side) (n : Name) (r : ResourceId) (old new : State) (i : ℕ) : Type 0 where
+  pub around : new.around ≡ old.around
+  pub index : (opened b new.here).binds r ≡ Some (at_type i)
+  -- nothing bound it before
+  pub unbound : (c : Collection) (m : Bindings) (ms : List Bindings) → Good c (m ∷ ms) (stack b old) → IsNewName (opened b old.here) (outward b old.around.items) side n → m r ≡ None
+      → Lists c (calling r (listed_leaf side n) m) ms (opened b old.here) (opened b new.here) (outward b old.around.items) side n fresh
+  -- or it is an export of a type that records no type yet, and is bound around it, if at all, where it does not pass
+  pub own : side ≡ exported → (c : Collection) (m : Bindings) (ms : List Bindings) → Good c (m ∷ ms) (stack b old) → IsNewName (opened b old.here) (outward b old.around.items) exported n
+      → RecordsNoType (opened b old.here) → ((opened b old.here).passes ≡ true → top ms r ≡ None)
+      → Lists c (calling r (listed_leaf exported n) m) ms (opened b old.here) (opened b new.here) (outward b old.around.items) exported n fresh
+
+-- a bottom scope binds a resource that one of its instances has
+abbrev pub BindsExport : Bool → ResourceId → ℕ → Name → State → State → Type 0
+BindsExport b r j n old new = (c : Collection) (m : Bindings) (l : Leaf) → old.around.items ≡ [] → Good c (m ∷ []) (stack b old) → m r ≡ None → Stands (innermost (stack b old)) (resource l) (at_export j n)
+    → Onward c (calling r l m ∷ []) (stack b old) (stack b new)
+
+-- the value type may be recorded as an instance's export in the innermost scope
+abbrev pub MayTell : Collection → Bool → DefinedTypeId → ℕ → Name → State → Type 0
+MayTell c b d j n s = (m : Bindings) (ms : List Bindings) → Good c (m ∷ ms) (stack b s) → Onward c (m ∷ ms) (stack b s) (export_at d (at_export j n) (opened b s.here) ∷ outward b s.around.items)

@@ -1,9 +1,11 @@
 //! What is recorded of the types of one collection in an open scope.
 
-ghost use Rattle.std.specs.Prelude.{◌≡◌, false, IfOk, OnOk, OnErr, None};
+ghost use Rattle.std.specs.Prelude.{◌≡◌, ◌<◌, false, IfOk, OnOk, OnErr, None};
 ghost use Rattle.wac_encode_stacks.specs.Scopes.{bind_at, index_at, export_at, type_count};
 ghost use Rattle.wac_encode_scopes.specs.Contents.{content_of};
-ghost use Rattle.wac_encode_scopes.specs.Books.{where_of, how_of, binds_in, types_in, exports_in, maybe_where, maybe_indexed};
+ghost use Rattle.std.specs.HashMap.{spare};
+ghost use Rattle.wac_encode_stacks.specs.Scopes.{Content};
+ghost use Rattle.wac_encode_scopes.specs.Books.{recorded, where_of, how_of, binds_in, types_in, exports_in, maybe_where, maybe_indexed};
 ghost use Rattle.wac_encode_scopes.specs.private.Steps.{Records, IsExported, aliased_from, export_of};
 
 use crate::encodable::Encodable;
@@ -184,6 +186,26 @@ impl Book {
     {
         self.resources.insert(resource, place)?;
         Ok(())
+    }
+
+    /// Makes room to record one more resource.
+    pub(crate) fn reserve_resource(&mut self) -> Result<(), BinaryFault>
+        ensures same { (x : Content) → recorded self.new x ≡ recorded self.old x }
+        ensures room { OnOk result (0 < spare self.new.resources) }
+    {
+        self.resources.reserve(1)?;
+        Ok(())
+    }
+
+    /// Records where a resource is. There is room for it.
+    pub(crate) fn put_resource(&mut self, resource: ResourceId, place: Place)
+        requires { 0 < spare self.old.resources }
+        ensures { Records (bind_at resource (where_of place)) self.old self.new }
+    {
+        match self.resources.insert(resource, place) {
+            Ok(_) => {}
+            Err(_) => unreachable!(),
+        }
     }
 
     /// Records the type index of a type.

@@ -1,6 +1,6 @@
 //! An open scope.
 
-ghost use Rattle.std.specs.Prelude.{◌≡◌, ◌⊎◌, true, false, not, [], IfOk, OnOk, OnErr, None};
+ghost use Rattle.std.specs.Prelude.{◌≡◌, ◌⊎◌, ◌<◌, Bool, true, false, not, [], IfOk, OnOk, OnErr, None};
 ghost use Rattle.wac_binary.specs.declared.sorts.Sort.TheVariants as s;
 ghost use Rattle.wac_binary.specs.Items.{value_def, instance_def, decls, outer_alias};
 ghost use Rattle.wac_binary.specs.Indexes.{space, described_sort};
@@ -9,9 +9,11 @@ ghost use Rattle.wac_types_shapes.specs.declared.shapes.component.«Type».TheVa
 ghost use Rattle.wac_encode_stacks.specs.Scopes.{at_type, opening, defined, brought, bind_at, export_at, index_at, with_alias_of, with_def, next_type, type_count};
 ghost use Rattle.wac_encode_scopes.specs.Contents.{content_of, and_type, and_item, count_of, declarations_of, AddsTypes, HasSide, IsInstanceType, side_of};
 ghost use Rattle.wac_encode_scopes.specs.declared.encodable.Encodable.TheVariants.{Instance};
+ghost use Rattle.std.specs.HashMap.{spare};
+ghost use Rattle.wac_binary.specs.declared.sorts.Description.TheVariants as e;
 ghost use Rattle.wac_encode_scopes.specs.States.{named_in};
 ghost use Rattle.wac_encode_scopes.specs.Books.{where_of, how_of, maybe_indexed, opened, binds_in, book_of};
-ghost use Rattle.wac_encode_scopes.specs.private.Steps.{ScopeChanges, IsExported, aliased_from, settled, settled_value, export_of, empty_scope, either};
+ghost use Rattle.wac_encode_scopes.specs.private.Steps.{ScopeChanges, IsExported, aliased_from, settled, settled_value, with_fresh, export_of, empty_scope, either};
 
 use crate::book::{Book, Entry, How, Place};
 use crate::encodable::Encodable;
@@ -43,7 +45,7 @@ impl Drop for Scope {
 
 impl Scope {
     /// Records where a resource is.
-    fn record_resource(
+    pub(crate) fn record_resource(
         &mut self,
         merged: bool,
         resource: ResourceId,
@@ -386,5 +388,54 @@ impl Scope {
         let own = self.content.alias_outer(count, index)?;
         self.record_type(merged, ty, How::Brought, own)?;
         Ok(own)
+    }
+
+    /// Makes room to record one more resource.
+    fn reserve_resource(&mut self, merged: bool) -> Result<(), BinaryFault>
+        ensures same { (b : Bool) → opened b self.new ≡ opened b self.old }
+        ensures content { self.new.content ≡ self.old.content }
+        ensures room { OnOk result (0 < spare (book_of merged self.new).resources) }
+    {
+        if merged {
+            self.merged.reserve_resource()
+        } else {
+            self.graph.reserve_resource()
+        }
+    }
+
+    /// Records where a resource is. There is room for it.
+    fn put_resource(&mut self, merged: bool, resource: ResourceId, place: Place)
+        requires { 0 < spare (book_of merged self.old).resources }
+        ensures recorded { ScopeChanges merged (bind_at resource (where_of place)) self.old self.new }
+        ensures content { self.new.content ≡ self.old.content }
+    {
+        if merged {
+            self.merged.put_resource(resource, place);
+        } else {
+            self.graph.put_resource(resource, place);
+        }
+    }
+
+    /// Lists a fresh resource on a side of a type that is open, records it and returns its type index.
+    ///
+    /// # Errors
+    /// As [`Encodable::defined_type`].
+    pub(crate) fn list_fresh(
+        &mut self,
+        merged: bool,
+        side: Side,
+        name: &str,
+        resource: ResourceId,
+    ) -> Result<u32, BinaryFault>
+        requires { HasSide (side_of side) self.old.content }
+        ensures index { IfOk result (λ i. i ≡ next_type (opened merged self.old)) }
+        ensures step { OnOk result (ScopeChanges merged (with_fresh (side_of side) name.now resource) self.old self.new) }
+        ensures content { OnOk result (self.new.content ≡ and_item (side_of side) name.now e.Fresh self.old.content) }
+        ensures refused { OnErr result (self.new.content ≡ self.old.content) }
+    {
+        self.reserve_resource(merged)?;
+        let index = self.content.list(side, name, Description::Fresh)?;
+        self.put_resource(merged, resource, Place::Index(index));
+        Ok(index)
     }
 }

@@ -11,19 +11,20 @@ ghost use Rattle.wac_types_collection.specs.collection.Held.{resolved};
 ghost use Rattle.wac_binary.specs.Views.{defined_of, func_of};
 ghost use Rattle.wac_encode_stacks.specs.Scopes.{Where, at_type, at_export, How as AnyHow, defined};
 ghost use Rattle.wac_encode_stacks.specs.Good.{Good, IsClosed, nothing_bound};
+ghost use Rattle.wac_binary.specs.declared.sorts.Description.TheVariants as e;
 ghost use Rattle.wac_binary.specs.Items.{decls};
 ghost use Rattle.wac_binary.specs.Indexes.{space, described_sort};
 ghost use Rattle.wac_binary.specs.HasMeaning.{ImportNothing};
 ghost use Rattle.wac_encode_scopes.specs.declared.encodable.Encodable.TheVariants.{Builder, Component};
 ghost use Rattle.wac_encode_scopes.specs.Contents.{HasSide, IsInstanceType, side_of, declarations_of, count_of, and_item};
 ghost use Rattle.wac_encode_scopes.specs.Books.{opened, how_of};
-ghost use Rattle.wac_encode_scopes.specs.Listing.{ListsItem, Opens, Closes, IsSame, IsNonempty};
+ghost use Rattle.wac_encode_scopes.specs.Listing.{ListsItem, ListsResource, BindsExport, MayTell, Opens, Closes, IsSame, IsNonempty};
 ghost use Rattle.wac_encode_stacks.specs.Parts.{IsReached};
 ghost use Rattle.wac_encode_stacks.specs.Inside.{next_type_at};
 ghost use Rattle.wac_encode_scopes.specs.States.{stack, named_in, IsNamedAt, Crosses, AllAddTypes, Goes, GoesForAll, SaysWritten, SaysWrittenFunc, IsRecordedAt, IsTypeAt, IsBound, IsResourceAt, IsPlace};
 ghost use Rattle.wac_encode_scopes.specs.private.Steps.{StateChanges, settled, settled_value};
 
-use crate::book::How;
+use crate::book::{How, Place};
 use crate::encodable::Encodable;
 use crate::scope::Scope;
 use crate::side::Side;
@@ -35,7 +36,7 @@ use wac_binary::{
 use wac_encode_stacks::{
     bringing_law, closing_law, inside_law, listing_law, root_law, step_law, still_law,
 };
-use wac_types_collection::{DefinedTypeId, FuncTypeId, ResourceId, Type, ValueType};
+use wac_types_collection::{DefinedTypeId, FuncTypeId, ResourceId, Text, Type, ValueType};
 
 /// The scopes that are open: those around, the bottom first, and the innermost. After an error each has its content, and types and
 /// aliases of types after it; what is recorded is no longer to be used.
@@ -467,5 +468,65 @@ impl State {
         };
         let own = self.bring_named(merged, definition, is_closed, out, index)?;
         Ok(Some(own))
+    }
+
+    /// Lists a fresh resource on a side of the innermost scope, which is a type that is open, records it and returns its type index.
+    ///
+    /// # Errors
+    /// - `TooLarge` if it would not fit 32-bit sizes.
+    /// - `OutOfMemory`.
+    ///
+    /// On an error nothing is listed.
+    pub fn list_fresh(
+        &mut self,
+        merged: bool,
+        side: Side,
+        name: &str,
+        resource: ResourceId,
+    ) -> Result<u32, BinaryFault>
+        requires { HasSide (side_of side) self.old.here.content }
+        ensures lists { IfOk result (ListsResource merged (side_of side) name.now resource self.old self.new) }
+        ensures content { OnOk result (self.new.here.content ≡ and_item (side_of side) name.now e.Fresh self.old.here.content) }
+        ensures refused { OnErr result (AllAddTypes self.old self.new) }
+    {
+        listing_law();
+        self.here.list_fresh(merged, side, name, resource)
+    }
+
+    /// Records that an instance in the bottom scope has a resource, which is then bound there.
+    ///
+    /// # Errors
+    /// - `OutOfMemory`.
+    pub fn bind(
+        &mut self,
+        merged: bool,
+        resource: ResourceId,
+        instance: u32,
+        name: Text,
+    ) -> Result<(), BinaryFault>
+        ensures binds { OnOk result (BindsExport merged resource instance name self.old self.new) }
+        ensures types { AllAddTypes self.old self.new }
+    {
+        closing_law();
+        self.here
+            .record_resource(merged, resource, Place::Export(instance, name))
+    }
+
+    /// Records that an instance in the innermost scope exports a value type.
+    ///
+    /// # Errors
+    /// - `OutOfMemory`.
+    pub fn tell(
+        &mut self,
+        merged: bool,
+        definition: DefinedTypeId,
+        instance: u32,
+        name: Text,
+    ) -> Result<(), BinaryFault>
+        ensures goes { OnOk result ((c : Collection) → MayTell c merged definition instance name self.old → Goes c merged self.old self.new) }
+        ensures types { AllAddTypes self.old self.new }
+    {
+        self.here
+            .record_export(merged, definition, Place::Export(instance, name))
     }
 }

@@ -1,5 +1,5 @@
-//! Stacks of open scopes: what it says that what is written in them is what is held, and what each step of a type encoder keeps and gives.
-//! Definitions, laws and lemmas; no code.
+//! Stacks of open scopes: when the text in them is that of types of the collection, and what each step of a type encoder
+//! keeps and gives. Definitions, laws and lemmas; no code.
 #![tactic(auto)]
 
 pub mod laws;

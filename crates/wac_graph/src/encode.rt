@@ -59,7 +59,7 @@ impl CompositionGraph {
         ensures means { IfOk result (λ bytes. (items : List AnItem) × (bytes.items ≡ bytes_of items) × Fits items × Means items self.now options.entry) }
         // A reported cause exists and is the first one.
         ensures cause { IfErr result (λ e. IfSome (cause_of e) (Stands self.now options.entry)) }
-        // If there is a cause, the result is an error that reports the first one.
+        // If there is a first cause, the result is an error that reports it.
         ensures refused { (cause : Cause) → Stands self.now options.entry cause → IsErrAnd result (AnswersFor cause) }
         // If bytes are returned, there is no cause of any kind.
         ensures none { OnOk result ((kind : CauseKind) → Occurs self.now options.entry kind → ⊥) }

@@ -1,7 +1,8 @@
 -- What a call does to one scope, and to the scope so many out. Private functions alone cite this.
-use Rattle.std.specs.Prelude.{ℕ, ◌≡◌, Bool, true, false, not, Option, Some, None}
+use Rattle.std.specs.Prelude.{ℕ, ◌≡◌, Bool, true, false, not, Option, Some, None, ◌++◌, ◌∷◌, []}
 use Rattle.wac_types_shapes.specs.declared.shapes.component.ResourceId.{ResourceId}
 use Rattle.wac_binary.specs.declared.sorts.Sort.TheVariants as s
+use Rattle.wac_binary.specs.declared.sorts.Description.TheVariants as e
 use Rattle.wac_binary.specs.Items.{export_alias}
 use Rattle.wac_encode_scopes.specs.declared.encodable.Encodable.{Encodable}
 use Rattle.wac_encode_scopes.specs.declared.book.Book.{Book}
@@ -10,11 +11,14 @@ use Rattle.wac_encode_scopes.specs.declared.state.State.{State}
 use Rattle.wac_encode_scopes.specs.Contents.{and_alias_of}
 use Rattle.wac_encode_scopes.specs.Books.{recorded, opened}
 use Rattle.wac_encode_scopes.specs.States.{stack}
-use Rattle.wac_encode_stacks.specs.Scopes.{Content, Where, at_type, at_export, Open, opening}
+use Rattle.wac_encode_stacks.specs.Scopes.{Content, Where, at_type, at_export, Open, opening, declarations, root, next_type, bind_at}
 use Rattle.wac_encode_stacks.specs.Beside.{written_as, all_written_as}
 use Rattle.wac_encode_stacks.specs.Inside.{changed_at, aliased_there}
 use Rattle.wac_types_shapes.specs.declared.shapes.component.DefinedTypeId.{DefinedTypeId}
 use Rattle.wac_encode_stacks.specs.Brought.{aliased_value}
+use Rattle.wac_types_shapes.specs.primitives.Name.{Name}
+use Rattle.wac_types_shapes.specs.primitives.Tree.{Side}
+use Rattle.wac_encode_stacks.specs.Listed.{side_decl}
 
 -- more is recorded in a book
 abbrev pub Records : (Open → Open) → Book → Book → Type 0
@@ -67,3 +71,11 @@ settled_value_from d _ o = o
 
 abbrev pub settled_value : DefinedTypeId → Open → Open
 settled_value d o = settled_value_from d (o.exports d) o
+
+-- a fresh resource is listed, and recorded at its type index
+abbrev pub and_fresh : Side → Name → Content → Content
+and_fresh side n (declarations ds) = declarations (ds ++ side_decl side n e.Fresh ∷ [])
+and_fresh side n (root items) = root items
+
+abbrev pub with_fresh : Side → Name → ResourceId → Open → Open
+with_fresh side n r o = bind_at r (at_type (next_type o)) (record o { content = and_fresh side n o.content })
