@@ -19,8 +19,8 @@ use Rattle.wac_encode_scopes.proofs.Outward.{changed-there, set-outward, split-a
 use Rattle.std.proofs.lemmas.Bool.{eq-eqb}
 use Rattle.wac_types_shapes.specs.primitives.Name.{Name}
 use Rattle.wac_encode_stacks.specs.Parts.{IsReached}
-use Rattle.wac_encode_stacks.specs.Good.{Good, Onward}
-use Rattle.wac_encode_stacks.specs.Laws.{StaysOnward, Follows, DefinesValue, DefinesFunc, DefinesHandles, RecordsType}
+use Rattle.wac_encode_stacks.specs.Good.{Good, Onward, top}
+use Rattle.wac_encode_stacks.specs.Laws.{StaysOnward, Follows, DefinesValue, DefinesFunc, DefinesHandles, RecordsType, Reaches}
 use Rattle.wac_encode_stacks.specs.Brought.{FindsOrUnbound}
 use Rattle.wac_types_collection.specs.collection.Collection.{Collection, IsWellFormed, item_at}
 use Rattle.wac_types_collection.specs.collection.Bound.{Bindings}
@@ -37,6 +37,7 @@ use Rattle.wac_types_shapes.specs.declared.shapes.component.FuncTypeId.{FuncType
 use Rattle.wac_types_shapes.specs.declared.shapes.component.FuncType.{FuncType}
 use Rattle.wac_types_shapes.specs.declared.shapes.component.«Type».{«Type» as AnyType}
 use Rattle.wac_encode_scopes.proofs.Types.{type-same, type-itself}
+use Rattle.wac_types_shapes.specs.primitives.Tree.{Leaf, out_by}
 
 pub on-ok : {T E P Q : Type 0} → (res : Result T E) → (P → Q) → OnOk res P → OnOk res Q
 on-ok (Ok x) f h = f h
@@ -314,3 +315,10 @@ recorded-here b a i s t f is step = indexed-there b a defined (next_type (opened
 
 pub goes-recorded : RecordsType → (c : Collection) (b : Bool) (st : State) (here : Scope) (a : AnyType) (how : How) (i : ℕ) → IsTypeAt c b st a i → ScopeChanges b (index_at a how i) st.here here → Added st.here here → Goes c b st (record st { here = here })
 goes-recorded law c b st here a how i at step types = goes-here c b (index_at a how i) st here step types (λ m ms good. let t = at (m ∷ ms) good in law c m ms (opened b st.here) (outward b st.around.items) a how i t.0 good t.1 t.2 t.3)
+
+-- what is found is bound
+pub found-is-bound : Reaches → (b : Bool) (st : State) (r : ResourceId) (o : Option (ℕ × ℕ × Bool)) (f : ℕ × ℕ × Bool) → ◌≡◌ {A = Option (ℕ × ℕ × Bool)} o (Some f) → IfSome o (λ x. (w : Where) × IsReached (stack b st) r x.0 w × IsPlace w x.1 x.2) → (c : Collection) (ms : List Bindings) → Good c ms (stack b st) → (l : Leaf) × (top ms r ≡ Some l)
+found-is-bound law b st r o f is h c ms good =
+    let at = subst (λ (x : Option (ℕ × ℕ × Bool)). IfSome x (λ y. (w : Where) × IsReached (stack b st) r y.0 w × IsPlace w y.1 y.2)) is h in
+    let l = law c ms (stack b st) r f.0 at.0 good at.1 in
+    (out_by f.0 l.0, l.1)

@@ -1,6 +1,6 @@
 //! The scopes that are open.
 
-ghost use Rattle.std.specs.Prelude.{◌≡◌, ◌≤◌, ◌∷◌, ◌++◌, [], length, ℕ, IfOk, OnOk, OnErr, IfSome, None, Some, true};
+ghost use Rattle.std.specs.Prelude.{◌≡◌, ◌≤◌, ◌∷◌, ◌++◌, [], length, ℕ, IfOk, OnOk, OnErr, IfSome, None, Some, true, false, List};
 ghost use Rattle.wac_types_shapes.specs.primitives.Name.{Name};
 ghost use Rattle.wac_types_shapes.specs.declared.shapes.component.DefinedType.{DefinedType as Definition};
 ghost use Rattle.wac_types_shapes.specs.declared.shapes.component.FuncType.{FuncType as Function};
@@ -10,7 +10,9 @@ ghost use Rattle.wac_types_collection.specs.collection.Collection.{Collection, I
 ghost use Rattle.wac_types_collection.specs.collection.Held.{resolved};
 ghost use Rattle.wac_binary.specs.Views.{defined_of, func_of};
 ghost use Rattle.wac_encode_stacks.specs.Scopes.{Where, at_type, at_export, How as AnyHow, defined};
-ghost use Rattle.wac_encode_stacks.specs.Good.{Good, IsClosed, nothing_bound};
+ghost use Rattle.wac_encode_stacks.specs.Good.{Good, IsClosed, nothing_bound, top};
+ghost use Rattle.wac_types_collection.specs.collection.Bound.{Bindings};
+ghost use Rattle.wac_types_shapes.specs.primitives.Tree.{Leaf};
 ghost use Rattle.wac_binary.specs.declared.sorts.Description.TheVariants as e;
 ghost use Rattle.wac_binary.specs.Items.{decls};
 ghost use Rattle.wac_binary.specs.Indexes.{space, described_sort};
@@ -77,6 +79,19 @@ impl State {
             }
         }
         (None, probes)
+    }
+
+    /// Whether a resource is bound in the innermost scope, or around it.
+    pub fn is_bound(&self, merged: bool, resource: ResourceId) -> bool
+        ensures bound { result ≡ true → (c : Collection) (ms : List Bindings) → Good c ms (stack merged self.now) → (l : Leaf) × (top ms resource ≡ Some l) }
+        ensures unbound { result ≡ false → (c : Collection) (ms : List Bindings) → Good c ms (stack merged self.now) → top ms resource ≡ None }
+    {
+        bringing_law();
+        step_law();
+        match self.find(merged, resource).0 {
+            Some(_) => true,
+            None => false,
+        }
     }
 
     /// Aliases a resource in the scope so many out, which records it as an instance's export, and returns its type index there.

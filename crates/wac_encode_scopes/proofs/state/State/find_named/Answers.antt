@@ -1,4 +1,4 @@
-use Rattle.std.proofs.Common.{refl, sym, ◌∙◌, arith, length, ◌-◌, ◌+◌, ◌⊎◌, true, ⊎_elim, inl, inr}
+use Rattle.std.proofs.Common.{refl, sym, ◌∙◌, arith, length, ◌-◌, ◌+◌, ⊎_elim, inl, inr}
 use Rattle.std.proofs.lemmas.Option.{slice_get_read}
 use Rattle.wac_encode_scopes.specs.Books.{opened}
 use Rattle.wac_encode_scopes.specs.States.{stack, named_in}
