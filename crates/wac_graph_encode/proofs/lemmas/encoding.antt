@@ -1,3 +1,3 @@
-mod DefinitionLemmas
-mod NodeLemmas
-mod ListingLemmas
+pub mod DefinitionLemmas
+pub mod NodeLemmas
+pub mod ListingLemmas

@@ -1,4 +1,4 @@
-mod SeenLemmas
+pub mod SeenLemmas
 pub mod RootLemmas
-mod NamesLemmas
-mod ComponentLemmas
+pub mod NamesLemmas
+pub mod ComponentLemmas
