@@ -7,4 +7,6 @@ pub mod Reached
 pub mod Needed
 pub mod Twice
 pub mod Mentioned
+pub mod Ordering
+pub mod FreeParts
 pub mod Examples

@@ -1,9 +1,11 @@
 //! Faults and their order.
-ghost use Rattle.std.specs.Prelude.{◌≡◌};
-ghost use Rattle.wac_encode_faults.specs.Faults.{fault_rank};
+ghost use Rattle.std.specs.Prelude.{◌≡◌, true};
+ghost use Rattle.wac_types_collection.specs.collection.Collection.{holds_type};
+ghost use Rattle.wac_encode_faults.specs.Faults.{fault_rank, import_fault as import_fault_of, definition_fault as definition_fault_of, unnamed as unnamed_of};
 ghost use Rattle.wac_encode_faults.specs.private.Search.{lower_of};
 
 use crate::fault::WriteFault;
+use wac_types_collection::{ItemKind, Text, Type, Types};
 
 /// What is to be done with an item.
 #[derive(Clone, Copy, Debug, PartialEq, Eq)]
@@ -44,5 +46,39 @@ pub(crate) fn lower(first: Option<WriteFault>, second: Option<WriteFault>) -> Op
         second
     } else {
         first
+    }
+}
+
+/// Returns the fault that an item has as an import of the root.
+pub(crate) fn import_fault(item: ItemKind) -> Option<WriteFault>
+    ensures { result ≡ import_fault_of item }
+{
+    match item {
+        ItemKind::TypeItem(Type::Module(_)) => Some(WriteFault::ModuleAsType),
+        ItemKind::Value(_) => Some(WriteFault::ValueItem),
+        _ => None,
+    }
+}
+
+/// Returns the fault of a defined interface or world with this id.
+fn unnamed(id: &Option<Text>) -> Option<WriteFault>
+    ensures { result ≡ unnamed_of id.now }
+{
+    match id {
+        Some(_) => None,
+        None => Some(WriteFault::UnnamedDefinition),
+    }
+}
+
+/// Returns the fault that a type of the collection has as a definition.
+pub(crate) fn definition_fault(types: &Types, ty: Type) -> Option<WriteFault>
+    requires { holds_type types.now ty ≡ true }
+    ensures { result ≡ definition_fault_of types.now ty }
+{
+    match ty {
+        Type::Interface(id) => unnamed(&types[id].id),
+        Type::World(id) => unnamed(&types[id].id),
+        Type::Module(_) => Some(WriteFault::ModuleAsType),
+        _ => None,
     }
 }

@@ -10,7 +10,9 @@ mod fault;
 mod faults;
 mod inside;
 mod names;
+mod order;
 mod parts;
+mod resources;
 mod unlisted;
 pub mod wide;
 
