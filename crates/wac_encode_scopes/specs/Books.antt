@@ -1,4 +1,4 @@
--- What the code records of an open scope, as it is recorded in a stack.
+-- What the code records in an open scope, as the records of a scope in a stack.
 use Rattle.std.specs.Prelude.{Bool, true, false, nat_eq, Option, Some, None}
 use Rattle.std.specs.HashMap.{get}
 use Rattle.wac_types_shapes.specs.declared.shapes.component.ResourceId.{ResourceId}
@@ -44,11 +44,11 @@ types_in b a = maybe_indexed (get (TypeEq.ghosts).eq b.types a)
 abbrev pub exports_in : Book → DefinedTypeId → Option Where
 exports_in b d = maybe_where (get (λ x y. nat_eq x.0 y.0) b.exports d)
 
--- the open scope with this content, in which this is recorded
+-- The open scope with this content and the records of this book.
 abbrev pub recorded : Book → Content → Open
 recorded b x = record { content = x; passes = b.passes; binds = binds_in b; types = types_in b; exports = exports_in b }
 
--- the book of one of the two collections
+-- The book of the merged collection, or of the graph's own.
 abbrev pub book_of : Bool → Scope → Book
 book_of true s = s.merged
 book_of false s = s.graph

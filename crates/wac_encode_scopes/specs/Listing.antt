@@ -1,4 +1,4 @@
--- Types that are opened and closed in the scopes of the code, and what is listed in them.
+-- Instance types that are opened and closed in the scopes of the code, and the items that are added to open types.
 use Rattle.std.specs.Prelude.{ℕ, ◌≡◌, Bool, true, not, List, [], ◌∷◌, ◌++◌, Some, None}
 use Rattle.wac_types_shapes.specs.primitives.Name.{Name}
 use Rattle.wac_types_shapes.specs.primitives.Tree.{Side, Tree, type_equal, function_item, instance_item, component_item, module_item, instance, exported, Leaf, resource, fresh}
@@ -20,7 +20,7 @@ use Rattle.wac_encode_stacks.specs.Listed.{IsNewName, Lists, calling, listed_lea
 use Rattle.wac_types_shapes.specs.declared.shapes.component.ResourceId.{ResourceId}
 use Rattle.wac_types_shapes.specs.declared.shapes.component.DefinedTypeId.{DefinedTypeId}
 
--- the item that is described by an index in scope
+-- The description refers by an index in scope to an item with this tree.
 abbrev pub Describes : Env → Description → Tree → Type 0
 Describes w (e.Equal i) (type_equal t) = IsType t × At w.types i t
 Describes w (e.Func i) (function_item t) = IsFunction t × At w.types i t
@@ -29,25 +29,25 @@ Describes w (e.Component i) (component_item t) = IsComponent t × At w.types i t
 Describes w (e.CoreModule i) (module_item t) = IsModule t × At w.core_types i t
 Describes w _ _ = ⊥
 
--- an item is listed on a side of the innermost scope, under a name that is new there; nothing else changes
+-- An item is added to one side of the innermost scope, under a name that is new there. Nothing else changes.
 abbrev pub ListsItem : Side → Name → Description → State → State → Type 0
 ListsItem side n d old new = (c : Collection) (b : Bool) (m : Bindings) (ms : List Bindings) (t : Tree)
     → Good c (m ∷ ms) (stack b old) → IsNewName (opened b old.here) (outward b old.around.items) side n → Describes (innermost (stack b old)) d t
     → (new.around ≡ old.around) × Lists c m ms (opened b old.here) (opened b new.here) (outward b old.around.items) side n t
 
--- an instance type is opened; nothing is recorded in it, and for the other collection it passes
+-- An instance type without records is opened. For the other collection it passes.
 pub record Opens (b passes : Bool) (old new : State) : Type 0 where
   pub content : new.here.content ≡ Instance []
   pub around : new.around.items ≡ old.around.items ++ old.here ∷ []
   pub opened : stack b new ≡ opening passes ∷ stack b old
   pub beside : stack (not b) new ≡ opening true ∷ stack (not b) old
 
--- the innermost scope is closed, and is a type of the scope around it
+-- The innermost scope is closed; the index k of the enclosing scope then refers to its instance type.
 abbrev pub Closes : State → State → ℕ → Type 0
 Closes old new k = (c : Collection) (b : Bool) (inner m : Bindings) (ms : List Bindings) → Good c (inner ∷ m ∷ ms) (stack b old)
     → Adds c (m ∷ ms) (outward b old.around.items) (stack b new) k (instance ((innermost (stack b old)).exports))
 
--- the same scopes
+-- The scopes are unchanged.
 abbrev pub IsSame : State → State → Type 0
 IsSame old new = (new.here ≡ old.here) × (new.around.items ≡ old.around.items)
 
@@ -55,23 +55,23 @@ abbrev pub IsNonempty : List Scope → Type 0
 IsNonempty [] = ⊥
 IsNonempty (s ∷ ss) = Unit {0}
 
--- a fresh resource is listed under a name that is new, and recorded at its type index
+-- A fresh resource is added under a name that is new, and recorded at its type index.
 pub record ListsResource (b : Bool) (side : Side) (n : Name) (r : ResourceId) (old new : State) (i : ℕ) : Type 0 where
   pub around : new.around ≡ old.around
   pub index : (opened b new.here).binds r ≡ Some (at_type i)
-  -- nothing bound it before
+  -- Either the resource was not bound before.
   pub unbound : (c : Collection) (m : Bindings) (ms : List Bindings) → Good c (m ∷ ms) (stack b old) → IsNewName (opened b old.here) (outward b old.around.items) side n → m r ≡ None
       → Lists c (calling r (listed_leaf side n) m) ms (opened b old.here) (opened b new.here) (outward b old.around.items) side n fresh
-  -- or it is an export of a type that records no type yet, and is bound around it, if at all, where it does not pass
+  -- Or it is an export of an open type that records no type yet. It may be bound outside if that type does not pass.
   pub own : side ≡ exported → (c : Collection) (m : Bindings) (ms : List Bindings) → Good c (m ∷ ms) (stack b old) → IsNewName (opened b old.here) (outward b old.around.items) exported n
       → RecordsNoType (opened b old.here) → ((opened b old.here).passes ≡ true → top ms r ≡ None)
       → Lists c (calling r (listed_leaf exported n) m) ms (opened b old.here) (opened b new.here) (outward b old.around.items) exported n fresh
 
--- a bottom scope binds a resource that one of its instances has
+-- The bottom scope binds a resource that one of its instances exports.
 abbrev pub BindsExport : Bool → ResourceId → ℕ → Name → State → State → Type 0
 BindsExport b r j n old new = (c : Collection) (m : Bindings) (l : Leaf) → old.around.items ≡ [] → Good c (m ∷ []) (stack b old) → m r ≡ None → Stands (innermost (stack b old)) (resource l) (at_export j n)
     → Onward c (calling r l m ∷ []) (stack b old) (stack b new)
 
--- the value type may be recorded as an instance's export in the innermost scope
+-- The value type may be recorded in the innermost scope as this export of an instance.
 abbrev pub MayTell : Collection → Bool → DefinedTypeId → ℕ → Name → State → Type 0
 MayTell c b d j n s = (m : Bindings) (ms : List Bindings) → Good c (m ∷ ms) (stack b s) → Onward c (m ∷ ms) (stack b s) (export_at d (at_export j n) (opened b s.here) ∷ outward b s.around.items)

@@ -1,4 +1,4 @@
-//! What is recorded of the types of one collection in an open scope.
+//! The records of an open scope for the types of one collection.
 
 ghost use Rattle.std.specs.Prelude.{◌≡◌, ◌<◌, false, IfOk, OnOk, OnErr, None};
 ghost use Rattle.wac_encode_stacks.specs.Scopes.{bind_at, index_at, export_at, type_count};
@@ -15,51 +15,51 @@ use std::hash::BuildHasherDefault;
 use wac_binary::BinaryFault;
 use wac_types_collection::{DefinedTypeId, ResourceId, Text, Type, TypeHasher};
 
-/// Types are hashed by their positions in a collection.
+/// The hash of a type, which is computed from its position in the collection.
 type TypeHash = BuildHasherDefault<TypeHasher>;
 
-/// How a type got its type index in a scope.
+/// What gave a type its type index in a scope.
 #[derive(Clone, Copy)]
 pub enum How {
-    /// Its definition is written there.
+    /// Its definition, which is written in the scope.
     Defined,
-    /// An outer alias is.
+    /// An outer alias.
     Brought,
-    /// A type import or a type export is.
+    /// A type import or type export.
     Listed,
 }
 
-/// The type index of a type, and how it got it.
+/// The type index of a type, and what gave it.
 #[derive(Clone, Copy)]
 pub(crate) struct Entry {
     /// The type index.
     pub(crate) index: u32,
-    /// How the type got it.
+    /// What gave the type its index.
     pub(crate) how: How,
 }
 
-/// Where a resource is, or a value type that an instance exports.
+/// The place of a resource, or of a value type that an instance exports.
 #[derive(Drop)]
 pub(crate) enum Place {
-    /// At this type index.
+    /// A type index.
     Index(u32),
-    /// It is not aliased yet from the instance with this index, which exports it under this name.
+    /// An export that is not aliased yet: the index of the instance, and the name.
     Export(u32, Text),
 }
 
-/// What is recorded of the types of one collection in an open scope.
+/// The records of an open scope for the types of one collection.
 pub(crate) struct Book {
-    /// Whether all that the scopes around call is called in the scope as there.
+    /// Whether each resource that is bound outside is bound in the scope to the same resource.
     passes: bool,
-    /// The type indexes of types.
+    /// The type indexes of types, and what gave them.
     types: HashMap<Type, Entry, TypeHash>,
-    /// Where value types are that instances of the scope export.
+    /// The places of value types that instances of the scope export.
     exports: HashMap<DefinedTypeId, Place, TypeHash>,
-    /// Where resources are.
+    /// The places of resources.
     resources: HashMap<ResourceId, Place, TypeHash>,
 }
 
-// By hand: a derived `Drop` is proved again wherever one goes out of scope.
+// By hand: a derived `Drop` is proved again wherever one goes out of scope (docs/PROOFS.md, 'Drop').
 impl Drop for Book {
     fn drop(self) {
         let Book {
@@ -72,7 +72,7 @@ impl Drop for Book {
 }
 
 impl Book {
-    /// A book in which nothing is recorded.
+    /// Returns a book without records.
     pub(crate) fn new(alloc: Global, passes: bool) -> Book
         ensures passes { result.passes ≡ passes }
         ensures types { (a : _) → types_in result a ≡ None }
@@ -87,7 +87,7 @@ impl Book {
         }
     }
 
-    /// The type index of a type, and how it got it.
+    /// The type index of a type and what gave it, if the type is recorded.
     pub(crate) fn entry(&self, ty: Type) -> Option<Entry>
         ensures { maybe_indexed result ≡ types_in self.now ty }
     {
@@ -104,10 +104,10 @@ impl Book {
         !self.resources.is_empty()
     }
 
-    /// Adds an alias of a resource that is recorded as an instance's export, and returns its type index.
+    /// Adds an alias of a resource that is recorded as an instance's export, and returns the alias's type index.
     ///
     /// # Errors
-    /// - `TooLarge` if the alias would not fit 32-bit sizes.
+    /// - `TooLarge` if the content would not fit 32-bit sizes.
     /// - `OutOfMemory`.
     ///
     /// On an error the content is unchanged.
@@ -127,7 +127,9 @@ impl Book {
         }
     }
 
-    /// Where a value type is that an instance exports: a type index and `true`, or the index of the instance and `false`.
+    /// The place of a value type that an instance exports, if it is recorded.
+    ///
+    /// It is a type index and `true`, or the index of the instance and `false`.
     pub(crate) fn export(&self, definition: DefinedTypeId) -> Option<(u32, bool)>
         ensures { result ≡ export_of (exports_in self.now definition) }
     {
@@ -138,7 +140,7 @@ impl Book {
         }
     }
 
-    /// Adds an alias of a value type that is recorded as an instance's export, and returns its type index.
+    /// Adds an alias of a value type that is recorded as an instance's export, and returns the alias's type index.
     ///
     /// # Errors
     /// As [`Self::alias_resource`].
@@ -158,14 +160,16 @@ impl Book {
         }
     }
 
-    /// Whether all that the scopes around call is called as there.
+    /// Whether each resource that is bound outside is bound in the scope to the same resource.
     pub(crate) fn passes(&self) -> bool
         ensures { result ≡ self.now.passes }
     {
         self.passes
     }
 
-    /// Where a resource is: a type index and `true`, or the index of the instance that exports it and `false`.
+    /// The place of a resource, if it is recorded.
+    ///
+    /// It is a type index and `true`, or the index of the instance that exports it and `false`.
     pub(crate) fn resource(&self, resource: ResourceId) -> Option<(u32, bool)>
         ensures { result ≡ export_of (binds_in self.now resource) }
     {
@@ -176,7 +180,7 @@ impl Book {
         }
     }
 
-    /// Records where a resource is.
+    /// Records the place of a resource.
     pub(crate) fn record_resource(
         &mut self,
         resource: ResourceId,
@@ -188,7 +192,7 @@ impl Book {
         Ok(())
     }
 
-    /// Makes room to record one more resource.
+    /// Reserves room to record one more resource.
     pub(crate) fn reserve_resource(&mut self) -> Result<(), BinaryFault>
         ensures same { (x : Content) → recorded self.new x ≡ recorded self.old x }
         ensures room { OnOk result (0 < spare self.new.resources) }
@@ -197,7 +201,7 @@ impl Book {
         Ok(())
     }
 
-    /// Records where a resource is. There is room for it.
+    /// Records the place of a resource, for which room was reserved.
     pub(crate) fn put_resource(&mut self, resource: ResourceId, place: Place)
         requires { 0 < spare self.old.resources }
         ensures { Records (bind_at resource (where_of place)) self.old self.new }
@@ -208,7 +212,7 @@ impl Book {
         }
     }
 
-    /// Records the type index of a type.
+    /// Records the type index of a type and what gave it.
     pub(crate) fn record_type(&mut self, ty: Type, how: How, index: u32) -> Result<(), BinaryFault>
         ensures { OnOk result (Records (index_at ty (how_of how) index) self.old self.new) }
     {
@@ -216,7 +220,7 @@ impl Book {
         Ok(())
     }
 
-    /// Records where a value type is that an instance exports.
+    /// Records the place of a value type that an instance exports.
     pub(crate) fn record_export(
         &mut self,
         definition: DefinedTypeId,

@@ -1,4 +1,4 @@
-//! What is being written in a scope.
+//! The content of an open scope.
 
 ghost use Rattle.std.specs.Prelude.{◌≡◌, IfOk, OnOk, OnErr};
 ghost use Rattle.wac_binary.specs.declared.sorts.Sort.TheVariants as s;
@@ -14,10 +14,10 @@ use wac_binary::{
     Sort,
 };
 
-/// What is being written in a scope: a component, or a type that is open.
+/// The content of an open scope: the root component, an instance type or a component type.
 #[derive(Drop)]
 pub enum Encodable {
-    /// A component, item by item: the root.
+    /// The root component.
     Builder(ComponentBuilder),
     /// An instance type.
     Instance(InstanceType),
@@ -26,10 +26,10 @@ pub enum Encodable {
 }
 
 impl Encodable {
-    /// Adds a value type and returns its type index.
+    /// Adds a value type definition and returns its type index.
     ///
     /// # Errors
-    /// - `TooLarge` if it would not fit 32-bit sizes.
+    /// - `TooLarge` if the content would not fit 32-bit sizes.
     /// - `OutOfMemory`.
     ///
     /// On an error the content is unchanged.
@@ -61,7 +61,7 @@ impl Encodable {
         }
     }
 
-    /// Adds an alias of a type of an enclosing scope, so many scopes out, and returns its type index.
+    /// Adds an outer alias of the type at `index` in the scope `count` scopes out, and returns the alias's type index.
     ///
     /// # Errors
     /// As [`Self::defined_type`].
@@ -77,7 +77,7 @@ impl Encodable {
         }
     }
 
-    /// Adds an alias of a type that an instance exports and returns its type index.
+    /// Adds an alias of a type that an instance exports, and returns the alias's type index.
     ///
     /// # Errors
     /// As [`Self::defined_type`].
@@ -93,7 +93,9 @@ impl Encodable {
         }
     }
 
-    /// Adds an instance type with these declarations, which are not copied if they are the longer part, and returns its type index.
+    /// Adds an instance type and returns its type index.
+    ///
+    /// In an open type, the longer of the two buffers stays in place. So nested types are not copied at each level.
     ///
     /// # Errors
     /// As [`Self::defined_type`].
@@ -109,7 +111,7 @@ impl Encodable {
         }
     }
 
-    /// Lists an item on a side of a type that is open, and returns its index of the sort that is described.
+    /// Adds an import or export to an open type, and returns its index in the index space of its sort.
     ///
     /// # Errors
     /// As [`Self::defined_type`].

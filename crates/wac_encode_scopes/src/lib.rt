@@ -1,4 +1,10 @@
-//! The open scopes of a type encoder: what is written in each, where resources and types are, and how they are brought in from further out.
+//! The open scopes of a type encoder.
+//!
+//! A [`State`] has the content of each scope, and records which types and resources have a type index there. One outer
+//! alias makes a type of an enclosing scope available in the innermost one.
+//!
+//! Types of two collections may be written into the same scopes: those of the merged collection and of the graph's own.
+//! Each collection has its own records.
 #![tactic(auto)]
 
 mod book;

@@ -22,17 +22,19 @@ use std::alloc::Global;
 use wac_binary::{BinaryFault, DefinedType, Description, FuncType, InstanceType};
 use wac_types_collection::{DefinedTypeId, FuncTypeId, ResourceId, Type, ValueType};
 
-/// An open scope: its content, and what is recorded in it of the types of the merged collection and of the graph's own.
+/// An open scope: its content, and records for the types of the merged collection and of the graph's own.
+///
+/// In each method, `merged` says which collection the ids are of: the merged one, or else the graph's own.
 pub struct Scope {
-    /// What is written.
+    /// The content.
     content: Encodable,
-    /// What is recorded of the merged collection's types.
+    /// The records for types of the merged collection.
     merged: Book,
-    /// What is recorded of the graph's types.
+    /// The records for types of the graph's own collection.
     graph: Book,
 }
 
-// By hand: a derived `Drop` is proved again wherever one goes out of scope.
+// By hand: a derived `Drop` is proved again wherever one goes out of scope (docs/PROOFS.md, 'Drop').
 impl Drop for Scope {
     fn drop(self) {
         let Scope {
@@ -44,7 +46,7 @@ impl Drop for Scope {
 }
 
 impl Scope {
-    /// Records where a resource is.
+    /// Records the place of a resource.
     pub(crate) fn record_resource(
         &mut self,
         merged: bool,
@@ -61,7 +63,7 @@ impl Scope {
         }
     }
 
-    /// Records the type index of a type.
+    /// Records the type index of a type and what gave it.
     pub(crate) fn record_type(
         &mut self,
         merged: bool,
@@ -79,7 +81,9 @@ impl Scope {
         }
     }
 
-    /// Where a resource is: a type index and `true`, or the index of the instance that exports it and `false`.
+    /// The place of a resource, if it is recorded.
+    ///
+    /// It is a type index and `true`, or the index of the instance that exports it and `false`.
     pub(crate) fn resource(&self, merged: bool, resource: ResourceId) -> Option<(u32, bool)>
         ensures { result ≡ export_of (binds_in (book_of merged self.now) resource) }
     {
@@ -90,7 +94,7 @@ impl Scope {
         }
     }
 
-    /// Adds an alias of a resource that is recorded as an instance's export, and returns its type index.
+    /// Adds an alias of a resource that is recorded as an instance's export, and returns the alias's type index.
     fn alias_own(&mut self, merged: bool, resource: ResourceId) -> Result<u32, BinaryFault>
         requires { IsExported ((opened merged self.old).binds resource) }
         ensures index { IfOk result (λ i. i ≡ next_type (opened merged self.old)) }
@@ -104,7 +108,7 @@ impl Scope {
         }
     }
 
-    /// Whether any resource is recorded of this collection's.
+    /// Whether any resource of this collection is recorded.
     pub(crate) fn has_resources(&self, merged: bool) -> bool
         ensures { result ≡ false → (r : _) → binds_in (book_of merged self.now) r ≡ None }
     {
@@ -115,13 +119,13 @@ impl Scope {
         }
     }
 
-    /// Aliases a resource that is recorded as an instance's export, records it at the alias, and returns its type index.
+    /// Aliases a resource that is recorded as an instance's export, records it at the alias, and returns its index.
     ///
     /// # Errors
-    /// - `TooLarge` if the alias would not fit 32-bit sizes.
+    /// - `TooLarge` if the content would not fit 32-bit sizes.
     /// - `OutOfMemory`.
     ///
-    /// After an error the alias may have been added.
+    /// After an error the type or alias may have been added.
     pub(crate) fn settle_resource(
         &mut self,
         merged: bool,
@@ -137,13 +141,15 @@ impl Scope {
         Ok(own)
     }
 
-    /// Adds an outer alias of a resource's type index so many scopes out, and records it.
+    /// Adds an outer alias of a resource and records the resource there.
+    ///
+    /// The resource has the type index `index` in the scope `count` scopes out. Returns the alias's type index.
     ///
     /// # Errors
-    /// - `TooLarge` if the alias would not fit 32-bit sizes.
+    /// - `TooLarge` if the content would not fit 32-bit sizes.
     /// - `OutOfMemory`.
     ///
-    /// After an error the alias may have been added.
+    /// After an error the type or alias may have been added.
     pub(crate) fn alias_resource(
         &mut self,
         merged: bool,
@@ -160,7 +166,7 @@ impl Scope {
         Ok(own)
     }
 
-    /// Adds the definition of a value type, records its type index and returns it.
+    /// Adds a value type definition, records its type index and returns it.
     ///
     /// # Errors
     /// As [`Self::alias_resource`].
@@ -198,7 +204,9 @@ impl Scope {
         Ok(own)
     }
 
-    /// A scope with this content, in which nothing is recorded; whether it passes is given for each of the collections.
+    /// Returns a scope with this content and no records.
+    ///
+    /// `merged` and `graph` say for each collection whether what is bound outside is bound inside to the same resource.
     pub(crate) fn new(alloc: Global, content: Encodable, merged: bool, graph: bool) -> Scope
         ensures content { result.content ≡ content }
         ensures opened { (b : _) → opened b result ≡ empty_scope (content_of content) (either b merged graph) }
@@ -210,8 +218,10 @@ impl Scope {
         }
     }
 
-    /// An instance type without declarations, in which nothing is recorded. It passes for the one collection if `passes` says so, and for
-    /// the other.
+    /// Returns an instance type without declarations or records.
+    ///
+    /// `passes` says whether a resource of this collection that is bound outside is bound inside to the same resource.
+    /// For the other collection the scope always passes.
     pub(crate) fn instance(alloc: Global, merged: bool, passes: bool) -> Scope
         ensures content { result.content ≡ Instance [] }
         ensures opened { opened merged result ≡ opening passes }
@@ -225,7 +235,7 @@ impl Scope {
         }
     }
 
-    /// The type index of a type that is recorded here, and how it got it.
+    /// The type index of a type and what gave it, if the type is recorded.
     pub(crate) fn entry(&self, merged: bool, ty: Type) -> Option<Entry>
         ensures { maybe_indexed result ≡ (opened merged self.now).types ty }
     {
@@ -236,7 +246,7 @@ impl Scope {
         }
     }
 
-    /// Lists an item on a side of a type that is open, and returns its index of the sort that is described.
+    /// Adds an import or export to an open type, and returns its index in the index space of its sort.
     ///
     /// # Errors
     /// As [`Encodable::defined_type`].
@@ -254,7 +264,7 @@ impl Scope {
         self.content.list(side, name, d)
     }
 
-    /// Adds an instance type with the content of a scope, and returns its type index.
+    /// Adds the instance type that is the content of a scope, and returns its type index.
     ///
     /// # Errors
     /// As [`Encodable::defined_type`].
@@ -275,7 +285,7 @@ impl Scope {
         self.content.instance_type(declarations)
     }
 
-    /// Records where a value type is that an instance exports.
+    /// Records the place of a value type that an instance exports.
     pub(crate) fn record_export(
         &mut self,
         merged: bool,
@@ -292,7 +302,9 @@ impl Scope {
         }
     }
 
-    /// Where a value type is that an instance exports: a type index and `true`, or the index of the instance and `false`.
+    /// The place of a value type that an instance exports, if it is recorded.
+    ///
+    /// It is a type index and `true`, or the index of the instance and `false`.
     fn export(&self, merged: bool, definition: DefinedTypeId) -> Option<(u32, bool)>
         ensures { result ≡ export_of ((opened merged self.now).exports definition) }
     {
@@ -303,7 +315,10 @@ impl Scope {
         }
     }
 
-    /// Where a value type is that has a name here, as [`Self::resource`] has it: its type index is not of its definition.
+    /// The place of a value type that has a name in this scope, in the form of [`Self::resource`].
+    ///
+    /// A type has a name if its index is that of an alias, type import or type export, or if an instance exports it.
+    /// The index of its definition is not a name.
     pub(crate) fn named(&self, merged: bool, definition: DefinedTypeId) -> Option<(u32, bool)>
         ensures { result ≡ export_of (named_in definition (opened merged self.now)) }
     {
@@ -319,7 +334,9 @@ impl Scope {
         }
     }
 
-    /// Whether what is recorded further out may be used here, of a type that means no resource if `is_closed`.
+    /// Whether a type that an enclosing scope records is known to mean the same in this scope.
+    ///
+    /// `is_closed` says that the type mentions no resource that is bound outside it. It is then the same in each scope.
     pub(crate) fn may_cross(&self, merged: bool, is_closed: bool) -> bool
         ensures { result ≡ true → (is_closed ≡ true) ⊎ ((opened merged self.now).passes ≡ true) }
     {
@@ -333,7 +350,7 @@ impl Scope {
         }
     }
 
-    /// Adds an alias of a value type that is recorded as an instance's export, and returns its type index.
+    /// Adds an alias of a value type that is recorded as an instance's export, and returns the alias's type index.
     fn alias_own_export(
         &mut self,
         merged: bool,
@@ -351,7 +368,7 @@ impl Scope {
         }
     }
 
-    /// Aliases a value type that is recorded as an instance's export, records it at the alias, and returns its type index.
+    /// Aliases a value type that is recorded as an instance's export, records it at the alias, and returns its index.
     ///
     /// # Errors
     /// As [`Self::settle_resource`].
@@ -370,7 +387,9 @@ impl Scope {
         Ok(own)
     }
 
-    /// Adds an outer alias of a type's index so many scopes out, records it and returns its own index.
+    /// Adds an outer alias of a type and records the type there.
+    ///
+    /// The type has the index `index` in the scope `count` scopes out. Returns the alias's type index.
     ///
     /// # Errors
     /// As [`Self::alias_resource`].
@@ -390,7 +409,7 @@ impl Scope {
         Ok(own)
     }
 
-    /// Makes room to record one more resource.
+    /// Reserves room to record one more resource.
     fn reserve_resource(&mut self, merged: bool) -> Result<(), BinaryFault>
         ensures same { (b : Bool) → opened b self.new ≡ opened b self.old }
         ensures content { self.new.content ≡ self.old.content }
@@ -403,7 +422,7 @@ impl Scope {
         }
     }
 
-    /// Records where a resource is. There is room for it.
+    /// Records the place of a resource, for which room was reserved.
     fn put_resource(&mut self, merged: bool, resource: ResourceId, place: Place)
         requires { 0 < spare (book_of merged self.old).resources }
         ensures recorded { ScopeChanges merged (bind_at resource (where_of place)) self.old self.new }
@@ -416,7 +435,7 @@ impl Scope {
         }
     }
 
-    /// Lists a fresh resource on a side of a type that is open, records it and returns its type index.
+    /// Adds an import or export of a fresh resource to an open type, records the resource and returns its type index.
     ///
     /// # Errors
     /// As [`Encodable::defined_type`].

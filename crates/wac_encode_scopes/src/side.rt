@@ -1,10 +1,10 @@
 //! The sides of a type.
 
-/// On which side of a type an item is listed.
+/// The side of a type to which an item belongs.
 #[derive(Clone, Copy)]
 pub enum Side {
-    /// Among what it imports.
+    /// The imports of the type.
     Import,
-    /// Among what it exports.
+    /// The exports of the type.
     Export,
 }

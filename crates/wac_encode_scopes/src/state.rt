@@ -1,4 +1,4 @@
-//! The scopes that are open.
+//! The stack of open scopes.
 
 ghost use Rattle.std.specs.Prelude.{◌≡◌, ◌≤◌, ◌∷◌, ◌++◌, [], length, ℕ, IfOk, OnOk, OnErr, IfSome, None, Some, true, false, List};
 ghost use Rattle.wac_types_shapes.specs.primitives.Name.{Name};
@@ -40,14 +40,18 @@ use wac_encode_stacks::{
 };
 use wac_types_collection::{DefinedTypeId, FuncTypeId, ResourceId, Text, Type, ValueType};
 
-/// The scopes that are open: those around, the bottom first, and the innermost. After an error each has its content, and types and
-/// aliases of types after it; what is recorded is no longer to be used.
+/// The stack of open scopes. The bottom scope is the outermost one.
+///
+/// In each method, `merged` says which collection the ids are of: the merged one, or else the graph's own.
+///
+/// A call that fails may have appended types and aliases of types to the content of the scopes. After that the records
+/// must not be used. Methods whose errors change less say so.
 pub struct State {
     around: Vec<Scope>,
     here: Scope,
 }
 
-// By hand: a derived `Drop` is proved again wherever one goes out of scope.
+// By hand: a derived `Drop` is proved again wherever one goes out of scope (docs/PROOFS.md, 'Drop').
 impl Drop for State {
     fn drop(self) {
         let State { around: _, here: _ } = self;
@@ -55,8 +59,10 @@ impl Drop for State {
 }
 
 impl State {
-    /// Where a resource is in the innermost scope that records it: how many scopes out, and there a type index and `true`, or the index of the
-    /// instance that exports it and `false`; and how many scopes were asked.
+    /// Finds the innermost scope that records a resource.
+    ///
+    /// Returns how many scopes out it is and the place of the resource there. The place is a type index and `true`, or
+    /// the index of the instance that exports it and `false`. The last number counts the scopes that were searched.
     pub fn find(&self, merged: bool, resource: ResourceId) -> (Option<(usize, u32, bool)>, usize)
         ensures found { IfSome result.0 (λ f. (w : Where) × IsReached (stack merged self.now) resource f.0 w × IsPlace w f.1 f.2) }
         ensures none { result.0 ≡ None → (k : ℕ) (w : Where) → IsReached (stack merged self.now) resource k w → ⊥ }
@@ -81,7 +87,7 @@ impl State {
         (None, probes)
     }
 
-    /// Whether a resource is bound in the innermost scope, or around it.
+    /// Whether a resource is bound in the innermost scope.
     pub fn is_bound(&self, merged: bool, resource: ResourceId) -> bool
         ensures bound { result ≡ true → (c : Collection) (ms : List Bindings) → Good c ms (stack merged self.now) → (l : Leaf) × (top ms resource ≡ Some l) }
         ensures unbound { result ≡ false → (c : Collection) (ms : List Bindings) → Good c ms (stack merged self.now) → top ms resource ≡ None }
@@ -94,7 +100,9 @@ impl State {
         }
     }
 
-    /// Aliases a resource in the scope so many out, which records it as an instance's export, and returns its type index there.
+    /// Aliases a resource in the scope `out` scopes out, which records it as an instance's export.
+    ///
+    /// Returns its type index there.
     fn alias_there(
         &mut self,
         merged: bool,
@@ -113,7 +121,9 @@ impl State {
         self.around[at].settle_resource(merged, resource)
     }
 
-    /// How many scopes out a resource is, and its type index there; it is aliased there if it has none yet.
+    /// Returns how many scopes out a resource is recorded, and its type index there.
+    ///
+    /// The resource is aliased there if it has no type index.
     fn reach_resource(
         &mut self,
         merged: bool,
@@ -137,7 +147,9 @@ impl State {
         Ok((out, own))
     }
 
-    /// Brings a resource with a type index so many scopes out into the innermost scope, and returns its type index here.
+    /// Returns the type index in the innermost scope of a resource that has `index` in the scope `out` scopes out.
+    ///
+    /// Adds an outer alias and records it, unless `out` is 0.
     fn bring_index(
         &mut self,
         merged: bool,
@@ -161,11 +173,13 @@ impl State {
         self.here.alias_resource(merged, resource, count, index)
     }
 
-    /// Returns the type index of a resource in the innermost scope. If it has none there, one outer alias brings it in from the innermost
-    /// scope that records it, where it is first aliased from its instance if need be.
+    /// Returns the type index of a resource in the innermost scope.
+    ///
+    /// If it has none there, an outer alias of the innermost scope that records it is added. If the resource is only an
+    /// instance's export in that scope, it is first aliased from the instance.
     ///
     /// # Errors
-    /// - `TooLarge` if an alias would not fit 32-bit sizes.
+    /// - `TooLarge` if the content of a scope, or the count of an outer alias, would not fit 32-bit sizes.
     /// - `OutOfMemory`.
     pub fn bring_resource(&mut self, merged: bool, resource: ResourceId) -> Result<u32, BinaryFault>
         requires { IsBound merged self.old resource }
@@ -178,10 +192,10 @@ impl State {
         self.bring_index(merged, resource, out, index)
     }
 
-    /// Adds the definition of a value type to the innermost scope, records its type index and returns it.
+    /// Adds a value type definition to the innermost scope, records its type index and returns it.
     ///
     /// # Errors
-    /// - `TooLarge` if it would not fit 32-bit sizes.
+    /// - `TooLarge` if the content of the scope would not fit 32-bit sizes.
     /// - `OutOfMemory`.
     pub fn define(
         &mut self,
@@ -215,7 +229,9 @@ impl State {
         self.here.define_func(merged, id, f)
     }
 
-    /// Adds an owned handle to a resource that is no alias to the innermost scope, records its type index and returns it.
+    /// Adds an `own` type to the innermost scope, records its type index and returns it.
+    ///
+    /// The resource must not be an alias.
     ///
     /// # Errors
     /// As [`Self::bring_resource`].
@@ -231,7 +247,9 @@ impl State {
         self.here.define(merged, handle, &DefinedType::Own(index))
     }
 
-    /// Adds a borrowed handle to a resource that is no alias to the innermost scope, records its type index and returns it.
+    /// Adds a `borrow` type to the innermost scope, records its type index and returns it.
+    ///
+    /// The resource must not be an alias.
     ///
     /// # Errors
     /// As [`Self::bring_resource`].
@@ -248,7 +266,7 @@ impl State {
             .define(merged, handle, &DefinedType::Borrow(index))
     }
 
-    /// A component without items.
+    /// Returns a stack with one scope: a root without items.
     pub fn root(alloc: Global) -> State
         ensures good { (c : Collection) (b : _) → Good c (nothing_bound ∷ []) (stack b result) }
         ensures content { result.here.content ≡ Builder [] }
@@ -261,7 +279,7 @@ impl State {
         }
     }
 
-    /// A component type without declarations. It sees nothing outside.
+    /// Returns a stack with one scope: a component type without declarations. It has no enclosing scope.
     pub fn component(alloc: Global) -> State
         ensures good { (c : Collection) (b : _) → Good c (nothing_bound ∷ []) (stack b result) }
         ensures content { result.here.content ≡ Component [] }
@@ -285,7 +303,10 @@ impl State {
         }
     }
 
-    /// Opens an instance type without declarations in the innermost scope. `passes` says that all that is bound around is called in it as there.
+    /// Opens an instance type without declarations inside the innermost scope.
+    ///
+    /// `passes` says whether a resource of this collection that is bound outside is bound inside to the same resource.
+    /// If it is false, a value type that mentions a resource is not aliased into the new scope.
     ///
     /// # Errors
     /// - `OutOfMemory`.
@@ -302,13 +323,13 @@ impl State {
         }
     }
 
-    /// Lists an item on a side of the innermost scope, which is a type that is open, and returns its index of the sort that is described.
+    /// Adds an import or export to the innermost scope, an open type. Returns its index in the index space of its sort.
     ///
     /// # Errors
-    /// - `TooLarge` if it would not fit 32-bit sizes.
+    /// - `TooLarge` if the content of the scope would not fit 32-bit sizes.
     /// - `OutOfMemory`.
     ///
-    /// On an error nothing is changed.
+    /// On an error the scopes are unchanged.
     pub fn list(&mut self, side: Side, name: &str, d: Description) -> Result<u32, BinaryFault>
         requires { HasSide (side_of side) self.old.here.content }
         ensures lists { OnOk result (ListsItem (side_of side) name.now d self.old self.new) }
@@ -320,13 +341,13 @@ impl State {
         self.here.list(side, name, d)
     }
 
-    /// Closes the innermost scope: its declarations become an instance type of the scope around it. Returns that type's index.
+    /// Closes the innermost scope, an instance type, and adds it to the enclosing scope. Returns its type index there.
     ///
     /// # Errors
-    /// - `TooLarge` if it would not fit 32-bit sizes.
+    /// - `TooLarge` if the content of the scope would not fit 32-bit sizes.
     /// - `OutOfMemory`.
     ///
-    /// After an error the scopes around are as they were.
+    /// On an error the innermost scope is dropped and the enclosing scopes are unchanged.
     pub fn close(&mut self) -> Result<u32, BinaryFault>
         requires around { IsNonempty self.old.around.items }
         requires instance { IsInstanceType self.old.here.content }
@@ -342,7 +363,7 @@ impl State {
         self.here.add_instance_type(inner)
     }
 
-    /// Records the type index of a type in the innermost scope, and how it got it.
+    /// Records the type index of a type in the innermost scope, and what gave it.
     ///
     /// # Errors
     /// - `OutOfMemory`.
@@ -361,8 +382,10 @@ impl State {
         self.here.record_type(merged, ty, how, index)
     }
 
-    /// Where a value type is in the innermost scope in which it has a name, as [`Self::find`] has it. A scope that does not pass is crossed
-    /// only if `is_closed` says that the type means no resource.
+    /// Finds the innermost scope in which a value type has a name, and returns it and the place as [`Self::find`] does.
+    ///
+    /// The search ends with the first scope that does not pass (see [`Self::open`]). It goes on if `is_closed` says
+    /// that the type mentions no resource that is bound outside it.
     fn find_named(
         &self,
         merged: bool,
@@ -389,7 +412,9 @@ impl State {
         None
     }
 
-    /// Aliases a value type in the scope so many out, which records it as an instance's export, and returns its type index there.
+    /// Aliases a value type in the scope `out` scopes out, which records it as an instance's export.
+    ///
+    /// Returns its type index there.
     fn alias_value_there(
         &mut self,
         merged: bool,
@@ -408,7 +433,9 @@ impl State {
         self.around[at].settle_export(merged, definition)
     }
 
-    /// How many scopes out a value type has a name, and its type index there; it is aliased there if it has none yet.
+    /// Returns how many scopes out a value type has a name, and its type index there.
+    ///
+    /// The type is aliased there if it is only an instance's export.
     fn reach_named(
         &mut self,
         merged: bool,
@@ -432,7 +459,9 @@ impl State {
         Ok(Some((out, own)))
     }
 
-    /// Brings a value type with a type index so many scopes out into the innermost scope, and returns its type index here.
+    /// Returns the type index in the innermost scope of a value type that has `index` in the scope `out` scopes out.
+    ///
+    /// Adds an outer alias and records it, unless `out` is 0.
     fn bring_named(
         &mut self,
         merged: bool,
@@ -459,12 +488,17 @@ impl State {
         self.here.alias_type(merged, ty, count, index)
     }
 
-    /// Returns the type index under which a value type has a name in the innermost scope. If it has none there, one outer alias brings it in
-    /// from the innermost scope in which it has one, where it is first aliased from its instance if need be. None if no scope has a name for
-    /// it, as far as the scopes between pass; `is_closed` says that the type means no resource, so that it may cross those that do not.
+    /// Returns the type index under which a value type has a name in the innermost scope.
+    ///
+    /// A type has a name if its index is that of an alias, type import or type export, or if an instance exports it.
+    /// If it has none there, an outer alias of the innermost scope in which it has one is added. If the type is only an
+    /// instance's export in that scope, it is first aliased from the instance.
+    ///
+    /// Returns `None` and changes nothing if no such scope is found. The search ends with the first scope that does not
+    /// pass (see [`Self::open`]). It goes on if `is_closed` says that the type mentions no resource bound outside it.
     ///
     /// # Errors
-    /// - `TooLarge` if an alias would not fit 32-bit sizes.
+    /// - `TooLarge` if the content of a scope, or the count of an outer alias, would not fit 32-bit sizes.
     /// - `OutOfMemory`.
     pub fn bring(
         &mut self,
@@ -485,13 +519,15 @@ impl State {
         Ok(Some(own))
     }
 
-    /// Lists a fresh resource on a side of the innermost scope, which is a type that is open, records it and returns its type index.
+    /// Adds an import or export of a fresh resource to the innermost scope, an open type.
+    ///
+    /// Records the resource and returns its type index.
     ///
     /// # Errors
-    /// - `TooLarge` if it would not fit 32-bit sizes.
+    /// - `TooLarge` if the content of the scope would not fit 32-bit sizes.
     /// - `OutOfMemory`.
     ///
-    /// On an error nothing is listed.
+    /// On an error no item is added.
     pub fn list_fresh(
         &mut self,
         merged: bool,
@@ -508,7 +544,9 @@ impl State {
         self.here.list_fresh(merged, side, name, resource)
     }
 
-    /// Records that an instance in the bottom scope has a resource, which is then bound there.
+    /// Records that an instance exports a resource, and so binds the resource in the bottom scope.
+    ///
+    /// The bottom scope must be the innermost.
     ///
     /// # Errors
     /// - `OutOfMemory`.

@@ -6,11 +6,11 @@ use Rattle.wac_types_collection.specs.collection.Bound.{Bindings}
 use Rattle.wac_encode_stacks.specs.Scopes.{Open, Stack}
 use Rattle.wac_encode_stacks.specs.Good.{Good, Onward}
 
--- the same is written in both stacks
+-- The two stacks have the same content in each scope.
 abbrev pub SameWritten : Stack → Stack → Type 0
 SameWritten ps os = AllZip (λ p o. o.content ≡ p.content) ps os
 
--- what is recorded in the second, where what the first says is written
+-- The scope o with the content of p, and what o records.
 abbrev pub written_as : Open → Open → Open
 written_as p o = record o { content = p.content }
 
@@ -18,7 +18,7 @@ abbrev pub all_written_as : Stack → Stack → Stack
 all_written_as (p ∷ ps) (o ∷ os) = written_as p o ∷ all_written_as ps os
 all_written_as _ _ = []
 
--- where the stack goes onward for the types of one collection, it goes onward for those of the other
+-- A step that keeps the stack good for one collection keeps it good for another that shares its content.
 abbrev pub GoesOnBeside : Type 0
 GoesOnBeside = (c d : Collection) (ms ns : List Bindings) (ps qs os : Stack) → SameWritten ps os → Onward c ms ps qs → Good d ns os
     → Onward d ns os (all_written_as qs os) × SameWritten qs (all_written_as qs os)

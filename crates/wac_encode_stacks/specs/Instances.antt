@@ -1,4 +1,4 @@
--- What an instance in scope has, and what the root's imports give.
+-- What an instance in scope exports, and what imports of the root add.
 use Rattle.std.specs.Prelude.{ℕ, ◌≡◌, ◌⊎◌, true, List, [], ◌∷◌, ◌++◌, length, map, Some, None}
 use Rattle.wac_types_shapes.specs.primitives.Name.{Name, find_name}
 use Rattle.wac_types_shapes.specs.declared.shapes.component.ResourceId.{ResourceId}
@@ -26,15 +26,15 @@ use Rattle.wac_encode_stacks.specs.Good.{At, Stands, IsHeld, IsClosed, Good, Onw
 use Rattle.wac_encode_stacks.specs.Laws.{Adds}
 use Rattle.wac_encode_stacks.specs.Listed.{IsItem, calling}
 
--- m calls the interface's own resources as an instance of it under this path binds them
+-- The bindings m bind each own resource of the interface to the export of its instance at this path.
 abbrev pub BindsInstance : Collection → Interface → Side → List Place → Bindings → Type 0
 BindsInstance c it side path m = (r : ResourceId) (n : Name) → own_name c it.uses it.exports r ≡ Some n → m r ≡ Some (record { out = 0; side = side; path = path ++ named n ∷ [] })
 
--- an instance has the type items of the interface, as they are held inside it; it may have fewer or more of the other items
+-- The instance has the type items of the interface, with their trees inside it. Other items may be missing or more.
 abbrev pub Shows : Collection → Bindings → Interface → Bound → Type 0
 Shows c m it b = (n : Name) (a : AnyType) → find_name it.exports n ≡ Some (kind.TypeItem a) → IsItem c (inside_interface c it m) exported n (kind.TypeItem a) (items_in b.type n)
 
--- an instance of the whole interface has them
+-- An instance whose type has the tree of the interface has all its type items.
 abbrev pub ShowsWhole : Type 0
 ShowsWhole = (c : Collection) → IsWellFormed c → (m : Bindings) (i : InterfaceId) (it : Interface) (b : Bound)
     → item_at c.interfaces i.0 ≡ Some it → IsHeld c m (ty.Interface i) b.type → Shows c m it b
@@ -42,14 +42,14 @@ ShowsWhole = (c : Collection) → IsWellFormed c → (m : Bindings) (i : Interfa
 abbrev pub taken_leaf : Bound → Name → Leaf
 taken_leaf b n = record { out = 0; side = b.side; path = b.path ++ named n ∷ [] }
 
--- an instance in scope has its interface's own resource
+-- An instance in scope exports each own resource of its interface.
 abbrev pub HasOwn : Type 0
 HasOwn = (c : Collection) (m : Bindings) (o : Open) (os : Stack) (it : Interface) (j : ℕ) (b : Bound) (r : ResourceId) (n : Name)
     → At ((env o (envs os)).instances) j b → Shows c m it b → find_name it.exports n ≡ Some (kind.TypeItem (ty.Resource r)) → own_name c it.uses it.exports r ≡ Some n
     → Stands (env o (envs os)) (resource (taken_leaf b n)) (at_export j n)
 
--- A value type that the interface lists is there, and may be so recorded, if m calls the interface's own resources as the instance binds them,
--- or if the type means no resource.
+-- A value type that the interface exports may be recorded as an export of its instance. Either m binds the interface's
+-- own resources to that instance, or the type mentions no resource.
 abbrev pub HasExported : Type 0
 HasExported = (c : Collection) → IsWellFormed c → (m : Bindings) (ms : List Bindings) (o : Open) (os : Stack) (it : Interface) (j : ℕ) (b : Bound) (v : ValueType) (d : DefinedTypeId) (n : Name)
     → Good c (m ∷ ms) (o ∷ os) → At ((env o (envs os)).instances) j b → Shows c m it b
@@ -57,21 +57,21 @@ HasExported = (c : Collection) → IsWellFormed c → (m : Bindings) (ms : List 
     → BindsInstance c it b.side b.path m ⊎ IsClosed c (ty.Value v)
     → Onward c (m ∷ ms) (o ∷ os) (export_at d (at_export j n) o ∷ os)
 
--- the root's next import is the item that is described, under its position
+-- The place of the root's next import in a path: its position among the imports.
 abbrev pub position_of : List Item → Place
 position_of items = position (length (meaning items).imports)
 
 abbrev pub holding : List Item → Open → Open
 holding items o = record o { content = root items }
 
--- an import of an instance into the root
+-- The root may import an instance whose type is in scope; its instance index refers to that import.
 abbrev pub ImportsInstance : Type 0
 ImportsInstance = (c : Collection) (m : Bindings) (items : List Item) (o : Open) (n : Name) (i : ℕ) (t : Tree)
     → Good c (m ∷ []) (holding items o ∷ []) → IsInstance t → At ((meaning items).scope.types) i t
     → Onward c (m ∷ []) (holding items o ∷ []) (holding (items ++ import_item n (e.Instance i) ∷ []) o ∷ [])
     × At ((meaning (items ++ import_item n (e.Instance i) ∷ [])).scope.instances) (next_instance (holding items o)) (record { type = t; side = imported; path = position_of items ∷ [] })
 
--- an import of a type into the root
+-- The root may import a type that equals a type in scope; its new type index refers to that type.
 abbrev pub ImportsType : Type 0
 ImportsType = (c : Collection) (m : Bindings) (items : List Item) (o : Open) (n : Name) (i : ℕ) (t : Tree)
     → Good c (m ∷ []) (holding items o ∷ []) → IsType t → At ((meaning items).scope.types) i t
@@ -80,31 +80,31 @@ ImportsType = (c : Collection) (m : Bindings) (items : List Item) (o : Open) (n 
 abbrev pub import_leaf : List Item → Leaf
 import_leaf items = record { out = 0; side = imported; path = position_of items ∷ [] }
 
--- an import of a fresh resource that nothing bound before into the root
+-- The root may import a fresh resource that is not bound yet, if it is recorded at its type index.
 abbrev pub ImportsFresh : Type 0
 ImportsFresh = (c : Collection) (m : Bindings) (items : List Item) (o : Open) (n : Name) (r : ResourceId)
     → Good c (m ∷ []) (holding items o ∷ []) → m r ≡ None
     → Adds c (calling r (import_leaf items) m ∷ []) (holding items o ∷ []) (bind_at r (at_type (next_type (holding items o))) (holding (items ++ import_item n e.Fresh ∷ []) o) ∷ []) (next_type (holding items o)) (resource (import_leaf items))
 
--- an import of a function into the root
+-- The root may import a function whose type is in scope.
 abbrev pub ImportsFunc : Type 0
 ImportsFunc = (c : Collection) (m : Bindings) (items : List Item) (o : Open) (n : Name) (i : ℕ) (t : Tree)
     → Good c (m ∷ []) (holding items o ∷ []) → IsFunction t → At ((meaning items).scope.types) i t
     → Onward c (m ∷ []) (holding items o ∷ []) (holding (items ++ import_item n (e.Func i) ∷ []) o ∷ [])
 
--- an import of a core module into the root
+-- The root may import a core module whose type is in scope.
 abbrev pub ImportsModule : Type 0
 ImportsModule = (c : Collection) (m : Bindings) (items : List Item) (o : Open) (n : Name) (i : ℕ) (t : Tree)
     → Good c (m ∷ []) (holding items o ∷ []) → IsModule t → At ((meaning items).scope.core_types) i t
     → Onward c (m ∷ []) (holding items o ∷ []) (holding (items ++ import_item n (e.CoreModule i) ∷ []) o ∷ [])
 
--- an import of a component into the root
+-- The root may import a component whose type is in scope.
 abbrev pub ImportsComponent : Type 0
 ImportsComponent = (c : Collection) (m : Bindings) (items : List Item) (o : Open) (n : Name) (i : ℕ) (t : Tree)
     → Good c (m ∷ []) (holding items o ∷ []) → IsComponent t → At ((meaning items).scope.types) i t
     → Onward c (m ∷ []) (holding items o ∷ []) (holding (items ++ import_item n (e.Component i) ∷ []) o ∷ [])
 
--- an import stands behind those before it, and the index that it adds is the import of that position
+-- An import is appended to the root's imports, and the index that it adds refers to the import at that position.
 abbrev pub ListsImport : Type 0
 ListsImport = (items : List Item) (n : Name) (d : Description)
     → ((meaning (items ++ import_item n d ∷ [])).imports ≡ (meaning items).imports ++ (n, described_item (meaning items).scope d) ∷ [])

@@ -24,12 +24,12 @@ module_count (root items) = indexes core_space items
 abbrev pub with_module : List ModuleDecl → Open → Open
 with_module t o = record o { content = and_module t o.content }
 
--- a core module type, under the next index of core types
+-- A core module type that is added gets the next core type index.
 abbrev pub DefinesModule : Type 0
 DefinesModule = (c : Collection) (m : Bindings) (ms : List Bindings) (o : Open) (os : Stack) (t : List ModuleDecl)
     → Good c (m ∷ ms) (o ∷ os) → ModuleHasMeaning no_module t → Onward c (m ∷ ms) (o ∷ os) (with_module t o ∷ os)
     × At ((env (with_module t o) (envs os)).core_types) (module_count o.content) (module_tree t)
 
--- a held module type is its tree under any bindings
+-- A module type of the collection has its tree under any bindings.
 abbrev pub HoldsModule : Type 0
 HoldsModule = (c : Collection) (m : Bindings) (k : ModuleTypeId) (x : ModuleType) → item_at c.modules k.0 ≡ Some x → IsHeld c m (ty.Module k) (held_module_tree x)

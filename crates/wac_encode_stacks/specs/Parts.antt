@@ -1,4 +1,4 @@
--- When what was written says what is held, part by part.
+-- Value types and function types as they are written, compared with those of the collection part by part.
 use Rattle.std.specs.Prelude.{ℕ, suc, zero, ◌≡◌, List, [], ◌∷◌, Option, Some, None}
 use Rattle.std.specs.List.{AllZip}
 use Rattle.wac_types_shapes.specs.primitives.Name.{Name}
@@ -18,7 +18,7 @@ use Rattle.wac_binary.specs.Unfold.{Scope}
 use Rattle.wac_encode_stacks.specs.Scopes.{Where, Stack}
 use Rattle.wac_encode_stacks.specs.Good.{Means, IsHeld}
 
--- a value type in use that is the tree of what is held
+-- A value type that is written in this scope has the tree of a type of the collection.
 abbrev pub Is : Collection → Bindings → Scope → AnyType → ComponentValType → Type 0
 Is c m e a x = (t : Tree) × IsHeld c m a t × Means e t x
 
@@ -36,7 +36,7 @@ AreFields c m e vs xs = AllZip (λ v x. (x.0 ≡ v.0) × Is c m e (ty.Value v.1)
 abbrev pub AreCases : Collection → Bindings → Scope → List (Name × Option ValueType) → List (Name × Option ComponentValType) → Type 0
 AreCases c m e vs xs = AllZip (λ v x. (x.0 ≡ v.0) × MaybeIs c m e v.1 x.1) vs xs
 
--- a definition of a value type, written with parts that are in scope; an alias is not written
+-- A value type definition is written with parts that are in scope. An alias has no definition of its own.
 abbrev pub IsWritten : Collection → Bindings → Scope → DefinedType → ValueDef → Type 0
 IsWritten c m e (def.Tuple vs) (tuple_def xs) = AreValues c m e vs xs
 IsWritten c m e (def.List v) (list_def x) = Is c m e (ty.Value v) x
@@ -51,12 +51,12 @@ IsWritten c m e (def.Stream v) (stream_def x) = MaybeIs c m e v x
 IsWritten c m e (def.Future v) (future_def x) = MaybeIs c m e v x
 IsWritten c m e _ _ = ⊥
 
--- a function type, so written
+-- A function type is written with parts that are in scope.
 abbrev pub IsWrittenFunc : Collection → Bindings → Scope → FuncType → TypeDef → Type 0
 IsWrittenFunc c m e f (func_def is_async xs y) = (is_async ≡ f.is_async) × AreFields c m e f.params xs × MaybeIs c m e f.result y
 IsWrittenFunc c m e f _ = ⊥
 
--- the innermost scope that has the resource recorded is so many out, and there it is
+-- The innermost scope that records the resource is k scopes out, and records it at the place w.
 abbrev pub IsReached : Stack → ResourceId → ℕ → Where → Type 0
 IsReached [] r k w = ⊥
 IsReached (o ∷ os) r zero w = o.binds r ≡ Some w

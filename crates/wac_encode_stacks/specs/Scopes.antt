@@ -1,4 +1,4 @@
--- The scopes that a type encoder has open, the innermost first.
+-- The scopes that a type encoder has open, the innermost first, and what is recorded in each.
 use Rattle.std.specs.Prelude.{ℕ, ◌==◌, Bool, if◌then◌else◌, List, [], ◌∷◌, ◌++◌, Option, Some, None}
 use Rattle.wac_types_shapes.specs.primitives.Name.{Name}
 use Rattle.wac_types_shapes.specs.declared.shapes.component.ResourceId.{ResourceId}
@@ -12,47 +12,48 @@ use Rattle.wac_binary.specs.Unfold.{Scope, empty, after}
 use Rattle.wac_binary.specs.Meaning.{meaning}
 use Rattle.wac_binary.specs.HasMeaning.{HasMeaning, DeclsHaveMeaning}
 
--- what was written: the declarations of an instance type or a component type, or the items of the root
+-- What is written in a scope: the declarations of an instance type or a component type, or the items of the root.
 pub data Content : Type 0 where
   declarations : List Decl → Content
   root : List Item → Content
 
--- where something is in a scope: at a type index; or it has no type index yet, and is an export of an instance
+-- The place of a type in a scope: a type index, or an export of an instance that is not aliased yet.
 pub data Where : Type 0 where
   at_type : ℕ → Where
   at_export : (instance : ℕ) → Name → Where
 
--- how a type got its type index: from its definition, from an outer alias, or from a type import or type export
+-- What gave a type its type index: its definition, an outer alias, or a type import or type export.
 pub data How : Type 0 where
   defined : How
   brought : How
   listed : How
 
--- the type index of a type, and how it got it
+-- The type index of a type, and what gave it.
 pub record Indexed : Type 0 where
   pub index : ℕ
   pub how : How
 
--- An open scope: its content and what is recorded in it. A scope that passes calls all that the scopes around it call as they do.
+-- An open scope: its content and what is recorded in it. In a scope that passes, each resource that is bound outside is
+-- bound to the same resource.
 pub record Open : Type 0 where
   pub content : Content
   pub passes : Bool
-  -- where a resource is
+  -- The place of a resource.
   pub binds : ResourceId → Option Where
-  -- the type index of a type
+  -- The type index of a type.
   pub types : AnyType → Option Indexed
-  -- where a value type is that an instance of this scope exports
+  -- The place of a value type that an instance of this scope exports.
   pub exports : DefinedTypeId → Option Where
 
 abbrev pub Stack : Type 0
 Stack = List Open
 
--- what the indexes of a scope stand for
+-- What the indexes of a scope refer to, and its imports and exports.
 abbrev pub scope_of : Content → List Scope → Scope
 scope_of (declarations ds) out = after (decls ds) empty out
 scope_of (root items) out = (meaning items).scope
 
--- what was written has a meaning
+-- The content has a meaning: each index that it uses exists, and no name is declared twice.
 abbrev pub ContentHasMeaning : Content → List Scope → Type 0
 ContentHasMeaning (declarations ds) out = DeclsHaveMeaning (decls ds) empty out
 ContentHasMeaning (root items) out = HasMeaning items
@@ -60,12 +61,12 @@ ContentHasMeaning (root items) out = HasMeaning items
 abbrev pub env : Open → List Scope → Scope
 env o out = scope_of o.content out
 
--- of each open scope
+-- What the indexes of each scope of a stack refer to.
 abbrev pub envs : Stack → List Scope
 envs [] = []
 envs (o ∷ os) = env o (envs os) ∷ envs os
 
--- the next type index, and the next instance index
+-- The number of type indexes, which is the next type index; then the same for instance indexes.
 abbrev pub type_count : Content → ℕ
 type_count (declarations ds) = declared (space s.Type) ds
 type_count (root items) = indexes (space s.Type) items
@@ -80,7 +81,7 @@ next_type o = type_count o.content
 abbrev pub next_instance : Open → ℕ
 next_instance o = instance_count o.content
 
--- one more type definition, and one more alias
+-- The content with a type definition appended; then with an alias appended.
 abbrev pub and_def : TypeDef → Content → Content
 and_def t (declarations ds) = declarations (ds ++ type_decl t ∷ [])
 and_def t (root items) = root (items ++ type_item t ∷ [])
@@ -95,11 +96,11 @@ with_def t o = record o { content = and_def t o.content }
 abbrev pub with_alias_of : Alias → Open → Open
 with_alias_of a o = record o { content = and_alias a o.content }
 
--- one more declaration, in a type
+-- The open type with a declaration appended.
 abbrev pub with_declared : List Decl → Decl → Open → Open
 with_declared ds d o = record o { content = declarations (ds ++ d ∷ []) }
 
--- with one more record
+-- The scope with one more record: a resource's place, a type's index, or the place of an exported value type.
 abbrev pub bind_at : ResourceId → Where → Open → Open
 bind_at r w o = record o { binds = λ q. if q.0 == r.0 then Some w else o.binds q }
 
@@ -109,6 +110,6 @@ index_at a how i o = record o { types = λ b. if same_type b a then Some (record
 abbrev pub export_at : DefinedTypeId → Where → Open → Open
 export_at d w o = record o { exports = λ e. if e.0 == d.0 then Some w else o.exports e }
 
--- a scope without content, in which nothing is recorded
+-- An open type without declarations, in which nothing is recorded.
 abbrev pub opening : Bool → Open
 opening passes = record { content = declarations []; passes = passes; binds = λ r. None; types = λ a. None; exports = λ d. None }

@@ -1,4 +1,5 @@
-//! What each step of a type encoder keeps and gives, for proofs about one. Each call does nothing else.
+//! Laws of the steps of a type encoder, for proofs. A function here proves its laws and does nothing when it runs
+//! (docs/PROOFS.md, 'Laws').
 
 ghost use Rattle.wac_encode_stacks.specs.Laws.{DefinesValue, DefinesFunc, DefinesPrimitive, DefinesHandles, Reaches, BringsResource, BringsType, SettlesResource, SettlesValue, RecordsType, GoesOnAround, Follows, StaysIs, IsRecorded, IsExported, StandsRecorded, IsItsTree, IsItsEnd, StaysOnward};
 ghost use Rattle.wac_encode_stacks.specs.Listed.{ListsEqual, ListsFresh, ListsOwn, ListsFunc, ListsComponent, ListsModule, ListsInstance, ListsOneMore, ListsInAnyOrder, ListedUnderMore, OpensInterface, CallsOneMore, CallsNoMore, CallsAll, ClosesInstance, HoldsInterface, OpensWorld, BindsMore, ClosesComponent, HoldsWorld, FreshInInterface, CallsOwn};
@@ -12,7 +13,7 @@ ghost use Rattle.wac_encode_stacks.specs.Modules.{DefinesModule, HoldsModule};
 
 use wac_binary::laws::{has_meaning_law, listed_law, scope_law};
 
-/// How items and declarations are read.
+/// Brings in the laws by which items and declarations are read.
 fn binary_laws()
     ensures reads { Reads }
 {
@@ -22,7 +23,7 @@ fn binary_laws()
     listed_law();
 }
 
-/// One more type index in an open scope, and the stack of scopes around it.
+/// Brings in the laws of a step that adds a type index to the innermost scope, or records a type in it.
 pub fn step_law()
     ensures defines_value { DefinesValue }
     ensures defines_func { DefinesFunc }
@@ -45,7 +46,7 @@ pub fn step_law()
     binary_laws();
 }
 
-/// One more import or export in a type that is open.
+/// Brings in the laws of a step that adds an import or export to an open type.
 pub fn listing_law()
     ensures lists_equal { ListsEqual }
     ensures lists_fresh { ListsFresh }
@@ -61,7 +62,7 @@ pub fn listing_law()
     binary_laws();
 }
 
-/// Types that are opened and closed: interfaces and worlds.
+/// Brings in the laws of opening and closing the type of an interface or a world.
 pub fn closing_law()
     ensures opens_interface { OpensInterface }
     ensures calls_one_more { CallsOneMore }
@@ -79,7 +80,7 @@ pub fn closing_law()
     binary_laws();
 }
 
-/// What an instance in scope has.
+/// Brings in the laws of what an instance in scope exports.
 pub fn instance_law()
     ensures shows_whole { ShowsWhole }
     ensures has_own { HasOwn }
@@ -88,7 +89,7 @@ pub fn instance_law()
     binary_laws();
 }
 
-/// What is recorded somewhere in the stack, and how it is brought in.
+/// Brings in the laws of types and resources that an enclosing scope records, and of their outer aliases.
 pub fn bringing_law()
     ensures good_once { GoodOnce }
     ensures finds_or_unbound { FindsOrUnbound }
@@ -101,7 +102,7 @@ pub fn bringing_law()
     binary_laws();
 }
 
-/// The parts of what is held, and what is held elsewhere.
+/// Brings in the laws of trees under other bindings, and of the parts of a type of the collection.
 pub fn part_law()
     ensures held_carried { HeldCarried }
     ensures held_further_in { HeldFurtherIn }
@@ -114,7 +115,7 @@ pub fn part_law()
     ensures resource_is_bound { ResourceIsBound }
 {}
 
-/// The root: its imports, and all else that is added to it.
+/// Brings in the laws of adding imports and other items to the root.
 pub fn root_law()
     ensures imports_instance { ImportsInstance }
     ensures imports_type { ImportsType }
@@ -129,7 +130,7 @@ pub fn root_law()
     binary_laws();
 }
 
-/// Work inside an open scope, and resources through all of them.
+/// Brings in the laws of several steps in one scope, and of resources that any scope of the stack records.
 pub fn inside_law()
     ensures by_step { ByStep }
     ensures by_item { ByItem }
@@ -142,7 +143,7 @@ pub fn inside_law()
     binary_laws();
 }
 
-/// Core module types.
+/// Brings in the laws of core module types.
 pub fn module_law()
     ensures defines_module { DefinesModule }
     ensures holds_module { HoldsModule }
@@ -150,17 +151,17 @@ pub fn module_law()
     binary_laws();
 }
 
-/// Types of two collections in the same scopes.
+/// Brings in the law of two collections whose types are written into the same scopes.
 pub fn beside_law()
     ensures goes_on_beside { GoesOnBeside }
 {}
 
-/// Aliases of value types.
+/// Brings in the law of aliases of value types.
 pub fn alias_law()
     ensures { IsItsEnd }
 {}
 
-/// A stack to which nothing is done.
+/// Brings in the law of a step that changes nothing.
 pub fn still_law()
     ensures { StaysOnward }
 {}

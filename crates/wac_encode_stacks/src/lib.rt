@@ -1,5 +1,8 @@
-//! Stacks of open scopes: when the text in them is that of types of the collection, and what each step of a type encoder
-//! keeps and gives. Definitions, laws and lemmas; no code.
+//! The specification of the open scopes of a type encoder, without code that runs.
+//!
+//! A stack of open scopes is good if what is written in it agrees with what is recorded of a collection's types. Each
+//! law says what one step of the encoder adds, and that the stack stays good. A proof about a step calls the law's
+//! function; the call does nothing when it runs (docs/PROOFS.md, 'Laws').
 #![tactic(auto)]
 
 pub mod laws;

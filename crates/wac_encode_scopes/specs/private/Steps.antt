@@ -1,4 +1,4 @@
--- What a call does to one scope, and to the scope so many out. Private functions alone cite this.
+-- What a call does to one scope, or to the scope k scopes out. Only contracts of private functions use this.
 use Rattle.std.specs.Prelude.{ℕ, ◌≡◌, Bool, true, false, not, Option, Some, None, ◌++◌, ◌∷◌, []}
 use Rattle.wac_types_shapes.specs.declared.shapes.component.ResourceId.{ResourceId}
 use Rattle.wac_binary.specs.declared.sorts.Sort.TheVariants as s
@@ -20,25 +20,25 @@ use Rattle.wac_types_shapes.specs.primitives.Name.{Name}
 use Rattle.wac_types_shapes.specs.primitives.Tree.{Side}
 use Rattle.wac_encode_stacks.specs.Listed.{side_decl}
 
--- more is recorded in a book
+-- The records of a book change by f, whatever the content is.
 abbrev pub Records : (Open → Open) → Book → Book → Type 0
 Records f old new = (x : Content) → recorded new x ≡ f (recorded old x)
 
--- a scope changes for the types of one collection, and is only so written for those of the other
+-- A scope changes by f for the types of one collection. For those of the other, only its content changes.
 abbrev pub ScopeChanges : Bool → (Open → Open) → Scope → Scope → Type 0
 ScopeChanges b f old new = (opened b new ≡ f (opened b old)) × (opened (not b) new ≡ written_as (opened b new) (opened (not b) old))
 
--- the scope so many out changes so
+-- The scope k scopes out changes by f. For the types of the other collection, only its content changes.
 abbrev pub StateChanges : Bool → ℕ → (Open → Open) → State → State → Type 0
 StateChanges b k f old new = (stack b new ≡ changed_at k f (stack b old)) × (stack (not b) new ≡ all_written_as (stack b new) (stack (not b) old))
 
--- a type index and true, or the index of an instance and false
+-- A type index and true, or the index of an instance and false.
 abbrev pub export_of : Option Where → Option (ℕ × Bool)
 export_of None = None
 export_of (Some (at_type i)) = Some (i, true)
 export_of (Some (at_export j n)) = Some (j, false)
 
--- what an instance exports is aliased
+-- The record is that of an instance's export which is not aliased yet.
 abbrev pub IsExported : Option Where → Type 0
 IsExported (Some (at_export j n)) = Unit {0}
 IsExported _ = ⊥
@@ -47,7 +47,7 @@ abbrev pub aliased_from : Option Where → Encodable → Encodable
 aliased_from (Some (at_export j n)) e = and_alias_of (export_alias s.Type j n) e
 aliased_from _ e = e
 
--- a resource that is recorded as an instance's export is aliased, and recorded at the alias
+-- The scope after a resource that is recorded as an instance's export is aliased, and recorded at the alias.
 abbrev pub settled_from : ResourceId → Option Where → Open → Open
 settled_from r (Some (at_export j n)) o = aliased_there r j n o
 settled_from r _ o = o
@@ -55,16 +55,16 @@ settled_from r _ o = o
 abbrev pub settled : ResourceId → Open → Open
 settled r o = settled_from r (o.binds r) o
 
--- a scope in which nothing is recorded
+-- A scope with this content, in which nothing is recorded.
 abbrev pub empty_scope : Content → Bool → Open
 empty_scope x passes = record (opening passes) { content = x }
 
--- what is given for the one collection, or for the other
+-- The value for the merged collection, or for the graph's own.
 abbrev pub either : Bool → Bool → Bool → Bool
 either true merged graph = merged
 either false merged graph = graph
 
--- and a value type
+-- The scope after a value type that is recorded as an instance's export is aliased, and recorded at the alias.
 abbrev pub settled_value_from : DefinedTypeId → Option Where → Open → Open
 settled_value_from d (Some (at_export j n)) o = aliased_value d j n o
 settled_value_from d _ o = o
@@ -72,7 +72,7 @@ settled_value_from d _ o = o
 abbrev pub settled_value : DefinedTypeId → Open → Open
 settled_value d o = settled_value_from d (o.exports d) o
 
--- a fresh resource is listed, and recorded at its type index
+-- The content with a fresh resource appended; then the scope in which that resource is also recorded.
 abbrev pub and_fresh : Side → Name → Content → Content
 and_fresh side n (declarations ds) = declarations (ds ++ side_decl side n e.Fresh ∷ [])
 and_fresh side n (root items) = root items

@@ -1,4 +1,4 @@
--- How what is written is read: what one more item or declaration adds, and what scopes that only grew leave.
+-- How content is read: what an appended item or declaration adds, and that growth of enclosing scopes changes nothing.
 use Rattle.std.specs.Prelude.{◌≡◌, List, [], ◌∷◌, ◌++◌, length, Some}
 use Rattle.wac_binary.specs.declared.sorts.Sort.{Sort}
 use Rattle.wac_binary.specs.declared.sorts.Sort.TheVariants as s
@@ -10,25 +10,25 @@ use Rattle.wac_binary.specs.Added.{imports_added}
 use Rattle.wac_binary.specs.Growth.{Grows, AllGrow, Reach}
 use Rattle.wac_binary.specs.HasMeaning.{HasMeaning, ItemHasMeaning, DeclsHaveMeaning, DeclHasMeaning}
 
--- the laws of items and declarations that hold of each scope
+-- The laws of items and declarations that proofs about scopes use.
 pub record Reads : Type 0 where
-  -- one more item, and one more declaration
+  -- An appended item, and an appended declaration.
   pub item_after : (items : List Item) (x : Item) → meaning (items ++ x ∷ []) ≡ read (meaning items) x
   pub item_meant : (items : List Item) (x : Item) → HasMeaning items → ItemHasMeaning (meaning items) x → HasMeaning (items ++ x ∷ [])
   pub decl_after : (ds : List Decl) (d : Decl) (out : List Scope) → after (decls (ds ++ d ∷ [])) empty out ≡ with_decl d (after (decls ds) empty out) out
   pub decl_meant : (ds : List Decl) (d : Decl) (out : List Scope) → DeclsHaveMeaning (decls ds) empty out → DeclHasMeaning d (after (decls ds) empty out) out → DeclsHaveMeaning (decls (ds ++ d ∷ [])) empty out
-  -- scopes around that only grew
+  -- Enclosing scopes that only grew.
   pub reach : (ds : Decls) (out : List Scope) → DeclsHaveMeaning ds empty out → Reach ds empty out
   pub around : (ds : Decls) (out new : List Scope) → AllGrow out new → Reach ds empty out → after ds empty new ≡ after ds empty out
   pub still_meant : (ds : Decls) (out new : List Scope) → AllGrow out new → DeclsHaveMeaning ds empty out → DeclsHaveMeaning ds empty new
-  -- the root as it goes on
+  -- Items that are appended to the root.
   pub root_grows : (items more : List Item) → Grows (meaning items).scope (meaning (items ++ more)).scope
   pub root_imports : (items more : List Item) → (meaning (items ++ more)).scope.imports ≡ (meaning items).scope.imports
   pub root_exports : (items more : List Item) → (meaning (items ++ more)).scope.exports ≡ (meaning items).scope.exports
-  -- the imports with one more item, and what the index that it adds is
+  -- The imports after an appended item, and what the index that it adds refers to.
   pub imports_after : (items : List Item) (x : Item) → (meaning (items ++ x ∷ [])).imports ≡ (meaning items).imports ++ imports_added (meaning items) x
   pub thing_new : (items : List Item) (x : Item) (t : Sort) → sort_added x ≡ Some t → stands_for (meaning (items ++ x ∷ [])) t (indexes (space t) items) ≡ thing_added (meaning items) x
-  -- as many indexes stand for something as there are
+  -- Each index refers to something: the lists are as long as their index spaces.
   pub things_counted : (items : List Item) (t : Sort) → length (things (meaning items) t) ≡ indexes (space t) items
   pub types_counted : (items : List Item) → length (meaning items).scope.types ≡ indexes (space s.Type) items
   pub instances_counted : (items : List Item) → length (meaning items).scope.instances ≡ indexes (space s.Instance) items
