@@ -157,6 +157,18 @@ impl Edges {
         if self.contains(edge) {
             return Ok(());
         }
+        self.add_new(edge)
+    }
+
+    /// Adds an edge that is not in the set, without searching for it.
+    ///
+    /// # Errors
+    /// - `AllocError` if out of memory, or if there are 2^32 edges. Then the set is unchanged.
+    pub fn add_new(&mut self, edge: Edge) -> Result<(), AllocError>
+        requires { set.contains self.old edge ≡ false }
+        ensures ok { OnOk result (self.new ≡ set.insert self.old edge) }
+        ensures err { OnErr result (self.new ≡ self.old) }
+    {
         self.crowd(edge.source)?;
         make_firsts(&mut self.firsts, edge.source.0)?;
         make_firsts(&mut self.firsts, edge.target.0)?;

@@ -1,5 +1,5 @@
 -- Edges of a list that are added to a set one by one, and taken back.
-use Rattle.std.proofs.Common.{◌≡◌, ℕ, zero, suc, ◌+◌, ◌<◌, ◌≤◌, Bool, true, false, not, ◌&&◌, ◌||◌, List, [], ◌∷◌, length, slice_get, take, eqb, ◌≢◌, get_or, refl, ap, ◌∙◌, sym, subst, arith, Some, ◌⊎◌, inl, inr}
+use Rattle.std.proofs.Common.{◌≡◌, ℕ, zero, suc, ◌+◌, ◌<◌, ◌≤◌, Bool, true, false, not, ◌&&◌, ◌||◌, List, [], ◌∷◌, ◌++◌, length, slice_get, take, eqb, ◌≢◌, get_or, refl, ap, ◌∙◌, sym, subst, arith, Some, ◌⊎◌, inl, inr}
 use Rattle.std.specs.Prelude.{◌↔◌, Contains}
 use Rattle.std.specs.FinSet as set
 use Rattle.std.specs.Ordering.{eq_by_cmp, is_eq}
@@ -11,6 +11,7 @@ use Rattle.std.proofs.lemmas.Option.{slice_get_within, slice_get-get_or}
 use Rattle.wac_edges.specs.declared.edges.Edge.{Edge}
 use Rattle.wac_edges.specs.Edge.{edge_cmp}
 use Rattle.wac_edges.proofs.EdgeLemmas.{edge_cmp_total, edge_cmp-IsAntisymmetric, exact_edges}
+use Rattle.wac_graph_fields.specs.private.Stored.{AreOnce}
 
 abbrev Edges : Type 0
 Edges = set.FinSet edge_cmp
@@ -190,3 +191,32 @@ first_among xs k e within = (λ (i, small, at). among_contains (take k xs) k e (
 
   from : Among (take k xs) k e → Among xs k e
   from (i, small, at) = (i, small, there xs k i at)
+
+-- ---- lists in which no edge is twice
+pushed_at : (xs : List Edge) (x : Edge) (i : ℕ) (e : Edge) → slice_get (xs ++ x ∷ []) i ≡ Some e → (slice_get xs i ≡ Some e) ⊎ ((i ≡ length xs) × (x ≡ e))
+pushed_at [] x zero e h = inr (refl, some_same h)
+pushed_at [] x (suc i) e h = cc
+pushed_at (y ∷ ys) x zero e h = inl h
+pushed_at (y ∷ ys) x (suc i) e h = elim (pushed_at ys x i e h) [ inl at ↦ inl at | inr (last, is) ↦ inr (ap suc last, is) ]
+
+pub once_push : (xs : List Edge) (x : Edge) → AreOnce xs → (Contains xs x → ⊥) → AreOnce (xs ++ x ∷ [])
+once_push xs x once out i j e a b = by (pushed_at xs x i e a) (pushed_at xs x j e b) where
+  wrong : (k : ℕ) → slice_get xs k ≡ Some e → x ≡ e → ⊥
+  wrong k at is = out (subst (Contains xs) (sym is) (among_contains xs (k + 1) e (k, omega arith, at)))
+
+  by : (slice_get xs i ≡ Some e) ⊎ ((i ≡ length xs) × (x ≡ e)) → (slice_get xs j ≡ Some e) ⊎ ((j ≡ length xs) × (x ≡ e)) → i ≡ j
+  by (inl at) (inl also) = once i j e at also
+  by (inl at) (inr (_, is)) = absurd (wrong i at is)
+  by (inr (_, is)) (inl at) = absurd (wrong j at is)
+  by (inr (last, _)) (inr (also, _)) = last ∙ sym also
+
+-- the next edge is not there yet
+pub not_yet : (old edges : Edges) (xs : List Edge) (k : ℕ) (x : Edge) → slice_get xs k ≡ Some x → AreOnce xs → ((e : Edge) → Contains xs e → IsIn old e → ⊥) → AreAdded old xs k edges → set.contains edges x ≡ false
+not_yet old edges xs k x at once none so = by (set.contains edges x) refl where
+  wrong : Among xs k x ⊎ IsIn old x → ⊥
+  wrong (inl (i, small, also)) = let same = once i k x also at in omega (arith, small, same)
+  wrong (inr was) = none x (among_contains xs (k + 1) x (k, omega arith, at)) was
+
+  by : (b : Bool) → set.contains edges x ≡ b → b ≡ false
+  by false is = refl
+  by true is = absurd (wrong ((so x).0 is))

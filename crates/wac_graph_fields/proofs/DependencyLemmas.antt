@@ -5,7 +5,7 @@ use Rattle.std.proofs.lemmas.List.Elements.{Contains-append_left, Contains-push,
 use Rattle.std.specs.FinSet as set
 use Rattle.slab.specs.Slab.{Slab}
 use Rattle.wac_types_shapes.specs.declared.shapes.component.«Type».{«Type» as AnyType}
-use Rattle.wac_types_collection.specs.collection.Collection.{Collection}
+use Rattle.wac_types_collection.specs.collection.Collection.{Collection, IsWellFormed}
 use Rattle.wac_types_collection.specs.reach.Reach.{Reaches}
 use Rattle.wac_edges.specs.declared.edges.Edge.{Edge}
 use Rattle.wac_edges.specs.declared.node.NodeId.{NodeId}
@@ -14,7 +14,9 @@ use Rattle.wac_edges.specs.Order.{Edges}
 use Rattle.wac_graph_model.specs.declared.nodes.node.Node.{Node}
 use Rattle.wac_graph_model.specs.nodes.Definitions.{IsDefinedValue, dependency_edge}
 use Rattle.wac_graph_model.proofs.lemmas.nodes.Added.{by_eq}
-use Rattle.wac_graph_fields.specs.private.Stored.{DefinesAt, IsBetween, Brings}
+use Rattle.wac_graph_fields.specs.private.Stored.{AreOnce, DefinesAt, IsBetween, Brings}
+use Rattle.wac_graph_fields.proofs.AddingLemmas.{once_push}
+use Rattle.wac_graph_fields.proofs.ReachedLemmas.{one_way}
 use Rattle.wac_graph_fields.proofs.StoredLemmas.{defines_within}
 
 -- a list with one edge more
@@ -42,6 +44,11 @@ pushed P xs ys x (inr (other, is)) e = (λ h. inl (subst (λ l. Contains l e) is
   back : Contains xs e ⊎ (P × (e ≡ x)) → Contains ys e
   back (inl h) = subst (λ l. Contains l e) (sym is) h
   back (inr (p, _)) = absurd (other p)
+
+-- and no edge is there twice if the one that is pushed is not there yet
+pub once_pushed : (P : Type 0) (xs ys : List Edge) (x : Edge) → (P × (ys ≡ xs ++ x ∷ [])) ⊎ ((P → ⊥) × (ys ≡ xs)) → (P → Contains xs x → ⊥) → AreOnce xs → AreOnce ys
+once_pushed P xs ys x (inl (p, is)) out once = subst AreOnce (sym is) (once_push xs x once (out p))
+once_pushed P xs ys x (inr (_, is)) out once = subst AreOnce (sym is) once
 
 module _ (c : Collection) (nodes : Slab Node) (t : AnyType) (n : NodeId) where
   -- a definition with a number below this one brings the edge
@@ -96,6 +103,33 @@ module _ (c : Collection) (nodes : Slab Node) (t : AnyType) (n : NodeId) where
     back (inl h) = (second e).1 (inl ((first e).1 (inl ((so e).1 h))))
     back (inr (inl between)) = (second e).1 (inl ((first e).1 (inr between)))
     back (inr (inr between)) = (second e).1 (inr between)
+
+  -- what is pushed is not there yet
+  none_to : (k : ℕ) → BringsBelow k (dependency_edge (node_number k) n) → ⊥
+  none_to k (q, small, u, defined, inl (_, is)) = let same : k ≡ q = ap (λ (e : Edge). e.source.0) is in omega (arith, small, same)
+  none_to k (q, small, u, defined, inr (_, is)) =
+      let from : k ≡ n.0 = ap (λ (e : Edge). e.source.0) is in
+      let to : n.0 ≡ q = ap (λ (e : Edge). e.target.0) is in
+      omega (arith, small, from, to)
+
+  none_from : (k : ℕ) → BringsBelow k (dependency_edge n (node_number k)) → ⊥
+  none_from k (q, small, u, defined, inr (_, is)) = let same : k ≡ q = ap (λ (e : Edge). e.target.0) is in omega (arith, small, same)
+  none_from k (q, small, u, defined, inl (_, is)) =
+      let from : n.0 ≡ q = ap (λ (e : Edge). e.source.0) is in
+      let to : k ≡ n.0 = ap (λ (e : Edge). e.target.0) is in
+      omega (arith, small, from, to)
+
+  pub once_more : IsWellFormed c → (k : ℕ) (other : AnyType) (xs ys zs : List Edge) → ((e : Edge) → Contains xs e ↔ BringsBelow k e) → AreOnce xs
+      → ((IsDefinedValue other × Reaches c t other) × (ys ≡ xs ++ dependency_edge (node_number k) n ∷ [])) ⊎ ((IsDefinedValue other × Reaches c t other → ⊥) × (ys ≡ xs))
+      → ((IsDefinedValue t × Reaches c other t) × (zs ≡ ys ++ dependency_edge n (node_number k) ∷ [])) ⊎ ((IsDefinedValue t × Reaches c other t → ⊥) × (zs ≡ ys))
+      → AreOnce zs
+  once_more wf k other xs ys zs so once first second =
+      once_pushed (IsDefinedValue t × Reaches c other t) ys zs (dependency_edge n (node_number k)) second (λ back h. either back ((pushed (IsDefinedValue other × Reaches c t other) xs ys (dependency_edge (node_number k) n) first (dependency_edge n (node_number k))).0 h))
+      (once_pushed (IsDefinedValue other × Reaches c t other) xs ys (dependency_edge (node_number k) n) first (λ _ h. none_to k ((so (dependency_edge (node_number k) n)).0 h)) once)
+    where
+      either : IsDefinedValue t × Reaches c other t → Contains xs (dependency_edge n (node_number k)) ⊎ ((IsDefinedValue other × Reaches c t other) × (dependency_edge n (node_number k) ≡ dependency_edge (node_number k) n)) → ⊥
+      either back (inl h) = none_from k ((so (dependency_edge n (node_number k))).0 h)
+      either (_, back) (inr ((defined, there), _)) = one_way c wf other t defined back there
 
   pub brings_all : (k : ℕ) (xs : List Edge) → ((e : Edge) → Contains xs e ↔ BringsBelow k e) → length nodes.slots ≤ k → (e : Edge) → Contains xs e ↔ Brings c nodes t n e
   brings_all k xs so all e = (λ h. let (q, _, u, defined, between) = (so e).0 h in (q, u, defined, between), λ (q, u, defined, between). let small = defines_within nodes u q defined in (so e).1 (q, omega (arith, small, all), u, defined, between))

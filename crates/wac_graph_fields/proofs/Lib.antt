@@ -16,6 +16,7 @@ pub mod AskingKnown
 pub mod AskingLoops
 pub mod AddingLemmas
 pub mod StoredLemmas
+pub mod ReachedLemmas
 pub mod DependencyLemmas
 pub mod GraphLemmas
 pub mod SatisfyLemmas

@@ -2,10 +2,10 @@
 ghost use Rattle.std.specs.Prelude.{◌≡◌, ◌↔◌, ◌⊎◌, true, OnOk, OnErr, IfOk, IsTrue, Contains};
 ghost use Rattle.std.specs.FinSet as set;
 ghost use Rattle.wac_types_collection.specs.collection.Collection.{holds_type};
-ghost use Rattle.wac_types_collection.specs.reach.Reach.{IsIn, Reaches};
+ghost use Rattle.wac_types_collection.specs.reach.Reach.{AreClosed, IsIn, Reaches};
 ghost use Rattle.wac_edges.specs.declared.edges.Edge.{Edge as AnEdge};
 ghost use Rattle.wac_graph_model.specs.nodes.Definitions.{IsDefinedValue, dependency_edge};
-ghost use Rattle.wac_graph_fields.specs.private.Stored.{AreHeld, Brings};
+ghost use Rattle.wac_graph_fields.specs.private.Stored.{AreHeld, AreOnce, Brings};
 
 use crate::adding::add_all;
 use crate::defined::defined_at;
@@ -19,7 +19,8 @@ use wac_types_collection::reach::reach;
 
 /// Adds the dependency edges of a new definition, whose node has no edges yet. On `AllocError` the edges are unchanged.
 ///
-/// Each existing definition's type may be walked once.
+/// Takes time linear in what the definitions reach together, and in the edges. After each definition that reaches the new
+/// one, what the others reach may be walked again.
 pub fn add_dependencies(
     nodes: &Slab<Node>,
     types: &Types,
@@ -46,9 +47,12 @@ fn dependencies(
 ) -> Result<Vec<Edge>, AllocError>
     requires held { holds_type types.now ty ≡ true }
     requires defined { AreHeld types.now nodes.now }
-    ensures { IfOk result (λ v. (e : AnEdge) → Contains v.items e ↔ Brings types.now nodes.now ty id e) }
+    ensures edges { IfOk result (λ v. (e : AnEdge) → Contains v.items e ↔ Brings types.now nodes.now ty id e) }
+    ensures once { IfOk result (λ v. AreOnce v.items) }
 {
+    types.law(); // proof only
     let reached = reach(types, ty)?;
+    let mut apart = Reached::new(types.allocator());
     let mut brought = Vec::new(types.allocator());
     for number in 0..nodes.capacity() {
         let Some(other) = defined_at(nodes, number) else {
@@ -58,7 +62,7 @@ fn dependencies(
         if is_reached(&reached, other) {
             brought.push(dependency(node, id))?;
         }
-        if reaches(types, other, ty)? {
+        if reaches(types, &mut apart, other, ty)? {
             brought.push(dependency(id, node))?;
         }
     }
@@ -84,15 +88,26 @@ fn is_reached(reached: &Reached, ty: Type) -> bool
 }
 
 /// Whether the second type is a defined value type that the first one reaches.
-fn reaches(types: &Types, ty: Type, other: Type) -> Result<bool, AllocError>
-    requires { holds_type types.now ty ≡ true }
-    ensures { IfOk result (λ b. IsTrue b ↔ (IsDefinedValue other × Reaches types.now ty other)) }
+///
+/// `apart` are types that do not reach the second one. Only types that are not there yet are walked, and added. If the
+/// second type is reached, none is left.
+fn reaches(types: &Types, apart: &mut Reached, ty: Type, other: Type) -> Result<bool, AllocError>
+    requires held { holds_type types.now ty ≡ true }
+    requires closed { AreClosed types.now apart.old }
+    requires apart { IsIn other apart.old → ⊥ }
+    ensures reaches { IfOk result (λ b. IsTrue b ↔ (IsDefinedValue other × Reaches types.now ty other)) }
+    ensures closed { OnOk result (AreClosed types.now apart.new) }
+    ensures apart { OnOk result (IsIn other apart.new → ⊥) }
 {
     if !is_defined_value(other) {
         return Ok(false);
     }
-    let reached = reach(types, ty)?;
-    Ok(reached.contains(other))
+    apart.reach_from(types, ty)?;
+    if apart.contains(other) {
+        *apart = Reached::new(types.allocator());
+        return Ok(true);
+    }
+    Ok(false)
 }
 
 /// Whether the type is a defined value type of the collection.
