@@ -17,14 +17,14 @@ use Rattle.wac_types_collection.specs.reach.Reach.{IsIn, mentions}
 use Rattle.wac_types_collection.proofs.lemmas.collection.Steady.{within}
 use Rattle.wac_types_collection.proofs.lemmas.reach.Lists.{in_left as is_in_left, in_right as is_in_right}
 use Rattle.wac_types_collection.proofs.lemmas.reach.Reaching.{mentioned_held}
-use Rattle.wac_encode_faults.specs.wide.Wide.{world_uses, instances_of, wide_uses, wide_uses_of_items, UsesWidely, with_each, each_once}
+use Rattle.wac_types_collection.specs.wide.Wide.{world_uses, instances_of, wide_uses, wide_uses_of_items, UsesWidely, with_each, each_once}
 use Rattle.wac_encode_faults.specs.Sides.{under_id, listed_interface, listed_interfaces}
 use Rattle.wac_encode_faults.specs.Faults.{HasUnlisted, by_world, by_import, by_export}
-use Rattle.wac_encode_faults.specs.wide.Wide.{AreThere}
+use Rattle.wac_types_collection.specs.wide.Wide.{AreThere}
 use Rattle.wac_encode_faults.specs.private.Search.{AreHeld, IsIdOf, UsesOther, HasOther}
-use Rattle.wac_encode_faults.proofs.lemmas.wide.Members.{in_none, in_parts, in_left, in_right, in_either, in_at, in_flat, flat_in, flat_joined}
-use Rattle.wac_encode_faults.proofs.lemmas.wide.Wide.{instance_listed, listed_instance, wide_law}
-use Rattle.wac_encode_faults.proofs.lemmas.wide.Once.{each_old, each_new, each_only, each_joined}
+use Rattle.wac_types_collection.proofs.lemmas.wide.Members.{in_none, in_parts, in_left, in_right, in_either, in_at, in_flat, flat_in, flat_joined}
+use Rattle.wac_types_collection.proofs.lemmas.wide.Wide.{instance_listed, listed_instance, wide_law}
+use Rattle.wac_types_collection.proofs.lemmas.wide.Once.{each_old, each_new, each_only, each_joined}
 
 -- ---- all before a position
 abbrev pub AllBefore : {A : Type 0} → (A → Type 0) → List A → ℕ → Type 0

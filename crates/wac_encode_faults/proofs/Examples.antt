@@ -21,7 +21,7 @@ use Rattle.wac_types_collection.specs.declared.collection.collection.Held.{Held}
 use Rattle.wac_types_collection.specs.collection.Collection.{Collection, empty}
 use Rattle.wac_encode_faults.specs.declared.fault.WriteFault.TheVariants as fault
 use Rattle.wac_encode_faults.specs.declared.faults.Role.TheVariants as role
-use Rattle.wac_encode_faults.specs.wide.Wide.{UsesWidely, by_itself, by_instance, wide_uses, each_once}
+use Rattle.wac_types_collection.specs.wide.Wide.{UsesWidely, by_itself, by_instance, wide_uses, each_once}
 use Rattle.wac_encode_faults.specs.Sides.{world_sides, interface_sides, completed_sides, unlisted, listed_interfaces}
 use Rattle.wac_encode_faults.specs.Free.{IsFree, SideItem, of_import, HasUnboundItem}
 use Rattle.wac_encode_faults.specs.Free as free

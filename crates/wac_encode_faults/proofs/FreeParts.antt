@@ -20,7 +20,7 @@ use Rattle.wac_types_collection.specs.reach.Reach.{IsIn}
 use Rattle.wac_encode_faults.specs.Free.{parts, IsFree, in_part}
 use Rattle.wac_encode_faults.specs.Free as free
 use Rattle.wac_encode_faults.specs.private.Near.{IsPart, first, onward, IsResolved, HasResolved}
-use Rattle.wac_encode_faults.proofs.lemmas.wide.Members.{in_none, in_first, in_rest, in_parts, in_one, in_left, in_right, in_either}
+use Rattle.wac_types_collection.proofs.lemmas.wide.Members.{in_none, in_first, in_rest, in_parts, in_one, in_left, in_right, in_either}
 
 -- ---- a set of resources with one more
 same_id : (r q : ResourceId) → (IdEq.ghosts).eq r q ≡ true → r ≡ q

@@ -1,4 +1,3 @@
-pub mod lemmas
 pub mod Lowest
 pub mod Listing
 pub mod Insides

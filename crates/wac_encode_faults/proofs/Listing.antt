@@ -3,7 +3,7 @@ use Rattle.std.proofs.Common.{ℕ, zero, suc, ◌+◌, ◌≤◌, ◌≡◌, ◌
 use Rattle.std.specs.Prelude.{◌↔◌, slice_get}
 use Rattle.std.specs.Option.{option_map}
 use Rattle.std.proofs.lemmas.List.{take_all}
-use Rattle.wac_encode_faults.proofs.lemmas.wide.Members.{in_none, in_first, in_rest, in_parts, in_left as in_joined_left, in_right as in_joined_right, in_either as in_joined}
+use Rattle.wac_types_collection.proofs.lemmas.wide.Members.{in_none, in_first, in_rest, in_parts, in_left as in_joined_left, in_right as in_joined_right, in_either as in_joined}
 use Rattle.wac_types_shapes.specs.primitives.Name.{Name, option_case}
 use Rattle.wac_types_shapes.specs.shapes.Kinds.{kind_type}
 use Rattle.wac_types_shapes.specs.declared.shapes.component.ItemKind.{ItemKind}

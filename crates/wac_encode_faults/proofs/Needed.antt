@@ -8,13 +8,13 @@ use Rattle.wac_types_shapes.specs.declared.shapes.component.UsedType.{UsedType}
 use Rattle.wac_types_shapes.specs.declared.shapes.component.World.{World}
 use Rattle.wac_types_collection.specs.collection.Collection.{Collection, IsWellFormed}
 use Rattle.wac_types_collection.proofs.lemmas.reach.Lists.{drop_second}
-use Rattle.wac_encode_faults.specs.wide.Wide.{used_interfaces, instances_of, wide_uses, wide_uses_of_items, is_among, with_each, each_once}
+use Rattle.wac_types_collection.specs.wide.Wide.{used_interfaces, instances_of, wide_uses, wide_uses_of_items, is_among, with_each, each_once}
 use Rattle.wac_encode_faults.specs.Sides.{listed_interface, listed_interfaces, needed_by_imports, needed_by_exports, reached, without, unlisted}
-use Rattle.wac_encode_faults.specs.wide.Wide.{AreThere}
+use Rattle.wac_types_collection.specs.wide.Wide.{AreThere}
 use Rattle.wac_encode_faults.specs.private.Search.{IsReached, first, onward}
-use Rattle.wac_encode_faults.proofs.lemmas.wide.Members.{in_none, in_first, in_rest, in_parts, in_left, in_right, in_either, flat_in, flat_joined}
-use Rattle.wac_encode_faults.proofs.lemmas.wide.Wide.{wide_law}
-use Rattle.wac_encode_faults.proofs.lemmas.wide.Once.{among_in, in_among, each_old, each_new, each_only, each_joined}
+use Rattle.wac_types_collection.proofs.lemmas.wide.Members.{in_none, in_first, in_rest, in_parts, in_left, in_right, in_either, flat_in, flat_joined}
+use Rattle.wac_types_collection.proofs.lemmas.wide.Wide.{wide_law}
+use Rattle.wac_types_collection.proofs.lemmas.wide.Once.{among_in, in_among, each_old, each_new, each_only, each_joined}
 use Rattle.wac_encode_faults.proofs.Reached.{reached_law, wide_there}
 
 -- Both lists have the same interfaces.

@@ -17,13 +17,13 @@ use Rattle.wac_types_collection.proofs.lemmas.collection.Growth.{get_where}
 use Rattle.wac_types_collection.proofs.lemmas.reach.Lists.{drop_second}
 use Rattle.wac_encode_faults.specs.declared.order.Step.{Step}
 use Rattle.wac_encode_faults.specs.declared.order.Step.TheVariants as step
-use Rattle.wac_encode_faults.specs.wide.Wide.{is_among, with_each}
-use Rattle.wac_encode_faults.specs.wide.Wide.{AreThere}
+use Rattle.wac_types_collection.specs.wide.Wide.{is_among, with_each}
+use Rattle.wac_types_collection.specs.wide.Wide.{AreThere}
 use Rattle.wac_encode_faults.specs.private.Order.{children, id_of, interface_of, interfaces_of, steps_into, IsOrdered, Takes}
-use Rattle.wac_encode_faults.proofs.lemmas.wide.Members.{in_none, in_first, in_rest, in_parts, in_one, in_right, in_either, in_map, map_in, flat_in, in_reversed}
-use Rattle.wac_encode_faults.proofs.lemmas.wide.Wide.{IsBelow, all_at, all_right, added_at, not_below_itself, below_below, below_there}
-use Rattle.wac_encode_faults.proofs.lemmas.wide.WideWalk.{length_one_more, more_less}
-use Rattle.wac_encode_faults.proofs.lemmas.wide.Once.{among_in, each_old, each_new, each_only, each_known}
+use Rattle.wac_types_collection.proofs.lemmas.wide.Members.{in_none, in_first, in_rest, in_parts, in_one, in_right, in_either, in_map, map_in, flat_in, in_reversed}
+use Rattle.wac_types_collection.proofs.lemmas.wide.Wide.{IsBelow, all_at, all_right, added_at, not_below_itself, below_below, below_there}
+use Rattle.wac_types_collection.proofs.lemmas.wide.WideWalk.{length_one_more, more_less}
+use Rattle.wac_types_collection.proofs.lemmas.wide.Once.{among_in, each_old, each_new, each_only, each_known}
 
 -- ---- children are below
 interface_is : (t : AnyType) (j : InterfaceId) → Contains (interface_of t) j → t ≡ ty.Interface j

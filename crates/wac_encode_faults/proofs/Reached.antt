@@ -12,12 +12,12 @@ use Rattle.wac_types_shapes.specs.declared.shapes.component.«Type».{«Type» a
 use Rattle.wac_types_shapes.specs.declared.shapes.component.«Type».TheVariants as ty
 use Rattle.wac_types_collection.specs.declared.collection.collection.Held.{Held}
 use Rattle.wac_types_collection.specs.collection.Collection.{Collection, IsWellFormed, IsBefore, AddedBefore, HasInterface, size, item_of, item_at, kind_types, used_types}
-use Rattle.wac_encode_faults.specs.wide.Wide.{interface_uses, used_interfaces, UsesWidely, by_itself, by_instance, is_among, with_each}
+use Rattle.wac_types_collection.specs.wide.Wide.{interface_uses, used_interfaces, UsesWidely, by_itself, by_instance, is_among, with_each}
 use Rattle.wac_encode_faults.specs.Sides.{reached_to, reached}
-use Rattle.wac_encode_faults.specs.wide.Wide.{AreThere}
+use Rattle.wac_types_collection.specs.wide.Wide.{AreThere}
 use Rattle.wac_encode_faults.specs.private.Search.{IsReached, first, onward}
-use Rattle.wac_encode_faults.proofs.lemmas.wide.Members.{in_none, in_first, in_parts, in_one, in_left, in_right, in_either, at_in, in_at, in_map, in_flat, flat_in}
-use Rattle.wac_encode_faults.proofs.lemmas.wide.Once.{each_old, each_new, each_only}
+use Rattle.wac_types_collection.proofs.lemmas.wide.Members.{in_none, in_first, in_parts, in_one, in_left, in_right, in_either, at_in, in_at, in_map, in_flat, flat_in}
+use Rattle.wac_types_collection.proofs.lemmas.wide.Once.{each_old, each_new, each_only}
 
 -- ---- used interfaces were added before
 all_left : (P : AnyType → Type 0) (xs ys : List AnyType) → AllByRecursion P (xs ++ ys) → AllByRecursion P xs

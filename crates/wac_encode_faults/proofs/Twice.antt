@@ -15,8 +15,8 @@ use Rattle.wac_types_collection.specs.collection.Collection.{Collection, item_at
 use Rattle.wac_encode_faults.specs.Sides.{under_id}
 use Rattle.wac_encode_faults.specs.Faults.{HasNameTwice, of_import, of_additional}
 use Rattle.wac_encode_faults.specs.private.Search.{IsIdOf, named, sides_of, IsNamedAgain, IsNoImport}
-use Rattle.wac_encode_faults.proofs.lemmas.wide.Members.{in_none, in_first, in_rest, in_parts, in_one, at_in, in_flat, flat_in, flat_joined}
-use Rattle.wac_encode_faults.proofs.lemmas.wide.Once.{id_itself}
+use Rattle.wac_types_collection.proofs.lemmas.wide.Members.{in_none, in_first, in_rest, in_parts, in_one, at_in, in_flat, flat_in, flat_joined}
+use Rattle.wac_types_collection.proofs.lemmas.wide.Once.{id_itself}
 use Rattle.wac_encode_faults.proofs.Dependencies.{AllBefore, all_before}
 
 -- ---- names in a list

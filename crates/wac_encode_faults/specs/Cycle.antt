@@ -8,7 +8,7 @@ use Rattle.wac_types_shapes.specs.declared.shapes.component.ResourceId.{Resource
 use Rattle.wac_types_shapes.specs.declared.shapes.component.ItemKind.{ItemKind}
 use Rattle.wac_types_shapes.specs.declared.shapes.component.ItemKind.TheVariants as kind
 use Rattle.wac_types_collection.specs.collection.Collection.{Collection}
-use Rattle.wac_encode_faults.specs.wide.Wide.{interface_uses, UsesWidely}
+use Rattle.wac_types_collection.specs.wide.Wide.{interface_uses, UsesWidely}
 use Rattle.wac_encode_faults.specs.Sides.{Sides, all_imports, listed_interface, listed_interfaces, side_bindings}
 use Rattle.wac_encode_faults.specs.Free.{SideItem, IsFreeInItem}
 

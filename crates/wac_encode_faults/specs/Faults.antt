@@ -16,7 +16,7 @@ use Rattle.wac_encode_faults.specs.declared.fault.WriteFault.{WriteFault}
 use Rattle.wac_encode_faults.specs.declared.fault.WriteFault.TheVariants as fault
 use Rattle.wac_encode_faults.specs.declared.faults.Role.{Role}
 use Rattle.wac_encode_faults.specs.declared.faults.Role.TheVariants as role
-use Rattle.wac_encode_faults.specs.wide.Wide.{world_uses, UsesWidely}
+use Rattle.wac_types_collection.specs.wide.Wide.{world_uses, UsesWidely}
 use Rattle.wac_encode_faults.specs.Sides.{Sides, world_sides, defined_sides, listed_interfaces}
 use Rattle.wac_encode_faults.specs.Free.{IsUnbound, HasUnboundItem}
 use Rattle.wac_encode_faults.specs.Cycle.{HasItemCycle}

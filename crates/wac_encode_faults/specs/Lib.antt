@@ -1,4 +1,3 @@
-pub mod wide
 pub mod Sides
 pub mod Free
 pub mod Cycle

@@ -12,7 +12,7 @@ use Rattle.wac_types_shapes.specs.declared.shapes.component.«Type».{«Type» a
 use Rattle.wac_types_shapes.specs.declared.shapes.component.«Type».TheVariants as ty
 use Rattle.wac_types_collection.specs.collection.Collection.{Collection, size, item_at}
 use Rattle.wac_types_collection.specs.collection.Bound.{Bindings, first_bound}
-use Rattle.wac_encode_faults.specs.wide.Wide.{interface_uses, used_interfaces, wide_uses, wide_uses_of_items, is_among, each_once}
+use Rattle.wac_types_collection.specs.wide.Wide.{interface_uses, used_interfaces, wide_uses, wide_uses_of_items, is_among, each_once}
 
 -- The imports of a component type, its additional imports (instances with their types only), its exports, and what its world uses.
 pub record Sides : Type 0 where

@@ -1,4 +1,3 @@
-pub mod wide
 pub mod Search
 pub mod Near
 pub mod Order

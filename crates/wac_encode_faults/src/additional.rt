@@ -1,19 +1,27 @@
 //! The additional imports of definitions: interfaces that a definition uses and does not list.
-ghost use Rattle.std.specs.Prelude.{◌≡◌, ◌↔◌, ◌++◌, ◌∷◌, [], Some, true, IfOk, OnOk, Contains};
+ghost use Rattle.std.specs.Prelude.{◌≡◌, ◌↔◌, ◌++◌, ◌∷◌, ◌<◌, [], Some, true, length, slice_get, IfOk, OnOk, Contains};
 ghost use Rattle.wac_types_shapes.specs.declared.shapes.component.InterfaceId.{InterfaceId as Interfaces};
 ghost use Rattle.wac_types_shapes.specs.declared.shapes.component.World.{World as Worlds};
 ghost use Rattle.wac_types_shapes.specs.declared.shapes.component.«Type».TheVariants as ty;
 ghost use Rattle.wac_types_collection.specs.collection.Collection.{HasInterface, item_at, holds_type};
-ghost use Rattle.wac_encode_faults.specs.wide.Wide.{with_each, wide_uses as wide_uses_of, wide_uses_of_items as wide_uses_of_all, interface_uses, used_interfaces};
-ghost use Rattle.wac_encode_faults.specs.wide.Wide.{AreThere};
+ghost use Rattle.wac_types_collection.specs.wide.Wide.{with_each, wide_uses as wide_uses_of, wide_uses_of_items as wide_uses_of_all, interface_uses, used_interfaces};
+ghost use Rattle.wac_types_collection.specs.wide.Wide.{AreThere};
 ghost use Rattle.wac_encode_faults.specs.Sides.{listed_interfaces, needed_by_imports, needed_by_exports, reached, without, unlisted};
 ghost use Rattle.wac_encode_faults.specs.private.Search.{AreHeld, IsReached};
 
 use crate::unlisted::add_listed;
-use crate::wide::{add_used, interface_at, wide_uses, wide_uses_of_items};
 use indexmap::IndexSet;
 use std::alloc::AllocError;
+use wac_types_collection::wide::{add_used, wide_uses, wide_uses_of_items};
 use wac_types_collection::{InterfaceId, ItemKind, Named, Types, UsedType, World, WorldId};
+
+/// Returns the interface at an index of a set.
+pub(crate) fn interface_at(found: &IndexSet<InterfaceId>, index: usize) -> InterfaceId
+    requires { index < length found.now.keys }
+    ensures { slice_get found.now.keys index ≡ Some result }
+{
+    found.as_slice()[index]
+}
 
 /// Adds what an interface uses itself.
 fn add_uses_of(

@@ -1,6 +1,5 @@
 //! What cannot be written, and by which fault.
 //!
-//! - [`wide`]: what interfaces use widely.
 //! - [`WriteFault`]: the faults, in their order. A type is looked at with all that is written inside it: its imports and
 //!   exports, theirs, and so on. What it only uses is not written inside it.
 #![tactic(auto)]
@@ -14,8 +13,6 @@ mod order;
 mod parts;
 mod resources;
 mod unlisted;
-pub mod wide;
 
 pub use fault::{EncodeFault, WriteFault};
 pub use faults::Role;
-pub use wide::{wide_uses, wide_uses_of_items};

@@ -2,11 +2,11 @@
 ghost use Rattle.std.specs.Prelude.{◌≡◌, ◌↔◌, ◌++◌, ◌∷◌, [], false, true, IfOk, IsTrue, IsSome};
 ghost use Rattle.wac_types_shapes.specs.primitives.Name.{find_name};
 ghost use Rattle.wac_types_collection.specs.collection.Collection.{HasInterface};
-ghost use Rattle.wac_encode_faults.specs.wide.Wide.{AreThere};
+ghost use Rattle.wac_types_collection.specs.wide.Wide.{AreThere};
 ghost use Rattle.wac_encode_faults.specs.Faults.{HasNameTwice};
 ghost use Rattle.wac_encode_faults.specs.private.Search.{named, sides_of, IsNamedAgain, IsNoImport};
 
-use crate::wide::interface_at;
+use crate::additional::interface_at;
 use indexmap::IndexSet;
 use std::alloc::AllocError;
 use wac_types_collection::{InterfaceId, ItemKind, Named, ShapeError, Text, Types};

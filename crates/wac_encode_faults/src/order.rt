@@ -4,8 +4,8 @@ ghost use Rattle.std.specs.List.{IsDistinct};
 ghost use Rattle.wac_types_shapes.specs.contracts.shapes.component.InterfaceIdPartialEq.TheImpl as IdEq;
 ghost use Rattle.wac_types_shapes.specs.declared.shapes.component.InterfaceId.{InterfaceId as Interfaces};
 ghost use Rattle.wac_types_collection.specs.collection.Collection.{HasInterface};
-ghost use Rattle.wac_encode_faults.specs.wide.Wide.{is_among, with_each};
-ghost use Rattle.wac_encode_faults.specs.wide.Wide.{AreThere};
+ghost use Rattle.wac_types_collection.specs.wide.Wide.{is_among, with_each};
+ghost use Rattle.wac_types_collection.specs.wide.Wide.{AreThere};
 ghost use Rattle.wac_encode_faults.specs.private.Order.{children, id_of, interface_of, interfaces_of, steps_into, IsOrdered, Takes};
 ghost use Rattle.wac_encode_faults.specs.declared.order.Step.TheVariants as step_of;
 

@@ -3,14 +3,15 @@ ghost use Rattle.std.specs.Prelude.{◌≡◌, ◌↔◌, true, IfOk, OnOk, IsTr
 ghost use Rattle.wac_types_collection.specs.collection.Collection.{holds_type};
 ghost use Rattle.wac_types_shapes.specs.declared.shapes.component.«Type».TheVariants as ty;
 ghost use Rattle.wac_types_shapes.specs.shapes.Kinds.{kind_type};
-ghost use Rattle.wac_encode_faults.specs.wide.Wide.{with_each, wide_uses_of_items as wide_uses_of_all};
+ghost use Rattle.wac_types_collection.specs.wide.Wide.{with_each, wide_uses_of_items as wide_uses_of_all};
 ghost use Rattle.wac_encode_faults.specs.Sides.{listed_interface, listed_interfaces};
 ghost use Rattle.wac_encode_faults.specs.Faults.{HasUnlisted};
 ghost use Rattle.wac_encode_faults.specs.private.Search.{AreHeld, IsIdOf, UsesOther, HasOther};
 
-use crate::wide::{interface_at, wide_uses_of_items};
+use crate::additional::interface_at;
 use indexmap::IndexSet;
 use std::alloc::AllocError;
+use wac_types_collection::wide::wide_uses_of_items;
 use wac_types_collection::{InterfaceId, ItemKind, Named, Types, UsedType, WorldId};
 
 /// Whether an interface has this id.

@@ -1,4 +1,5 @@
 pub mod collection
 pub mod reach
 pub mod subtyping
+pub mod wide
 pub mod private

@@ -1,3 +1,4 @@
 pub mod collection
 pub mod reach
 pub mod subtyping
+pub mod wide

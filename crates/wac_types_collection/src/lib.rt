@@ -3,11 +3,13 @@
 //! - [`collection`]: [`Types`] with its adders and look-ups, and packages.
 //! - [`reach`]: the types that a type reaches.
 //! - [`subtyping`]: the subtype relation, and laws of it.
+//! - [`wide`]: what interfaces use widely: themselves, and by the instances that they export.
 #![tactic(auto)]
 
 pub mod collection;
 pub mod reach;
 pub mod subtyping;
+pub mod wide;
 
 pub use collection::{
     AddTypeError, CoreExtern, CoreFuncType, CoreImportEntries, CoreImports, CoreRefType, CoreType,

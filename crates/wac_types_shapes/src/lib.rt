@@ -15,5 +15,5 @@ pub use shapes::{
     CoreExtern, CoreFuncType, CoreImportEntries, CoreImports, DefinedType, DefinedTypeId, Entries,
     Enum, Flags, FuncType, FuncTypeId, Interface, InterfaceId, ItemKind, LabelNames, Labels,
     ModuleType, ModuleTypeId, Named, Record, Resource, ResourceAlias, ResourceId, Sequence,
-    ShapeError, Text, Type, UsedType, ValueType, Variant, World, WorldId,
+    ShapeError, Text, Type, TypeCollection, UsedType, ValueType, Variant, World, WorldId,
 };

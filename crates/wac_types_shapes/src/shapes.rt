@@ -12,8 +12,8 @@ mod named;
 pub use crate::primitives::{CoreRefType, CoreType, PrimitiveType};
 pub use component::{
     DefinedType, DefinedTypeId, Enum, Flags, FuncType, FuncTypeId, Interface, InterfaceId,
-    ItemKind, ModuleTypeId, Record, Resource, ResourceAlias, ResourceId, Type, UsedType, ValueType,
-    Variant, World, WorldId,
+    ItemKind, ModuleTypeId, Record, Resource, ResourceAlias, ResourceId, Type, TypeCollection,
+    UsedType, ValueType, Variant, World, WorldId,
 };
 pub use core_types::{CoreExtern, CoreFuncType, ModuleType};
 pub use imports::{CoreImportEntries, CoreImports};

@@ -10,7 +10,7 @@ use Rattle.wac_types_shapes.specs.declared.shapes.component.«Type».TheVariants
 use Rattle.wac_types_collection.specs.collection.Collection.{Collection, interface_exports}
 use Rattle.wac_encode_faults.specs.declared.order.Step.{Step}
 use Rattle.wac_encode_faults.specs.declared.order.Step.TheVariants as step
-use Rattle.wac_encode_faults.specs.wide.Wide.{is_among, with_each}
+use Rattle.wac_types_collection.specs.wide.Wide.{is_among, with_each}
 
 -- The interface, if the type is one.
 abbrev pub interface_of : AnyType → List InterfaceId

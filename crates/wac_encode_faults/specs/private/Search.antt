@@ -10,7 +10,7 @@ use Rattle.wac_types_shapes.specs.declared.shapes.component.«Type».{«Type» a
 use Rattle.wac_types_shapes.specs.declared.shapes.component.«Type».TheVariants as ty
 use Rattle.wac_types_collection.specs.collection.Collection.{Collection, item_at, holds_type, interface_exports, world_imports, world_exports}
 use Rattle.wac_encode_faults.specs.declared.fault.WriteFault.{WriteFault}
-use Rattle.wac_encode_faults.specs.wide.Wide.{interface_uses, used_interfaces}
+use Rattle.wac_types_collection.specs.wide.Wide.{interface_uses, used_interfaces}
 use Rattle.wac_encode_faults.specs.Sides.{Sides, under_id}
 use Rattle.wac_encode_faults.specs.Faults.{fault_rank}
 

@@ -17,7 +17,7 @@ use std::ops::Index;
 use thiserror::Error;
 use wac_types_shapes::{
     DefinedType, DefinedTypeId, FuncType, FuncTypeId, Interface, InterfaceId, ModuleType,
-    ModuleTypeId, Resource, ResourceId, Type, ValueType, World, WorldId,
+    ModuleTypeId, Resource, ResourceId, Type, TypeCollection, ValueType, World, WorldId,
 };
 
 /// Why an item is not added. Errors are tested in this order.
@@ -68,6 +68,8 @@ pub struct Types {
     worlds: Items<World>,
     modules: Items<ModuleType>,
 }
+
+impl TypeCollection for Types {}
 
 // By hand: a derived `Drop` is proved again in each program that drops a collection (docs/PROOFS.md, 'Drop').
 impl Drop for Types {

@@ -101,6 +101,9 @@ pub enum ItemKind {
     Value(ValueType),
 }
 
+/// A collection of types. The one that there is, `Types`, stands in a crate above.
+pub trait TypeCollection {}
+
 impl Type {
     /// Returns the sort of the type, in words.
     pub fn desc(&self) -> &'static str
@@ -148,7 +151,7 @@ impl ItemKind {
     }
 
     /// Returns the kind of the item, in words. The types are not read; upstream's method takes them too.
-    pub fn desc<T>(&self, _types: &T) -> &'static str
+    pub fn desc<T: TypeCollection>(&self, _types: &T) -> &'static str
         ensures { result.now ≡ kind_text self.now }
     {
         match self {

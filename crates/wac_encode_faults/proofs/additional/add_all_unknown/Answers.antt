@@ -1,6 +1,6 @@
 use Rattle.std.proofs.Common.{ap, sym, ◌∙◌, ◌+◌, arith, drop}
 use Rattle.std.proofs.lemmas.List.{drop_all}
-use Rattle.wac_encode_faults.specs.wide.Wide.{with_each}
+use Rattle.wac_types_collection.specs.wide.Wide.{with_each}
 use Rattle.wac_encode_faults.specs.Sides.{without}
 use Rattle.wac_encode_faults.proofs.Needed.{drop_here, unknown_next}
 use Rattle.wac_encode_faults.proofs.additional.add_all_unknown.Goals as goal

@@ -1,5 +1,5 @@
 use Rattle.std.proofs.Common.{◌≡◌, drop}
-use Rattle.wac_encode_faults.specs.wide.Wide.{with_each}
+use Rattle.wac_types_collection.specs.wide.Wide.{with_each}
 use Rattle.wac_encode_faults.specs.Sides.{without}
 use Rattle.wac_encode_faults.proofs.additional.add_all_unknown.Given as goal
 

@@ -1,6 +1,6 @@
 use Rattle.std.proofs.Common.{ap, sym, ◌∙◌}
-use Rattle.wac_encode_faults.specs.wide.Wide.{with_each}
-use Rattle.wac_encode_faults.proofs.lemmas.wide.Once.{inserted}
+use Rattle.wac_types_collection.specs.wide.Wide.{with_each}
+use Rattle.wac_types_collection.proofs.lemmas.wide.Once.{inserted}
 use Rattle.wac_encode_faults.proofs.Needed.{unknown_none, unknown_one}
 use Rattle.wac_encode_faults.proofs.additional.add_unknown.Goals as goal
 

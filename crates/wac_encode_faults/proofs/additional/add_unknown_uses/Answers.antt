@@ -1,6 +1,6 @@
 use Rattle.std.proofs.Common.{ap, sym, ◌∙◌, ◌+◌, arith, drop}
 use Rattle.std.proofs.lemmas.List.{drop_all}
-use Rattle.wac_encode_faults.specs.wide.Wide.{with_each, used_interfaces}
+use Rattle.wac_types_collection.specs.wide.Wide.{with_each, used_interfaces}
 use Rattle.wac_encode_faults.specs.Sides.{without}
 use Rattle.wac_encode_faults.proofs.Needed.{used_next, unknown_next}
 use Rattle.wac_encode_faults.proofs.additional.add_unknown_uses.Goals as goal

@@ -1,5 +1,5 @@
 use Rattle.std.proofs.Common.{subst, Contains}
-use Rattle.wac_encode_faults.specs.wide.Wide.{wide_uses}
+use Rattle.wac_types_collection.specs.wide.Wide.{wide_uses}
 use Rattle.wac_encode_faults.proofs.Needed.{same_once, interface_reached, wide_list_there}
 use Rattle.wac_encode_faults.proofs.additional.interface_additional.Goals as goal
 

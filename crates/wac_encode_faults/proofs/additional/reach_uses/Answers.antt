@@ -1,6 +1,6 @@
 use Rattle.std.proofs.Common.{◌≤◌, length, arith}
-use Rattle.wac_encode_faults.proofs.lemmas.wide.Members.{at_in}
-use Rattle.wac_encode_faults.proofs.lemmas.wide.Once.{few}
+use Rattle.wac_types_collection.proofs.lemmas.wide.Members.{at_in}
+use Rattle.wac_types_collection.proofs.lemmas.wide.Once.{few}
 use Rattle.wac_encode_faults.proofs.Reached.{reaching_first, reaching_next, reaching_done}
 use Rattle.wac_encode_faults.proofs.additional.reach_uses.Goals as goal
 

@@ -1,6 +1,6 @@
 use Rattle.std.proofs.Common.{true, false, refl, arith}
 use Rattle.wac_encode_faults.specs.private.Search.{IsNoImport}
-use Rattle.wac_encode_faults.proofs.lemmas.wide.Members.{at_in}
+use Rattle.wac_types_collection.proofs.lemmas.wide.Members.{at_in}
 use Rattle.wac_encode_faults.proofs.Dependencies.{all_none, all_next}
 use Rattle.wac_encode_faults.proofs.Twice.{twice_at, names_next, not_twice}
 use Rattle.wac_encode_faults.proofs.names.has_name_twice.Goals as goal

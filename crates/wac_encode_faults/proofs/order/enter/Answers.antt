@@ -4,7 +4,7 @@ use Rattle.wac_types_shapes.specs.primitives.Name.{option_case}
 use Rattle.wac_types_shapes.specs.declared.shapes.component.Interface.{Interface}
 use Rattle.wac_encode_faults.specs.declared.order.Step.TheVariants as step
 use Rattle.wac_encode_faults.specs.private.Order.{interfaces_of, steps_into}
-use Rattle.wac_encode_faults.proofs.lemmas.wide.Once.{inserted}
+use Rattle.wac_types_collection.proofs.lemmas.wide.Once.{inserted}
 use Rattle.wac_encode_faults.proofs.order.enter.Goals as goal
 
 pub returns-then-not-branch-clause-seen : goal.returns-then-not-branch-clause-seen

@@ -1,6 +1,6 @@
 use Rattle.std.proofs.Common.{◌++◌, ◌+◌, ◌-◌, ◌*◌, ◌<◌, suc, arith, reverse, subst, ap, sym, ◌∙◌, length}
 use Rattle.wac_encode_faults.specs.private.Order.{interfaces_of, steps_into}
-use Rattle.wac_encode_faults.proofs.lemmas.wide.Once.{few}
+use Rattle.wac_types_collection.proofs.lemmas.wide.Once.{few}
 use Rattle.wac_encode_faults.proofs.Ordering.{IsOrdering, most_listed, first_order, popped_there, stepped, stepped_less, order_done, no_steps}
 use Rattle.wac_encode_faults.proofs.order.interfaces_inside.Goals as goal
 

@@ -1,7 +1,7 @@
 use Rattle.std.proofs.Common.{refl, sym, subst}
 use Rattle.wac_types_collection.specs.collection.Collection.{HasInterface}
 use Rattle.wac_encode_faults.specs.private.Order.{id_of, Takes}
-use Rattle.wac_encode_faults.proofs.lemmas.wide.Once.{inserted}
+use Rattle.wac_types_collection.proofs.lemmas.wide.Once.{inserted}
 use Rattle.wac_encode_faults.proofs.Ordering.{on_ok_three}
 use Rattle.wac_encode_faults.proofs.order.take_step.Goals as goal
 

@@ -1,5 +1,5 @@
 use Rattle.std.proofs.Common.{◌≡◌, true, false, sym, ◌∙◌}
-use Rattle.wac_encode_faults.proofs.lemmas.wide.Once.{inserted}
+use Rattle.wac_types_collection.proofs.lemmas.wide.Once.{inserted}
 use Rattle.wac_encode_faults.proofs.Dependencies.{added_none, added_one, not_instance, not_under}
 use Rattle.wac_encode_faults.proofs.unlisted.add_item.Goals as goal
 

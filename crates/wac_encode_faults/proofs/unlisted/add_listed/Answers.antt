@@ -1,8 +1,8 @@
 use Rattle.std.proofs.Common.{ap, sym, ◌∙◌, arith}
 use Rattle.std.proofs.lemmas.List.{drop_all}
-use Rattle.wac_encode_faults.specs.wide.Wide.{with_each}
+use Rattle.wac_types_collection.specs.wide.Wide.{with_each}
 use Rattle.wac_encode_faults.specs.Sides.{listed_interfaces}
-use Rattle.wac_encode_faults.proofs.lemmas.wide.Members.{at_in}
+use Rattle.wac_types_collection.proofs.lemmas.wide.Members.{at_in}
 use Rattle.wac_encode_faults.proofs.Dependencies.{listed_next}
 use Rattle.wac_encode_faults.proofs.unlisted.add_listed.Goals as goal
 

@@ -1,6 +1,6 @@
 use Rattle.std.proofs.Common.{◌≡◌, true, false, refl, sym, ◌∙◌, arith, Contains}
-use Rattle.wac_encode_faults.proofs.lemmas.wide.Members.{at_in}
-use Rattle.wac_encode_faults.proofs.lemmas.wide.Once.{among_in, in_among}
+use Rattle.wac_types_collection.proofs.lemmas.wide.Members.{at_in}
+use Rattle.wac_types_collection.proofs.lemmas.wide.Once.{among_in, in_among}
 use Rattle.wac_encode_faults.proofs.Dependencies.{all_none, all_next, all_before}
 use Rattle.wac_encode_faults.proofs.unlisted.has_other.Goals as goal
 

@@ -1,6 +1,6 @@
 use Rattle.std.proofs.Common.{◌≡◌, Bool, true, false, IsTrue, refl, sym, ◌∙◌, ◌↔◌}
 use Rattle.std.proofs.lemmas.Result.{IfOk-weaker}
-use Rattle.wac_encode_faults.specs.wide.Wide.{wide_uses_of_items}
+use Rattle.wac_types_collection.specs.wide.Wide.{wide_uses_of_items}
 use Rattle.wac_encode_faults.specs.Faults.{HasUnlisted}
 use Rattle.wac_encode_faults.specs.private.Search.{HasOther}
 use Rattle.wac_encode_faults.proofs.Dependencies.{imports_held, exports_held, from_uses, from_imports, by_exports_alone}

@@ -1,4 +1,4 @@
-use Rattle.wac_encode_faults.specs.wide.Wide.{wide_uses_of_items}
+use Rattle.wac_types_collection.specs.wide.Wide.{wide_uses_of_items}
 use Rattle.wac_encode_faults.proofs.Dependencies.{instances_there, other_once}
 use Rattle.wac_encode_faults.proofs.unlisted.items_use_other.Goals as goal
 

@@ -1,8 +1,8 @@
 use Rattle.std.proofs.Common.{◌≡◌, true, false, refl, sym, ◌∙◌, arith, Contains}
 use Rattle.wac_types_shapes.specs.primitives.Name.{Name}
 use Rattle.wac_types_shapes.specs.declared.shapes.component.UsedType.{UsedType}
-use Rattle.wac_encode_faults.proofs.lemmas.wide.Members.{at_in}
-use Rattle.wac_encode_faults.proofs.lemmas.wide.Once.{among_in, in_among}
+use Rattle.wac_types_collection.proofs.lemmas.wide.Members.{at_in}
+use Rattle.wac_types_collection.proofs.lemmas.wide.Once.{among_in, in_among}
 use Rattle.wac_encode_faults.proofs.Dependencies.{all_none, all_next, all_before, second_at}
 use Rattle.wac_encode_faults.proofs.unlisted.uses_other.Goals as goal
 

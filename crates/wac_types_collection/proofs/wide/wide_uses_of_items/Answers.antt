@@ -1,9 +1,9 @@
 use Rattle.std.proofs.Common.{◌++◌, reverse, ap, ◌∙◌, subst, flat_map, Contains}
 use Rattle.std.proofs.lemmas.List.{reverse-reverse}
 use Rattle.std.proofs.lemmas.Result.{IfOk-weaker}
-use Rattle.wac_encode_faults.specs.wide.Wide.{wide_uses, instances_of, each_once}
-use Rattle.wac_encode_faults.proofs.lemmas.wide.Members.{in_reversed}
-use Rattle.wac_encode_faults.proofs.wide.wide_uses_of_items.Goals as goal
+use Rattle.wac_types_collection.specs.wide.Wide.{wide_uses, instances_of, each_once}
+use Rattle.wac_types_collection.proofs.lemmas.wide.Members.{in_reversed}
+use Rattle.wac_types_collection.proofs.wide.wide_uses_of_items.Goals as goal
 
 pub found_from-requires : goal.found_from-requires
 found_from-requires c =

@@ -12,12 +12,12 @@ use Rattle.wac_types_shapes.specs.declared.shapes.component.ItemKind.TheVariants
 use Rattle.wac_types_collection.specs.declared.collection.collection.Held.{Held}
 use Rattle.wac_types_collection.specs.collection.Collection.{Collection, IsWellFormed, HasInterface, item_of, interface_exports}
 use Rattle.wac_types_collection.proofs.lemmas.reach.Lists.{drop_second}
-use Rattle.wac_encode_faults.specs.wide.Wide.{interface_uses, used_interfaces, instance_of, instances_of, UsesWidely, wide_uses, is_among, with_each}
-use Rattle.wac_encode_faults.specs.private.wide.WideWalk.{AreWhole}
-use Rattle.wac_encode_faults.specs.wide.Wide.{AreThere}
-use Rattle.wac_encode_faults.proofs.lemmas.wide.Members.{in_none, in_first, in_rest, in_one, in_left, in_right, in_either, flat_joined}
-use Rattle.wac_encode_faults.proofs.lemmas.wide.Wide.{IsBelow, instance_below, not_below_itself, below_below, below_there, wide_unfolds, wide_law}
-use Rattle.wac_encode_faults.proofs.lemmas.wide.Once.{among_in, each_old, each_new, each_only, each_joined, each_known}
+use Rattle.wac_types_collection.specs.wide.Wide.{interface_uses, used_interfaces, instance_of, instances_of, UsesWidely, wide_uses, is_among, with_each}
+use Rattle.wac_types_collection.specs.private.wide.WideWalk.{AreWhole}
+use Rattle.wac_types_collection.specs.wide.Wide.{AreThere}
+use Rattle.wac_types_collection.proofs.lemmas.wide.Members.{in_none, in_first, in_rest, in_one, in_left, in_right, in_either, flat_joined}
+use Rattle.wac_types_collection.proofs.lemmas.wide.Wide.{IsBelow, instance_below, not_below_itself, below_below, below_there, wide_unfolds, wide_law}
+use Rattle.wac_types_collection.proofs.lemmas.wide.Once.{among_in, each_old, each_new, each_only, each_joined, each_known}
 
 -- What an interface uses widely is among the used ones, or some of the first pending interfaces use it, all of them below that interface.
 pub record IsOpen (c : Collection) (used pending : List InterfaceId) (v : InterfaceId) : Type 0 where

@@ -1,6 +1,6 @@
 use Rattle.std.proofs.Common.{arith, ◌-◌, suc, ◌≡◌}
-use Rattle.wac_encode_faults.proofs.lemmas.wide.WideWalk.{pushed_first, pushed_next, pushed_all}
-use Rattle.wac_encode_faults.proofs.wide.push_instances.Goals as goal
+use Rattle.wac_types_collection.proofs.lemmas.wide.WideWalk.{pushed_first, pushed_next, pushed_all}
+use Rattle.wac_types_collection.proofs.wide.push_instances.Goals as goal
 
 pub loop-left-init : goal.loop-left-init
 loop-left-init c = record { in_range = let l = c.len-left.ensures in omega (arith, l); pushed = pushed_first c.args.items.now c.len-left.result c.args.pending.now.items c.len-left.ensures }

@@ -1,7 +1,7 @@
 use Rattle.std.proofs.Common.{reverse, ap, ◌∙◌, subst, flat_map, Contains}
-use Rattle.wac_encode_faults.specs.wide.Wide.{wide_uses, with_each}
-use Rattle.wac_encode_faults.proofs.lemmas.wide.Members.{in_none}
-use Rattle.wac_encode_faults.proofs.wide.found_from.Goals as goal
+use Rattle.wac_types_collection.specs.wide.Wide.{wide_uses, with_each}
+use Rattle.wac_types_collection.proofs.lemmas.wide.Members.{in_none}
+use Rattle.wac_types_collection.proofs.wide.found_from.Goals as goal
 
 pub walk-requires-clause-whole : goal.walk-requires-clause-whole
 walk-requires-clause-whole c = λ v k h. absurd (in_none v (subst (λ l. Contains l v) c.new-seen.ensures.empty h))

@@ -1,6 +1,6 @@
 use Rattle.std.proofs.Common.{◌+◌, ◌-◌, ◌*◌, suc, length, reverse}
-use Rattle.wac_encode_faults.proofs.lemmas.wide.WideWalk.{IsWalk, most}
-use Rattle.wac_encode_faults.proofs.wide.walk.Given as goal
+use Rattle.wac_types_collection.proofs.lemmas.wide.WideWalk.{IsWalk, most}
+use Rattle.wac_types_collection.proofs.wide.walk.Given as goal
 
 abbrev pub invariant-loop-id : goal.invariant-loop-id
 invariant-loop-id l = IsWalk l.fn.types l.initial.used.keys (reverse l.initial.pending.items) l.used.keys l.seen.keys (reverse l.pending.items)

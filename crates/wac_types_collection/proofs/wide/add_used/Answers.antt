@@ -1,8 +1,8 @@
 use Rattle.std.proofs.Common.{ap, sym, ◌∙◌, drop, ◌+◌}
 use Rattle.wac_types_collection.proofs.lemmas.reach.Lists.{drop_second}
-use Rattle.wac_encode_faults.specs.wide.Wide.{used_interfaces, with_each}
-use Rattle.wac_encode_faults.proofs.lemmas.wide.Once.{inserted}
-use Rattle.wac_encode_faults.proofs.wide.add_used.Goals as goal
+use Rattle.wac_types_collection.specs.wide.Wide.{used_interfaces, with_each}
+use Rattle.wac_types_collection.proofs.lemmas.wide.Once.{inserted}
+use Rattle.wac_types_collection.proofs.wide.add_used.Goals as goal
 
 pub loop-i-preserved : goal.loop-i-preserved
 loop-i-preserved c =

@@ -11,8 +11,8 @@ use Rattle.wac_types_shapes.specs.declared.shapes.component.UsedType.{UsedType}
 use Rattle.wac_types_shapes.specs.declared.shapes.component.«Type».{«Type» as AnyType}
 use Rattle.wac_types_collection.specs.declared.collection.collection.Held.{Held}
 use Rattle.wac_types_collection.specs.collection.Collection.{Collection, IsWellFormed, IsBefore, AddedBefore, HasInterface, size, item_of, interface_exports, kind_types, used_types}
-use Rattle.wac_encode_faults.specs.wide.Wide.{interface_uses, used_interfaces, instance_of, instances_of, UsesWidely, by_itself, by_instance, wide_uses_to, wide_uses}
-use Rattle.wac_encode_faults.proofs.lemmas.wide.Members.{in_none, in_first, in_parts, in_one, in_left, in_right, in_either, in_map, map_in, in_flat, flat_in, flat_same}
+use Rattle.wac_types_collection.specs.wide.Wide.{interface_uses, used_interfaces, instance_of, instances_of, UsesWidely, by_itself, by_instance, wide_uses_to, wide_uses}
+use Rattle.wac_types_collection.proofs.lemmas.wide.Members.{in_none, in_first, in_parts, in_one, in_left, in_right, in_either, in_map, map_in, in_flat, flat_in, flat_same}
 
 -- ---- instances among items
 instance_is : (k : ItemKind) (i : InterfaceId) → Contains (instance_of k) i → k ≡ kind.Instance i

@@ -1,8 +1,8 @@
 use Rattle.std.proofs.Common.{◌+◌, ◌-◌, ◌*◌, ◌<◌, suc, arith, reverse, subst, sym, length}
-use Rattle.wac_encode_faults.proofs.lemmas.wide.Once.{few}
-use Rattle.wac_encode_faults.proofs.lemmas.wide.Members.{in_reversed}
-use Rattle.wac_encode_faults.proofs.lemmas.wide.WideWalk.{IsWalk, most, first_walk, popped_there, visited, visited_less, walk_done, empty_is}
-use Rattle.wac_encode_faults.proofs.wide.walk.Goals as goal
+use Rattle.wac_types_collection.proofs.lemmas.wide.Once.{few}
+use Rattle.wac_types_collection.proofs.lemmas.wide.Members.{in_reversed}
+use Rattle.wac_types_collection.proofs.lemmas.wide.WideWalk.{IsWalk, most, first_walk, popped_there, visited, visited_less, walk_done, empty_is}
+use Rattle.wac_types_collection.proofs.wide.walk.Goals as goal
 
 pub loop-id-init : goal.loop-id-init
 loop-id-init c =

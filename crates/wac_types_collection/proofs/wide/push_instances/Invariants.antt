@@ -1,6 +1,6 @@
 use Rattle.std.proofs.Common.{◌≡◌, ◌++◌, ◌≤◌, length, reverse, drop}
-use Rattle.wac_encode_faults.specs.wide.Wide.{instances_of}
-use Rattle.wac_encode_faults.proofs.wide.push_instances.Given as goal
+use Rattle.wac_types_collection.specs.wide.Wide.{instances_of}
+use Rattle.wac_types_collection.proofs.wide.push_instances.Given as goal
 
 abbrev pub invariant-loop-left : goal.invariant-loop-left
 invariant-loop-left l = record {

@@ -2,9 +2,9 @@ use Rattle.std.proofs.Common.{[], ◌∷◌, ◌++◌, reverse, ap, ◌∙◌, s
 use Rattle.std.proofs.lemmas.List.{append-nil}
 use Rattle.std.proofs.lemmas.Result.{IfOk-weaker}
 use Rattle.wac_types_collection.specs.collection.Collection.{HasInterface}
-use Rattle.wac_encode_faults.specs.wide.Wide.{wide_uses, each_once}
-use Rattle.wac_encode_faults.proofs.lemmas.wide.Members.{in_one}
-use Rattle.wac_encode_faults.proofs.wide.wide_uses.Goals as goal
+use Rattle.wac_types_collection.specs.wide.Wide.{wide_uses, each_once}
+use Rattle.wac_types_collection.proofs.lemmas.wide.Members.{in_one}
+use Rattle.wac_types_collection.proofs.wide.wide_uses.Goals as goal
 
 pub found_from-requires : goal.found_from-requires
 found_from-requires c =

@@ -1,30 +1,20 @@
 //! What interfaces use widely: what they use themselves, and what the instances that they export use widely.
-ghost use Rattle.std.specs.Prelude.{◌≡◌, ◌++◌, ◌∷◌, ◌<◌, [], Some, true, false, length, reverse, slice_get, IfOk, OnOk};
+ghost use Rattle.std.specs.Prelude.{◌≡◌, ◌++◌, ◌∷◌, [], true, false, reverse, IfOk, OnOk};
 ghost use Rattle.std.specs.List.{flat_map, IsDistinct};
 ghost use Rattle.wac_types_shapes.specs.contracts.shapes.component.InterfaceIdPartialEq.TheImpl as IdEq;
-ghost use Rattle.wac_types_collection.specs.collection.Collection.{HasInterface};
-ghost use Rattle.wac_encode_faults.specs.wide.Wide.{used_interfaces, interface_uses, instance_of, instances_of, is_among, wide_uses as wide_uses_of, wide_uses_of_items as wide_uses_of_all, with_each, each_once};
-ghost use Rattle.wac_encode_faults.specs.private.wide.WideWalk.{AreWhole};
-ghost use Rattle.wac_encode_faults.specs.wide.Wide.{AreThere};
-ghost use Rattle.wac_types_collection.specs.collection.Collection.{interface_exports};
+ghost use Rattle.wac_types_collection.specs.collection.Collection.{HasInterface, interface_exports};
+ghost use Rattle.wac_types_collection.specs.wide.Wide.{AreThere, used_interfaces, interface_uses, instance_of, instances_of, is_among, wide_uses as wide_uses_of, wide_uses_of_items as wide_uses_of_all, with_each, each_once};
+ghost use Rattle.wac_types_collection.specs.private.wide.WideWalk.{AreWhole};
 
+use crate::collection::{InterfaceId, ItemKind, Named, Types, UsedType};
 use indexmap::IndexSet;
 use std::alloc::AllocError;
-use wac_types_collection::{InterfaceId, ItemKind, Named, Types, UsedType};
 
-/// Returns the interface at an index of a set.
-pub(crate) fn interface_at(found: &IndexSet<InterfaceId>, index: usize) -> InterfaceId
-    requires { index < length found.now.keys }
-    ensures { slice_get found.now.keys index ≡ Some result }
-{
-    found.as_slice()[index]
-}
-
-/// Adds the interfaces from which types are used.
-pub(crate) fn add_used(
-    used: &mut IndexSet<InterfaceId>,
-    uses: &Named<UsedType>,
-) -> Result<(), AllocError>
+/// Adds the interfaces from which types are used, each once.
+///
+/// # Errors
+/// - `AllocError` if out of memory; then some of the interfaces may be added.
+pub fn add_used(used: &mut IndexSet<InterfaceId>, uses: &Named<UsedType>) -> Result<(), AllocError>
     ensures { OnOk result (used.new.keys ≡ with_each used.old.keys (used_interfaces uses.now)) }
 {
     for i in 0..uses.len() {

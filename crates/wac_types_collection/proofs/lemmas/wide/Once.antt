@@ -7,8 +7,8 @@ use Rattle.std.proofs.lemmas.Map.Made.{length-le_from_is_member}
 use Rattle.indexmap.specs.IndexSet.{insert_key}
 use Rattle.wac_types_shapes.specs.contracts.shapes.component.InterfaceIdPartialEq.TheImpl as IdEq
 use Rattle.wac_types_shapes.specs.declared.shapes.component.InterfaceId.{InterfaceId}
-use Rattle.wac_encode_faults.specs.wide.Wide.{is_among, with_each}
-use Rattle.wac_encode_faults.proofs.lemmas.wide.Members.{in_none, in_first, in_rest, in_parts, in_one, in_left, in_right, in_either}
+use Rattle.wac_types_collection.specs.wide.Wide.{is_among, with_each}
+use Rattle.wac_types_collection.proofs.lemmas.wide.Members.{in_none, in_first, in_rest, in_parts, in_one, in_left, in_right, in_either}
 
 pub same_id : (i j : InterfaceId) → (IdEq.ghosts).eq i j ≡ true → i ≡ j
 same_id i j e = ap (λ n. record { 0 = n }) (eqb-true i.0 j.0 e)

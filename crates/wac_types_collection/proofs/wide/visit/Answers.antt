@@ -1,8 +1,8 @@
 use Rattle.std.proofs.Common.{◌≡◌, true, false, not, refl, ap, sym, ◌∙◌}
 use Rattle.std.proofs.lemmas.Result.{on_ok_weaker}
-use Rattle.wac_encode_faults.proofs.lemmas.wide.Once.{inserted}
-use Rattle.wac_encode_faults.proofs.lemmas.wide.WideWalk.{on_ok_both}
-use Rattle.wac_encode_faults.proofs.wide.visit.Goals as goal
+use Rattle.wac_types_collection.proofs.lemmas.wide.Once.{inserted}
+use Rattle.wac_types_collection.proofs.lemmas.wide.WideWalk.{on_ok_both}
+use Rattle.wac_types_collection.proofs.wide.visit.Goals as goal
 
 pub returns-then-not-branch-clause-seen : goal.returns-then-not-branch-clause-seen
 returns-then-not-branch-clause-seen c = inserted c.args.seen.now.keys c.insert.new.self.keys c.args.id c.in_ok-insert.ensures.keys
