@@ -6,3 +6,5 @@ pub mod Stepped
 pub mod Opened
 pub mod Looked
 pub mod Brought
+pub mod PartLists
+pub mod ClosedBits

@@ -4,17 +4,21 @@
 //! alias makes a type of an enclosing scope available in the innermost one.
 //!
 //! Types of two collections may be written into the same scopes: those of the merged collection and of the graph's own.
-//! Each collection has its own records.
+//! Each collection has its own records. [`ClosedTypes`] says which definitions of a collection mention no resource.
 #![tactic(auto)]
 
 mod book;
+pub mod closed;
 pub mod encodable;
+pub mod parts;
 pub mod scope;
 pub mod side;
 pub mod state;
 
 pub use book::How;
+pub use closed::ClosedTypes;
 pub use encodable::Encodable;
+pub use parts::part_at;
 pub use scope::Scope;
 pub use side::Side;
 pub use state::State;

@@ -1,0 +1,9 @@
+use Rattle.std.specs.Prelude.{ℕ, ◌<◌, ◌-◌, slice_get, length}
+use Rattle.wac_encode_scopes.specs.Closed.{bit_at, SaysClosed}
+use Rattle.wac_encode_scopes.proofs.closed.ClosedTypes.new.Given as goal
+
+abbrev pub invariant-loop-closed : goal.invariant-loop-closed
+invariant-loop-closed l = (i : ℕ) → i < length l.closed.items → SaysClosed l.types (record { 0 = i }) (bit_at (slice_get l.closed.items i))
+
+abbrev pub decreases-loop-closed : goal.decreases-loop-closed
+decreases-loop-closed l = length l.types.defined - length l.closed.items

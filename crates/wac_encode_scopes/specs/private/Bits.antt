@@ -1,0 +1,22 @@
+-- Whether value types are closed, by the bits of the definitions before them. Only contracts of private functions use this.
+use Rattle.std.specs.Prelude.{ℕ, ◌≡◌, Bool, true, false, List, Option, Some, None, slice_get}
+use Rattle.wac_types_shapes.specs.declared.shapes.component.DefinedType.{DefinedType}
+use Rattle.wac_types_shapes.specs.declared.shapes.component.ValueType.{ValueType}
+use Rattle.wac_types_shapes.specs.declared.shapes.component.ValueType.TheVariants as val
+use Rattle.wac_encode_scopes.specs.Parts.{parts}
+use Rattle.wac_encode_scopes.specs.Closed.{bit_at}
+
+abbrev pub value_bit : List Bool → ValueType → Bool
+value_bit bits (val.Primitive p) = true
+value_bit bits (val.Own r) = false
+value_bit bits (val.Borrow r) = false
+value_bit bits (val.Defined d) = bit_at (slice_get bits d.0)
+
+abbrev pub part_bit : List Bool → Option ValueType → Bool
+part_bit bits None = true
+part_bit bits (Some v) = value_bit bits v
+
+-- All parts of the definition are closed if the result is true. Otherwise one is not.
+abbrev pub SaysParts : List Bool → DefinedType → Bool → Type 0
+SaysParts bits x true = (k : ℕ) (v : ValueType) → slice_get (parts x) k ≡ Some (Some v) → value_bit bits v ≡ true
+SaysParts bits x false = (k : ℕ) × (v : ValueType) × (slice_get (parts x) k ≡ Some (Some v)) × (value_bit bits v ≡ false)
