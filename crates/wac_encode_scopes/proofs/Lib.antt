@@ -8,3 +8,6 @@ pub mod Looked
 pub mod Brought
 pub mod PartLists
 pub mod ClosedBits
+pub mod Additions
+pub mod Rooted
+pub mod Owned

@@ -1,13 +1,13 @@
 -- What is looked up from the innermost scope outwards.
-use Rattle.std.specs.Prelude.{ℕ, zero, suc, ◌≡◌, ◌<◌, ◌≤◌, ◌+◌, ◌-◌, Bool, List, [], ◌∷◌, ◌++◌, length, take, Some, None, slice_get, Option, true}
-use Rattle.std.proofs.Common.{ap, ◌∙◌, sym, subst, arith}
+use Rattle.std.specs.Prelude.{ℕ, zero, suc, ◌≡◌, ◌<◌, ◌≤◌, ◌+◌, ◌-◌, Bool, List, [], ◌∷◌, ◌++◌, length, take, Some, None, slice_get, Option, true, false}
+use Rattle.std.proofs.Common.{ap, ◌∙◌, sym, subst, arith, ⊎_elim}
 use Rattle.std.proofs.Math.ListN.{drop}
 use Rattle.std.proofs.lemmas.List.{append_assoc, length-drop}
 use Rattle.wac_types_shapes.specs.declared.shapes.component.ValueType.TheVariants as val
 use Rattle.wac_types_shapes.specs.declared.shapes.component.«Type».TheVariants as ty
 use Rattle.wac_encode_scopes.specs.declared.scope.Scope.{Scope}
 use Rattle.wac_encode_scopes.specs.Books.{opened}
-use Rattle.wac_encode_scopes.specs.States.{outward, named_in, IsNamedAt, named_by, named_of}
+use Rattle.wac_encode_scopes.specs.States.{outward, named_in, IsNamedAt, named_by, named_of, Crosses}
 use Rattle.wac_encode_stacks.specs.Scopes.{Where, Open, Stack, at_type, at_export, How, defined, brought, listed, Indexed}
 use Rattle.wac_types_shapes.specs.declared.shapes.component.DefinedTypeId.{DefinedTypeId}
 use Rattle.wac_encode_stacks.specs.Brought.{AllPass}
@@ -137,3 +137,42 @@ of-export (Some x) j n w h = by-how x.how x.index j n w h
 
 pub exported-there : (d : DefinedTypeId) (o : Open) (j : ℕ) (n : Name) → named_in d o ≡ Some (at_export j n) → o.exports d ≡ Some (at_export j n)
 exported-there d o j n h = of-export (o.types (ty.Value (val.Defined d))) j n (o.exports d) h
+
+-- what is found in none of these has no name there
+passed-named : (d : DefinedTypeId) (st : Stack) → PassedBy (named_in d) st → (k : ℕ) (w : Where) → IsNamedAt st d k w → ⊥
+passed-named d [] p k w n = n
+passed-named d (o ∷ os) p zero w n = let both : None ≡ Some w = sym p.0 ∙ n in cc
+passed-named d (o ∷ os) p (suc k) w n = passed-named d os p.1 k w n.1
+
+pub none-named : (b : Bool) (d : DefinedTypeId) (o : Open) (ss : List Scope) (left : ℕ) → left ≤ 0 → PassedBy (named_in d) (o ∷ outward b (drop left ss)) → (k : ℕ) (w : Where) → IsNamedAt (o ∷ outward b ss) d k w → ⊥
+none-named b d o ss zero le p k w n = passed-named d (o ∷ outward b ss) p k w n
+none-named b d o ss (suc m) le p k w n = absurd (omega (arith, le))
+
+-- what is named past these is crossed only if they pass
+named-past : (d : DefinedTypeId) (xs ys : Stack) (k : ℕ) (w : Where) → PassedBy (named_in d) xs → IsNamedAt (xs ++ ys) d k w → AllPass k (xs ++ ys) → EachPasses xs
+named-past d [] ys k w p n a = tt
+named-past d (x ∷ xs) ys zero w p n a = let both : None ≡ Some w = sym p.0 ∙ n in cc
+named-past d (x ∷ xs) ys (suc k) w p n a = (a.0, named-past d xs ys k w p.1 n.1 a.1)
+
+pub none-crossed : (b is_closed : Bool) (d : DefinedTypeId) (o : Open) (ss : List Scope) (left : ℕ) → PassedBy (named_in d) (o ∷ outward b (drop left ss)) → (is_closed ≡ false) × (EachPasses (o ∷ outward b (drop left ss)) → ⊥) → (k : ℕ) (w : Where) → IsNamedAt (o ∷ outward b ss) d k w → Crosses is_closed k (o ∷ outward b ss) → ⊥
+none-crossed b is_closed d o ss left p stopped k w n x = ⊎_elim both (λ pass. stopped.1 (named-past d (o ∷ outward b (drop left ss)) (outward b (take left ss)) k w p (subst (λ zs. IsNamedAt (o ∷ zs) d k w) (outward-at b left ss) n) (subst (λ zs. AllPass k (o ∷ zs)) (outward-at b left ss) pass))) x
+  where
+    both : is_closed ≡ true → ⊥
+    both closed = let no : false ≡ true = sym stopped.0 ∙ closed in cc
+
+-- a scope that does not pass is among these
+each-last : (xs ys : Stack) → EachPasses (xs ++ ys) → EachPasses ys
+each-last [] ys h = h
+each-last (x ∷ xs) ys h = each-last xs ys h.1
+
+pub each-stopped : (b : Bool) (o : Open) (ss : List Scope) (left : ℕ) (s : Scope) → zero < left → left ≤ length ss → slice_get ss (left - 1) ≡ Some s → (opened b s).passes ≡ false → EachPasses (o ∷ outward b (drop (left - 1) ss)) → ⊥
+each-stopped b o ss zero s lt le at p h = absurd (omega (arith, lt))
+each-stopped b o ss (suc n) s lt le at p h =
+    let here : suc n - 1 ≡ n = omega arith in
+    let all = subst (λ k. EachPasses (o ∷ outward b (drop k ss))) here h in
+    let last = each-last (outward b (drop (suc n) ss)) (opened b s ∷ []) (subst (λ zs. EachPasses (outward b zs)) (drop-here ss n s (omega (arith, le)) (subst (λ k. slice_get ss k ≡ Some s) here at)) all.1) in
+    let both : false ≡ true = sym p ∙ last.0 in
+    cc
+
+pub stops-here : (o : Open) (os : Stack) → o.passes ≡ false → EachPasses (o ∷ os) → ⊥
+stops-here o os p h = let both : false ≡ true = sym p ∙ h.0 in cc

@@ -14,10 +14,11 @@ use Rattle.wac_encode_scopes.specs.declared.encodable.Encodable.{Encodable}
 use Rattle.wac_encode_scopes.specs.declared.encodable.Encodable.TheVariants.{Builder, Instance, Component}
 use Rattle.wac_encode_scopes.specs.declared.scope.Scope.{Scope}
 use Rattle.wac_encode_scopes.specs.declared.state.State.{State}
-use Rattle.wac_encode_scopes.specs.Contents.{content_of, and_type, and_item, HasSide, IsInstanceType, declarations_of}
+use Rattle.wac_encode_scopes.specs.Contents.{content_of, and_type, and_item, HasSide, IsInstanceType, declarations_of, count_of}
+use Rattle.wac_binary.specs.Indexes.{space, described_sort, declared}
 use Rattle.wac_encode_scopes.specs.Books.{binds_in, types_in, exports_in, recorded, book_of, opened}
-use Rattle.wac_encode_scopes.specs.States.{outward, stack}
-use Rattle.wac_encode_scopes.specs.Listing.{Describes, ListsItem, ListsResource, BindsExport}
+use Rattle.wac_encode_scopes.specs.States.{outward, stack, KeepsRecords}
+use Rattle.wac_encode_scopes.specs.Listing.{Describes, RefersTo, ListsItem, ListsResource, BindsExport, Opens, ClosesInto}
 use Rattle.wac_encode_scopes.specs.private.Steps.{empty_scope, either, ScopeChanges, and_fresh, with_fresh}
 use Rattle.wac_encode_stacks.specs.Scopes.{Content, declarations, root, Open, Stack, env, envs, next_type, type_count, and_def, with_def, opening, at_type, at_export, bind_at}
 use Rattle.wac_encode_stacks.specs.Good.{Good, nothing_bound, innermost, Stands, Onward, top}
@@ -56,15 +57,23 @@ instance-two false passes other_passes s is h = (h false, h true)
 instance-two true passes other_passes s is h = let both : true ≡ false = is in cc
 
 -- the stack with one scope more
-pub one-more : (b passes : Bool) (here old scope : Scope) (ss ts : List Scope) → here ≡ scope → ts ≡ ss ++ old ∷ [] → opened b scope ≡ opening passes → opened b here ∷ outward b ts ≡ opening passes ∷ opened b old ∷ outward b ss
-one-more b passes here old scope ss ts is items open_ =
+pub one-more : (b : Bool) (p : Open) (here old scope : Scope) (ss ts : List Scope) → here ≡ scope → ts ≡ ss ++ old ∷ [] → opened b scope ≡ p → opened b here ∷ outward b ts ≡ p ∷ opened b old ∷ outward b ss
+one-more b p here old scope ss ts is items open_ =
     ap (λ (s : Scope). opened b s ∷ outward b ts) is
     ∙ ap (λ (zs : List Scope). opened b scope ∷ outward b zs) items
     ∙ ap (λ (zs : Stack). opened b scope ∷ zs) (outward-append b ss (old ∷ []))
     ∙ ap (λ (o : Open). o ∷ opened b old ∷ outward b ss) open_
 
+pub opens-state : (b passes : Bool) (st t : State) (scope : Scope) → scope.content ≡ Instance [] → opened b scope ≡ opening passes → opened (not b) scope ≡ opening true → t.here ≡ scope → t.around.items ≡ st.around.items ++ st.here ∷ [] → Opens b passes st t
+opens-state b passes st t scope empty this other here around = record {
+  content = ap (λ (s : Scope). s.content) here ∙ empty;
+  around = around;
+  opened = one-more b (opening passes) t.here st.here scope st.around.items t.around.items here around this;
+  beside = one-more (not b) (opening true) t.here st.here scope st.around.items t.around.items here around other;
+}
+
 -- with other content, the books are as they were
-book-kept : (b : Bool) (s : Scope) (x : Encodable) → book_of b (record s { content = x }) ≡ book_of b s
+pub book-kept : (b : Bool) (s : Scope) (x : Encodable) → book_of b (record s { content = x }) ≡ book_of b s
 book-kept true s x = refl
 book-kept false s x = refl
 
@@ -73,21 +82,23 @@ content-def t (Builder items) = refl
 content-def t (Instance ds) = refl
 content-def t (Component ds) = refl
 
-opened-def : (b : Bool) (t : TypeDef) (s : Scope) → opened b (record s { content = and_type t s.content }) ≡ with_def t (opened b s)
+pub opened-def : (b : Bool) (t : TypeDef) (s : Scope) → opened b (record s { content = and_type t s.content }) ≡ with_def t (opened b s)
 opened-def b t s = ap (λ (k : Book). recorded k (content_of (and_type t s.content))) (book-kept b s (and_type t s.content)) ∙ ap (recorded (book_of b s)) (content-def t s.content)
 
 -- an item is listed
 
 module _ (equal : ListsEqual) (func : ListsFunc) (inst : ListsInstance) (comp : ListsComponent) (mod_ : ListsModule) where
-  lists-item : (c : Collection) (m : Bindings) (ms : List Bindings) (book : Book) (ds : List Decl) (os : Stack) (side : Side) (n : Name) (d : Description) (t : Tree) → Good c (m ∷ ms) (recorded book (declarations ds) ∷ os) → IsNewName (recorded book (declarations ds)) os side n → Describes (env (recorded book (declarations ds)) (envs os)) d t → Lists c m ms (recorded book (declarations ds)) (recorded book (declarations (ds ++ side_decl side n d ∷ []))) os side n t
-  lists-item c m ms book ds os side n (e.Equal i) (type_equal t) g new h = (equal c m ms ds (recorded book (declarations ds)) os side n i t g new h.0 h.1).0
-  lists-item c m ms book ds os side n (e.Func i) (function_item t) g new h = func c m ms ds (recorded book (declarations ds)) os side n i t g new h.0 h.1
-  lists-item c m ms book ds os side n (e.Instance i) (instance_item t) g new h = (inst c m ms ds (recorded book (declarations ds)) os side n i t g new h.0 h.1).0
-  lists-item c m ms book ds os side n (e.Component i) (component_item t) g new h = comp c m ms ds (recorded book (declarations ds)) os side n i t g new h.0 h.1
-  lists-item c m ms book ds os side n (e.CoreModule i) (module_item t) g new h = mod_ c m ms ds (recorded book (declarations ds)) os side n i t g new h.0 h.1
+  lists-item : (c : Collection) (m : Bindings) (ms : List Bindings) (book : Book) (ds : List Decl) (os : Stack) (side : Side) (n : Name) (d : Description) (t : Tree) → Good c (m ∷ ms) (recorded book (declarations ds) ∷ os) → IsNewName (recorded book (declarations ds)) os side n → Describes (env (recorded book (declarations ds)) (envs os)) d t
+      → Lists c m ms (recorded book (declarations ds)) (recorded book (declarations (ds ++ side_decl side n d ∷ []))) os side n t × RefersTo (env (recorded book (declarations (ds ++ side_decl side n d ∷ []))) (envs os)) side n d (declared (space (described_sort d)) ds) t
+  lists-item c m ms book ds os side n (e.Equal i) (type_equal t) g new h = equal c m ms ds (recorded book (declarations ds)) os side n i t g new h.0 h.1
+  lists-item c m ms book ds os side n (e.Func i) (function_item t) g new h = (func c m ms ds (recorded book (declarations ds)) os side n i t g new h.0 h.1, tt)
+  lists-item c m ms book ds os side n (e.Instance i) (instance_item t) g new h = inst c m ms ds (recorded book (declarations ds)) os side n i t g new h.0 h.1
+  lists-item c m ms book ds os side n (e.Component i) (component_item t) g new h = (comp c m ms ds (recorded book (declarations ds)) os side n i t g new h.0 h.1, tt)
+  lists-item c m ms book ds os side n (e.CoreModule i) (module_item t) g new h = (mod_ c m ms ds (recorded book (declarations ds)) os side n i t g new h.0 h.1, tt)
   lists-item c m ms book ds os side n d t g new h = absurd h
 
-  lists-content : (c : Collection) (m : Bindings) (ms : List Bindings) (book : Book) (x : Encodable) (os : Stack) (side : Side) (n : Name) (d : Description) (t : Tree) → HasSide side x → Good c (m ∷ ms) (recorded book (content_of x) ∷ os) → IsNewName (recorded book (content_of x)) os side n → Describes (env (recorded book (content_of x)) (envs os)) d t → Lists c m ms (recorded book (content_of x)) (recorded book (content_of (and_item side n d x))) os side n t
+  lists-content : (c : Collection) (m : Bindings) (ms : List Bindings) (book : Book) (x : Encodable) (os : Stack) (side : Side) (n : Name) (d : Description) (t : Tree) → HasSide side x → Good c (m ∷ ms) (recorded book (content_of x) ∷ os) → IsNewName (recorded book (content_of x)) os side n → Describes (env (recorded book (content_of x)) (envs os)) d t
+      → Lists c m ms (recorded book (content_of x)) (recorded book (content_of (and_item side n d x))) os side n t × RefersTo (env (recorded book (content_of (and_item side n d x))) (envs os)) side n d (count_of (space (described_sort d)) x) t
   lists-content c m ms book (Component ds) os side n d t has g new h = lists-item c m ms book ds os side n d t g new h
   lists-content c m ms book (Instance ds) os side n d t has g new h = lists-item c m ms book ds os side n d t g new h
   lists-content c m ms book (Builder items) os side n d t has g new h = absurd (no-root side has)
@@ -96,12 +107,28 @@ module _ (equal : ListsEqual) (func : ListsFunc) (inst : ListsInstance) (comp : 
       no-root imported h = h
       no-root exported h = h
 
-  pub lists-state : (side : Side) (n : Name) (d : Description) (st : State) (here : Scope) → HasSide side st.here.content → here ≡ record st.here { content = and_item side n d st.here.content } → ListsItem side n d st (record st { here = here })
-  lists-state side n d st here has is c b m ms t g new h =
-      let listed = lists-content c m ms (book_of b st.here) st.here.content (outward b st.around.items) side n d t has g new h in
-      (refl, subst (λ (s : Scope). Lists c m ms (opened b st.here) (opened b s) (outward b st.around.items) side n t) (sym is) (subst (λ (k : Book). Lists c m ms (opened b st.here) (recorded k (content_of (and_item side n d st.here.content))) (outward b st.around.items) side n t) (sym (book-kept b st.here (and_item side n d st.here.content))) listed))
+  pub lists-state : (side : Side) (n : Name) (d : Description) (st : State) (here : Scope) (k : ℕ) → HasSide side st.here.content → k ≡ count_of (space (described_sort d)) st.here.content → here ≡ record st.here { content = and_item side n d st.here.content } → ListsItem side n d st (record st { here = here }) k
+  lists-state side n d st here k has index is c b m ms t g new h =
+      let os = outward b st.around.items in
+      let x = and_item side n d st.here.content in
+      subst (λ (s : Scope). Lists c m ms (opened b st.here) (opened b s) os side n t × RefersTo (env (opened b s) (envs os)) side n d k t) (sym is)
+      (subst (λ (a : Book). Lists c m ms (opened b st.here) (recorded a (content_of x)) os side n t × RefersTo (env (recorded a (content_of x)) (envs os)) side n d k t) (sym (book-kept b st.here x))
+      (subst (λ (j : ℕ). Lists c m ms (opened b st.here) (recorded (book_of b st.here) (content_of x)) os side n t × RefersTo (env (recorded (book_of b st.here) (content_of x)) (envs os)) side n d j t) (sym index)
+      (lists-content c m ms (book_of b st.here) st.here.content os side n d t has g new h)))
+
+pub keeps-records : (st : State) (here : Scope) (x : Encodable) → here ≡ record st.here { content = x } → KeepsRecords st (record st { here = here })
+keeps-records st here x is = (refl, λ b. ap (book_of b) is ∙ book-kept b st.here x)
 
 -- a scope is closed
+
+pub closes-into : (st t : State) (outer dest scope : Scope) → st.around.items ≡ t.around.items ++ outer ∷ [] → scope ≡ st.here → dest ≡ outer → t.here ≡ record dest { content = and_type (instance_def (decls (declarations_of scope.content))) dest.content } → ClosesInto st t
+closes-into st t outer dest scope items same_here same_outer is = (
+  outer,
+  items,
+  is
+      ∙ ap (λ (s : Scope). record s { content = and_type (instance_def (decls (declarations_of scope.content))) s.content }) same_outer
+      ∙ ap (λ (s : Scope). record outer { content = and_type (instance_def (decls (declarations_of s.content))) outer.content }) same_here,
+)
 
 closes-content : ClosesInstance → (c : Collection) (inner m : Bindings) (ms : List Bindings) (book : Book) (x : Encodable) (o : Open) (os : Stack) → IsInstanceType x → ImportNothing (decls (declarations_of x)) → Good c (inner ∷ m ∷ ms) (recorded book (content_of x) ∷ o ∷ os) → Adds c (m ∷ ms) (o ∷ os) (with_def (instance_def (decls (declarations_of x))) o ∷ os) (next_type o) (instance ((env (recorded book (content_of x)) (env o (envs os) ∷ envs os)).exports))
 closes-content law c inner m ms book (Instance ds) o os is none g = law c inner m ms ds (recorded book (declarations ds)) o os g none

@@ -8,8 +8,9 @@ use Rattle.wac_encode_scopes.specs.declared.book.Book.{Book}
 use Rattle.wac_encode_scopes.specs.declared.scope.Scope.{Scope}
 use Rattle.wac_encode_scopes.specs.declared.state.State.{State}
 use Rattle.wac_encode_scopes.specs.Contents.{AddsTypes, content_of}
-use Rattle.wac_encode_scopes.specs.Books.{opened}
-use Rattle.wac_encode_scopes.specs.States.{outward, stack, AllAddTypes, Goes, GoesForAll, SaysWritten, SaysWrittenFunc, IsPlace, IsBound, IsResourceAt, IsTypeAt}
+use Rattle.wac_encode_scopes.specs.declared.encodable.Encodable.{Encodable}
+use Rattle.wac_encode_scopes.specs.Books.{opened, recorded, book_of}
+use Rattle.wac_encode_scopes.specs.States.{outward, stack, AllAddTypes, Goes, GoesForAll, SaysWritten, SaysWrittenFunc, IsPlace, IsBound, IsResourceAt, IsTypeAt, RecordsHere}
 use Rattle.wac_encode_scopes.specs.private.Steps.{Records, ScopeChanges, StateChanges, settled, settled_from}
 use Rattle.wac_encode_stacks.specs.Scopes.{Content, Open, Stack, Where, at_type, at_export, next_type, with_alias_of, bind_at, How, defined, index_at, with_def}
 use Rattle.wac_encode_stacks.specs.Beside.{SameWritten, written_as, all_written_as}
@@ -322,3 +323,21 @@ found-is-bound law b st r o f is h c ms good =
     let at = subst (λ (x : Option (ℕ × ℕ × Bool)). IfSome x (λ y. (w : Where) × IsReached (stack b st) r y.0 w × IsPlace w y.1 y.2)) is h in
     let l = law c ms (stack b st) r f.0 at.0 good at.1 in
     (out_by f.0 l.0, l.1)
+
+pub two-ok : {T E P Q R : Type 0} → (res : Result T E) → (P → Q → R) → OnOk res P → OnOk res Q → OnOk res R
+two-ok (Ok x) f h g = f h g
+two-ok (Err e) f h g = h
+
+-- records change alone
+pub records-here : (b : Bool) (f : Open → Open) (st : State) (here : Scope) → here.content ≡ st.here.content → ScopeChanges b f st.here here → RecordsHere b f st (record st { here = here })
+records-here b f st here same step = record {
+  here = step.0;
+  other = step.1 ∙ ap (λ (x : Encodable). recorded (book_of (not b) st.here) (content_of x)) same;
+  content = same;
+  around = refl;
+}
+
+-- content that is written, or not
+pub all-written : {T E : Type 0} → (st : State) (here : Scope) (x : Encodable) (res : Result T E) → AddsTypes st.here.content x → OnOk res (here ≡ record st.here { content = x }) → OnErr res (here ≡ st.here) → AllAddTypes st (record st { here = here })
+all-written st here x (Ok v) h is none = all-here st here (subst (AddsTypes st.here.content) (sym (ap (λ (s : Scope). s.content) is)) h)
+all-written st here x (Err e) h is none = all-here st here (subst (AddsTypes st.here.content) (sym (ap (λ (s : Scope). s.content) none)) (adds-none st.here.content))

@@ -4,4 +4,8 @@ pub mod States
 pub mod Listing
 pub mod Parts
 pub mod Closed
+pub mod Interfaces
+pub mod Components
+pub mod Roots
+pub mod Lending
 pub mod private

@@ -1,7 +1,7 @@
 -- Instance types that are opened and closed in the scopes of the code, and the items that are added to open types.
 use Rattle.std.specs.Prelude.{ℕ, ◌≡◌, Bool, true, not, List, [], ◌∷◌, ◌++◌, Some, None}
 use Rattle.wac_types_shapes.specs.primitives.Name.{Name}
-use Rattle.wac_types_shapes.specs.primitives.Tree.{Side, Tree, type_equal, function_item, instance_item, component_item, module_item, instance, exported, Leaf, resource, fresh}
+use Rattle.wac_types_shapes.specs.primitives.Tree.{Side, Tree, type_equal, function_item, instance_item, component_item, module_item, instance, exported, named, Leaf, resource, fresh}
 use Rattle.wac_types_collection.specs.collection.Collection.{Collection}
 use Rattle.wac_types_collection.specs.collection.Bound.{Bindings}
 use Rattle.wac_binary.specs.declared.sorts.Description.{Description}
@@ -12,6 +12,8 @@ use Rattle.wac_encode_scopes.specs.declared.encodable.Encodable.TheVariants.{Ins
 use Rattle.wac_encode_scopes.specs.declared.scope.Scope.{Scope}
 use Rattle.wac_encode_scopes.specs.declared.state.State.{State}
 use Rattle.wac_encode_scopes.specs.Books.{opened}
+use Rattle.wac_encode_scopes.specs.Contents.{and_type, declarations_of}
+use Rattle.wac_binary.specs.Items.{decls, instance_def}
 use Rattle.wac_encode_scopes.specs.States.{outward, stack}
 use Rattle.wac_encode_stacks.specs.Scopes.{opening, at_type, at_export, export_at}
 use Rattle.wac_encode_stacks.specs.Good.{At, Good, innermost, Stands, Onward, top}
@@ -29,11 +31,17 @@ Describes w (e.Component i) (component_item t) = IsComponent t × At w.types i t
 Describes w (e.CoreModule i) (module_item t) = IsModule t × At w.core_types i t
 Describes w _ _ = ⊥
 
--- An item is added to one side of the innermost scope, under a name that is new there. Nothing else changes.
-abbrev pub ListsItem : Side → Name → Description → State → State → Type 0
-ListsItem side n d old new = (c : Collection) (b : Bool) (m : Bindings) (ms : List Bindings) (t : Tree)
+-- The index of an added type item refers to its type, and that of an added instance to the instance.
+abbrev pub RefersTo : Env → Side → Name → Description → ℕ → Tree → Type 0
+RefersTo w side n (e.Equal i) k (type_equal t) = At w.types k t
+RefersTo w side n (e.Instance i) k (instance_item t) = At w.instances k (record { type = t; side = side; path = named n ∷ [] })
+RefersTo w side n d k t = Unit {0}
+
+-- An item is added to one side of the innermost scope, under a name that is new there, and has the index k.
+abbrev pub ListsItem : Side → Name → Description → State → State → ℕ → Type 0
+ListsItem side n d old new k = (c : Collection) (b : Bool) (m : Bindings) (ms : List Bindings) (t : Tree)
     → Good c (m ∷ ms) (stack b old) → IsNewName (opened b old.here) (outward b old.around.items) side n → Describes (innermost (stack b old)) d t
-    → (new.around ≡ old.around) × Lists c m ms (opened b old.here) (opened b new.here) (outward b old.around.items) side n t
+    → Lists c m ms (opened b old.here) (opened b new.here) (outward b old.around.items) side n t × RefersTo (innermost (stack b new)) side n d k t
 
 -- An instance type without records is opened. For the other collection it passes.
 pub record Opens (b passes : Bool) (old new : State) : Type 0 where
@@ -46,6 +54,12 @@ pub record Opens (b passes : Bool) (old new : State) : Type 0 where
 abbrev pub Closes : State → State → ℕ → Type 0
 Closes old new k = (c : Collection) (b : Bool) (inner m : Bindings) (ms : List Bindings) → Good c (inner ∷ m ∷ ms) (stack b old)
     → Adds c (m ∷ ms) (outward b old.around.items) (stack b new) k (instance ((innermost (stack b old)).exports))
+
+-- The innermost scope, an instance type, is added to the enclosing scope. All records of the enclosing scopes are
+-- unchanged.
+abbrev pub ClosesInto : State → State → Type 0
+ClosesInto old new = (outer : Scope) × (old.around.items ≡ new.around.items ++ outer ∷ [])
+    × (new.here ≡ record outer { content = and_type (instance_def (decls (declarations_of old.here.content))) outer.content })
 
 -- The scopes are unchanged.
 abbrev pub IsSame : State → State → Type 0

@@ -11,7 +11,7 @@ use Rattle.wac_types_shapes.specs.declared.shapes.component.«Type».TheVariants
 use Rattle.wac_encode_scopes.specs.declared.scope.Scope.{Scope}
 use Rattle.wac_encode_scopes.specs.declared.state.State.{State}
 use Rattle.wac_encode_scopes.specs.Contents.{AddsTypes}
-use Rattle.wac_encode_scopes.specs.Books.{opened}
+use Rattle.wac_encode_scopes.specs.Books.{opened, book_of}
 use Rattle.wac_encode_stacks.specs.Scopes.{Where, at_type, at_export, Stack, How, defined, brought, listed, Indexed, Open}
 use Rattle.wac_encode_stacks.specs.Good.{At, Good, top, Onward, innermost, IsHeld, IsOf}
 use Rattle.wac_encode_stacks.specs.Beside.{all_written_as}
@@ -98,3 +98,14 @@ IsNamedAt (o ∷ os) d (suc k) w = (named_in d o ≡ None) × IsNamedAt os d k w
 -- The scopes before the one k scopes out pass, or is_closed says that the type mentions no resource.
 abbrev pub Crosses : Bool → ℕ → Stack → Type 0
 Crosses is_closed k st = (is_closed ≡ true) ⊎ AllPass k st
+
+-- The records of the innermost scope change by f for the types of one collection. Nothing else changes.
+pub record RecordsHere (b : Bool) (f : Open → Open) (old new : State) : Type 0 where
+  pub here : opened b new.here ≡ f (opened b old.here)
+  pub other : opened (not b) new.here ≡ opened (not b) old.here
+  pub content : new.here.content ≡ old.here.content
+  pub around : new.around ≡ old.around
+
+-- All records and the enclosing scopes are unchanged.
+abbrev pub KeepsRecords : State → State → Type 0
+KeepsRecords old new = (new.around ≡ old.around) × ((b : Bool) → book_of b new.here ≡ book_of b old.here)

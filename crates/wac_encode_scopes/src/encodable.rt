@@ -1,17 +1,22 @@
 //! The content of an open scope.
 
 ghost use Rattle.std.specs.Prelude.{◌≡◌, IfOk, OnOk, OnErr};
+ghost use Rattle.std.specs.Borrow.{sem};
 ghost use Rattle.wac_binary.specs.declared.sorts.Sort.TheVariants as s;
-ghost use Rattle.wac_binary.specs.Items.{value_def, instance_def, decls, export_alias, outer_alias};
+ghost use Rattle.wac_binary.specs.Items.{value_def, instance_def, component_def, decls, export_alias, outer_alias};
 ghost use Rattle.wac_binary.specs.Indexes.{space, described_sort};
 ghost use Rattle.wac_binary.specs.Views.{defined_of, func_of};
 ghost use Rattle.wac_encode_stacks.specs.Scopes.{type_count};
+ghost use Rattle.wac_encode_stacks.specs.Modules.{module_count};
+ghost use Rattle.wac_encode_scopes.specs.Roots.{IsRoot, items_of, and_import};
+ghost use Rattle.wac_encode_scopes.specs.Lending.{LendsContent};
+ghost use Rattle.wac_encode_scopes.specs.private.Steps.{and_core_type};
 ghost use Rattle.wac_encode_scopes.specs.Contents.{content_of, and_type, and_alias_of, and_item, HasSide, side_of, count_of};
 
 use crate::side::Side;
 use wac_binary::{
     BinaryFault, ComponentBuilder, ComponentType, DefinedType, Description, FuncType, InstanceType,
-    Sort,
+    ModuleType, Sort,
 };
 
 /// The content of an open scope: the root component, an instance type or a component type.
@@ -133,6 +138,66 @@ impl Encodable {
                 Side::Import => content.import(name, d),
                 Side::Export => content.export(name, d),
             },
+        }
+    }
+
+    /// Adds a component type and returns its type index.
+    ///
+    /// # Errors
+    /// As [`Self::defined_type`].
+    pub(crate) fn component_type(&mut self, t: &ComponentType) -> Result<u32, BinaryFault>
+        ensures index { IfOk result (λ i. i ≡ type_count (content_of self.old)) }
+        ensures appended { OnOk result (self.new ≡ and_type (component_def (decls t.now)) self.old) }
+        ensures refused { OnErr result (self.new ≡ self.old) }
+    {
+        match self {
+            Encodable::Builder(content) => content.component_type(t),
+            Encodable::Instance(content) => content.component_type(t),
+            Encodable::Component(content) => content.component_type(t),
+        }
+    }
+
+    /// Adds a core module type and returns its core type index.
+    ///
+    /// # Errors
+    /// As [`Self::defined_type`].
+    pub(crate) fn core_module_type(&mut self, t: &ModuleType) -> Result<u32, BinaryFault>
+        ensures index { IfOk result (λ i. i ≡ module_count (content_of self.old)) }
+        ensures appended { OnOk result (self.new ≡ and_core_type t.now self.old) }
+        ensures refused { OnErr result (self.new ≡ self.old) }
+    {
+        match self {
+            Encodable::Builder(content) => content.core_module_type(t),
+            Encodable::Instance(content) => content.core_module_type(t),
+            Encodable::Component(content) => content.core_module_type(t),
+        }
+    }
+
+    /// Adds an import to the root, and returns its index in the index space of its sort.
+    ///
+    /// # Errors
+    /// As [`Self::defined_type`].
+    pub(crate) fn import(&mut self, name: &str, d: Description) -> Result<u32, BinaryFault>
+        requires { IsRoot self.old }
+        ensures index { IfOk result (λ i. i ≡ count_of (space (described_sort d)) self.old) }
+        ensures appended { OnOk result (self.new ≡ and_import name.now d self.old) }
+        ensures refused { OnErr result (self.new ≡ self.old) }
+    {
+        match self {
+            Encodable::Builder(content) => content.import(name, d),
+            Encodable::Instance(_) | Encodable::Component(_) => unreachable!(),
+        }
+    }
+
+    /// The root component.
+    pub(crate) fn builder(&mut self) -> &mut ComponentBuilder
+        requires { IsRoot self.old }
+        ensures* writes_back { sem 𝓛 (LendsContent self.entry result) }
+        ensures value { result.now ≡ items_of self.old }
+    {
+        match self {
+            Encodable::Builder(content) => content,
+            Encodable::Instance(_) | Encodable::Component(_) => unreachable!(),
         }
     }
 }

@@ -9,8 +9,11 @@
 
 mod book;
 pub mod closed;
+pub mod components;
 pub mod encodable;
+pub mod interfaces;
 pub mod parts;
+pub mod root;
 pub mod scope;
 pub mod side;
 pub mod state;
@@ -19,6 +22,7 @@ pub use book::How;
 pub use closed::ClosedTypes;
 pub use encodable::Encodable;
 pub use parts::part_at;
+pub use root::lending_law;
 pub use scope::Scope;
 pub use side::Side;
 pub use state::State;

@@ -1,8 +1,9 @@
 //! An open scope.
 
 ghost use Rattle.std.specs.Prelude.{◌≡◌, ◌⊎◌, ◌<◌, Bool, true, false, not, [], IfOk, OnOk, OnErr, None};
+ghost use Rattle.std.specs.Borrow.{sem};
 ghost use Rattle.wac_binary.specs.declared.sorts.Sort.TheVariants as s;
-ghost use Rattle.wac_binary.specs.Items.{value_def, instance_def, decls, outer_alias};
+ghost use Rattle.wac_binary.specs.Items.{value_def, instance_def, component_def, decls, outer_alias};
 ghost use Rattle.wac_binary.specs.Indexes.{space, described_sort};
 ghost use Rattle.wac_binary.specs.Views.{defined_of, func_of};
 ghost use Rattle.wac_types_shapes.specs.declared.shapes.component.«Type».TheVariants as ty;
@@ -13,14 +14,20 @@ ghost use Rattle.std.specs.HashMap.{spare};
 ghost use Rattle.wac_binary.specs.declared.sorts.Description.TheVariants as e;
 ghost use Rattle.wac_encode_scopes.specs.States.{named_in};
 ghost use Rattle.wac_encode_scopes.specs.Books.{where_of, how_of, maybe_indexed, opened, binds_in, book_of};
-ghost use Rattle.wac_encode_scopes.specs.private.Steps.{ScopeChanges, IsExported, aliased_from, settled, settled_value, with_fresh, export_of, empty_scope, either};
+ghost use Rattle.wac_encode_scopes.specs.private.Steps.{ScopeChanges, IsExported, aliased_from, settled, settled_value, with_fresh, with_fresh_import, and_core_type, export_of, empty_scope, either};
+ghost use Rattle.wac_encode_scopes.specs.Roots.{IsRoot, items_of, and_import};
+ghost use Rattle.wac_encode_scopes.specs.Lending.{LendsScope};
+ghost use Rattle.wac_encode_stacks.specs.Modules.{module_count};
 
 use crate::book::{Book, Entry, How, Place};
 use crate::encodable::Encodable;
 use crate::side::Side;
 use std::alloc::Global;
-use wac_binary::{BinaryFault, DefinedType, Description, FuncType, InstanceType};
-use wac_types_collection::{DefinedTypeId, FuncTypeId, ResourceId, Type, ValueType};
+use wac_binary::{
+    BinaryFault, ComponentBuilder, ComponentType, DefinedType, Description, FuncType, InstanceType,
+    ModuleType,
+};
+use wac_types_collection::{DefinedTypeId, FuncTypeId, ResourceId, Type, ValueType, WorldId};
 
 /// An open scope: its content, and records for the types of the merged collection and of the graph's own.
 ///
@@ -338,7 +345,8 @@ impl Scope {
     ///
     /// `is_closed` says that the type mentions no resource that is bound outside it. It is then the same in each scope.
     pub(crate) fn may_cross(&self, merged: bool, is_closed: bool) -> bool
-        ensures { result ≡ true → (is_closed ≡ true) ⊎ ((opened merged self.now).passes ≡ true) }
+        ensures crosses { result ≡ true → (is_closed ≡ true) ⊎ ((opened merged self.now).passes ≡ true) }
+        ensures stays { result ≡ false → (is_closed ≡ false) × ((opened merged self.now).passes ≡ false) }
     {
         if is_closed {
             return true;
@@ -456,5 +464,104 @@ impl Scope {
         let index = self.content.list(side, name, Description::Fresh)?;
         self.put_resource(merged, resource, Place::Index(index));
         Ok(index)
+    }
+
+    /// Adds a component type and returns its type index.
+    ///
+    /// # Errors
+    /// As [`Encodable::defined_type`].
+    pub(crate) fn define_component(&mut self, component: &ComponentType) -> Result<u32, BinaryFault>
+        ensures index { IfOk result (λ i. i ≡ type_count (content_of self.old.content)) }
+        ensures appended { OnOk result (self.new ≡ record self.old { content = and_type (component_def (decls component.now)) self.old.content }) }
+        ensures refused { OnErr result (self.new ≡ self.old) }
+    {
+        self.content.component_type(component)
+    }
+
+    /// Adds the component type of a world, records its type index and returns it.
+    ///
+    /// # Errors
+    /// As [`Self::alias_resource`].
+    pub(crate) fn define_world(
+        &mut self,
+        merged: bool,
+        world: WorldId,
+        component: &ComponentType,
+    ) -> Result<u32, BinaryFault>
+        ensures index { IfOk result (λ i. i ≡ next_type (opened merged self.old)) }
+        ensures step { OnOk result (ScopeChanges merged (λ o. index_at (ty.World world) defined (next_type o) (with_def (component_def (decls component.now)) o)) self.old self.new) }
+        ensures types { AddsTypes self.old.content self.new.content }
+    {
+        let own = self.content.component_type(component)?;
+        self.record_type(merged, Type::World(world), How::Defined, own)?;
+        Ok(own)
+    }
+
+    /// Adds a core module type and returns its core type index.
+    ///
+    /// # Errors
+    /// As [`Encodable::defined_type`].
+    pub(crate) fn define_module(&mut self, declarations: &ModuleType) -> Result<u32, BinaryFault>
+        ensures index { IfOk result (λ i. i ≡ module_count (content_of self.old.content)) }
+        ensures appended { OnOk result (self.new ≡ record self.old { content = and_core_type declarations.now self.old.content }) }
+        ensures refused { OnErr result (self.new ≡ self.old) }
+    {
+        self.content.core_module_type(declarations)
+    }
+
+    /// Adds an import to the root, and returns its index in the index space of its sort.
+    ///
+    /// # Errors
+    /// As [`Encodable::defined_type`].
+    pub(crate) fn import(&mut self, name: &str, d: Description) -> Result<u32, BinaryFault>
+        requires { IsRoot self.old.content }
+        ensures index { IfOk result (λ i. i ≡ count_of (space (described_sort d)) self.old.content) }
+        ensures appended { OnOk result (self.new ≡ record self.old { content = and_import name.now d self.old.content }) }
+        ensures refused { OnErr result (self.new ≡ self.old) }
+    {
+        self.content.import(name, d)
+    }
+
+    /// Adds an import of a fresh resource to the root, records the resource and returns its type index.
+    ///
+    /// # Errors
+    /// As [`Encodable::defined_type`].
+    pub(crate) fn import_fresh(
+        &mut self,
+        merged: bool,
+        name: &str,
+        resource: ResourceId,
+    ) -> Result<u32, BinaryFault>
+        requires { IsRoot self.old.content }
+        ensures index { IfOk result (λ i. i ≡ next_type (opened merged self.old)) }
+        ensures step { OnOk result (ScopeChanges merged (with_fresh_import name.now resource) self.old self.new) }
+        ensures content { OnOk result (self.new.content ≡ and_import name.now e.Fresh self.old.content) }
+        ensures refused { OnErr result (self.new.content ≡ self.old.content) }
+    {
+        self.reserve_resource(merged)?;
+        let index = self.content.import(name, Description::Fresh)?;
+        self.put_resource(merged, resource, Place::Index(index));
+        Ok(index)
+    }
+
+    /// The component that is written in the root.
+    pub(crate) fn builder(&mut self) -> &mut ComponentBuilder
+        requires { IsRoot self.old.content }
+        ensures* writes_back { sem 𝓛 (LendsScope self.entry result) }
+        ensures value { result.now ≡ items_of self.old.content }
+    {
+        self.content.builder()
+    }
+
+    /// Returns the content.
+    pub(crate) fn into_content(self) -> Encodable
+        ensures { result ≡ self.content }
+    {
+        let Scope {
+            content,
+            merged: _,
+            graph: _,
+        } = self;
+        content
     }
 }

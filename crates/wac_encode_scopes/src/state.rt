@@ -9,7 +9,7 @@ ghost use Rattle.wac_types_shapes.specs.declared.shapes.component.«Type».TheVa
 ghost use Rattle.wac_types_collection.specs.collection.Collection.{Collection, IsWellFormed, item_at};
 ghost use Rattle.wac_types_collection.specs.collection.Held.{resolved};
 ghost use Rattle.wac_binary.specs.Views.{defined_of, func_of};
-ghost use Rattle.wac_encode_stacks.specs.Scopes.{Where, at_type, at_export, How as AnyHow, defined};
+ghost use Rattle.wac_encode_stacks.specs.Scopes.{Where, at_type, at_export, How as AnyHow, defined, bind_at, index_at, export_at};
 ghost use Rattle.wac_encode_stacks.specs.Good.{Good, IsClosed, nothing_bound, top};
 ghost use Rattle.wac_types_collection.specs.collection.Bound.{Bindings};
 ghost use Rattle.wac_types_shapes.specs.primitives.Tree.{Leaf};
@@ -20,10 +20,10 @@ ghost use Rattle.wac_binary.specs.HasMeaning.{ImportNothing};
 ghost use Rattle.wac_encode_scopes.specs.declared.encodable.Encodable.TheVariants.{Builder, Component};
 ghost use Rattle.wac_encode_scopes.specs.Contents.{HasSide, IsInstanceType, side_of, declarations_of, count_of, and_item};
 ghost use Rattle.wac_encode_scopes.specs.Books.{opened, how_of};
-ghost use Rattle.wac_encode_scopes.specs.Listing.{ListsItem, ListsResource, BindsExport, MayTell, Opens, Closes, IsSame, IsNonempty};
+ghost use Rattle.wac_encode_scopes.specs.Listing.{ListsItem, ListsResource, BindsExport, MayTell, Opens, Closes, ClosesInto, IsSame, IsNonempty};
 ghost use Rattle.wac_encode_stacks.specs.Parts.{IsReached};
 ghost use Rattle.wac_encode_stacks.specs.Inside.{next_type_at};
-ghost use Rattle.wac_encode_scopes.specs.States.{stack, named_in, IsNamedAt, Crosses, AllAddTypes, Goes, GoesForAll, SaysWritten, SaysWrittenFunc, IsRecordedAt, IsTypeAt, IsBound, IsResourceAt, IsPlace};
+ghost use Rattle.wac_encode_scopes.specs.States.{stack, RecordsHere, KeepsRecords, named_in, IsNamedAt, Crosses, AllAddTypes, Goes, GoesForAll, SaysWritten, SaysWrittenFunc, IsRecordedAt, IsTypeAt, IsBound, IsResourceAt, IsPlace};
 ghost use Rattle.wac_encode_scopes.specs.private.Steps.{StateChanges, settled, settled_value};
 
 use crate::book::{How, Place};
@@ -47,8 +47,8 @@ use wac_types_collection::{DefinedTypeId, FuncTypeId, ResourceId, Text, Type, Va
 /// A call that fails may have appended types and aliases of types to the content of the scopes. After that the records
 /// must not be used. Methods whose errors change less say so.
 pub struct State {
-    around: Vec<Scope>,
-    here: Scope,
+    pub(crate) around: Vec<Scope>,
+    pub(crate) here: Scope,
 }
 
 // By hand: a derived `Drop` is proved again wherever one goes out of scope (docs/PROOFS.md, 'Drop').
@@ -315,6 +315,15 @@ impl State {
         ensures refused { OnErr result (IsSame self.old self.new) }
     {
         let scope = Scope::instance(alloc, merged, passes);
+        self.push(scope)
+    }
+
+    /// Makes a scope the innermost one, inside the scope that was it.
+    pub(crate) fn push(&mut self, scope: Scope) -> Result<(), BinaryFault>
+        ensures here { OnOk result (self.new.here ≡ scope) }
+        ensures around { OnOk result (self.new.around.items ≡ self.old.around.items ++ self.old.here ∷ []) }
+        ensures refused { OnErr result (IsSame self.old self.new) }
+    {
         self.around.reserve(1)?;
         let outer = replace(&mut self.here, scope);
         match self.around.push(outer) {
@@ -332,7 +341,8 @@ impl State {
     /// On an error the scopes are unchanged.
     pub fn list(&mut self, side: Side, name: &str, d: Description) -> Result<u32, BinaryFault>
         requires { HasSide (side_of side) self.old.here.content }
-        ensures lists { OnOk result (ListsItem (side_of side) name.now d self.old self.new) }
+        ensures lists { IfOk result (ListsItem (side_of side) name.now d self.old self.new) }
+        ensures records { OnOk result (KeepsRecords self.old self.new) }
         ensures index { IfOk result (λ i. i ≡ count_of (space (described_sort d)) self.old.here.content) }
         ensures content { OnOk result (self.new.here.content ≡ and_item (side_of side) name.now d self.old.here.content) }
         ensures refused { OnErr result (self.new ≡ self.old) }
@@ -353,6 +363,7 @@ impl State {
         requires instance { IsInstanceType self.old.here.content }
         requires imports { ImportNothing (decls (declarations_of self.old.here.content)) }
         ensures closes { IfOk result (Closes self.old self.new) }
+        ensures written { OnOk result (ClosesInto self.old self.new) }
         ensures refused { OnErr result (self.old.around.items ≡ self.new.around.items ++ self.new.here ∷ []) }
     {
         closing_law();
@@ -376,6 +387,7 @@ impl State {
     ) -> Result<(), BinaryFault>
         ensures goes { OnOk result ((c : Collection) → IsTypeAt c merged self.old ty index → Goes c merged self.old self.new) }
         ensures recorded { OnOk result (IsRecordedAt merged self.new ty (how_of how) index) }
+        ensures records { OnOk result (RecordsHere merged (index_at ty (how_of how) index) self.old self.new) }
         ensures types { AllAddTypes self.old self.new }
     {
         step_law();
@@ -393,7 +405,7 @@ impl State {
         is_closed: bool,
     ) -> Option<(usize, u32, bool)>
         ensures found { IfSome result (λ f. (w : Where) × IsNamedAt (stack merged self.now) definition f.0 w × IsPlace w f.1 f.2 × Crosses is_closed f.0 (stack merged self.now)) }
-        ensures here { result ≡ None → named_in definition (opened merged self.now.here) ≡ None }
+        ensures none { result ≡ None → (k : ℕ) (w : Where) → IsNamedAt (stack merged self.now) definition k w → Crosses is_closed k (stack merged self.now) → ⊥ }
     {
         if let Some((index, is_type)) = self.here.named(merged, definition) {
             return Some((0, index, is_type));
@@ -401,7 +413,10 @@ impl State {
         let mut crosses = self.here.may_cross(merged, is_closed);
         let mut left = self.around.len();
         let mut out = 0;
-        while crosses && left > 0 {
+        while left > 0 {
+            if !crosses {
+                return None;
+            }
             left -= 1;
             out += 1;
             if let Some((index, is_type)) = self.around[left].named(merged, definition) {
@@ -444,7 +459,7 @@ impl State {
     ) -> Result<Option<(usize, u32)>, BinaryFault>
         ensures goes { OnOk result (GoesForAll merged self.old self.new) }
         ensures reached { IfOk result (λ x. IfSome x (λ f. IsNamedAt (stack merged self.new) definition f.0 (at_type f.1) × Crosses is_closed f.0 (stack merged self.new))) }
-        ensures none { IfOk result (λ x. x ≡ None → (self.new ≡ self.old) × (named_in definition (opened merged self.old.here) ≡ None)) }
+        ensures none { IfOk result (λ x. x ≡ None → (self.new ≡ self.old) × ((k : ℕ) (w : Where) → IsNamedAt (stack merged self.old) definition k w → Crosses is_closed k (stack merged self.old) → ⊥)) }
         ensures types { AllAddTypes self.old self.new }
     {
         bringing_law();
@@ -508,7 +523,7 @@ impl State {
     ) -> Result<Option<u32>, BinaryFault>
         ensures goes { OnOk result ((c : Collection) → (is_closed ≡ true → IsClosed c (ty.Value (val.Defined definition))) → Goes c merged self.old self.new) }
         ensures named { IfOk result (λ x. IfSome x (λ i. named_in definition (opened merged self.new.here) ≡ Some (at_type i))) }
-        ensures none { IfOk result (λ x. x ≡ None → (self.new ≡ self.old) × (named_in definition (opened merged self.old.here) ≡ None)) }
+        ensures none { IfOk result (λ x. x ≡ None → (self.new ≡ self.old) × ((k : ℕ) (w : Where) → IsNamedAt (stack merged self.old) definition k w → Crosses is_closed k (stack merged self.old) → ⊥)) }
         ensures types { AllAddTypes self.old self.new }
     {
         step_law();
@@ -558,6 +573,7 @@ impl State {
         name: Text,
     ) -> Result<(), BinaryFault>
         ensures binds { OnOk result (BindsExport merged resource instance name self.old self.new) }
+        ensures recorded { OnOk result (RecordsHere merged (bind_at resource (at_export instance name)) self.old self.new) }
         ensures types { AllAddTypes self.old self.new }
     {
         closing_law();
@@ -577,9 +593,18 @@ impl State {
         name: Text,
     ) -> Result<(), BinaryFault>
         ensures goes { OnOk result ((c : Collection) → MayTell c merged definition instance name self.old → Goes c merged self.old self.new) }
+        ensures recorded { OnOk result (RecordsHere merged (export_at definition (at_export instance name)) self.old self.new) }
         ensures types { AllAddTypes self.old self.new }
     {
         self.here
             .record_export(merged, definition, Place::Export(instance, name))
+    }
+
+    /// Returns the content of the innermost scope.
+    pub(crate) fn into_content(self) -> Encodable
+        ensures { result ≡ self.here.content }
+    {
+        let State { around: _, here } = self;
+        here.into_content()
     }
 }

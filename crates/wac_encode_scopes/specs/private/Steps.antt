@@ -1,14 +1,16 @@
 -- What a call does to one scope, or to the scope k scopes out. Only contracts of private functions use this.
-use Rattle.std.specs.Prelude.{ℕ, ◌≡◌, Bool, true, false, not, Option, Some, None, ◌++◌, ◌∷◌, []}
+use Rattle.std.specs.Prelude.{ℕ, ◌≡◌, Bool, true, false, not, Option, Some, None, List, ◌++◌, ◌∷◌, []}
 use Rattle.wac_types_shapes.specs.declared.shapes.component.ResourceId.{ResourceId}
 use Rattle.wac_binary.specs.declared.sorts.Sort.TheVariants as s
 use Rattle.wac_binary.specs.declared.sorts.Description.TheVariants as e
-use Rattle.wac_binary.specs.Items.{export_alias}
+use Rattle.wac_binary.specs.Items.{export_alias, import_item, core_type, core_type_decl, ModuleDecl}
 use Rattle.wac_encode_scopes.specs.declared.encodable.Encodable.{Encodable}
 use Rattle.wac_encode_scopes.specs.declared.book.Book.{Book}
 use Rattle.wac_encode_scopes.specs.declared.scope.Scope.{Scope}
 use Rattle.wac_encode_scopes.specs.declared.state.State.{State}
-use Rattle.wac_encode_scopes.specs.Contents.{and_alias_of}
+use Rattle.wac_encode_scopes.specs.declared.encodable.Encodable.TheVariants.{Builder, Instance, Component}
+use Rattle.wac_encode_scopes.specs.Contents.{and_alias_of, and_item}
+use Rattle.wac_encode_scopes.specs.Interfaces.{own_in}
 use Rattle.wac_encode_scopes.specs.Books.{recorded, opened}
 use Rattle.wac_encode_scopes.specs.States.{stack}
 use Rattle.wac_encode_stacks.specs.Scopes.{Content, Where, at_type, at_export, Open, opening, declarations, root, next_type, bind_at}
@@ -17,7 +19,12 @@ use Rattle.wac_encode_stacks.specs.Inside.{changed_at, aliased_there}
 use Rattle.wac_types_shapes.specs.declared.shapes.component.DefinedTypeId.{DefinedTypeId}
 use Rattle.wac_encode_stacks.specs.Brought.{aliased_value}
 use Rattle.wac_types_shapes.specs.primitives.Name.{Name}
-use Rattle.wac_types_shapes.specs.primitives.Tree.{Side}
+use Rattle.wac_types_shapes.specs.primitives.Tree.{Side, exported, Leaf}
+use Rattle.wac_types_shapes.specs.declared.shapes.component.UsedType.{UsedType}
+use Rattle.wac_types_shapes.specs.declared.shapes.component.ItemKind.{ItemKind}
+use Rattle.wac_types_collection.specs.collection.Collection.{Collection}
+use Rattle.wac_types_collection.specs.collection.Bound.{Bindings}
+use Rattle.wac_encode_stacks.specs.Good.{Good, top}
 use Rattle.wac_encode_stacks.specs.Listed.{side_decl}
 
 -- The records of a book change by f, whatever the content is.
@@ -79,3 +86,37 @@ and_fresh side n (root items) = root items
 
 abbrev pub with_fresh : Side → Name → ResourceId → Open → Open
 with_fresh side n r o = bind_at r (at_type (next_type o)) (record o { content = and_fresh side n o.content })
+
+-- The scope after an own resource is exported fresh and recorded, if there is one; then after those of all items, in order.
+abbrev pub with_own_in : Option ResourceId → Name → Open → Open
+with_own_in None n o = o
+with_own_in (Some r) n o = with_fresh exported n r o
+
+abbrev pub with_own : Collection → List (Name × UsedType) → List (Name × ItemKind) → Open → Open
+with_own c uses [] o = o
+with_own c uses (x ∷ es) o = with_own c uses es (with_own_in (own_in c uses x) x.0 o)
+
+-- The declarations, with a fresh resource exported if there is one.
+abbrev pub exporting : Option ResourceId → Name → Encodable → Encodable
+exporting None n x = x
+exporting (Some r) n x = and_item exported n e.Fresh x
+
+-- Whether the own resource of an item is bound in the innermost scope.
+abbrev pub OwnIsBound : Collection → Bool → State → Option ResourceId → Bool → Type 0
+OwnIsBound c b s None is_bound = is_bound ≡ false
+OwnIsBound c b s (Some r) true = (ms : List Bindings) → Good c ms (stack b s) → (l : Leaf) × (top ms r ≡ Some l)
+OwnIsBound c b s (Some r) false = (ms : List Bindings) → Good c ms (stack b s) → top ms r ≡ None
+
+-- The root with a fresh import appended; then the scope in which that resource is also recorded.
+abbrev pub and_fresh_import : Name → Content → Content
+and_fresh_import n (root items) = root (items ++ import_item n e.Fresh ∷ [])
+and_fresh_import n (declarations ds) = declarations ds
+
+abbrev pub with_fresh_import : Name → ResourceId → Open → Open
+with_fresh_import n r o = bind_at r (at_type (next_type o)) (record o { content = and_fresh_import n o.content })
+
+-- The content with a core module type appended.
+abbrev pub and_core_type : List ModuleDecl → Encodable → Encodable
+and_core_type t (Builder items) = Builder (items ++ core_type t ∷ [])
+and_core_type t (Instance ds) = Instance (ds ++ core_type_decl t ∷ [])
+and_core_type t (Component ds) = Component (ds ++ core_type_decl t ∷ [])

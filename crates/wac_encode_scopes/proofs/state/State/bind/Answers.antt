@@ -1,8 +1,9 @@
 use Rattle.std.proofs.Common.{sym, subst}
 use Rattle.wac_encode_scopes.specs.Contents.{AddsTypes}
 use Rattle.wac_encode_scopes.proofs.Added.{adds-none}
-use Rattle.wac_encode_scopes.proofs.Stepped.{on-ok, all-here}
+use Rattle.wac_encode_scopes.proofs.Stepped.{on-ok, all-here, records-here}
 use Rattle.wac_encode_scopes.proofs.Opened.{binds-state}
+use Rattle.wac_encode_stacks.specs.Scopes.{at_export, bind_at}
 use Rattle.wac_encode_scopes.proofs.state.State.bind.Goals as goal
 
 pub returns-clause-binds : goal.returns-clause-binds
@@ -10,3 +11,6 @@ returns-clause-binds c = on-ok c.record_resource.result (binds-state c.closing_l
 
 pub returns-clause-types : goal.returns-clause-types
 returns-clause-types c = all-here c.args.self.now c.record_resource.new.self (subst (AddsTypes c.args.self.now.here.content) (sym c.record_resource.ensures.content) (adds-none c.args.self.now.here.content))
+
+pub returns-clause-recorded : goal.returns-clause-recorded
+returns-clause-recorded c = on-ok c.record_resource.result (records-here c.args.merged (bind_at c.args.resource (at_export c.args.instance c.args.name)) c.args.self.now c.record_resource.new.self c.record_resource.ensures.content) c.record_resource.ensures.recorded

@@ -2,7 +2,8 @@ use Rattle.std.proofs.Common.{sym, subst}
 use Rattle.wac_encode_scopes.specs.Contents.{AddsTypes}
 use Rattle.wac_encode_scopes.specs.Books.{how_of, opened}
 use Rattle.wac_encode_scopes.proofs.Added.{adds-none}
-use Rattle.wac_encode_scopes.proofs.Stepped.{on-ok, all-here, goes-recorded, indexed-there}
+use Rattle.wac_encode_scopes.proofs.Stepped.{on-ok, all-here, goes-recorded, indexed-there, records-here}
+use Rattle.wac_encode_stacks.specs.Scopes.{index_at}
 use Rattle.wac_encode_scopes.proofs.state.State.record.Goals as goal
 
 pub returns-clause-goes : goal.returns-clause-goes
@@ -13,3 +14,6 @@ returns-clause-recorded c = on-ok c.record_type.result (λ h. indexed-there c.ar
 
 pub returns-clause-types : goal.returns-clause-types
 returns-clause-types c = all-here c.args.self.now c.record_type.new.self (subst (AddsTypes c.args.self.now.here.content) (sym c.record_type.ensures.content) (adds-none c.args.self.now.here.content))
+
+pub returns-clause-records : goal.returns-clause-records
+returns-clause-records c = on-ok c.record_type.result (records-here c.args.merged (index_at c.args.ty (how_of c.args.how) c.args.index) c.args.self.now c.record_type.new.self c.record_type.ensures.content) c.record_type.ensures.recorded

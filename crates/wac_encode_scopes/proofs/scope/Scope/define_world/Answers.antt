@@ -1,0 +1,11 @@
+use Rattle.std.proofs.Common.{sym, subst, ◌∙◌}
+use Rattle.wac_binary.specs.Items.{component_def, decls}
+use Rattle.wac_encode_scopes.specs.Contents.{AddsTypes}
+use Rattle.wac_encode_scopes.proofs.Added.{adds-def}
+use Rattle.wac_encode_scopes.proofs.scope.Scope.define_world.Goals as goal
+
+pub returns-in_err-record_type-clause-types : goal.returns-in_err-record_type-clause-types
+returns-in_err-record_type-clause-types c = subst (AddsTypes c.args.self.now.content) (sym (c.record_type.ensures.content ∙ c.in_ok-own.ensures.appended)) (adds-def (component_def (decls c.args.component.now)) c.args.self.now.content)
+
+pub returns-clause-types : goal.returns-clause-types
+returns-clause-types c = subst (AddsTypes c.args.self.now.content) (sym (c.record_type.ensures.content ∙ c.in_ok-own.ensures.appended)) (adds-def (component_def (decls c.args.component.now)) c.args.self.now.content)

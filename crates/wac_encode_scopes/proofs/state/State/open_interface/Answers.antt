@@ -1,0 +1,18 @@
+use Rattle.std.proofs.Common.{◌≡◌, Some, ◌∙◌, sym, subst}
+use Rattle.wac_types_shapes.specs.declared.shapes.component.Interface.{Interface}
+use Rattle.wac_encode_scopes.specs.Interfaces.{BeginsInterface}
+use Rattle.wac_encode_scopes.proofs.Stepped.{two-ok}
+use Rattle.wac_encode_scopes.proofs.Owned.{sound-named, begins-interface}
+use Rattle.wac_encode_scopes.proofs.state.State.open_interface.Goals as goal
+
+pub returns-clause-begins : goal.returns-clause-begins
+returns-clause-begins c =
+    let a = c.closing_law.ensures in
+    let held = c.index-interface.result.now in
+    two-ok c.push.result (λ here around it at.
+    let some : Some held ≡ Some it = sym c.index-interface.ensures ∙ at in
+    let same : held ≡ it = cc in
+    subst (λ (x : Interface). BeginsInterface c.args.types.now c.args.merged x c.args.self.now c.push.new.self) same
+    (begins-interface c.listing_law.ensures.lists_own a.calls_one_more a.calls_no_more c.listing_law.ensures.lists_one_more a.fresh_in_interface a.calls_own a.opens_interface a.calls_all c.args.types.now c.args.merged held
+    (sound-named c.args.types.now c.uses_law.ensures c.args.id held c.index-interface.ensures) c.law.ensures c.args.self.now c.push.new.self c.in_ok-scope.scope c.binds_none-passes.result
+    c.in_ok-scope.ensures.opened c.in_ok-scope.ensures.content c.in_ok-scope.ensures.beside c.binds_none-passes.ensures.none c.binds_none-passes.ensures.one here around)) c.push.ensures.here c.push.ensures.around
