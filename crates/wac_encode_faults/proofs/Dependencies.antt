@@ -126,7 +126,7 @@ listed_next c es n e before now start at is was =
     ap (λ l. with_each l rest) is ∙ sym (each_joined before (listed_interface c e) rest) ∙ ap (λ xs. with_each before (listed_interfaces c xs)) (sym (drop_at es n e at)) ∙ was
 
 -- ---- what is of the collection
-in_kinds : (es : List (Name × ItemKind)) (e : Name × ItemKind) → Contains es e → IsIn (kind_type e.1) (kind_types es)
+pub in_kinds : (es : List (Name × ItemKind)) (e : Name × ItemKind) → Contains es e → IsIn (kind_type e.1) (kind_types es)
 in_kinds [] e h = absurd (in_none e h)
 in_kinds (x ∷ es) e h = elim (in_parts x e es h) [ inl same ↦ inl (ap (λ (z : Name × ItemKind). kind_type z.1) same) | inr w ↦ inr (in_kinds es e w) ]
 

@@ -1,5 +1,5 @@
 -- Free resources of types that are no interfaces.
-use Rattle.std.proofs.Common.{ℕ, zero, suc, ◌+◌, ◌≤◌, Bool, true, false, ◌||◌, if◌then◌else◌, List, [], ◌∷◌, ◌++◌, length, take, Contains, Option, Some, None, ◌≡◌, ◌⊎◌, ◌↔◌, inl, inr, refl, ap, sym, ◌∙◌, subst, arith, slice_get}
+use Rattle.std.proofs.Common.{ℕ, zero, suc, ◌+◌, ◌≤◌, Bool, true, false, ◌||◌, cond, eq-eqb, if◌then◌else◌, List, [], ◌∷◌, ◌++◌, length, take, Contains, Option, Some, None, ◌≡◌, ◌⊎◌, ◌↔◌, inl, inr, refl, ap, sym, ◌∙◌, subst, arith, slice_get}
 use Rattle.std.specs.List.{list_any}
 use Rattle.std.proofs.lemmas.Bool.{eqb-true}
 use Rattle.std.proofs.lemmas.List.{take_all}
@@ -19,14 +19,18 @@ use Rattle.wac_types_collection.specs.collection.Held.{resolved}
 use Rattle.wac_types_collection.specs.reach.Reach.{IsIn}
 use Rattle.wac_encode_faults.specs.Free.{parts, IsFree, in_part}
 use Rattle.wac_encode_faults.specs.Free as free
+use Rattle.wac_types_collection.specs.private.reach.Found.{with_all}
+use Rattle.wac_types_collection.proofs.lemmas.reach.Lists.{all_new, all_only}
+use Rattle.wac_encode_faults.specs.private.Sets.{IsFreeInOne}
+use Rattle.wac_encode_faults.proofs.Taken.{none_taken, taken_next}
 use Rattle.wac_encode_faults.specs.private.Near.{IsPart, first, onward, IsResolved, HasResolved}
 use Rattle.wac_types_collection.proofs.lemmas.wide.Members.{in_none, in_first, in_rest, in_parts, in_one, in_left, in_right, in_either}
 
 -- ---- a set of resources with one more
-same_id : (r q : ResourceId) → (IdEq.ghosts).eq r q ≡ true → r ≡ q
+pub same_id : (r q : ResourceId) → (IdEq.ghosts).eq r q ≡ true → r ≡ q
 same_id r q e = ap (λ n. record { 0 = n }) (eqb-true r.0 q.0 e)
 
-any_in : (rs : List ResourceId) (r : ResourceId) → list_any ((IdEq.ghosts).eq r) rs ≡ true → Contains rs r
+pub any_in : (rs : List ResourceId) (r : ResourceId) → list_any ((IdEq.ghosts).eq r) rs ≡ true → Contains rs r
 any_in [] r e = cc
 any_in (q ∷ rs) r e = by ((IdEq.ghosts).eq r q) refl e (λ h. any_in rs r h)
   where
@@ -34,7 +38,7 @@ any_in (q ∷ rs) r e = by ((IdEq.ghosts).eq r q) refl e (λ h. any_in rs r h)
     by true same _ _ = subst (λ z. Contains (z ∷ rs) r) (same_id r q same) (in_first r rs)
     by false _ h rest = in_rest q r rs (rest h)
 
-inserted_law : (rs now : List ResourceId) (q : ResourceId) → now ≡ insert_key (IdEq.ghosts).eq rs q → (r : ResourceId) → Contains now r ↔ (Contains rs r ⊎ (r ≡ q))
+pub inserted_law : (rs now : List ResourceId) (q : ResourceId) → now ≡ insert_key (IdEq.ghosts).eq rs q → (r : ResourceId) → Contains now r ↔ (Contains rs r ⊎ (r ≡ q))
 inserted_law rs now q is r = by (list_any ((IdEq.ghosts).eq q) rs) refl is
   where
     by : (b : Bool) → list_any ((IdEq.ghosts).eq q) rs ≡ b → now ≡ (if b then rs else rs ++ q ∷ []) → Contains now r ↔ (Contains rs r ⊎ (r ≡ q))
@@ -203,3 +207,116 @@ free_law c t old now start found slice other one same all added r = (to, from)
     from (inr w) =
         let m = made_of c t r other w in
         (added r).1 (inr (ty.Resource m.0, subst (IsIn (ty.Resource m.0)) (sym same) ((all (ty.Resource m.0)).1 (subst (λ l. IsPart c l (ty.Resource m.0)) (sym one) m.1)), (m.0, refl, m.2)))
+
+-- ---- free resources of several types
+part_root : (c : Collection) (ts : List AnyType) (t : AnyType) → IsPart c ts t → (s : AnyType) × IsIn s ts × IsPart c (s ∷ []) t
+part_root c ts t (first _ h) = (t, h, first t (inl refl))
+part_root c ts t (onward u _ p h) = let (s, here, r) = part_root c ts u p in (s, here, onward u t r h)
+
+part_of : (c : Collection) (ts : List AnyType) (s t : AnyType) → IsIn s ts → IsPart c (s ∷ []) t → IsPart c ts t
+part_of c ts s t here (first _ (inl e)) = first t (subst (λ z. IsIn z ts) (sym e) here)
+part_of c ts s t here (first _ (inr n)) = absurd n
+part_of c ts s t here (onward u _ p h) = onward u t (part_of c ts s u here p) h
+
+pub frees_law : (c : Collection) (ts : List AnyType) (old now : List ResourceId) (start found slice : List AnyType) → ((t : AnyType) → IsIn t ts → (i : InterfaceId) → t ≡ ty.Interface i → ⊥) → start ≡ with_all [] ts → slice ≡ found
+    → ((s : AnyType) → IsIn s found ↔ IsPart c start s) → ((r : ResourceId) → Contains now r ↔ (Contains old r ⊎ HasResolved c slice r)) → (r : ResourceId) → Contains now r ↔ (Contains old r ⊎ IsFreeInOne c ts r)
+unfolding IsMadeOf NoInterface
+frees_law c ts old now start found slice other begun same all added r = (to, from)
+  where
+    in_start : (s : AnyType) → IsIn s start → IsIn s ts
+    in_start s h = elim (all_only [] ts s (subst (IsIn s) begun h)) [ inl n ↦ absurd n | inr w ↦ w ]
+
+    made : HasResolved c slice r → IsFreeInOne c ts r
+    made w =
+        let (t, there, which) = w in
+        let (q, is, end) = which in
+        let (s, here, part) = part_root c start (ty.Resource q) ((all (ty.Resource q)).0 (subst (IsIn (ty.Resource q)) same (subst (λ z. IsIn z slice) is there))) in
+        (s, in_start s here, of_made c s r (q, part, end))
+
+    to : Contains now r → Contains old r ⊎ IsFreeInOne c ts r
+    to h = elim ((added r).0 h) [ inl w ↦ inl w | inr w ↦ inr (made w) ]
+
+    from : Contains old r ⊎ IsFreeInOne c ts r → Contains now r
+    from (inl w) = (added r).1 (inl w)
+    from (inr w) =
+        let (t, here, free) = w in
+        let m = made_of c t r (other t here) free in
+        let begins = subst (IsIn t) (sym begun) (all_new [] ts t here) in
+        (added r).1 (inr (ty.Resource m.0, subst (IsIn (ty.Resource m.0)) (sym same) ((all (ty.Resource m.0)).1 (part_of c start t (ty.Resource m.0) begins m.1)), (m.0, refl, m.2)))
+
+-- ---- sets of resources
+pub resource_itself : (r : ResourceId) → (IdEq.ghosts).eq r r ≡ true
+resource_itself r = eq-eqb r.0 r.0 refl
+
+pub in_any : (rs : List ResourceId) (r : ResourceId) → Contains rs r → list_any ((IdEq.ghosts).eq r) rs ≡ true
+in_any [] r h = absurd (in_none r h)
+in_any (q ∷ rs) r h = elim (in_parts q r rs h) [
+  | inl e ↦ ap (λ b. b || list_any ((IdEq.ghosts).eq r) rs) (subst (λ (z : ResourceId). (IdEq.ghosts).eq r z ≡ true) e (resource_itself r))
+  | inr w ↦ by ((IdEq.ghosts).eq r q) (in_any rs r w)
+]
+  where
+    by : (b : Bool) → list_any ((IdEq.ghosts).eq r) rs ≡ true → (b || list_any ((IdEq.ghosts).eq r) rs) ≡ true
+    by true _ = refl
+    by false k = k
+
+removed_law : (rs now : List ResourceId) (q : ResourceId)
+    → ((r : ResourceId) → list_any ((IdEq.ghosts).eq r) now ≡ cond ((IdEq.ghosts).eq q r) false (list_any ((IdEq.ghosts).eq r) rs)) → (r : ResourceId) → Contains now r ↔ (Contains rs r × (q ≡ r → ⊥))
+removed_law rs now q all r = (λ h. to ((IdEq.ghosts).eq q r) refl h, λ h. from ((IdEq.ghosts).eq q r) refl h)
+  where
+    here : (b : Bool) → (IdEq.ghosts).eq q r ≡ b → list_any ((IdEq.ghosts).eq r) now ≡ cond b false (list_any ((IdEq.ghosts).eq r) rs)
+    here b e = all r ∙ ap (λ a. cond a false (list_any ((IdEq.ghosts).eq r) rs)) e
+
+    to : (b : Bool) → (IdEq.ghosts).eq q r ≡ b → Contains now r → Contains rs r × (q ≡ r → ⊥)
+    to true e h = let wrong : true ≡ false = sym (in_any now r h) ∙ here true e in cc
+    to false e h = (any_in rs r (sym (here false e) ∙ in_any now r h), λ same. let wrong : true ≡ false = sym (subst (λ (z : ResourceId). (IdEq.ghosts).eq q z ≡ true) same (resource_itself q)) ∙ e in cc)
+
+    from : (b : Bool) → (IdEq.ghosts).eq q r ≡ b → Contains rs r × (q ≡ r → ⊥) → Contains now r
+    from true e (h, other) = absurd (other (same_id q r e))
+    from false e (h, other) = any_in now r (here false e ∙ in_any rs r h)
+
+-- without a resource, if there is one
+pub removed_one : (rs now : List ResourceId) (o : Option ResourceId) (q : ResourceId) → o ≡ Some q
+    → ((r : ResourceId) → list_any ((IdEq.ghosts).eq r) now ≡ cond ((IdEq.ghosts).eq q r) false (list_any ((IdEq.ghosts).eq r) rs)) → (r : ResourceId) → Contains now r ↔ (Contains rs r × (o ≡ Some r → ⊥))
+removed_one rs now o q is all r =
+    let law = removed_law rs now q all r in (
+      λ h. let w = law.0 h in (w.0, λ e. w.1 (same (sym is ∙ e))),
+      λ h. law.1 (h.0, λ e. h.1 (is ∙ ap Some e)),
+    )
+  where
+    same : Some q ≡ Some r → q ≡ r
+    same e = cc
+
+-- ---- with those of another
+-- What is there with the first resources added.
+abbrev pub AreJoined : List ResourceId → List ResourceId → ℕ → List ResourceId → Type 0
+AreJoined old rs n now = (r : ResourceId) → Contains now r ↔ (Contains old r ⊎ Contains (take n rs) r)
+
+pub joined_first : (old rs : List ResourceId) → AreJoined old rs 0 old
+joined_first old rs r = (λ h. inl h, λ h. elim h [ inl w ↦ w | inr n ↦ absurd (none_taken rs r n) ])
+
+pub joined_next : (old before now rs : List ResourceId) (n : ℕ) (q : ResourceId) → slice_get rs n ≡ Some q → AreJoined old rs n before → now ≡ insert_key (IdEq.ghosts).eq before q → AreJoined old rs (n + 1) now
+joined_next old before now rs n q at was is r =
+    let step = inserted_law before now q is r in
+    let next = taken_next rs n q r at in (
+      λ h. elim (step.0 h) [
+        | inl w ↦ elim ((was r).0 w) [ inl k ↦ inl k | inr k ↦ inr (next.1 (inl k)) ]
+        | inr e ↦ inr (next.1 (inr e))
+      ],
+      λ h. elim h [
+        | inl w ↦ step.1 (inl ((was r).1 (inl w)))
+        | inr w ↦ elim (next.0 w) [ inl k ↦ step.1 (inl ((was r).1 (inr k))) | inr e ↦ step.1 (inr e) ]
+      ],
+    )
+
+pub joined_all : (old now rs : List ResourceId) (n : ℕ) → length rs ≤ n → AreJoined old rs n now → (r : ResourceId) → Contains now r ↔ (Contains old r ⊎ Contains rs r)
+joined_all old now rs n past all r = subst (λ l. Contains now r ↔ (Contains old r ⊎ Contains l r)) (take_all n rs past) (all r)
+
+-- either of two may be the one that is added to
+pub joined_turned : (old set mid slice now : List ResourceId) → mid ≡ set → slice ≡ old → ((r : ResourceId) → Contains now r ↔ (Contains mid r ⊎ Contains slice r)) → (r : ResourceId) → Contains now r ↔ (Contains old r ⊎ Contains set r)
+joined_turned old set mid slice now is was added r = (
+  λ h. elim ((added r).0 h) [ inl w ↦ inr (subst (λ l. Contains l r) is w) | inr w ↦ inl (subst (λ l. Contains l r) was w) ],
+  λ h. (added r).1 (elim h [ inl w ↦ inr (subst (λ l. Contains l r) (sym was) w) | inr w ↦ inl (subst (λ l. Contains l r) (sym is) w) ]),
+)
+
+pub joined_same : (old set slice now : List ResourceId) → slice ≡ set → ((r : ResourceId) → Contains now r ↔ (Contains old r ⊎ Contains slice r)) → (r : ResourceId) → Contains now r ↔ (Contains old r ⊎ Contains set r)
+joined_same old set slice now is added r = subst (λ l. Contains now r ↔ (Contains old r ⊎ Contains l r)) is (added r)

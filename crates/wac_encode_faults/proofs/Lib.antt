@@ -7,5 +7,9 @@ pub mod Needed
 pub mod Twice
 pub mod Mentioned
 pub mod Ordering
+pub mod Taken
 pub mod FreeParts
+pub mod Entries
+pub mod Owned
+pub mod FreeSets
 pub mod Examples

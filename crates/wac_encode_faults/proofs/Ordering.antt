@@ -26,7 +26,7 @@ use Rattle.wac_types_collection.proofs.lemmas.wide.WideWalk.{length_one_more, mo
 use Rattle.wac_types_collection.proofs.lemmas.wide.Once.{among_in, each_old, each_new, each_only, each_known}
 
 -- ---- children are below
-interface_is : (t : AnyType) (j : InterfaceId) → Contains (interface_of t) j → t ≡ ty.Interface j
+pub interface_is : (t : AnyType) (j : InterfaceId) → Contains (interface_of t) j → t ≡ ty.Interface j
 interface_is (ty.Interface i) j h = ap ty.Interface (sym (in_one i j h))
 interface_is (ty.World w) j h = absurd (in_none j h)
 interface_is (ty.Resource r) j h = absurd (in_none j h)

@@ -142,7 +142,7 @@ not_behind i (j ∷ is) all h = elim (in_parts j i is h) [
   | inr w ↦ not_behind i is all.1 w
 ]
 
-before_is_other : (is : List InterfaceId) (p : ℕ) (i j : InterfaceId) → IsDistinct (IdEq.ghosts).eq is → slice_get is p ≡ Some i → Contains (take p is) j → i ≡ j → ⊥
+pub before_is_other : (is : List InterfaceId) (p : ℕ) (i j : InterfaceId) → IsDistinct (IdEq.ghosts).eq is → slice_get is p ≡ Some i → Contains (take p is) j → i ≡ j → ⊥
 before_is_other [] p i j once at h same = cc
 before_is_other (x ∷ is) zero i j once at h same = in_none j h
 before_is_other (x ∷ is) (suc p) i j once at h same = elim (in_parts x j (take p is) h) [

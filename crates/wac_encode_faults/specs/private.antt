@@ -1,3 +1,4 @@
 pub mod Search
 pub mod Near
 pub mod Order
+pub mod Sets

@@ -7,10 +7,13 @@
 mod additional;
 mod fault;
 mod faults;
+mod free;
 mod inside;
 mod names;
 mod order;
+mod own;
 mod parts;
+mod readers;
 mod resources;
 mod unlisted;
 

@@ -15,7 +15,7 @@ use wac_types_collection::wide::wide_uses_of_items;
 use wac_types_collection::{InterfaceId, ItemKind, Named, Types, UsedType, WorldId};
 
 /// Whether an interface has this id.
-fn has_id(types: &Types, id: InterfaceId, name: &str) -> bool
+pub(crate) fn has_id(types: &Types, id: InterfaceId, name: &str) -> bool
     requires { holds_type types.now (ty.Interface id) ≡ true }
     ensures { IsTrue result ↔ IsIdOf types.now name.now id }
 {

@@ -1,13 +1,12 @@
 use Rattle.std.proofs.Common.{◌+◌, ◌-◌, ◌*◌, suc, length, reverse}
 use Rattle.std.specs.List.{IsDistinct}
 use Rattle.wac_types_shapes.specs.contracts.shapes.component.InterfaceIdPartialEq.TheImpl as IdEq
-use Rattle.wac_encode_faults.specs.private.Order.{interfaces_of}
 use Rattle.wac_encode_faults.proofs.Ordering.{IsOrdering, most_listed}
 use Rattle.wac_encode_faults.proofs.order.interfaces_inside.Given as goal
 
 abbrev pub invariant-loop-step : goal.invariant-loop-step
 invariant-loop-step l = record {
-  order : IsOrdering l.fn.types (interfaces_of l.fn.items) l.done.keys l.seen.keys (reverse l.pending.items);
+  order : IsOrdering l.fn.types l.fn.roots.keys l.done.keys l.seen.keys (reverse l.pending.items);
   unique : IsDistinct (IdEq.ghosts).eq l.seen.keys;
 }
 

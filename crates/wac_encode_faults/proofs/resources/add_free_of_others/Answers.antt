@@ -1,0 +1,17 @@
+use Rattle.std.proofs.Common.{ap, ◌∙◌}
+use Rattle.std.proofs.lemmas.Result.{on_ok_weaker}
+use Rattle.wac_types_collection.specs.private.reach.Found.{with_all}
+use Rattle.wac_encode_faults.specs.private.Sets.{others_of}
+use Rattle.wac_encode_faults.proofs.FreeParts.{frees_law}
+use Rattle.wac_encode_faults.proofs.FreeSets.{others_held, others_no_interface}
+use Rattle.wac_encode_faults.proofs.resources.add_free_of_others.Goals as goal
+
+pub add_all_parts-requires : goal.add_all_parts-requires
+add_all_parts-requires c = others_held c.args.types.now c.args.items.now c.add_others.new.found.keys (c.in_ok-add_others.ensures ∙ ap (λ ts. with_all ts (others_of c.args.items.now)) c.new-found.ensures.empty) c.requires
+
+pub returns : goal.returns
+returns c =
+    on_ok_weaker c.add_resources.result (λ added.
+    frees_law c.args.types.now (others_of c.args.items.now) c.args.resources.now.keys c.add_resources.new.resources.keys c.add_others.new.found.keys c.add_all_parts.new.found.keys c.as_slice.result.now
+    (others_no_interface c.args.items.now) (c.in_ok-add_others.ensures ∙ ap (λ ts. with_all ts (others_of c.args.items.now)) c.new-found.ensures.empty) c.as_slice.ensures.keys c.in_ok-add_all_parts.ensures.parts added)
+    c.add_resources.ensures
