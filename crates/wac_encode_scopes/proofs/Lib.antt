@@ -11,3 +11,5 @@ pub mod ClosedBits
 pub mod Additions
 pub mod Rooted
 pub mod Owned
+pub mod Told
+pub mod Telling

@@ -172,6 +172,11 @@ pub lists-resource : ListsFresh → ListsOwn → (b : Bool) (side : Side) (n : N
 lists-resource fresh_law own_law b side n r st here i has is step = record {
   around = refl;
   index = ap (λ (o : Open). o.binds r) step.0 ∙ bound-there r (at_type (next_type (opened b st.here))) (record (opened b st.here) { content = and_fresh side n (content_of st.here.content) }) ∙ ap (λ (k : ℕ). Some (at_type k)) (sym is);
+  recorded =
+      step.0
+      ∙ ap (λ (j : ℕ). bind_at r (at_type j) (record (opened b st.here) { content = and_fresh side n (content_of st.here.content) })) (sym is)
+      ∙ ap (λ (y : Content). bind_at r (at_type i) (record (opened b st.here) { content = y })) (sym (ap (λ (o : Open). o.content) step.0));
+  other = step.1;
   unbound = λ c m ms g new none. subst (λ (o : Open). Lists c (calling r (listed_leaf side n) m) ms (opened b st.here) o (outward b st.around.items) side n fresh) (sym step.0) (fresh-content fresh_law c m ms (book_of b st.here) st.here.content (outward b st.around.items) side n r has g new none);
   own = by_side side has step;
 }

@@ -107,7 +107,7 @@ module _ (c : Collection) (uses : List (Name × UsedType)) where
       by_case false e = and-false (q.0 == r.0)
   own-none n k h r = refl
 
-  same-id : (q r : ResourceId) → (q.0 == r.0) ≡ true → q ≡ r
+  pub same-id : (q r : ResourceId) → (q.0 == r.0) ≡ true → q ≡ r
   same-id q r h = ap (λ i. record { 0 = i }) (eqb-true q.0 r.0 h)
 
   -- an item that lists a resource as own has it
@@ -126,7 +126,7 @@ module _ (c : Collection) (uses : List (Name × UsedType)) where
       by_case false i = i
 
   -- where the name of an own resource comes from
-  own-found : (es : List (Name × ItemKind)) (r : ResourceId) (n : Name) → own_name c uses es r ≡ Some n → (i : ℕ) × (x : Name × ItemKind) × (slice_get es i ≡ Some x) × (lists_own c uses r x ≡ true) × (x.0 ≡ n)
+  pub own-found : (es : List (Name × ItemKind)) (r : ResourceId) (n : Name) → own_name c uses es r ≡ Some n → (i : ℕ) × (x : Name × ItemKind) × (slice_get es i ≡ Some x) × (lists_own c uses r x ≡ true) × (x.0 ≡ n)
   own-found [] r n h = let no : None ≡ Some n = h in cc
   own-found (y ∷ es) r n h = by_case (own-found es r n) (lists_own c uses r y) refl h
     where
@@ -258,6 +258,12 @@ module _ (c : Collection) (uses : List (Name × UsedType)) where
       by_case rest true s e = let no : Some x.0 ≡ None = e in cc
       by_case rest false s e = rest e ∙ bound-one (own_in c uses x) x refl r o s
 
+-- the item at a position
+pub at-below : (xs : List (Name × ItemKind)) (j : ℕ) → j < length xs → (x : Name × ItemKind) × (slice_get xs j ≡ Some x)
+at-below [] j lt = absurd (omega (arith, lt))
+at-below (x ∷ xs) zero lt = (x, refl)
+at-below (x ∷ xs) (suc j) lt = at-below xs j (omega (arith, lt))
+
 -- an own resource is listed
 
 own-step : ListsOwn → (c : Collection) (m : Bindings) (ms : List Bindings) (ds : List Decl) (o : Open) (os : Stack) (n : Name) (r : ResourceId) → o.content ≡ declarations ds → Good c (m ∷ ms) (o ∷ os) → IsNewName o os exported n → RecordsNoType o → (o.passes ≡ true → top ms r ≡ None) → Lists c (calling r (listed_leaf exported n) m) ms o (with_fresh exported n r o) os exported n fresh
@@ -341,11 +347,6 @@ module _ (own_law : ListsOwn) (one_law : CallsOneMore) (no_law : CallsNoMore) (i
       let x = at-below it.exports i (omega (arith, le)) in
       let more = begun-more i x.0 x.1 (with_own c it.uses (take i it.exports) (opening passes)) (begun-at i (omega (arith, le))) in
       subst (λ (l : List (Name × ItemKind)). Begun l (with_own c it.uses l (opening passes))) (sym (take_at it.exports i x.0 x.1)) (subst (Begun (take i it.exports ++ x.0 ∷ [])) (sym (with-own-append c it.uses (take i it.exports) x.0 (opening passes))) more)
-    where
-      at-below : (xs : List (Name × ItemKind)) (j : ℕ) → j < length xs → (x : Name × ItemKind) × (slice_get xs j ≡ Some x)
-      at-below [] j lt = absurd (omega (arith, lt))
-      at-below (x ∷ xs) zero lt = (x, refl)
-      at-below (x ∷ xs) (suc j) lt = at-below xs j (omega (arith, lt))
 
   begun-all : Begun it.exports (with_own c it.uses it.exports (opening passes))
   begun-all = let le : length it.exports ≤ length it.exports = omega arith in subst (λ (l : List (Name × ItemKind)). Begun l (with_own c it.uses l (opening passes))) (take_all (length it.exports) it.exports le) (begun-at (length it.exports) le)

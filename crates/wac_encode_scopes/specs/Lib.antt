@@ -8,4 +8,5 @@ pub mod Interfaces
 pub mod Components
 pub mod Roots
 pub mod Lending
+pub mod Telling
 pub mod private

@@ -12,10 +12,11 @@ use Rattle.wac_encode_scopes.specs.declared.encodable.Encodable.TheVariants.{Ins
 use Rattle.wac_encode_scopes.specs.declared.scope.Scope.{Scope}
 use Rattle.wac_encode_scopes.specs.declared.state.State.{State}
 use Rattle.wac_encode_scopes.specs.Books.{opened}
-use Rattle.wac_encode_scopes.specs.Contents.{and_type, declarations_of}
+use Rattle.wac_encode_scopes.specs.Contents.{content_of, and_type, declarations_of}
 use Rattle.wac_binary.specs.Items.{decls, instance_def}
 use Rattle.wac_encode_scopes.specs.States.{outward, stack}
-use Rattle.wac_encode_stacks.specs.Scopes.{opening, at_type, at_export, export_at}
+use Rattle.wac_encode_stacks.specs.Scopes.{opening, at_type, at_export, export_at, bind_at}
+use Rattle.wac_encode_stacks.specs.Beside.{written_as}
 use Rattle.wac_encode_stacks.specs.Good.{At, Good, innermost, Stands, Onward, top}
 use Rattle.wac_encode_stacks.specs.Laws.{Adds}
 use Rattle.wac_encode_stacks.specs.Listed.{IsNewName, Lists, calling, listed_leaf, RecordsNoType}
@@ -73,6 +74,9 @@ IsNonempty (s ∷ ss) = Unit {0}
 pub record ListsResource (b : Bool) (side : Side) (n : Name) (r : ResourceId) (old new : State) (i : ℕ) : Type 0 where
   pub around : new.around ≡ old.around
   pub index : (opened b new.here).binds r ≡ Some (at_type i)
+  -- Nothing else is recorded.
+  pub recorded : opened b new.here ≡ bind_at r (at_type i) (record (opened b old.here) { content = content_of new.here.content })
+  pub other : opened (not b) new.here ≡ written_as (opened b new.here) (opened (not b) old.here)
   -- Either the resource was not bound before.
   pub unbound : (c : Collection) (m : Bindings) (ms : List Bindings) → Good c (m ∷ ms) (stack b old) → IsNewName (opened b old.here) (outward b old.around.items) side n → m r ≡ None
       → Lists c (calling r (listed_leaf side n) m) ms (opened b old.here) (opened b new.here) (outward b old.around.items) side n fresh

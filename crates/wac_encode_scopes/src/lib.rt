@@ -11,6 +11,7 @@ mod book;
 pub mod closed;
 pub mod components;
 pub mod encodable;
+pub mod instances;
 pub mod interfaces;
 pub mod parts;
 pub mod root;

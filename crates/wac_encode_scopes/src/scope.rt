@@ -539,9 +539,9 @@ impl Scope {
         ensures refused { OnErr result (self.new.content ≡ self.old.content) }
     {
         self.reserve_resource(merged)?;
-        let index = self.content.import(name, Description::Fresh)?;
-        self.put_resource(merged, resource, Place::Index(index));
-        Ok(index)
+        let own = self.content.import(name, Description::Fresh)?;
+        self.put_resource(merged, resource, Place::Index(own));
+        Ok(own)
     }
 
     /// The component that is written in the root.

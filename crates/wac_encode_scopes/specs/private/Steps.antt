@@ -1,5 +1,5 @@
 -- What a call does to one scope, or to the scope k scopes out. Only contracts of private functions use this.
-use Rattle.std.specs.Prelude.{ℕ, ◌≡◌, Bool, true, false, not, Option, Some, None, List, ◌++◌, ◌∷◌, []}
+use Rattle.std.specs.Prelude.{ℕ, ◌≡◌, Bool, true, false, not, Option, Some, None, if◌then◌else◌, List, ◌++◌, ◌∷◌, []}
 use Rattle.wac_types_shapes.specs.declared.shapes.component.ResourceId.{ResourceId}
 use Rattle.wac_binary.specs.declared.sorts.Sort.TheVariants as s
 use Rattle.wac_binary.specs.declared.sorts.Description.TheVariants as e
@@ -12,13 +12,13 @@ use Rattle.wac_encode_scopes.specs.declared.encodable.Encodable.TheVariants.{Bui
 use Rattle.wac_encode_scopes.specs.Contents.{and_alias_of, and_item}
 use Rattle.wac_encode_scopes.specs.Interfaces.{own_in}
 use Rattle.wac_encode_scopes.specs.Books.{recorded, opened}
-use Rattle.wac_encode_scopes.specs.States.{stack}
-use Rattle.wac_encode_stacks.specs.Scopes.{Content, Where, at_type, at_export, Open, opening, declarations, root, next_type, bind_at}
+use Rattle.wac_encode_scopes.specs.States.{stack, named_in}
+use Rattle.wac_encode_stacks.specs.Scopes.{Content, Where, at_type, at_export, Open, opening, declarations, root, next_type, bind_at, export_at}
 use Rattle.wac_encode_stacks.specs.Beside.{written_as, all_written_as}
 use Rattle.wac_encode_stacks.specs.Inside.{changed_at, aliased_there}
 use Rattle.wac_types_shapes.specs.declared.shapes.component.DefinedTypeId.{DefinedTypeId}
 use Rattle.wac_encode_stacks.specs.Brought.{aliased_value}
-use Rattle.wac_types_shapes.specs.primitives.Name.{Name}
+use Rattle.wac_types_shapes.specs.primitives.Name.{Name, option_case}
 use Rattle.wac_types_shapes.specs.primitives.Tree.{Side, exported, Leaf}
 use Rattle.wac_types_shapes.specs.declared.shapes.component.UsedType.{UsedType}
 use Rattle.wac_types_shapes.specs.declared.shapes.component.ItemKind.{ItemKind}
@@ -120,3 +120,18 @@ abbrev pub and_core_type : List ModuleDecl → Encodable → Encodable
 and_core_type t (Builder items) = Builder (items ++ core_type t ∷ [])
 and_core_type t (Instance ds) = Instance (ds ++ core_type_decl t ∷ [])
 and_core_type t (Component ds) = Component (ds ++ core_type_decl t ∷ [])
+
+-- The id, if it passes the test.
+abbrev pub that_passes : {A : Type 0} → (A → Bool) → Option A → Option A
+that_passes test None = None
+that_passes test (Some x) = if test x then Some x else None
+
+-- The scope with a resource bound to an export of an instance, if there is one.
+abbrev pub bound_to : Option ResourceId → ℕ → Name → Open → Open
+bound_to None j n o = o
+bound_to (Some r) j n o = bind_at r (at_export j n) o
+
+-- The scope with a value type recorded as an export of an instance, if there is one without a name in the scope.
+abbrev pub told_to : Option DefinedTypeId → ℕ → Name → Open → Open
+told_to None j n o = o
+told_to (Some d) j n o = option_case (named_in d o) (export_at d (at_export j n) o) (λ w. o)

@@ -1,0 +1,44 @@
+use Rattle.std.proofs.Common.{◌≡◌, Bool, Some, ◌∙◌, sym, subst}
+use Rattle.wac_types_shapes.specs.declared.shapes.component.ResourceId.{ResourceId}
+use Rattle.wac_types_shapes.specs.declared.shapes.component.Interface.{Interface}
+use Rattle.wac_encode_scopes.specs.Contents.{AddsTypes}
+use Rattle.wac_encode_scopes.specs.Closed.{is_closed_in}
+use Rattle.wac_encode_scopes.specs.States.{RecordsHere}
+use Rattle.wac_encode_scopes.specs.Telling.{is_one_of, telling, TellsInstance}
+use Rattle.wac_encode_scopes.proofs.Added.{adds-none}
+use Rattle.wac_encode_scopes.proofs.Owned.{sound-named}
+use Rattle.wac_encode_scopes.proofs.Stepped.{on-ok, all-here, records-here}
+use Rattle.wac_encode_scopes.proofs.Telling.{sound-held, telling-changes, tells-instance}
+use Rattle.wac_encode_scopes.proofs.state.State.tell_instance.Goals as goal
+
+pub bind_own-requires : goal.bind_own-requires
+bind_own-requires c = sound-named c.args.types.now c.uses_law.ensures c.args.interface c.index-it.result.now c.index-it.ensures
+
+pub returns-in_err-bind_own-clause-types : goal.returns-in_err-bind_own-clause-types
+returns-in_err-bind_own-clause-types c = all-here c.args.self.now c.bind_own.new.self (subst (AddsTypes c.args.self.now.here.content) (sym c.bind_own.ensures.content) (adds-none c.args.self.now.here.content))
+
+pub returns-clause-types : goal.returns-clause-types
+returns-clause-types c = all-here c.args.self.now c.tell_values.new.self (subst (AddsTypes c.args.self.now.here.content) (sym (c.tell_values.ensures.content ∙ c.bind_own.ensures.content)) (adds-none c.args.self.now.here.content))
+
+pub returns-clause-recorded : goal.returns-clause-recorded
+returns-clause-recorded c =
+    let held = c.index-it.result.now in
+    let own : ResourceId → Bool = is_one_of c.args.own.now.keys in
+    on-ok c.tell_values.result (λ last it at.
+    let some : Some held ≡ Some it = sym c.index-it.ensures ∙ at in
+    let same : held ≡ it = cc in
+    subst (λ (x : Interface). RecordsHere c.args.merged (telling c.args.types.now x own (is_closed_in c.args.closed.now) c.args.instance) c.args.self.now (record c.args.self.now { here = c.tell_values.new.self })) same
+    (records-here c.args.merged (telling c.args.types.now held own (is_closed_in c.args.closed.now) c.args.instance) c.args.self.now c.tell_values.new.self (c.tell_values.ensures.content ∙ c.bind_own.ensures.content)
+    (telling-changes c.args.types.now held own (is_closed_in c.args.closed.now) c.args.instance c.are_all_of-is_whole.result c.args.merged c.args.self.now.here c.bind_own.new.self c.tell_values.new.self c.are_all_of-is_whole.ensures c.in_ok-bind_own.ensures.recorded last))) c.tell_values.ensures.recorded
+
+pub returns-clause-tells : goal.returns-clause-tells
+returns-clause-tells c =
+    let held = c.index-it.result.now in
+    let own : ResourceId → Bool = is_one_of c.args.own.now.keys in
+    on-ok c.tell_values.result (λ last are it at.
+    let some : Some held ≡ Some it = sym c.index-it.ensures ∙ at in
+    let same : held ≡ it = cc in
+    subst (λ (x : Interface). TellsInstance c.args.types.now c.args.merged x own c.args.instance c.args.self.now (record c.args.self.now { here = c.tell_values.new.self })) same
+    (tells-instance c.closing_law.ensures.binds_more c.instance_law.ensures.has_own c.instance_law.ensures.has_exported c.alias_law.ensures c.still_law.ensures c.args.types.now c.law.ensures c.args.merged held
+    (sound-named c.args.types.now c.uses_law.ensures c.args.interface held c.index-it.ensures) c.law-2.ensures (sound-held c.args.types.now c.uses_law.ensures c.args.interface held c.index-it.ensures) c.args.closed.now are own c.args.instance c.args.self.now c.tell_values.new.self
+    (telling-changes c.args.types.now held own (is_closed_in c.args.closed.now) c.args.instance c.are_all_of-is_whole.result c.args.merged c.args.self.now.here c.bind_own.new.self c.tell_values.new.self c.are_all_of-is_whole.ensures c.in_ok-bind_own.ensures.recorded last).0)) c.tell_values.ensures.recorded
