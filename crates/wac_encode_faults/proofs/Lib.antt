@@ -12,4 +12,5 @@ pub mod FreeParts
 pub mod Entries
 pub mod Owned
 pub mod FreeSets
+pub mod Binding
 pub mod Examples

@@ -2,3 +2,4 @@ pub mod Search
 pub mod Near
 pub mod Order
 pub mod Sets
+pub mod Binding

@@ -5,6 +5,7 @@
 #![tactic(auto)]
 
 mod additional;
+mod bound;
 mod fault;
 mod faults;
 mod free;
@@ -15,6 +16,7 @@ mod own;
 mod parts;
 mod readers;
 mod resources;
+mod unbound;
 mod unlisted;
 
 pub use fault::{EncodeFault, WriteFault};

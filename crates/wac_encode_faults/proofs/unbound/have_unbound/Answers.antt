@@ -1,0 +1,7 @@
+use Rattle.wac_encode_faults.proofs.Binding.{missing_items}
+use Rattle.wac_encode_faults.proofs.unbound.have_unbound.Goals as goal
+
+pub returns : goal.returns
+returns c =
+    let both = missing_items c.args.types.now c.args.items.now c.args.bound.now.keys c.new-free.result.keys c.add_free_of_items.new.found.keys c.new-free.ensures.empty c.in_ok-add_free_of_items.ensures in
+    (λ t. both.0 (c.has_missing.ensures.0 t), λ h. c.has_missing.ensures.1 (both.1 h))
