@@ -1,0 +1,13 @@
+pub mod Lists
+pub mod Lower
+pub mod Searching
+pub mod Edging
+pub mod Naming
+pub mod Taking
+pub mod Chosen
+pub mod Listing
+pub mod KeySets
+pub mod ArrangedLaws
+pub mod ArrangedPlaces
+pub mod ArrangedSteps
+pub mod Siding

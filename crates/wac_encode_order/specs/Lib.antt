@@ -1,0 +1,5 @@
+pub mod TypeItems
+pub mod Interfaces
+pub mod Arranged
+pub mod SideOrder
+pub mod private
