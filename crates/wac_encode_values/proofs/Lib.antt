@@ -1,0 +1,5 @@
+pub mod Ready
+pub mod Members
+pub mod Made
+pub mod Waiting
+pub mod Params
