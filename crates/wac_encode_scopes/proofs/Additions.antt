@@ -5,7 +5,7 @@ use Rattle.wac_types_shapes.specs.declared.shapes.component.WorldId.{WorldId}
 use Rattle.wac_types_shapes.specs.declared.shapes.component.«Type».TheVariants as ty
 use Rattle.wac_types_collection.specs.collection.Collection.{Collection}
 use Rattle.wac_types_collection.specs.collection.Bound.{Bindings}
-use Rattle.wac_binary.specs.Items.{Decl, decls, component_def, core_type, core_type_decl, ModuleDecl}
+use Rattle.wac_binary.specs.Items.{Decl, decls, value_def, primitive_def, component_def, core_type, core_type_decl, ModuleDecl}
 use Rattle.wac_binary.specs.Unfold.{module_tree}
 use Rattle.wac_encode_scopes.specs.declared.book.Book.{Book}
 use Rattle.wac_encode_scopes.specs.declared.encodable.Encodable.{Encodable}
@@ -15,11 +15,13 @@ use Rattle.wac_encode_scopes.specs.declared.state.State.{State}
 use Rattle.wac_encode_scopes.specs.Contents.{content_of, and_type, AddsTypes}
 use Rattle.wac_encode_scopes.specs.Books.{recorded, book_of, opened}
 use Rattle.wac_encode_scopes.specs.States.{outward}
-use Rattle.wac_encode_scopes.specs.Components.{ComponentHasMeaning, component_tree, DefinesComponent, DefinesModuleType}
+use Rattle.wac_encode_scopes.specs.Components.{ComponentHasMeaning, component_tree, DefinesComponent, DefinesModuleType, DefinesPrimitiveType}
 use Rattle.wac_encode_scopes.specs.private.Steps.{ScopeChanges, and_core_type}
 use Rattle.wac_encode_stacks.specs.Scopes.{Open, Stack, env, envs, next_type, type_count, with_def, defined, index_at, opening}
 use Rattle.wac_encode_stacks.specs.Good.{At, Good, IsHeld, nothing_bound, Onward}
-use Rattle.wac_encode_stacks.specs.Laws.{Adds, RecordsType, Follows}
+use Rattle.wac_encode_stacks.specs.Laws.{Adds, RecordsType, Follows, DefinesPrimitive}
+use Rattle.wac_types_shapes.specs.primitives.Tree.{primitive}
+use Rattle.wac_types_shapes.specs.declared.primitives.component.PrimitiveType.{PrimitiveType}
 use Rattle.wac_encode_stacks.specs.Listed.{declaring, ClosesComponent}
 use Rattle.wac_encode_stacks.specs.Modules.{and_module, module_count, with_module, DefinesModule}
 use Rattle.wac_encode_scopes.proofs.Added.{adds-def}
@@ -103,3 +105,14 @@ goes-world law records follows b world w ds st here k is_world added index step 
       subst (λ (o : Open). At ((env o (envs (outward b st.around.items))).types) k (component_tree ds)) (sym step.0)
       (subst (λ (j : ℕ). At ((env (and_world_of w ds (opened b st.here)) (envs (outward b st.around.items))).types) j (component_tree ds)) (sym index) (adds-component law c ds means m ms (opened b st.here) (outward b st.around.items) good).1),
 )
+
+pub goes-primitive : DefinesPrimitive → (p : PrimitiveType) (st : State) (here : Scope) (k : ℕ) → k ≡ type_count (content_of st.here.content) → here ≡ record st.here { content = and_type (value_def (primitive_def p)) st.here.content } → DefinesPrimitiveType p st (record st { here = here }) k
+goes-primitive law p st here k index is c b = (
+  goes-here c b (with_def (value_def (primitive_def p))) st here step (added-content st.here here (and_type (value_def (primitive_def p)) st.here.content) is (adds-def (value_def (primitive_def p)) st.here.content)) (λ m ms good. (law c m ms (opened b st.here) (outward b st.around.items) p good).0),
+  λ m ms good.
+      subst (λ (o : Open). At ((env o (envs (outward b st.around.items))).types) k (primitive p)) (sym step.0)
+      (subst (λ (j : ℕ). At ((env (with_def (value_def (primitive_def p)) (opened b st.here)) (envs (outward b st.around.items))).types) j (primitive p)) (sym index) (law c m ms (opened b st.here) (outward b st.around.items) p good).1),
+)
+  where
+    step : ScopeChanges b (with_def (value_def (primitive_def p))) st.here here
+    step = scope-written b (with_def (value_def (primitive_def p))) st.here here (and_type (value_def (primitive_def p)) st.here.content) is (λ d. opened-def d (value_def (primitive_def p)) st.here)

@@ -1,6 +1,7 @@
--- Component types and core module types that are added to the innermost scope.
+-- Component types, core module types and primitive types that are added to the innermost scope.
 use Rattle.std.specs.Prelude.{ℕ, ◌≡◌, Bool, List, [], ◌∷◌, Option, Some}
-use Rattle.wac_types_shapes.specs.primitives.Tree.{Tree, component}
+use Rattle.wac_types_shapes.specs.primitives.Tree.{Tree, component, primitive}
+use Rattle.wac_types_shapes.specs.declared.primitives.component.PrimitiveType.{PrimitiveType}
 use Rattle.wac_types_shapes.specs.declared.shapes.component.WorldId.{WorldId}
 use Rattle.wac_types_shapes.specs.declared.shapes.component.«Type».TheVariants as ty
 use Rattle.wac_types_collection.specs.collection.Collection.{Collection}
@@ -35,3 +36,7 @@ DefinesComponent b w ds old new k = (c : Collection) → ComponentHasMeaning ds 
 abbrev pub DefinesModuleType : List ModuleDecl → State → State → ℕ → Type 0
 DefinesModuleType ds old new k = ModuleHasMeaning no_module ds → (c : Collection) (b : Bool)
     → Goes c b old new × ((m : Bindings) (ms : List Bindings) → Good c (m ∷ ms) (stack b old) → At ((innermost (stack b new)).core_types) k (module_tree ds))
+
+-- A primitive type is defined, and the type index k refers to it.
+abbrev pub DefinesPrimitiveType : PrimitiveType → State → State → ℕ → Type 0
+DefinesPrimitiveType p old new k = (c : Collection) (b : Bool) → Goes c b old new × ((m : Bindings) (ms : List Bindings) → Good c (m ∷ ms) (stack b old) → At ((innermost (stack b new)).types) k (primitive p))

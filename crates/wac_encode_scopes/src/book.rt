@@ -6,7 +6,7 @@ ghost use Rattle.wac_encode_scopes.specs.Contents.{content_of};
 ghost use Rattle.std.specs.HashMap.{spare};
 ghost use Rattle.wac_encode_stacks.specs.Scopes.{Content};
 ghost use Rattle.wac_encode_scopes.specs.Books.{recorded, where_of, how_of, binds_in, types_in, exports_in, maybe_where, maybe_indexed};
-ghost use Rattle.wac_encode_scopes.specs.private.Steps.{Records, IsExported, aliased_from, export_of};
+ghost use Rattle.wac_encode_scopes.specs.private.Steps.{Records, IsExported, is_listed, aliased_from, export_of};
 
 use crate::encodable::Encodable;
 use std::alloc::Global;
@@ -36,6 +36,18 @@ pub(crate) struct Entry {
     pub(crate) index: u32,
     /// What gave the type its index.
     pub(crate) how: How,
+}
+
+impl Entry {
+    /// Whether a type import or type export gave the type its index.
+    pub(crate) fn is_listed(&self) -> bool
+        ensures { result ≡ is_listed (how_of self.now.how) }
+    {
+        match self.how {
+            How::Listed => true,
+            How::Defined | How::Brought => false,
+        }
+    }
 }
 
 /// The place of a resource, or of a value type that an instance exports.

@@ -1,6 +1,6 @@
-//! Component types and core module types.
+//! Component types, core module types and primitive types.
 
-ghost use Rattle.std.specs.Prelude.{◌≡◌, ◌∷◌, [], Bool, IfOk, IfSome};
+ghost use Rattle.std.specs.Prelude.{◌≡◌, ◌∷◌, [], Bool, IfOk, OnOk, IfSome};
 ghost use Rattle.wac_types_shapes.specs.primitives.Tree.{component as component_of};
 ghost use Rattle.wac_types_shapes.specs.declared.shapes.component.«Type».TheVariants as ty;
 ghost use Rattle.wac_types_collection.specs.collection.Collection.{Collection};
@@ -8,14 +8,14 @@ ghost use Rattle.wac_types_collection.specs.collection.Bound.{Bindings};
 ghost use Rattle.wac_encode_stacks.specs.Scopes.{defined};
 ghost use Rattle.wac_encode_stacks.specs.Good.{Good, innermost};
 ghost use Rattle.wac_encode_scopes.specs.Contents.{declarations_of};
-ghost use Rattle.wac_encode_scopes.specs.States.{stack, AllAddTypes, IsRecordedAt};
-ghost use Rattle.wac_encode_scopes.specs.Components.{IsComponentType, ComponentHasMeaning, component_tree, DefinesComponent, DefinesModuleType};
+ghost use Rattle.wac_encode_scopes.specs.States.{stack, AllAddTypes, KeepsRecords, IsRecordedAt};
+ghost use Rattle.wac_encode_scopes.specs.Components.{IsComponentType, ComponentHasMeaning, component_tree, DefinesComponent, DefinesModuleType, DefinesPrimitiveType};
 
 use crate::encodable::Encodable;
 use crate::state::State;
 use wac_binary::{BinaryFault, ComponentType, ModuleType};
 use wac_encode_stacks::{closing_law, module_law, step_law};
-use wac_types_collection::WorldId;
+use wac_types_collection::{PrimitiveType, WorldId};
 
 impl State {
     /// Returns the component type that is the content of the only scope. See [`Self::component`].
@@ -65,5 +65,19 @@ impl State {
     {
         module_law();
         self.here.define_module(declarations)
+    }
+
+    /// Defines a primitive type in the innermost scope and returns its type index. Nothing is recorded.
+    ///
+    /// # Errors
+    /// - `TooLarge` if the content of the scope would not fit 32-bit sizes.
+    /// - `OutOfMemory`.
+    pub fn define_primitive(&mut self, primitive: PrimitiveType) -> Result<u32, BinaryFault>
+        ensures defines { IfOk result (DefinesPrimitiveType primitive self.old self.new) }
+        ensures records { OnOk result (KeepsRecords self.old self.new) }
+        ensures types { AllAddTypes self.old self.new }
+    {
+        step_law();
+        self.here.define_primitive(primitive)
     }
 }

@@ -3,7 +3,7 @@
 ghost use Rattle.std.specs.Prelude.{◌≡◌, ◌⊎◌, ◌<◌, Bool, true, false, not, [], IfOk, OnOk, OnErr, None};
 ghost use Rattle.std.specs.Borrow.{sem};
 ghost use Rattle.wac_binary.specs.declared.sorts.Sort.TheVariants as s;
-ghost use Rattle.wac_binary.specs.Items.{value_def, instance_def, component_def, decls, outer_alias};
+ghost use Rattle.wac_binary.specs.Items.{value_def, primitive_def, instance_def, component_def, decls, outer_alias};
 ghost use Rattle.wac_binary.specs.Indexes.{space, described_sort};
 ghost use Rattle.wac_binary.specs.Views.{defined_of, func_of};
 ghost use Rattle.wac_types_shapes.specs.declared.shapes.component.«Type».TheVariants as ty;
@@ -27,7 +27,9 @@ use wac_binary::{
     BinaryFault, ComponentBuilder, ComponentType, DefinedType, Description, FuncType, InstanceType,
     ModuleType,
 };
-use wac_types_collection::{DefinedTypeId, FuncTypeId, ResourceId, Type, ValueType, WorldId};
+use wac_types_collection::{
+    DefinedTypeId, FuncTypeId, PrimitiveType, ResourceId, Type, ValueType, WorldId,
+};
 
 /// An open scope: its content, and records for the types of the merged collection and of the graph's own.
 ///
@@ -495,6 +497,19 @@ impl Scope {
         let own = self.content.component_type(component)?;
         self.record_type(merged, Type::World(world), How::Defined, own)?;
         Ok(own)
+    }
+
+    /// Adds a primitive type under a type index of its own, and returns the index.
+    ///
+    /// # Errors
+    /// As [`Encodable::defined_type`].
+    pub(crate) fn define_primitive(&mut self, primitive: PrimitiveType) -> Result<u32, BinaryFault>
+        ensures index { IfOk result (λ i. i ≡ type_count (content_of self.old.content)) }
+        ensures appended { OnOk result (self.new ≡ record self.old { content = and_type (value_def (primitive_def primitive)) self.old.content }) }
+        ensures refused { OnErr result (self.new ≡ self.old) }
+    {
+        self.content
+            .defined_type(&DefinedType::Primitive(primitive))
     }
 
     /// Adds a core module type and returns its core type index.

@@ -9,7 +9,7 @@ ghost use Rattle.wac_types_shapes.specs.declared.shapes.component.«Type».TheVa
 ghost use Rattle.wac_types_collection.specs.collection.Collection.{Collection, IsWellFormed, item_at};
 ghost use Rattle.wac_types_collection.specs.collection.Held.{resolved};
 ghost use Rattle.wac_binary.specs.Views.{defined_of, func_of};
-ghost use Rattle.wac_encode_stacks.specs.Scopes.{Where, at_type, at_export, How as AnyHow, defined, bind_at, index_at, export_at};
+ghost use Rattle.wac_encode_stacks.specs.Scopes.{Where, at_type, at_export, How as AnyHow, defined, listed, bind_at, index_at, export_at};
 ghost use Rattle.wac_encode_stacks.specs.Good.{Good, IsClosed, nothing_bound, top};
 ghost use Rattle.wac_types_collection.specs.collection.Bound.{Bindings};
 ghost use Rattle.wac_types_shapes.specs.primitives.Tree.{Leaf};
@@ -300,6 +300,17 @@ impl State {
         match self.here.entry(merged, ty) {
             Some(entry) => Some(entry.index),
             None => None,
+        }
+    }
+
+    /// Whether a type has the type index of a type import or type export of the innermost scope.
+    pub fn is_listed(&self, merged: bool, ty: Type) -> bool
+        ensures yes { result ≡ true → (i : ℕ) × IsRecordedAt merged self.now ty listed i }
+        ensures no { result ≡ false → (i : ℕ) → IsRecordedAt merged self.now ty listed i → ⊥ }
+    {
+        match self.here.entry(merged, ty) {
+            Some(entry) => entry.is_listed(),
+            None => false,
         }
     }
 

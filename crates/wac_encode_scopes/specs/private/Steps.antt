@@ -13,7 +13,7 @@ use Rattle.wac_encode_scopes.specs.Contents.{and_alias_of, and_item}
 use Rattle.wac_encode_scopes.specs.Interfaces.{own_in}
 use Rattle.wac_encode_scopes.specs.Books.{recorded, opened}
 use Rattle.wac_encode_scopes.specs.States.{stack, named_in}
-use Rattle.wac_encode_stacks.specs.Scopes.{Content, Where, at_type, at_export, Open, opening, declarations, root, next_type, bind_at, export_at}
+use Rattle.wac_encode_stacks.specs.Scopes.{Content, Where, How, defined, brought, listed, at_type, at_export, Open, opening, declarations, root, next_type, bind_at, export_at}
 use Rattle.wac_encode_stacks.specs.Beside.{written_as, all_written_as}
 use Rattle.wac_encode_stacks.specs.Inside.{changed_at, aliased_there}
 use Rattle.wac_types_shapes.specs.declared.shapes.component.DefinedTypeId.{DefinedTypeId}
@@ -135,3 +135,9 @@ bound_to (Some r) j n o = bind_at r (at_export j n) o
 abbrev pub told_to : Option DefinedTypeId → ℕ → Name → Open → Open
 told_to None j n o = o
 told_to (Some d) j n o = option_case (named_in d o) (export_at d (at_export j n) o) (λ w. o)
+
+-- A type import or type export gave the index.
+abbrev pub is_listed : How → Bool
+is_listed defined = false
+is_listed brought = false
+is_listed listed = true
