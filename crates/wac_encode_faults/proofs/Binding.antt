@@ -228,11 +228,11 @@ pub bound_all : (c : Collection) (uses : List (Name × UsedType)) (es : List (Na
 bound_all c uses es n old now past all side r = subst (λ l. Contains now r ↔ (Contains old r ⊎ BindsOne c uses side l r)) (take_all n es past) (all side r)
 
 -- ---- a side without a binding
-first_none : {A : Type 0} (a b : Option A) → first_some a b ≡ None → (a ≡ None) × (b ≡ None)
+pub first_none : {A : Type 0} (a b : Option A) → first_some a b ≡ None → (a ≡ None) × (b ≡ None)
 first_none None b h = (refl, h)
 first_none (Some a) b h = cc
 
-both_none : {A : Type 0} (a b : Option A) → a ≡ None → b ≡ None → first_some a b ≡ None
+pub both_none : {A : Type 0} (a b : Option A) → a ≡ None → b ≡ None → first_some a b ≡ None
 both_none None b e h = h
 both_none (Some a) b e h = cc
 

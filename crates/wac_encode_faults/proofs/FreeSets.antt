@@ -90,7 +90,7 @@ in_other s (ty.Value w) (inr n) = absurd n
 in_other s (ty.Module w) (inl e) = e
 in_other s (ty.Module w) (inr n) = absurd n
 
-no_interface : (s t : AnyType) → IsIn s (other_of t) → (i : InterfaceId) → s ≡ ty.Interface i → ⊥
+pub no_interface : (s t : AnyType) → IsIn s (other_of t) → (i : InterfaceId) → s ≡ ty.Interface i → ⊥
 no_interface s t h i e =
     let same = in_other s t h in
     nowhere t i (sym same ∙ e) (subst (λ z. IsIn z (other_of t)) same h)
@@ -103,7 +103,7 @@ no_interface s t h i e =
     nowhere (ty.Value w) i e n = cc
     nowhere (ty.Module w) i e n = cc
 
-interface_or_other : (t : AnyType) → ((j : InterfaceId) × (t ≡ ty.Interface j)) ⊎ IsIn t (other_of t)
+pub interface_or_other : (t : AnyType) → ((j : InterfaceId) × (t ≡ ty.Interface j)) ⊎ IsIn t (other_of t)
 interface_or_other (ty.Interface j) = inl (j, refl)
 interface_or_other (ty.World w) = inr (inl refl)
 interface_or_other (ty.Resource w) = inr (inl refl)

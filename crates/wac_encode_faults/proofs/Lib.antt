@@ -13,4 +13,5 @@ pub mod Entries
 pub mod Owned
 pub mod FreeSets
 pub mod Binding
+pub mod TypeItems
 pub mod Examples

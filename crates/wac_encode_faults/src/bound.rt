@@ -35,7 +35,7 @@ fn add_one(found: &mut IndexSet<ResourceId>, resource: Option<ResourceId>) -> Re
 }
 
 /// Adds the own resources of an interface.
-fn add_own(
+pub(crate) fn add_own(
     found: &mut IndexSet<ResourceId>,
     types: &Types,
     interface: &Interface,

@@ -32,7 +32,10 @@ fn add_each(found: &mut IndexSet<ResourceId>, resources: &[ResourceId]) -> Resul
 }
 
 /// Adds a set: of the two, the smaller one goes into the larger one.
-fn add_set(found: &mut IndexSet<ResourceId>, set: IndexSet<ResourceId>) -> Result<(), AllocError>
+pub(crate) fn add_set(
+    found: &mut IndexSet<ResourceId>,
+    set: IndexSet<ResourceId>,
+) -> Result<(), AllocError>
     ensures { OnOk result ((r : Resources) → Contains found.new.keys r ↔ (Contains found.old.keys r ⊎ Contains set.keys r)) }
 {
     let larger = found.len() < set.len();

@@ -16,6 +16,8 @@ mod own;
 mod parts;
 mod readers;
 mod resources;
+mod sides;
+mod type_items;
 mod unbound;
 mod unlisted;
 

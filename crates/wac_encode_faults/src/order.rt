@@ -15,7 +15,7 @@ use std::alloc::AllocError;
 use wac_types_collection::{InterfaceId, ItemKind, Named, Type, Types};
 
 /// Adds a type, if it is an interface.
-fn add_interface(found: &mut IndexSet<InterfaceId>, ty: Type) -> Result<(), AllocError>
+pub(crate) fn add_interface(found: &mut IndexSet<InterfaceId>, ty: Type) -> Result<(), AllocError>
     ensures { OnOk result (found.new.keys ≡ with_each found.old.keys (interface_of ty)) }
 {
     match ty {

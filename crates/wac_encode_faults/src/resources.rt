@@ -31,7 +31,7 @@ fn add_resource(
 }
 
 /// Adds the ends of the aliases of resources among the types.
-fn add_resources(
+pub(crate) fn add_resources(
     resources: &mut IndexSet<ResourceId>,
     types: &Types,
     found: &[Type],
@@ -45,7 +45,7 @@ fn add_resources(
 }
 
 /// Adds a type, if it is no interface.
-fn add_other(found: &mut IndexSet<Type>, ty: Type) -> Result<(), AllocError>
+pub(crate) fn add_other(found: &mut IndexSet<Type>, ty: Type) -> Result<(), AllocError>
     ensures { OnOk result (found.new.keys ≡ with_all found.old.keys (other_of ty)) }
 {
     match ty {

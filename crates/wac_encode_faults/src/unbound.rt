@@ -30,7 +30,7 @@ fn resource_at(found: &IndexSet<ResourceId>, index: usize) -> ResourceId
 }
 
 /// Whether one of the resources is not bound.
-fn has_missing(resources: &IndexSet<ResourceId>, bound: &IndexSet<ResourceId>) -> bool
+pub(crate) fn has_missing(resources: &IndexSet<ResourceId>, bound: &IndexSet<ResourceId>) -> bool
     ensures { IsTrue result ↔ HasMissing bound.now.keys resources.now.keys }
 {
     for i in 0..resources.len() {
@@ -58,7 +58,7 @@ fn copy_sets(
 }
 
 /// Adds the free resources of interfaces.
-fn add_free_of_interfaces(
+pub(crate) fn add_free_of_interfaces(
     found: &mut IndexSet<ResourceId>,
     types: &Types,
     interfaces: &IndexSet<InterfaceId>,
@@ -71,7 +71,7 @@ fn add_free_of_interfaces(
 }
 
 /// Adds the resources that are free in items.
-fn add_free_of_items(
+pub(crate) fn add_free_of_items(
     found: &mut IndexSet<ResourceId>,
     types: &Types,
     items: &Named<ItemKind>,
@@ -121,7 +121,7 @@ pub(crate) fn is_unbound(
 }
 
 /// Whether a resource that is free in the items is not bound.
-fn have_unbound(
+pub(crate) fn have_unbound(
     types: &Types,
     items: &Named<ItemKind>,
     bound: &IndexSet<ResourceId>,
