@@ -2,7 +2,7 @@
 ghost use Rattle.std.specs.Prelude.{◌≡◌, ◌≤◌, IfOk, length, string_bytes, vec_capacity};
 ghost use Rattle.std.specs.List.{AllZip};
 ghost use Rattle.slab.specs.Slab.{IsSlotClone};
-ghost use Rattle.wac_graph_model.specs.private.nodes.Clones.{IsNodeClone};
+ghost use Rattle.wac_graph_model.specs.nodes.Clones.{IsNodeClone};
 
 use crate::graph::CompositionGraph;
 use indexmap::IndexMap;

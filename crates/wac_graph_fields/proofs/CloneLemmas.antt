@@ -20,7 +20,7 @@ use Rattle.wac_graph_fields.specs.private.Lost.{is_again}
 use Rattle.std.specs.Option.{option_map}
 use Rattle.std.specs.Prelude.{slice_get, vec_capacity}
 use Rattle.wac_graph_model.specs.nodes.Nodes.{node_of, nodes_of, names_of, satisfied_at}
-use Rattle.wac_graph_model.specs.private.nodes.Clones.{IsNodeClone}
+use Rattle.wac_graph_model.specs.nodes.Clones.{IsNodeClone}
 use Rattle.wac_graph_model.specs.nodes.Sound.{IsSound}
 use Rattle.wac_graph_fields.specs.private.Slots.{AreKeyed}
 use Rattle.wac_graph_fields.specs.private.Fields.{Fields, graph_of, Invariant}

@@ -12,3 +12,4 @@ pub mod Entries
 pub mod OuterImports
 pub mod Gives
 pub mod Stays
+pub mod Clones

@@ -2,7 +2,8 @@
 ghost use Rattle.std.specs.Prelude.{◌≡◌, IfOk, OnErr, OnOk, Some, None, string_bytes};
 ghost use Rattle.std.specs.Option.{option_map};
 ghost use Rattle.wac_graph_model.specs.nodes.Graph.{import_name};
-ghost use Rattle.wac_graph_model.specs.private.nodes.Clones.{IsKindClone, IsNodeClone, AreNamesClone};
+ghost use Rattle.wac_graph_model.specs.nodes.Clones.{IsKindClone, IsNodeClone};
+ghost use Rattle.wac_graph_model.specs.private.nodes.Clones.{AreNamesClone};
 ghost use Rattle.wac_graph_model.specs.nodes.Definitions.{definition_node};
 ghost use Rattle.wac_graph_model.specs.nodes.Nodes.{kind_of, node_of, unnamed};
 
@@ -24,11 +25,14 @@ pub enum NodeKind {
     Alias,
 }
 
-/// Fails with `AllocError` if memory runs out.
-impl Clone for NodeKind {
-    ghost is_clone = { IsKindClone };
-
-    fn clone(&self) -> Result<NodeKind, AllocError> {
+impl NodeKind {
+    /// Clones the kind.
+    ///
+    /// # Errors
+    /// `AllocError` if memory runs out.
+    pub fn clone(&self) -> Result<NodeKind, AllocError>
+        ensures { IfOk result (λ copy. IsKindClone self.now copy) }
+    {
         match self {
             NodeKind::Definition => Ok(NodeKind::Definition),
             NodeKind::Import(name) => Ok(NodeKind::Import(name.clone()?)),
@@ -63,22 +67,12 @@ impl Drop for Node {
     }
 }
 
-/// Fails with `AllocError` if memory runs out.
+// A `Slab` clones its nodes by the trait.
 impl Clone for Node {
     ghost is_clone = { IsNodeClone };
 
     fn clone(&self) -> Result<Node, AllocError> {
-        let kind = self.kind.clone()?;
-        let names = match &self.names {
-            Some(names) => Some(names.clone()?),
-            None => None,
-        };
-        Ok(Node {
-            kind,
-            package: self.package,
-            item_kind: self.item_kind,
-            names,
-        })
+        Node::clone(self)
     }
 }
 
@@ -130,6 +124,26 @@ fn as_text(text: &Option<String>) -> Option<&str>
 }
 
 impl Node {
+    /// Clones the node.
+    ///
+    /// # Errors
+    /// `AllocError` if memory runs out.
+    pub fn clone(&self) -> Result<Node, AllocError>
+        ensures { IfOk result (λ copy. IsNodeClone self.now copy) }
+    {
+        let kind = self.kind.clone()?;
+        let names = match &self.names {
+            Some(names) => Some(names.clone()?),
+            None => None,
+        };
+        Ok(Node {
+            kind,
+            package: self.package,
+            item_kind: self.item_kind,
+            names,
+        })
+    }
+
     /// Creates a node without names.
     pub fn new(kind: NodeKind, package: Option<PackageId>, item_kind: ItemKind) -> Node
         ensures kind { result.kind ≡ kind }
