@@ -1,10 +1,12 @@
 //! Definitions of types.
-ghost use Rattle.std.specs.Prelude.{◌≡◌, true, IfOk, MatchResult, OnErr, Ok, Err, string_bytes};
+ghost use Rattle.std.specs.Prelude.{◌≡◌, true, IfOk, IsSome, MatchResult, OnErr, Ok, Err, string_bytes};
 ghost use Rattle.wac_types_collection.specs.collection.Collection.{holds_type};
 ghost use Rattle.wac_graph_fields.specs.private.Definable.{IsDefinable};
 ghost use Rattle.wac_graph_model.specs.nodes.Definitions.{definition_node};
+ghost use Rattle.wac_graph_model.specs.nodes.Graph.{node_at};
 ghost use Rattle.wac_graph_model.specs.nodes.Nodes.{node_of};
 ghost use Rattle.wac_graph_model.specs.nodes.Steps.{Defines};
+ghost use Rattle.wac_graph_model.specs.nodes.Valid.{KeepsValid};
 
 use crate::graph::CompositionGraph;
 use std::alloc::AllocError;
@@ -25,7 +27,9 @@ impl CompositionGraph {
     /// - [`InvalidExternName`](DefineTypeError::InvalidExternName) if the name is not a component name.
     pub fn define_type(&mut self, name: &str, ty: Type) -> Result<NodeId, DefineTypeError>
         requires { holds_type self.old.types ty ≡ true }
-        ensures { Defines self.old name.now ty result self.new }
+        ensures step { Defines self.old name.now ty result self.new }
+        ensures there { IfOk result (λ node. IsSome (node_at self.new node)) }
+        ensures valid { KeepsValid self.old self.new }
     {
         self.check_definition(name, ty)?;
         let node = Node::definition(self.alloc, name, ty)?;

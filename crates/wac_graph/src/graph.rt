@@ -9,11 +9,13 @@ ghost use Rattle.wac_types_shapes.specs.primitives.Name.{Name as AName};
 ghost use Rattle.wac_types_collection.specs.collection.Package.{HoldsPackage, with_instance_of, package_fault};
 ghost use Rattle.wac_types_collection.specs.collection.Uses.{AnswersBy, mention_fault, interface_fault, world_fault};
 ghost use Rattle.wac_types_collection.specs.subtyping.TreeLaws.{GrowthKeepsTrees};
-ghost use Rattle.wac_types_shapes.specs.declared.shapes.component.«Type».TheVariants.{World as world_type};
+ghost use Rattle.wac_types_shapes.specs.declared.shapes.component.«Type».TheVariants.{Resource as resource_type, Func as func_type, Value as value_type, Interface as interface_type, World as world_type, Module as core_module_type};
+ghost use Rattle.wac_types_shapes.specs.declared.shapes.component.ValueType.TheVariants.{Defined as defined_type};
 ghost use Rattle.wac_graph_model.specs.nodes.Graph.{node_at, package_at, export_at, import_name, IsRegistered, IsAliasOf, IsSourceOf};
 ghost use Rattle.wac_edges.specs.declared.node.NodeId.{NodeId as AnId};
 ghost use Rattle.wac_graph_model.specs.nodes.Sound.{IsSound};
 ghost use Rattle.wac_graph_model.specs.nodes.Steps.{IsEmpty, Adds, Registers, Imports, Instantiates, Aliases, SetsArgument, UnsetsArgument, SetsName, Exports, Unexports};
+ghost use Rattle.wac_graph_model.specs.nodes.Valid.{KeepsValid};
 ghost use Rattle.wac_graph_model.specs.nodes.TakenOut.{without, taken_at};
 ghost use Rattle.wac_graph_model.specs.nodes.Nodes.{names_of};
 ghost use Rattle.wac_graph_fields.specs.private.Renamed.{Renames, with_name, with_export_name};
@@ -178,6 +180,8 @@ impl CompositionGraph {
     /// Adds a resource to the collection. Fails as [`Types::add_resource`] does.
     pub fn add_resource(&mut self, resource: Resource) -> Result<ResourceId, AddTypeError>
         ensures added { Adds self.old result self.new (λ id types. (id.0 ≡ length self.old.types.resources) × (types ≡ with_resource self.old.types resource)) }
+        ensures there { IfOk result (λ id. holds_type self.new.types (resource_type id) ≡ true) }
+        ensures valid { KeepsValid self.old self.new }
         ensures fault { AnswersBy (mention_fault self.old.types (resource_mentions resource)) result }
     {
         growth_law(&self.types); // proof only
@@ -187,6 +191,8 @@ impl CompositionGraph {
     /// Adds a function type to the collection. Fails as [`Types::add_func_type`] does.
     pub fn add_func_type(&mut self, func: FuncType) -> Result<FuncTypeId, AddTypeError>
         ensures added { Adds self.old result self.new (λ id types. (id.0 ≡ length self.old.types.funcs) × (types ≡ with_func self.old.types func)) }
+        ensures there { IfOk result (λ id. holds_type self.new.types (func_type id) ≡ true) }
+        ensures valid { KeepsValid self.old self.new }
         ensures fault { AnswersBy (mention_fault self.old.types (func_mentions func)) result }
     {
         growth_law(&self.types); // proof only
@@ -196,6 +202,8 @@ impl CompositionGraph {
     /// Adds a defined type to the collection. Fails as [`Types::add_defined_type`] does.
     pub fn add_defined_type(&mut self, defined: DefinedType) -> Result<DefinedTypeId, AddTypeError>
         ensures added { Adds self.old result self.new (λ id types. (id.0 ≡ length self.old.types.defined) × (types ≡ with_defined self.old.types defined)) }
+        ensures there { IfOk result (λ id. holds_type self.new.types (value_type (defined_type id)) ≡ true) }
+        ensures valid { KeepsValid self.old self.new }
         ensures fault { AnswersBy (mention_fault self.old.types (defined_mentions defined)) result }
     {
         growth_law(&self.types); // proof only
@@ -205,6 +213,8 @@ impl CompositionGraph {
     /// Adds an interface to the collection. Fails as [`Types::add_interface`] does.
     pub fn add_interface(&mut self, interface: Interface) -> Result<InterfaceId, AddTypeError>
         ensures added { Adds self.old result self.new (λ id types. (id.0 ≡ length self.old.types.interfaces) × (types ≡ with_interface self.old.types interface)) }
+        ensures there { IfOk result (λ id. holds_type self.new.types (interface_type id) ≡ true) }
+        ensures valid { KeepsValid self.old self.new }
         ensures fault { AnswersBy (interface_fault self.old.types interface) result }
     {
         growth_law(&self.types); // proof only
@@ -214,6 +224,8 @@ impl CompositionGraph {
     /// Adds a world to the collection. Fails as [`Types::add_world`] does.
     pub fn add_world(&mut self, world: World) -> Result<WorldId, AddTypeError>
         ensures added { Adds self.old result self.new (λ id types. (id.0 ≡ length self.old.types.worlds) × (types ≡ with_world self.old.types world)) }
+        ensures there { IfOk result (λ id. holds_type self.new.types (world_type id) ≡ true) }
+        ensures valid { KeepsValid self.old self.new }
         ensures fault { AnswersBy (world_fault self.old.types world) result }
     {
         growth_law(&self.types); // proof only
@@ -223,6 +235,8 @@ impl CompositionGraph {
     /// Adds a core module type to the collection. Fails as [`Types::add_module_type`] does.
     pub fn add_module_type(&mut self, module_type: ModuleType) -> Result<ModuleTypeId, AddTypeError>
         ensures added { Adds self.old result self.new (λ id types. (id.0 ≡ length self.old.types.modules) × (types ≡ with_module self.old.types module_type)) }
+        ensures there { IfOk result (λ id. holds_type self.new.types (core_module_type id) ≡ true) }
+        ensures valid { KeepsValid self.old self.new }
         ensures fault { AnswersBy (None) result }
     {
         growth_law(&self.types); // proof only
@@ -249,6 +263,7 @@ impl CompositionGraph {
         }) }
         ensures added { Adds self.old result self.new (λ p types. types ≡ with_instance_of self.old.types world) }
         ensures held { IfOk result (λ p. HoldsPackage self.new.types p) }
+        ensures valid { KeepsValid self.old self.new }
         ensures fault { AnswersBy (package_fault self.old.types world) result }
     {
         growth_law(&self.types); // proof only
@@ -296,6 +311,7 @@ impl CompositionGraph {
         requires { holds_type self.old.types (kind_type kind) ≡ true }
         ensures step { Imports self.old name.now kind result self.new }
         ensures there { IfOk result (λ id. IsSome (node_at self.new id)) }
+        ensures valid { KeepsValid self.old self.new }
     {
         self.check_import(name)?;
         let key = String::from_str(self.alloc, name)?;
@@ -349,6 +365,7 @@ impl CompositionGraph {
         requires { IsSome (node_at self.old instance) }
         ensures step { Aliases self.old instance export.now result self.new }
         ensures there { IfOk result (λ alias. IsSome (node_at self.new alias)) }
+        ensures valid { KeepsValid self.old self.new }
     {
         let (position, item_kind) = self.export_of(instance, export)?;
         let alias = self.alias_at(instance, position, item_kind)?;
@@ -442,7 +459,8 @@ impl CompositionGraph {
         argument: NodeId,
     ) -> Result<(), InstantiationArgumentError>
         requires { IsSome (node_at self.old instantiation) }
-        ensures { UnsetsArgument self.old instantiation argument_name.now argument result self.new }
+        ensures step { UnsetsArgument self.old instantiation argument_name.now argument result self.new }
+        ensures valid { KeepsValid self.old self.new }
     {
         let (position, _) = self.import_of(instantiation, argument_name)?;
         self.take_argument(instantiation, position, argument);
@@ -489,7 +507,8 @@ impl CompositionGraph {
     /// - [`MustExportDefinition`](UnexportError::MustExportDefinition) if the node is a definition.
     pub fn unexport(&mut self, node: NodeId) -> Result<(), UnexportError>
         requires { IsSome (node_at self.old node) }
-        ensures { Unexports self.old node result self.new }
+        ensures step { Unexports self.old node result self.new }
+        ensures valid { KeepsValid self.old self.new }
     {
         if let NodeKind::Definition = self.nodes[node.0].kind {
             return Err(UnexportError::MustExportDefinition);

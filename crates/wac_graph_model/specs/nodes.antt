@@ -12,4 +12,5 @@ pub mod Entries
 pub mod OuterImports
 pub mod Gives
 pub mod Stays
+pub mod Valid
 pub mod Clones

@@ -7,6 +7,7 @@ pub mod PartLemmas
 pub mod NodeLemmas
 pub mod ExtendsLemmas
 pub mod StaysLemmas
+pub mod ValidLemmas
 pub mod AgainLemmas
 pub mod HeldLemmas
 pub mod ExternNameLemmas

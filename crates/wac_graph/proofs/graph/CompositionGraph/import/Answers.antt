@@ -1,9 +1,10 @@
-use Rattle.std.proofs.Common.{ap, ◌∙◌}
+use Rattle.std.proofs.Common.{ap, ◌∙◌, Ok}
 use Rattle.wac_graph_model.specs.nodes.Steps.{Imports}
 use Rattle.wac_graph_fields.proofs.AliasLemmas.{before_reserve, vacant_before}
 use Rattle.wac_graph_fields.proofs.ImportLemmas.{import_bare, import_is_there, import_shape, imported, invariant_imported}
 use Rattle.wac_graph.specs.private.Inside.{fields_of}
 use Rattle.wac_graph.proofs.CheckedLemmas.{absent, handed_on}
+use Rattle.wac_graph_model.proofs.lemmas.nodes.ValidLemmas.{valid_imported}
 use Rattle.wac_graph.proofs.graph.CompositionGraph.import.Goals as goal
 
 pub invariant_of-self-2 : goal.invariant_of-self-2
@@ -30,3 +31,6 @@ returns-clause-there c =
 
 pub returns-in_err-check_import-clause-step : goal.returns-in_err-check_import-clause-step
 returns-in_err-check_import-clause-step c = handed_on (λ r. Imports c.args.self.now c.args.name.now c.args.kind r c.args.self.now) c.from_residual.result (c.in_err-check_import.field-0).0 c.from_residual.ensures.1 (c.in_err-check_import.ensures.refused c.args.kind)
+
+pub returns-clause-valid : goal.returns-clause-valid
+returns-clause-valid c = valid_imported c.args.self.now _ c.args.name.now c.args.kind (Ok (record { 0 = c.vacant_key-number.result })) (returns-clause-step c)
