@@ -24,7 +24,7 @@ no_class k class at = cc
 
 -- and none rests on another
 no_rest : (c : Collection) (a b : ℕ) → RestsOn by_names c [] a b → ⊥
-no_rest c a b (by_use x y class other name id e i it used u apart at other_at member is held uses used_held has_id same) = no_class x class at
+no_rest c a b (by_use x y class other id e i j used apart at other_at member is widely used_held has_id same) = no_class x class at
 no_rest c a b (by_resource x y class e apart at member mentions) = no_class x class at
 
 no_path : (c : Collection) (a b : ℕ) → Path (RestsOn by_names c []) a b → ⊥

@@ -1,15 +1,15 @@
 //! The graph's imports that are merged.
-ghost use Rattle.std.specs.Prelude.{◌≡◌, ◌++◌, [], map, IfOk, OnOk};
+ghost use Rattle.std.specs.Prelude.{◌≡◌, ◌++◌, map, IfOk, OnOk};
 ghost use Rattle.wac_graph_model.specs.nodes.Entries.{asked_entries};
 ghost use Rattle.wac_graph_reader.specs.private.reading.Seen.{open_numbers};
-ghost use Rattle.wac_graph_fields.specs.private.EntriesLeft.{entry_view, entries_of, IsRight, AreSettled, AsksAlike, asked_at, all_with_used, all_asked_by, all_imported_by};
+ghost use Rattle.wac_graph_fields.specs.private.EntriesLeft.{entry_view, entries_of, IsRight, IsSettled, AsksAlike, asked_at, all_with_used, all_asked_by, all_imported_by};
 
 use crate::graph::CompositionGraph;
 use std::alloc::AllocError;
 use wac_graph_fields::{AskedEntry, Asking};
 
 impl CompositionGraph {
-    /// Returns the graph's imports, each after the interfaces that it uses, without repeated instances.
+    /// Returns the graph's imports, each after the interfaces that it uses widely. No instance is repeated.
     ///
     /// `instantiations` are all instantiations with unsatisfied imports.
     pub(crate) fn asked_entries(
@@ -33,9 +33,9 @@ impl CompositionGraph {
     ) -> Result<(), AllocError>
         requires instantiations { instantiations.now ≡ open_numbers self.now }
         requires right { IsRight asking.old }
-        requires settled { AreSettled self.now.types [] (entries_of asking.old) }
+        requires settled { IsSettled self.now.types asking.old }
         ensures right { OnOk result (IsRight asking.new) }
-        ensures settled { OnOk result (AreSettled self.now.types [] (entries_of asking.new)) }
+        ensures settled { OnOk result (IsSettled self.now.types asking.new) }
         ensures stands { OnOk result (AsksAlike self.now.types (entries_of asking.old ++ all_with_used self.now.types (all_asked_by self.now)) (entries_of asking.new)) }
     {
         for n in instantiations {
@@ -51,9 +51,9 @@ impl CompositionGraph {
         n: usize,
     ) -> Result<(), AllocError>
         requires right { IsRight asking.old }
-        requires settled { AreSettled self.now.types [] (entries_of asking.old) }
+        requires settled { IsSettled self.now.types asking.old }
         ensures right { OnOk result (IsRight asking.new) }
-        ensures settled { OnOk result (AreSettled self.now.types [] (entries_of asking.new)) }
+        ensures settled { OnOk result (IsSettled self.now.types asking.new) }
         ensures stands { OnOk result (AsksAlike self.now.types (entries_of asking.old ++ all_with_used self.now.types (asked_at self.now n)) (entries_of asking.new)) }
     {
         self.types.law(); // proof only
@@ -75,9 +75,9 @@ impl CompositionGraph {
     /// Appends the import nodes.
     fn ask_nodes<'a>(&'a self, asking: &mut Asking<'a>) -> Result<(), AllocError>
         requires right { IsRight asking.old }
-        requires settled { AreSettled self.now.types [] (entries_of asking.old) }
+        requires settled { IsSettled self.now.types asking.old }
         ensures right { OnOk result (IsRight asking.new) }
-        ensures settled { OnOk result (AreSettled self.now.types [] (entries_of asking.new)) }
+        ensures settled { OnOk result (IsSettled self.now.types asking.new) }
         ensures stands { OnOk result (AsksAlike self.now.types (entries_of asking.old ++ all_with_used self.now.types (all_imported_by self.now)) (entries_of asking.new)) }
     {
         if self.imports.is_empty() {

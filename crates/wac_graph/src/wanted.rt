@@ -1,6 +1,6 @@
 //! Whether the types that nodes need have an encoding.
-ghost use Rattle.std.specs.Prelude.{◌≡◌, ◌++◌, [], false, map, IfErr, IfOk, IsSomeAnd, OnOk};
-ghost use Rattle.wac_graph_fields.specs.private.EntriesLeft.{entry_view, entries_of, IsRight, IsHeldKind, AreSettled, AsksAlike, all_with_used};
+ghost use Rattle.std.specs.Prelude.{◌≡◌, ◌++◌, false, map, IfErr, IfOk, IsSomeAnd, OnOk};
+ghost use Rattle.wac_graph_fields.specs.private.EntriesLeft.{entry_view, entries_of, IsRight, IsHeldKind, IsSettled, AsksAlike, all_with_used};
 ghost use Rattle.wac_graph_model.specs.causes.Cause.{HasMerge, HasNoConflict};
 ghost use Rattle.wac_graph_model.specs.private.causes.Search.{IsRefused};
 ghost use Rattle.wac_graph_model.specs.causes.TypeFaults.{wanted_at, wanted_entries as wanted_of, role_of, role_of_kind, IsEntryFault, HasNoTypeFault};
@@ -86,7 +86,7 @@ impl CompositionGraph {
         self.wanted_entries()
     }
 
-    /// Returns the types that nodes need, node by node, each after the interfaces that it uses.
+    /// Returns the types that nodes need, node by node, each after the interfaces that it uses widely.
     /// No instance is repeated.
     fn wanted_entries(&self) -> Result<Vec<AskedEntry<'_>>, AllocError>
         ensures { IfOk result (λ v. map entry_view v.items ≡ wanted_of self.now) }
@@ -101,9 +101,9 @@ impl CompositionGraph {
     /// Appends the types that a node needs.
     fn ask_wanted<'a>(&'a self, asking: &mut Asking<'a>, n: usize) -> Result<(), AllocError>
         requires right { IsRight asking.old }
-        requires settled { AreSettled self.now.types [] (entries_of asking.old) }
+        requires settled { IsSettled self.now.types asking.old }
         ensures right { OnOk result (IsRight asking.new) }
-        ensures settled { OnOk result (AreSettled self.now.types [] (entries_of asking.new)) }
+        ensures settled { OnOk result (IsSettled self.now.types asking.new) }
         ensures stands { OnOk result (AsksAlike self.now.types (entries_of asking.old ++ all_with_used self.now.types (wanted_at self.now n)) (entries_of asking.new)) }
     {
         let Some(node) = self.nodes.get(n) else {

@@ -15,10 +15,11 @@ use Rattle.wac_types_shapes.proofs.lemmas.shapes.Names.{same_name-bytes_eq}
 use Rattle.wac_graph_fields.specs.declared.asked.AskedEntry.{AskedEntry}
 use Rattle.wac_graph_fields.specs.declared.asked.Asking.{Asking}
 use Rattle.wac_graph_fields.specs.declared.asked.Task.{Task}
-use Rattle.wac_graph_fields.specs.declared.asked.Task.TheVariants.{Open, Close}
+use Rattle.wac_types_collection.specs.wide.Wide.{instances_of, is_among, with_each}
+use Rattle.wac_graph_fields.specs.declared.asked.Task.TheVariants.{Visit, Open, Close}
 use Rattle.wac_graph_model.specs.nodes.Asked.{Entry}
 use Rattle.wac_graph_model.specs.nodes.Entries.{under_id, same_instance, asks_again}
-use Rattle.wac_graph_fields.specs.private.EntriesLeft.{entry_view, by_node, instance_under, has, added, AreApart, entries_of, knows, IsRight, openings, Did, skipped, put_off, closed, passed}
+use Rattle.wac_graph_fields.specs.private.EntriesLeft.{entry_view, by_node, instance_under, has, added, AreApart, entries_of, knows, IsRight, openings, visits, Did, divided, met, entered, closed, passed}
 use Rattle.wac_graph_fields.proofs.EntryLists.{has_by, has_joined, apart_pushed}
 
 abbrev pub Key : Type 0
@@ -63,7 +64,7 @@ was_new : (b : Bool) → true ≡ not b → b ≡ false
 was_new true h = cc
 was_new false h = refl
 
-was_there : (b : Bool) → false ≡ not b → b ≡ true
+pub was_there : (b : Bool) → false ≡ not b → b ≡ true
 was_there true h = refl
 was_there false h = cc
 
@@ -133,6 +134,14 @@ module _ (old mid new : Asking) (asked : AskedEntry) (noted : IsNoted old (entry
   }
 
 -- ---- tasks
+pub did_divide : (c : Collection) (i : InterfaceId) (n : ℕ) (old : List Entry) (seen : List InterfaceId) (left now : List Task) (r : Result (Unit {0}) AllocError)
+    → OnOk r (now ≡ left ++ Close i ∷ Visit i ∷ []) → OnOk r (Did c n (Open i) old old seen seen left now)
+did_divide c i n old seen left now (Ok _) made = divided i refl refl refl made
+did_divide c i n old seen left now (Err _) made = made
+
+pub did_meet : (c : Collection) (i : InterfaceId) (n : ℕ) (old : List Entry) (seen after : List InterfaceId) (left : List Task) → is_among seen i ≡ true → after ≡ with_each seen (i ∷ []) → Did c n (Visit i) old old seen after left left
+did_meet c i n old seen after left there marked = met i refl there refl marked refl
+
 module _ (c : Collection) (i : InterfaceId) (it : Interface) (at : item_at c.interfaces i.0 ≡ Some it) where
   named_under : (name : Name) → it.id ≡ Some name → under_id c i ≡ (name, kind.Instance i) ∷ []
   named_under name is = ap (λ o. option_case o [] (λ it. option_case it.id [] (λ id. (id, kind.Instance i) ∷ []))) at ∙ ap (λ o. option_case o [] (λ id. (id, kind.Instance i) ∷ [])) is
@@ -140,18 +149,18 @@ module _ (c : Collection) (i : InterfaceId) (it : Interface) (at : item_at c.int
   unnamed_under : it.id ≡ None → under_id c i ≡ []
   unnamed_under is = ap (λ o. option_case o [] (λ it. option_case it.id [] (λ id. (id, kind.Instance i) ∷ []))) at ∙ ap (λ o. option_case o [] (λ id. (id, kind.Instance i) ∷ [])) is
 
-  pub did_skip : (n : ℕ) (name : Name) (old : List Entry) (left : List Task) → it.id ≡ Some name → has old (instance_under name i) ≡ true → Did c n (Open i) old old left left
-  did_skip n name old left is there = skipped i name refl (named_under name is) there refl refl
+  pub did_enter : (n : ℕ) (old : List Entry) (seen after : List InterfaceId) (left mid now : List Task) (r : Result (Unit {0}) AllocError)
+      → after ≡ with_each seen (i ∷ []) → mid ≡ left ++ visits (instances_of it.exports) → OnOk r (now ≡ mid ++ openings it.uses) → OnOk r (Did c n (Visit i) old old seen after left now)
+  did_enter n old seen after left mid now (Ok _) marked first made =
+      entered i refl refl marked
+      (made ∙ ap (λ ts. ts ++ openings it.uses) first ∙ append_assoc left (visits (instances_of it.exports)) (openings it.uses)
+      ∙ ap (λ o. left ++ (visits (instances_of (option_case o [] (λ x. x.exports))) ++ openings (option_case o [] (λ x. x.uses)))) (sym at))
+  did_enter n old seen after left mid now (Err _) marked first made = made
 
-  pub did_put_off : (n : ℕ) (old : List Entry) (left mid now : List Task) (r : Result (Unit {0}) AllocError) → mid ≡ left ++ Close i ∷ [] → OnOk r (now ≡ mid ++ openings it.uses) → OnOk r (Did c n (Open i) old old left now)
-  did_put_off n old left mid now (Ok _) first made =
-      put_off i refl refl
-      (made ∙ ap (λ ts. ts ++ openings it.uses) first ∙ append_assoc left (Close i ∷ []) (openings it.uses) ∙ ap (λ o. left ++ Close i ∷ openings (option_case o [] (λ it. it.uses))) (sym at))
-  did_put_off n old left mid now (Err _) first made = made
+  pub did_close : (n : ℕ) (name : Name) (old new : List Entry) (seen after : List InterfaceId) (left : List Task) (r : Result (Unit {0}) AllocError) → it.id ≡ Some name → OnOk r (new ≡ added old (by_node n (name, kind.Instance i))) → OnOk r (after ≡ seen)
+      → OnOk r (Did c n (Close i) old new seen after left left)
+  did_close n name old new seen after left (Ok _) is made same = closed i name refl (named_under name is) made same refl
+  did_close n name old new seen after left (Err _) is made same = made
 
-  pub did_close : (n : ℕ) (name : Name) (old new : List Entry) (left : List Task) (r : Result (Unit {0}) AllocError) → it.id ≡ Some name → OnOk r (new ≡ added old (by_node n (name, kind.Instance i))) → OnOk r (Did c n (Close i) old new left left)
-  did_close n name old new left (Ok _) is made = closed i name refl (named_under name is) made refl
-  did_close n name old new left (Err _) is made = made
-
-  pub did_pass : (n : ℕ) (old : List Entry) (left : List Task) → it.id ≡ None → Did c n (Close i) old old left left
-  did_pass n old left is = passed i refl (unnamed_under is) refl refl
+  pub did_pass : (n : ℕ) (old : List Entry) (seen : List InterfaceId) (left : List Task) → it.id ≡ None → Did c n (Close i) old old seen seen left left
+  did_pass n old seen left is = passed i refl (unnamed_under is) refl refl refl

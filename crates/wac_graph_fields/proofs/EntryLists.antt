@@ -74,6 +74,24 @@ has_joined (x ∷ xs) ys e = ap (λ t. asks_again x e || t) (has_joined xs ys e)
 pub has_more : (xs ys : List Entry) (e : Entry) → has xs e ≡ true → has (xs ++ ys) e ≡ true
 has_more xs ys e h = has_joined xs ys e ∙ ap (λ t. t || has ys e) h
 
+-- more behind both
+pub has_behind : (xs ys zs : List Entry) → ((e : Entry) → has xs e ≡ true → has ys e ≡ true) → (e : Entry) → has (xs ++ zs) e ≡ true → has (ys ++ zs) e ≡ true
+has_behind xs ys zs f e h = split (has xs e) refl (sym (has_joined xs zs e) ∙ h) where
+  either : (a : Bool) → (a || true) ≡ true
+  either true = refl
+  either false = refl
+
+  split : (b : Bool) → has xs e ≡ b → (b || has zs e) ≡ true → has (ys ++ zs) e ≡ true
+  split true there _ = has_more ys zs e (f e there)
+  split false _ rest = has_joined ys zs e ∙ ap (λ t. has ys e || t) rest ∙ either (has ys e)
+
+-- what was there is there after one is added
+pub has_added : (xs : List Entry) (x e : Entry) → has xs e ≡ true → has (added xs x) e ≡ true
+has_added xs x e h = split (has xs x) where
+  split : (b : Bool) → has (cond b xs (xs ++ x ∷ [])) e ≡ true
+  split true = h
+  split false = has_more xs (x ∷ []) e h
+
 -- what has all of the others has what they have
 has_through : (xs ys : List Entry) (e : Entry) → HasAll xs ys → has ys e ≡ true → has xs e ≡ true
 has_through xs [] e all h = cc
@@ -87,6 +105,13 @@ has_without xs ys e all h = split (has xs e) refl (sym (has_joined xs ys e) ∙ 
   split : (b : Bool) → has xs e ≡ b → (b || has ys e) ≡ true → has xs e ≡ true
   split true there _ = there
   split false _ rest = has_through xs ys e all rest
+
+-- and so is the added one
+pub has_added_too : (xs : List Entry) (x e : Entry) → has (xs ++ x ∷ []) e ≡ true → has (added xs x) e ≡ true
+has_added_too xs x e h = split (has xs x) refl where
+  split : (b : Bool) → has xs x ≡ b → has (cond b xs (xs ++ x ∷ [])) e ≡ true
+  split true there = has_without xs (x ∷ []) e (there, tt) h
+  split false _ = h
 
 -- ---- filters
 module _ (p q : Entry → Bool) where

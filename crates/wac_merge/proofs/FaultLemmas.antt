@@ -158,7 +158,7 @@ module _ (c : Collection) (es : List Entry) where
   no_fault agree ordered (use_each_other x) h = let u = h.1 in ordered u.number u.is_first.on
 
   resting : (a b : ℕ) → RestsOn by_names c es a b → (class : Name) × (slice_get (class_names by_names es) a ≡ Some class)
-  resting a b (by_use a' b' class other name id e i it used u apart numbered rest of is held uses at_u named one) = (class, numbered)
+  resting a b (by_use a' b' class other id e i j used apart numbered rest of is widely held named one) = (class, numbered)
   resting a b (by_resource a' b' class e apart numbered of mentions) = (class, numbered)
 
   -- what is on a circle has a number

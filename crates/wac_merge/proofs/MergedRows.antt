@@ -328,7 +328,7 @@ of_import P h p k class e is_class is_name is_import =
 
 -- no class rests on itself
 rests_apart : (a b : ℕ) → RestsOn simple two_versions two_asked a b → a ≢ b
-rests_apart a b (by_use _ _ class name_of name id e i it used u other is_class is_other member is there listed is_used has_id one) = other
+rests_apart a b (by_use _ _ class name_of id e i j used other is_class is_other member is widely is_used has_id one) = other
 rests_apart a b (by_resource _ _ class e other is_class member h) = other
 
 two_written : IsWrittenOrder simple two_versions two_asked (0 ∷ [])

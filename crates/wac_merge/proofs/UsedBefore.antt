@@ -13,6 +13,7 @@ use Rattle.wac_types_shapes.specs.declared.shapes.component.ItemKind.{ItemKind}
 use Rattle.wac_types_shapes.specs.declared.shapes.component.ItemKind.TheVariants as kind
 use Rattle.wac_types_shapes.specs.declared.shapes.component.«Type».{«Type» as AnyType}
 use Rattle.wac_types_collection.specs.collection.Collection.{Collection, item_at}
+use Rattle.wac_types_collection.specs.wide.Wide.{UsesWidely, by_itself}
 use Rattle.wac_types_collection.specs.collection.Uses.{is_there, is_type_item, is_used_by_id, name_there}
 use Rattle.wac_types_shapes.specs.primitives.Tree.{TypeTree, instance_item}
 use Rattle.wac_types_collection.specs.subtyping.Subtype.{IsSubtype, Sub, by_name, kind_tree}
@@ -222,7 +223,8 @@ module _ (c : Collection) (es : List Entry) (m : Merged) (g : IsMerge by_names c
       let one : same_class by_names es class.0 e.name ≡ true = subst (λ x. same_class by_names es class.0 x ≡ true) (sym name) (canonical-class es class.0) in
       let among = subst (λ xs. Contains xs member) (sym (members-alike es class.0 e.name es one)) inside in
       let b = class-there es id asked in
-      let rests = by_use a.0 b.0 class.0 b.1 n id member i it used u (other a.0 b.0 class.0 b.1 class.1 b.2 b.3 one) class.1 b.2 among is held uses used-at id-is (class-sym by_names es b.1 id b.3) in
+      let widely : UsesWidely c i u.interface = by_itself i n u (subst (λ (o : Option Interface). Contains (option_case o [] (λ (x : Interface). x.uses)) (n, u)) (sym held) uses) in
+      let rests = by_use a.0 b.0 class.0 b.1 id member i u.interface used (other a.0 b.0 class.0 b.1 class.1 b.2 b.3 one) class.1 b.2 among is widely used-at id-is (class-sym by_names es b.1 id b.3) in
       let before = order_rests c es g.order g.written p a.0 b.0 rests (slice_get_within (class_names by_names es) b.0 b.1 b.2) a.1 in
       let less : before.0 < p = before.1 in
       let x = some-at m.imports before.0 (omega (arith, less, within)) in

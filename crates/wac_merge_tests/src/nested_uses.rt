@@ -1,6 +1,6 @@
 //! Instances inside merged interfaces keep what they use.
 
-use crate::merged::Check::Uses;
+use crate::merged::Check::{Imports, Uses};
 use crate::merged::{Case, assert_merged};
 use crate::rows::Row::{Enumeration, Instance};
 
@@ -58,6 +58,21 @@ const NESTED: &[Case] = &[
             &["n:p/i@1.1.0", "x"],
             &[("t", "n:p/j", None), ("u", "n:p/k", None)],
         )],
+    },
+    Case {
+        name: "what an instance inside uses is imported first",
+        rows: &[
+            Enumeration("a"),
+            Instance(Some("n:p/j"), &[], &[("t", 0)]),
+            Instance(None, &[("t", 1, None)], &[("t", 0)]),
+            Instance(None, &[], &[("x", 2)]),
+            Instance(Some("n:p/i"), &[], &[("y", 3)]),
+        ],
+        asked: &[("n:p/i", 4), ("n:p/j", 1)],
+        checks: &[
+            Imports(&["n:p/j", "n:p/i"]),
+            Uses(&["n:p/i", "y", "x"], &[("t", "n:p/j", None)]),
+        ],
     },
     Case {
         name: "an instance inside does not use its own class",

@@ -1,14 +1,15 @@
 -- The list of imports while it is built. Only private functions use these definitions.
-use Rattle.std.specs.Prelude.{ℕ, zero, suc, ◌+◌, ◌≡◌, Bool, true, false, ◌&&◌, ◌||◌, cond, nat_eq, nat_lt, List, [], ◌∷◌, ◌++◌, length, map, Option, slice_get}
+use Rattle.std.specs.Prelude.{ℕ, zero, suc, ◌+◌, ◌≡◌, ◌<◌, Bool, true, false, ◌&&◌, ◌||◌, cond, nat_eq, nat_lt, List, [], ◌∷◌, ◌++◌, length, map, Option, Contains, slice_get}
 use Rattle.std.specs.Borrow.{Bor}
 use Rattle.std.specs.HashSet.{HashSet, contains_by}
 use Rattle.std.specs.List.{AllByRecursion, flat_map}
 use Rattle.std.specs.Str.{bytes_eq}
 use Rattle.std.specs.FinMap as finite
 use Rattle.wac_types_shapes.specs.primitives.Name.{Name, option_case}
-use Rattle.wac_types_collection.specs.collection.Collection.{Collection, HasInterface, item_at, holds_type}
+use Rattle.wac_types_collection.specs.collection.Collection.{Collection, HasInterface, holds_type, interface_exports}
 use Rattle.wac_types_shapes.specs.shapes.Kinds.{kind_type}
 use Rattle.wac_types_collection.specs.declared.collection.collection.Held.{Held}
+use Rattle.wac_types_collection.specs.wide.Wide.{interface_uses, instances_of, is_among, with_each}
 use Rattle.wac_types_shapes.specs.declared.shapes.component.Interface.{Interface}
 use Rattle.wac_types_shapes.specs.declared.shapes.component.InterfaceId.{InterfaceId}
 use Rattle.wac_types_shapes.specs.declared.shapes.component.ItemKind.{ItemKind}
@@ -17,7 +18,7 @@ use Rattle.wac_types_shapes.specs.declared.shapes.component.UsedType.{UsedType}
 use Rattle.wac_graph_fields.specs.declared.asked.AskedEntry.{AskedEntry}
 use Rattle.wac_graph_fields.specs.declared.asked.Asking.{Asking}
 use Rattle.wac_graph_fields.specs.declared.asked.Task.{Task}
-use Rattle.wac_graph_fields.specs.declared.asked.Task.TheVariants.{Open, Close}
+use Rattle.wac_graph_fields.specs.declared.asked.Task.TheVariants.{Visit, Open, Close}
 use Rattle.wac_edges.specs.declared.node.NodeId.{NodeId}
 use Rattle.wac_graph_model.specs.nodes.Graph.{Graph, node_at}
 use Rattle.wac_graph_fields.specs.private.ImportsLeft.{node_left}
@@ -77,17 +78,32 @@ pub record IsRight (a : Asking) : Type 0 where
   pub apart : AreApart (entries_of a)
   pub known : (name : Name) (i : InterfaceId) → knows a.known name i ≡ has (entries_of a) (instance_under name i)
 
--- The types that an interface uses.
-abbrev pub uses_of : Collection → InterfaceId → List (Name × UsedType)
-uses_of c i = option_case (item_at c.interfaces i.0) [] (λ it. it.uses)
+-- What each of these interfaces uses widely is listed.
+abbrev pub AreListed : Collection → List Entry → List InterfaceId → Type 0
+AreListed c es seen = (i : InterfaceId) → Contains seen i → HasAll es (map (by_node 0) (used_by c (kind.Instance i)))
+
+-- Everything that an import uses is before it, and everything that a visited interface uses is listed.
+pub record IsSettled (c : Collection) (a : Asking) : Type 0 where
+  pub listed : AreSettled c [] (entries_of a)
+  pub visited : AreListed c (entries_of a) a.visited.keys
 
 -- The tasks for the interfaces of these uses, the first one on top.
 abbrev pub openings : List (Name × UsedType) → List Task
 openings [] = []
 openings (u ∷ us) = openings us ++ Open u.1.interface ∷ []
 
+-- The tasks that visit these interfaces, the first one on top.
+abbrev pub visits : List InterfaceId → List Task
+visits [] = []
+visits (i ∷ is) = visits is ++ Visit i ∷ []
+
+-- The tasks that list what an interface uses widely.
+abbrev pub inner_tasks : Collection → InterfaceId → List Task
+inner_tasks c i = visits (instances_of (interface_exports c i)) ++ openings (interface_uses c i)
+
 -- The interface of a task.
 abbrev pub task_id : Task → InterfaceId
+task_id (Visit i) = i
 task_id (Open i) = i
 task_id (Close i) = i
 
@@ -97,6 +113,7 @@ IsHeldTask c t = HasInterface c (task_id t)
 
 -- The items that a task lists.
 abbrev pub task_items : Collection → Task → List (Name × ItemKind)
+task_items c (Visit i) = used_by c (kind.Instance i)
 task_items c (Open i) = used_by c (kind.Instance i) ++ under_id c i
 task_items c (Close i) = under_id c i
 
@@ -123,32 +140,45 @@ abbrev pub total : {A : Type 0} → (A → ℕ) → List A → ℕ
 total f [] = 0
 total f (x ∷ xs) = f x + total f xs
 
--- The number of tasks that an interface leads to, down to the given depth of uses.
+-- The number of tasks that a visit leads to, down to the given depth.
 abbrev pub weight_to : ℕ → Collection → InterfaceId → ℕ
 weight_to zero c i = 0
-weight_to (suc k) c i = suc (suc (total (λ u. weight_to k c (u.1.interface)) (uses_of c i)))
+weight_to (suc k) c i = suc (total (λ u. suc (suc (weight_to k c (u.1.interface)))) (interface_uses c i) + total (weight_to k c) (instances_of (interface_exports c i)))
 
 -- The number of tasks that a task leads to.
 abbrev pub task_weight : Collection → Task → ℕ
-task_weight c (Open i) = weight_to (suc (length c.interfaces)) c i
+task_weight c (Visit i) = weight_to (suc (length c.interfaces)) c i
+task_weight c (Open i) = suc (suc (weight_to (suc (length c.interfaces)) c i))
 task_weight c (Close i) = 1
 
 -- The number of tasks that all tasks lead to.
 abbrev pub tasks_weight : Collection → List Task → ℕ
 tasks_weight c ts = total (task_weight c) ts
 
--- The step of a task: skip a listed interface, delay it after its uses, list it, or pass one without id.
-pub data Did (c : Collection) (n : ℕ) (t : Task) (old new : List Entry) (left now : List Task) : Type 0 where
-  skipped : (i : InterfaceId) (name : Name) → t ≡ Open i → under_id c i ≡ (name, kind.Instance i) ∷ [] → has old (instance_under name i) ≡ true → new ≡ old → now ≡ left → Did c n t old new left now
-  put_off : (i : InterfaceId) → t ≡ Open i → new ≡ old → now ≡ left ++ Close i ∷ openings (uses_of c i) → Did c n t old new left now
-  closed : (i : InterfaceId) (name : Name) → t ≡ Close i → under_id c i ≡ (name, kind.Instance i) ∷ [] → new ≡ added old (by_node n (name, kind.Instance i)) → now ≡ left → Did c n t old new left now
-  passed : (i : InterfaceId) → t ≡ Close i → under_id c i ≡ [] → new ≡ old → now ≡ left → Did c n t old new left now
+-- The step of a task: visit an interface before it is listed, pass a visited one, visit one, list one, or pass one
+-- without id.
+pub data Did (c : Collection) (n : ℕ) (t : Task) (old new : List Entry) (seen after : List InterfaceId) (left now : List Task) : Type 0 where
+  divided : (i : InterfaceId) → t ≡ Open i → new ≡ old → after ≡ seen → now ≡ left ++ Close i ∷ Visit i ∷ [] → Did c n t old new seen after left now
+  met : (i : InterfaceId) → t ≡ Visit i → is_among seen i ≡ true → new ≡ old → after ≡ with_each seen (i ∷ []) → now ≡ left → Did c n t old new seen after left now
+  entered : (i : InterfaceId) → t ≡ Visit i → new ≡ old → after ≡ with_each seen (i ∷ []) → now ≡ left ++ inner_tasks c i → Did c n t old new seen after left now
+  closed : (i : InterfaceId) (name : Name) → t ≡ Close i → under_id c i ≡ (name, kind.Instance i) ∷ [] → new ≡ added old (by_node n (name, kind.Instance i)) → after ≡ seen → now ≡ left → Did c n t old new seen after left now
+  passed : (i : InterfaceId) → t ≡ Close i → under_id c i ≡ [] → new ≡ old → after ≡ seen → now ≡ left → Did c n t old new seen after left now
+
+-- What an interface uses widely is among the listed imports and those of the last tasks, and these tasks are below the
+-- interface.
+pub record IsOpen (c : Collection) (n : ℕ) (now : List Entry) (tasks : List Task) (i : InterfaceId) : Type 0 where
+  pub rest : List Task
+  pub last : List Task
+  pub parts : tasks ≡ rest ++ last
+  pub lower : AllByRecursion (λ t. rank c (task_id t) < rank c i) last
+  pub found : HasAll (now ++ tasks_entries c n last) (map (by_node n) (used_by c (kind.Instance i)))
 
 -- The listed imports together with those of the remaining tasks are alike to the wanted ones.
-pub record IsUnderWay (c : Collection) (n : ℕ) (wanted : List Entry) (now : List Entry) (tasks : List Task) : Type 0 where
+pub record IsUnderWay (c : Collection) (n : ℕ) (wanted now : List Entry) (seen : List InterfaceId) (tasks : List Task) : Type 0 where
   pub stands : AsksAlike c wanted (now ++ tasks_entries c n tasks)
   pub settled : AreSettled c [] (now ++ tasks_entries c n tasks)
   pub held : AllByRecursion (IsHeldTask c) tasks
+  pub unfinished : (i : InterfaceId) → Contains seen i → IsOpen c n now tasks i
 
 -- The item's type is of the collection.
 abbrev pub IsHeldKind : Collection → ItemKind → Type 0

@@ -1,8 +1,9 @@
--- The imports that are merged: the graph's imports, each after the interfaces that it uses.
+-- The imports that are merged: the graph's imports, each after the interfaces that it uses widely.
 use Rattle.std.specs.Prelude.{ℕ, zero, suc, Bool, false, not, ◌&&◌, ◌==◌, List, [], ◌∷◌, ◌++◌, length, map, filter}
 use Rattle.std.specs.List.{flat_map}
 use Rattle.wac_types_shapes.specs.primitives.Name.{Name, same_name, option_case}
 use Rattle.wac_types_collection.specs.collection.Collection.{Collection, item_at}
+use Rattle.wac_types_collection.specs.wide.Wide.{wide_uses}
 use Rattle.wac_types_shapes.specs.declared.shapes.component.InterfaceId.{InterfaceId}
 use Rattle.wac_types_shapes.specs.declared.shapes.component.ItemKind.{ItemKind}
 use Rattle.wac_types_shapes.specs.declared.shapes.component.ItemKind.TheVariants as kind
@@ -14,17 +15,17 @@ use Rattle.wac_graph_model.specs.nodes.Asked.{Entry, asked}
 abbrev pub under_id : Collection → InterfaceId → List (Name × ItemKind)
 under_id c i = option_case (item_at c.interfaces i.0) [] (λ it. option_case it.id [] (λ id. (id, kind.Instance i) ∷ []))
 
--- The interfaces that an interface uses, each after those that it uses itself, down to the given depth.
+-- The interfaces that an interface uses widely, each after those that it uses widely itself, down to the given depth.
 abbrev pub used_to : ℕ → Collection → InterfaceId → List (Name × ItemKind)
 used_to zero c i = []
-used_to (suc k) c i = option_case (item_at c.interfaces i.0) [] (λ it. flat_map (λ u. used_to k c (u.1.interface) ++ under_id c (u.1.interface)) it.uses)
+used_to (suc k) c i = flat_map (λ j. used_to k c j ++ under_id c j) (wide_uses c i)
 
--- The interfaces that an item uses; a chain of uses is no longer than the number of interfaces.
+-- The interfaces that an instance uses widely; a chain of uses is no longer than the number of interfaces.
 abbrev pub used_by : Collection → ItemKind → List (Name × ItemKind)
 used_by c (kind.Instance i) = used_to (length c.interfaces) c i
 used_by c k = []
 
--- An import after the interfaces that it uses.
+-- An import after the interfaces that it uses widely.
 abbrev pub with_used : Collection → Entry → List Entry
 with_used c e = map (λ u. record { name = u.0; kind = u.1; node = e.node }) (used_by c e.kind) ++ e ∷ []
 

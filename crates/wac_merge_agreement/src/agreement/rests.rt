@@ -1,9 +1,10 @@
 //! The classes that a class depends on.
 //!
-//! A class depends on the classes whose interfaces its entries use, and on those that bind resources which its entries
+//! A class depends on the classes whose interfaces its entries use widely, and on those that bind resources which its entries
 //! mention.
-ghost use Rattle.std.specs.Prelude.{ℕ, ◌≡◌, ◌<◌, ◌↔◌, ◌⊎◌, true, length, map, Some, IfOk, OnOk};
-ghost use Rattle.wac_types_collection.specs.collection.Collection.{holds_type, holds_all, used_types};
+ghost use Rattle.std.specs.Prelude.{ℕ, ◌≡◌, ◌<◌, ◌↔◌, ◌⊎◌, true, length, map, slice_get, Some, IfOk, OnOk};
+ghost use Rattle.wac_types_collection.specs.collection.Collection.{holds_type};
+ghost use Rattle.wac_types_collection.specs.wide.Wide.{AreThere};
 ghost use Rattle.wac_types_shapes.specs.shapes.Kinds.{kind_type};
 ghost use Rattle.wac_types_shapes.specs.declared.shapes.component.ItemKind.TheVariants as kind_of;
 ghost use Rattle.wac_merge_classes.specs.entries.Bindings.{AreBindings, AreHeld};
@@ -21,6 +22,7 @@ ghost use Rattle.wac_merge_agreement.specs.private.agreement.Resting.{Gains, Ite
 
 use crate::agreement::flags::flag_through;
 use crate::agreement::reach::{classes_reached, put, put_optional, type_of};
+use indexmap::IndexSet;
 use std::alloc::{AllocError, Global};
 use std::collections::BTreeSet;
 use wac_edges::cycles::cycles::empty_sets;
@@ -28,7 +30,8 @@ use wac_merge_classes::entries::bindings::Bindings;
 use wac_merge_classes::entries::classes::Classes;
 use wac_merge_classes::entries::entry::Entry;
 use wac_merge_tables::tables::nodes::{Item, Nodes};
-use wac_types_collection::{InterfaceId, ItemKind, Named, ResourceId, Type, Types, UsedType};
+use wac_types_collection::wide::wide_uses;
+use wac_types_collection::{InterfaceId, ItemKind, ResourceId, Type, Types};
 
 /// Returns the class of an interface's id.
 fn interface_class(types: &Types, classes: &Classes, id: InterfaceId) -> Option<usize>
@@ -41,25 +44,33 @@ fn interface_class(types: &Types, classes: &Classes, id: InterfaceId) -> Option<
     }
 }
 
-/// Adds the classes of the interfaces from which types are used.
+/// Returns the interface at an index of a set.
+fn interface_at(used: &IndexSet<InterfaceId>, index: usize) -> InterfaceId
+    requires { index < length used.now.keys }
+    ensures { slice_get used.now.keys index ≡ Some result }
+{
+    used.as_slice()[index]
+}
+
+/// Adds the classes of used interfaces.
 fn put_used(
     numbers: &mut BTreeSet<usize>,
     types: &Types,
     classes: &Classes,
-    uses: &Named<UsedType>,
+    used: &IndexSet<InterfaceId>,
 ) -> Result<(), AllocError>
-    requires { holds_all types.now (used_types uses.now) ≡ true }
-    ensures { OnOk result (numbers.new.keys ≡ with_all numbers.old.keys (used_classes types.now classes.now.names uses.now)) }
+    requires { AreThere types.now used.now.keys }
+    ensures { OnOk result (numbers.new.keys ≡ with_all numbers.old.keys (used_classes types.now classes.now.names used.now.keys)) }
 {
-    for i in 0..uses.len() {
-        let used = uses.value_at(i);
-        put_optional(numbers, interface_class(types, classes, used.interface))?;
+    for i in 0..used.len() {
+        let id = interface_at(used, i);
+        put_optional(numbers, interface_class(types, classes, id))?;
     }
     Ok(())
 }
 
-/// Returns the classes that an instance mentions or uses: those that bind its resources, and those of its used
-/// interfaces.
+/// Returns the classes that an instance mentions or uses: those that bind its resources, and those of the interfaces
+/// that it uses widely.
 fn instance_leads(
     nodes: &Nodes,
     flags: &[bool],
@@ -76,7 +87,8 @@ fn instance_leads(
 {
     types.law(); // proof only
     let mut numbers = classes_reached(types.allocator(), nodes, flags, type_of(item))?;
-    put_used(&mut numbers, types, classes, &types[id].uses)?;
+    let used = wide_uses(types, id)?;
+    put_used(&mut numbers, types, classes, &used)?;
     Ok(numbers)
 }
 
@@ -164,6 +176,7 @@ pub fn rests(
     ensures counted { IfOk result (λ v. length v.items ≡ length (class_names by_names entries.now)) }
     ensures rests { IfOk result (λ v. (a b : ℕ) → (IsStep v.items a b ↔ RestsOn by_names types.now entries.now a b)) }
 {
+    types.law(); // proof only
     let numbers = classes.numbers();
     let mut rests = empty_sets(alloc, classes.positions().len())?;
     let mut flags = Vec::new(alloc);

@@ -5,9 +5,9 @@ use Rattle.wac_edges.specs.cycles.Cycles.{Path}
 use Rattle.wac_types_shapes.specs.primitives.Name.{Name, same_name}
 use Rattle.wac_types_shapes.specs.primitives.Tree.{Place, position, TypeTree, resource, own, borrow, record_of, variant_of, list_of, fixed_list_of, tuple_of, option_of, result_of, stream_of, future_of, function, instance, component, type_equal, function_item, instance_item, component_item, module_item, value_item}
 use Rattle.wac_types_collection.specs.collection.Collection.{Collection, item_at}
+use Rattle.wac_types_collection.specs.wide.Wide.{UsesWidely}
 use Rattle.wac_types_shapes.specs.declared.shapes.component.InterfaceId.{InterfaceId}
 use Rattle.wac_types_shapes.specs.declared.shapes.component.Interface.{Interface}
-use Rattle.wac_types_shapes.specs.declared.shapes.component.UsedType.{UsedType}
 use Rattle.wac_types_shapes.specs.declared.shapes.component.ItemKind.{ItemKind}
 use Rattle.wac_types_shapes.specs.declared.shapes.component.ItemKind.TheVariants as kind
 use Rattle.wac_merge_classes.specs.entries.Classes.{Entry, NameRules, same_class, class_names, members}
@@ -46,12 +46,12 @@ abbrev pub begins_at : ℕ → List Place → Type 0
 begins_at k (position j ∷ path) = j ≡ k
 begins_at k _ = ⊥
 
--- Class a depends on class b if an entry of a uses an interface of b, or mentions a resource that b binds.
+-- Class a depends on class b if an entry of a uses an interface of b widely, or mentions a resource that b binds.
 pub data RestsOn (rules : NameRules) (c : Collection) (es : List Entry) : ℕ → ℕ → Type 0 where
-  by_use : (a b : ℕ) (class other name id : Name) (e : Entry) (i : InterfaceId) (it used : Interface) (u : UsedType)
+  by_use : (a b : ℕ) (class other id : Name) (e : Entry) (i j : InterfaceId) (used : Interface)
       → a ≢ b → slice_get (class_names rules es) a ≡ Some class → slice_get (class_names rules es) b ≡ Some other
-      → Contains (members rules es class) e → e.kind ≡ kind.Instance i → item_at c.interfaces i.0 ≡ Some it
-      → Contains it.uses (name, u) → item_at c.interfaces (u.interface).0 ≡ Some used → used.id ≡ Some id → same_class rules es id other ≡ true
+      → Contains (members rules es class) e → e.kind ≡ kind.Instance i → UsesWidely c i j
+      → item_at c.interfaces j.0 ≡ Some used → used.id ≡ Some id → same_class rules es id other ≡ true
       → RestsOn rules c es a b
   by_resource : (a b : ℕ) (class : Name) (e : Entry)
       → a ≢ b → slice_get (class_names rules es) a ≡ Some class → Contains (members rules es class) e

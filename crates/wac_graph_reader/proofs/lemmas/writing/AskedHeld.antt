@@ -8,6 +8,7 @@ use Rattle.std.proofs.lemmas.Option.{slice_get_within}
 use Rattle.wac_types_shapes.specs.primitives.Name.{Name, option_case}
 use Rattle.wac_types_collection.specs.collection.Collection.{Collection, IsWellFormed, item_of}
 use Rattle.wac_types_collection.specs.declared.collection.collection.Held.{Held}
+use Rattle.wac_types_collection.specs.wide.Wide.{wide_uses}
 use Rattle.wac_types_shapes.specs.declared.shapes.component.Interface.{Interface}
 use Rattle.wac_types_shapes.specs.declared.shapes.component.InterfaceId.{InterfaceId}
 use Rattle.wac_types_shapes.specs.declared.shapes.component.ItemKind.{ItemKind}
@@ -61,16 +62,11 @@ module _ (c : Collection) (P : Name × ItemKind → Type 0) (each : (name : Name
     split None _ = tt
     split (Some h) at = named (lt-ltb i.0 (length c.interfaces) (slice_get_within c.interfaces i.0 h at)) h.item.id
 
-  all_deeper : (k : ℕ) → ((i : InterfaceId) → AllByRecursion P (used_to k c i)) → (o : Option (Held Interface)) → AllByRecursion P (option_case (item_of o) [] (λ it. flat_map (λ u. used_to k c (u.1.interface) ++ under_id c (u.1.interface)) it.uses))
-  all_deeper k below None = tt
-  all_deeper k below (Some h) =
-      all_flat P (λ u. used_to k c (u.1.interface) ++ under_id c (u.1.interface)) h.item.uses
-      (all_of (λ u. AllByRecursion P (used_to k c (u.1.interface) ++ under_id c (u.1.interface)))
-      (λ u. all_joined P (used_to k c (u.1.interface)) (under_id c (u.1.interface)) (below (u.1.interface)) (all_under (u.1.interface))) h.item.uses)
-
   all_used_to : (k : ℕ) (i : InterfaceId) → AllByRecursion P (used_to k c i)
   all_used_to zero i = tt
-  all_used_to (suc k) i = all_deeper k (all_used_to k) (slice_get c.interfaces i.0)
+  all_used_to (suc k) i =
+      all_flat P (λ j. used_to k c j ++ under_id c j) (wide_uses c i)
+      (all_of (λ j. AllByRecursion P (used_to k c j ++ under_id c j)) (λ j. all_joined P (used_to k c j) (under_id c j) (all_used_to k j) (all_under j)) (wide_uses c i))
 
   all_used : (k : ItemKind) → AllByRecursion P (used_by c k)
   all_used (kind.Instance i) = all_used_to (length c.interfaces) i

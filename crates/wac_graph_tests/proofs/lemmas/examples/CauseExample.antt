@@ -32,6 +32,7 @@ use Rattle.wac_types_collection.specs.subtyping.Called.{Called}
 use Rattle.wac_merge_classes.specs.entries.Agreement.{Agree, compared, here, below}
 use Rattle.wac_merge_classes.specs.entries.Classes.{by_names, same_class}
 use Rattle.wac_merge_classes.specs.entries.Classes as merge
+use Rattle.wac_types_collection.specs.wide.Wide.{by_itself}
 use Rattle.wac_merge_classes.specs.terms.ClassOrder.{RestsOn, by_use}
 use Rattle.wac_edges.specs.cycles.Cycles.{step, further}
 use Rattle.wac_merge_classes.specs.terms.NoDisagreement.{HasNoDisagreement}
@@ -401,13 +402,13 @@ none_disagrees i j d = d.apart (all_agree i d.earlier d.at_first j d.later d.at_
 -- the first class, of `a:b/y`, rests on the second by its later version, and the second on the first by its earlier one
 y_rests : RestsOn by_names circle_types four 0 1
 unfolding read_track read_version is_interface_name parts_piece version_piece series has before after is_label is_lower_label is_package digits_from scan
-y_rests = by_use 0 1 y_first x_first (codes "u") x_later (merging y_later 3) (record { 0 = 3 }) _ _ (record { interface = record { 0 = 2 }; name = None })
-    (λ h. omega (arith, h)) refl refl (1, omega arith, refl) refl refl (0, omega arith, refl) refl refl refl
+y_rests = by_use 0 1 y_first x_first x_later (merging y_later 3) (record { 0 = 3 }) (record { 0 = 2 }) _
+    (λ h. omega (arith, h)) refl refl (1, omega arith, refl) refl (by_itself (record { 0 = 3 }) (codes "u") (record { interface = record { 0 = 2 }; name = None }) (0, omega arith, refl)) refl refl refl
 
 x_rests : RestsOn by_names circle_types four 1 0
 unfolding read_track read_version is_interface_name parts_piece version_piece series has before after is_label is_lower_label is_package digits_from scan
-x_rests = by_use 1 0 x_first y_first (codes "t") y_first (merging x_first 1) (record { 0 = 1 }) _ _ (record { interface = record { 0 = 0 }; name = None })
-    (λ h. omega (arith, h)) refl refl (0, omega arith, refl) refl refl (0, omega arith, refl) refl refl refl
+x_rests = by_use 1 0 x_first y_first y_first (merging x_first 1) (record { 0 = 1 }) (record { 0 = 0 }) _
+    (λ h. omega (arith, h)) refl refl (0, omega arith, refl) refl (by_itself (record { 0 = 1 }) (codes "t") (record { interface = record { 0 = 0 }; name = None }) (0, omega arith, refl)) refl refl refl
 
 -- the class that is asked for first has the later name
 circle_uses : UseEachOther by_names circle_types four y_later

@@ -9,6 +9,7 @@ use Rattle.std.specs.Cmp.{nat_cmp_total}
 use Rattle.wac_types_shapes.specs.primitives.Name.{Name}
 use Rattle.wac_types_collection.specs.collection.Collection.{Collection}
 use Rattle.wac_types_collection.specs.declared.collection.collection.Held.{Held}
+use Rattle.wac_types_shapes.specs.declared.shapes.component.DefinedType.TheVariants as def
 use Rattle.wac_types_shapes.specs.declared.shapes.component.Interface.{Interface}
 use Rattle.wac_types_shapes.specs.declared.shapes.component.ItemKind.{ItemKind}
 use Rattle.wac_types_shapes.specs.declared.shapes.component.ItemKind.TheVariants as kind
@@ -59,6 +60,48 @@ all_three = asked_as (codes "a:b/a") 0 ∷ asked_as (codes "a:b/b") 1 ∷ asked_
 -- with an instance of `a:b/c` come `a:b/a` and `a:b/b`, each before what uses it, and each once
 pub used_before : once (with_used types (asked_as (codes "a:b/c") 2)) ≡ all_three
 used_before = refl
+
+-- the enum `t`, and an instance of an interface
+abbrev enum_item : Name × ItemKind
+enum_item = (codes "t", kind.TypeItem (ty.Value (val.Defined (record { 0 = 0 }))))
+
+abbrev instance_item : Name → ℕ → Name × ItemKind
+instance_item n i = (n, kind.Instance (record { 0 = i }))
+
+abbrev bare_interface : List (Name × UsedType) → List (Name × ItemKind) → ℕ → Held Interface
+bare_interface uses exports before = record { item = record { id = None; uses = uses; exports = exports }; before = before }
+
+abbrev with_enum : List (Held Interface) → Collection
+with_enum interfaces = record { resources = []; funcs = []; defined = record { item = def.Enum (record { 0 = codes "a" ∷ [] }); before = 0 } ∷ []; modules = []; interfaces = interfaces; worlds = [] }
+
+-- `n:p/k` with the enum `t`, and `n:p/i`, which lists an instance that uses it
+abbrev nested_types : Collection
+nested_types =
+    with_enum
+    (interface_of (codes "n:p/k") [] (enum_item ∷ []) 1
+    ∷ bare_interface (use_of (codes "t") 0 None ∷ []) (enum_item ∷ []) 2
+    ∷ interface_of (codes "n:p/i") [] (instance_item (codes "x") 1 ∷ []) 3 ∷ [])
+
+-- an instance of `n:p/i` comes after what the instance that it lists uses
+pub used_inside : once (with_used nested_types (asked_as (codes "n:p/i") 2)) ≡ asked_as (codes "n:p/k") 0 ∷ asked_as (codes "n:p/i") 2 ∷ []
+used_inside = refl
+
+-- `n:p/b` lists an instance that uses `n:p/a`; `n:p/i` lists one that uses `n:p/b`, then one that uses `n:p/c`, and itself uses `n:p/d`
+abbrev ordered_types : Collection
+ordered_types =
+    with_enum
+    (interface_of (codes "n:p/a") [] (enum_item ∷ []) 1
+    ∷ bare_interface (use_of (codes "t") 0 None ∷ []) (enum_item ∷ []) 2
+    ∷ interface_of (codes "n:p/b") [] (enum_item ∷ instance_item (codes "x") 1 ∷ []) 3
+    ∷ interface_of (codes "n:p/c") [] (enum_item ∷ []) 4
+    ∷ interface_of (codes "n:p/d") [] (enum_item ∷ []) 5
+    ∷ bare_interface (use_of (codes "t") 2 None ∷ []) (enum_item ∷ []) 6
+    ∷ bare_interface (use_of (codes "t") 3 None ∷ []) (enum_item ∷ []) 7
+    ∷ interface_of (codes "n:p/i") (use_of (codes "t") 4 None ∷ []) (instance_item (codes "x") 5 ∷ instance_item (codes "y") 6 ∷ enum_item ∷ []) 8 ∷ [])
+
+-- own uses are first, then those of the instances in order, each after its own
+pub used_in_order : once (with_used ordered_types (asked_as (codes "n:p/i") 7)) ≡ asked_as (codes "n:p/d") 4 ∷ asked_as (codes "n:p/a") 0 ∷ asked_as (codes "n:p/b") 2 ∷ asked_as (codes "n:p/c") 3 ∷ asked_as (codes "n:p/i") 7 ∷ []
+used_in_order = refl
 
 abbrev import_of_c : GraphNode
 import_of_c = record { kind = graph.import (codes "a:b/c"); item_kind = kind.Instance (record { 0 = 2 }); owner = None; name = None; export_name = None; first_name = None }

@@ -86,7 +86,7 @@ module _ (c : Collection) (es : List Entry) where
 
   -- what a class rests on is a class
   pub rests_low : (a b : ℕ) → RestsOn by_names c es a b → b < length (class_names by_names es)
-  rests_low a b (by_use _ _ class name_of name id e i it used u other is_class is_other member is there listed is_used has_id one) = slice_get_within (class_names by_names es) b name_of is_other
+  rests_low a b (by_use _ _ class name_of id e i j used other is_class is_other member is widely is_used has_id one) = slice_get_within (class_names by_names es) b name_of is_other
   rests_low a b (by_resource _ _ class e other is_class member h) = split (nat_cmp b (length (class_names by_names es))) refl where
     split : (o : Ordering) → o ≡ nat_cmp b (length (class_names by_names es)) → b < length (class_names by_names es)
     split Less is = ranked b (length (class_names by_names es)) Less is

@@ -1,5 +1,5 @@
 -- What entries lead to is what their classes rest on.
-use Rattle.std.proofs.Common.{◌≡◌, ◌≢◌, ℕ, zero, suc, true, ◌&&◌, List, [], ◌∷◌, length, Option, Some, None, slice_get, IsSome, refl, ap, sym, ◌∙◌, subst, inl, inr, ◌⊎◌, arith}
+use Rattle.std.proofs.Common.{◌≡◌, ◌≢◌, ℕ, true, ◌&&◌, List, [], ◌∷◌, length, Option, Some, None, slice_get, IsSome, refl, ap, sym, ◌∙◌, subst, inl, inr, ◌⊎◌, arith}
 use Rattle.std.specs.Prelude.{◌↔◌}
 use Rattle.std.specs.List.{Contains}
 use Rattle.std.specs.Option.{option_map}
@@ -7,13 +7,16 @@ use Rattle.std.proofs.lemmas.Bool.{and_parts, or_cases}
 use Rattle.std.proofs.lemmas.Option.{get_or_from_slice_get, slice_get_read, slice_get_within}
 use Rattle.wac_types_shapes.specs.primitives.Name.{Name, same_name, find_name, option_case}
 use Rattle.wac_types_shapes.specs.primitives.Tree.{Place, TypeTree, Leaf, type_equal, function_item, instance_item, component_item, module_item, value_item}
-use Rattle.wac_types_collection.specs.collection.Collection.{Collection, item_at}
+use Rattle.wac_types_collection.specs.collection.Collection.{Collection, IsWellFormed, item_at}
+use Rattle.wac_types_collection.specs.wide.Wide.{each_once, wide_uses}
+use Rattle.wac_types_collection.proofs.lemmas.wide.Members.{in_none, in_first, in_rest, in_parts}
+use Rattle.wac_types_collection.proofs.lemmas.wide.Once.{each_new}
+use Rattle.wac_types_collection.proofs.lemmas.wide.Wide.{wide_law}
 use Rattle.wac_types_collection.specs.collection.Held.{resolved}
 use Rattle.wac_types_collection.specs.subtyping.Called.{Called}
 use Rattle.wac_types_shapes.specs.declared.shapes.component.InterfaceId.{InterfaceId}
 use Rattle.wac_types_shapes.specs.declared.shapes.component.Interface.{Interface}
 use Rattle.wac_types_shapes.specs.declared.shapes.component.ResourceId.{ResourceId}
-use Rattle.wac_types_shapes.specs.declared.shapes.component.UsedType.{UsedType}
 use Rattle.wac_types_shapes.specs.declared.shapes.component.ItemKind.{ItemKind}
 use Rattle.wac_types_shapes.specs.declared.shapes.component.ItemKind.TheVariants as kind
 use Rattle.wac_types_shapes.specs.declared.shapes.component.«Type».TheVariants as ty
@@ -39,7 +42,7 @@ use Rattle.wac_merge_agreement.proofs.lemmas.agreement.Resting.{BindsNothing, Is
 use Rattle.wac_merge_agreement.proofs.lemmas.agreement.RestKinds.{all_nothing, filter-at}
 use Rattle.wac_merge_classes.proofs.lemmas.terms.Found.{at-filter}
 use Rattle.wac_merge_agreement.proofs.lemmas.agreement.RestNames.{compared-same}
-use Rattle.wac_merge_agreement.proofs.lemmas.agreement.RestSets.{has_in, in_has}
+use Rattle.wac_merge_agreement.proofs.lemmas.agreement.RestSets.{has_in, in_has, used_widely}
 
 pub contains_at : {X : Type 0} (xs : List X) (k : ℕ) (x : X) → slice_get xs k ≡ Some x → Contains xs x
 contains_at xs k x at = (k, slice_get_within xs k x at, get_or_from_slice_get xs k x x at)
@@ -106,19 +109,19 @@ module _ (c : Collection) (names : List (Name × ℕ)) where
   and_rest None ks b h = h
   and_rest (Some n) ks b h = inr h
 
-  find_used : (us : List (Name × UsedType)) (b : ℕ) → In (used_classes c names us) b → (k : ℕ) × (e : Name × UsedType) × (slice_get us k ≡ Some e) × (interface_class c names e.1.interface ≡ Some b)
+  find_used : (is : List InterfaceId) (b : ℕ) → In (used_classes c names is) b → (j : InterfaceId) × Contains is j × (interface_class c names j ≡ Some b)
   find_used [] b h = absurd h
-  find_used (u ∷ us) b h = elim (in_and (interface_class c names u.1.interface) (used_classes c names us) b h) [
-    | inl e ↦ (0, u, refl, e)
-    | inr r ↦ let w = find_used us b r in (suc w.0, w.1, w.2, w.3)
+  find_used (i ∷ is) b h = elim (in_and (interface_class c names i) (used_classes c names is) b h) [
+    | inl e ↦ (i, in_first i is, e)
+    | inr r ↦ let w = find_used is b r in (w.0, in_rest i w.0 is w.1, w.2)
   ]
 
-  used_there : (us : List (Name × UsedType)) (k : ℕ) (e : Name × UsedType) (b : ℕ) → slice_get us k ≡ Some e → interface_class c names e.1.interface ≡ Some b → In (used_classes c names us) b
-  used_there [] k e b at is = cc
-  used_there (u ∷ us) zero e b at is =
-      let same : u ≡ e = cc in
-      and_first (interface_class c names u.1.interface) (used_classes c names us) b (ap (λ (x : Name × UsedType). interface_class c names x.1.interface) same ∙ is)
-  used_there (u ∷ us) (suc k) e b at is = and_rest (interface_class c names u.1.interface) (used_classes c names us) b (used_there us k e b at is)
+  used_there : (is : List InterfaceId) (j : InterfaceId) (b : ℕ) → Contains is j → interface_class c names j ≡ Some b → In (used_classes c names is) b
+  used_there [] j b h known = absurd (in_none j h)
+  used_there (i ∷ is) j b h known = elim (in_parts i j is h) [
+    | inl same ↦ and_first (interface_class c names i) (used_classes c names is) b (ap (interface_class c names) (sym same) ∙ known)
+    | inr r ↦ and_rest (interface_class c names i) (used_classes c names is) b (used_there is j b r known)
+  ]
 
 -- ---- names of instances, and of classes, are asked for
 asked_instance : (es : List Entry) (n : Name) → names_instance es n ≡ true → is_asked es n ≡ true
@@ -140,7 +143,7 @@ asked_one es n k m at t = elim (or_cases (same_name n m) (same_track (by_names.t
 
 module _ (ns : List Node) (c : Collection) (es : List Entry) (xs : List Item) (numbers positions : List ℕ) (names : List (Name × ℕ)) (bs : ClassBindings)
     (classes : AreClasses by_names es numbers positions names) (bindings : AreBindings c es bs) (counted : length xs ≡ length es) (items : AreCompared ns c es xs)
-    (agree : HasNoDisagreement by_names c es) where
+    (agree : HasNoDisagreement by_names c es) (wf : IsWellFormed c) where
   abbrev root : ResourceId → Option Leaf
   root = root_bindings by_names c es (λ k. k)
 
@@ -194,14 +197,12 @@ module _ (ns : List Node) (c : Collection) (es : List Entry) (xs : List Item) (n
 
     -- a use of an interface of the class b
     uses : (j : InterfaceId) → e.kind ≡ kind.Instance j → Has (classes_used c names j) b → RestsOn by_names c es a b
-    uses j is h = split (item_at c.interfaces j.0) refl h where
-      split : (o : Option Interface) → item_at c.interfaces j.0 ≡ o → Has (option_case o [] (λ it. used_classes c names it.uses)) b → RestsOn by_names c es a b
-      split None there g = absurd (has_in [] b g)
-      split (Some it) there g =
-          let w = find_used c names it.uses b (has_in (used_classes c names it.uses) b g) in
-          let u = has_class c names w.1.1.interface b w.3 in
-          let d = classes.classed u.id b u.found in
-          by_use a b class d.0 w.1.0 u.id e j it u.it w.1.1 other is_class d.1 inside_class is there (contains_at it.uses w.0 w.1 w.2) u.is_held u.is_id (class-sym by_names es d.0 u.id d.2)
+    uses j is h =
+        let once = each_once (wide_uses c j) in
+        let w = find_used c names once b (has_in (used_classes c names once) b h) in
+        let u = has_class c names w.0 b w.2 in
+        let d = classes.classed u.id b u.found in
+        by_use a b class d.0 u.id e j w.0 u.it other is_class d.1 inside_class is (used_widely c wf j w.0 w.1) u.is_held u.is_id (class-sym by_names es d.0 u.id d.2)
 
     means : (k : ItemKind) → e.kind ≡ k → Means k → RestsOn by_names c es a b
     means k is h = by_resource a b class e other is_class inside_class (subst Means (sym is) h)
@@ -277,14 +278,13 @@ module _ (ns : List Node) (c : Collection) (es : List Entry) (xs : List Item) (n
   }
 
   rests_leads : (a b : ℕ) → RestsOn by_names c es a b → Entries a b
-  rests_leads a b (by_use _ _ class name_of name id e i it used u other is_class is_other member is there listed is_used has_id one) =
+  rests_leads a b (by_use _ _ class name_of id e i j used other is_class is_other member is widely is_used has_id one) =
       let t = is_there a class e is_class member in
-      let k = at_contains it.uses (name, u) listed in
       let asked = asked_one es id b name_of is_other one in
       let found = found_class id b name_of is_other one asked in
-      let known : interface_class c names u.interface ≡ Some b = of_class c names u.interface b (record { it = used; id = id; is_held = is_used; is_id = has_id; found = found }) in
-      let here : Has (used_classes c names it.uses) b = in_has (used_classes c names it.uses) b (used_there c names it.uses k.0 (name, u) b k.1 known) in
-      let all : Has (classes_used c names i) b = subst (λ (o : Option Interface). Has (option_case o [] (λ x. used_classes c names x.uses)) b) (sym there) here in
+      let known : interface_class c names j ≡ Some b = of_class c names j b (record { it = used; id = id; is_held = is_used; is_id = has_id; found = found }) in
+      let among : Contains (each_once (wide_uses c i)) j = each_new [] (wide_uses c i) j ((wide_law c wf i j).0 widely) in
+      let all : Has (classes_used c names i) b = in_has (classes_used c names i) b (used_there c names (each_once (wide_uses c i)) j b among known) in
       led a b class e other t (subst (λ (y : ItemKind). ItemLeads ns c names bs y t.item b) (sym is) (inr all))
     where
       found_class : (id : Name) (b : ℕ) (m : Name) → slice_get (class_names by_names es) b ≡ Some m → same_class by_names es id m ≡ true → is_asked es id ≡ true → find_name names id ≡ Some b

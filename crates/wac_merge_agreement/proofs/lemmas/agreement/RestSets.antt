@@ -1,14 +1,17 @@
 -- The sets of numbers to which entries lead, as they grow.
-use Rattle.std.proofs.Common.{◌≡◌, ◌≢◌, ℕ, zero, suc, ◌<◌, true, List, [], ◌∷◌, drop, Option, Some, None, slice_get, refl, ap, sym, ◌∙◌, subst, inl, inr, ◌⊎◌, arith}
-use Rattle.std.specs.Prelude.{◌↔◌}
-use Rattle.std.specs.Option.{option_map}
+use Rattle.std.proofs.Common.{◌≡◌, ◌≢◌, ℕ, zero, suc, ◌<◌, true, Contains, List, [], ◌∷◌, drop, length, Option, Some, None, slice_get, refl, ap, sym, ◌∙◌, subst, inl, inr, ◌⊎◌, arith}
+use Rattle.std.specs.Prelude.{◌↔◌, nat_lt}
 use Rattle.std.specs.Ordering.{nat_cmp}
 use Rattle.std.specs.BTreeSet.{BTreeSet, insert_key}
 use Rattle.std.proofs.Math.ListN.{set}
-use Rattle.std.proofs.lemmas.Bool.{and_parts}
-use Rattle.std.proofs.lemmas.Bool.Decides.{eqb_tells}
+use Rattle.std.proofs.lemmas.Bool.{and_parts, lt-ltb}
+use Rattle.std.proofs.lemmas.Bool.Decides.{eqb_tells, nat_tests}
 use Rattle.wac_types_shapes.specs.primitives.Name.{Name, option_case}
-use Rattle.wac_types_collection.specs.collection.Collection.{Collection, item_at, holds_type, holds_all, used_types}
+use Rattle.wac_types_collection.specs.collection.Collection.{Collection, IsWellFormed, HasInterface, item_at, holds_type, holds_all, used_types}
+use Rattle.wac_types_collection.specs.wide.Wide.{AreThere, UsesWidely, by_itself, by_instance, each_once, wide_uses}
+use Rattle.wac_types_collection.proofs.lemmas.wide.Members.{in_none, in_parts, at_in}
+use Rattle.wac_types_collection.proofs.lemmas.wide.Once.{each_only}
+use Rattle.wac_types_collection.proofs.lemmas.wide.Wide.{wide_law}
 use Rattle.wac_types_shapes.specs.declared.shapes.component.Interface.{Interface}
 use Rattle.wac_types_shapes.specs.declared.shapes.component.InterfaceId.{InterfaceId}
 use Rattle.wac_types_shapes.specs.declared.shapes.component.UsedType.{UsedType}
@@ -23,6 +26,7 @@ use Rattle.wac_merge_agreement.specs.private.agreement.Resting.{EntryLeads, Gain
 use Rattle.wac_merge_agreement.proofs.lemmas.agreement.KeySets.{In, has_all, all_old, all_new}
 use Rattle.wac_edges.proofs.lemmas.cycles.Numbers.{has_head, has_tail, has_split, has_insert, has_old, has_new}
 use Rattle.wac_merge_classes.proofs.lemmas.entries.Lists.{set-cases}
+use Rattle.wac_merge_classes.proofs.lemmas.entries.Places.{uses_held}
 
 -- ---- numbers of lists
 pub has_in : (ns : List ℕ) (q : ℕ) → Has ns q → In ns q
@@ -33,38 +37,61 @@ pub in_has : (ns : List ℕ) (q : ℕ) → In ns q → Has ns q
 in_has [] q h = absurd h
 in_has (n ∷ ns) q h = elim h [ inl e ↦ has_head q n ns e | inr r ↦ has_tail q n ns (in_has ns q r) ]
 
--- ---- the interfaces from which types are used
+-- ---- used interfaces
 module _ (c : Collection) where
-  pub used_at : (us : List (Name × UsedType)) (i : ℕ) (u : UsedType) → holds_all c (used_types us) ≡ true → option_map (λ e. e.1) (slice_get us i) ≡ Some u → holds_type c (ty.Interface u.interface) ≡ true
-  used_at [] i u h at = cc
-  used_at (e ∷ us) zero u h at =
-      let same : e.1 ≡ u = cc in
-      ap (λ (y : UsedType). holds_type c (ty.Interface y.interface)) (sym same) ∙ (and_parts (holds_type c (ty.Interface e.1.interface)) (holds_all c (used_types us)) h).0
-  used_at (e ∷ us) (suc i) u h at = used_at us i u (and_parts (holds_type c (ty.Interface e.1.interface)) (holds_all c (used_types us)) h).1 at
+  pub there_if_held : (i : InterfaceId) → holds_type c (ty.Interface i) ≡ true → HasInterface c i
+  there_if_held i h = under h where
+    under : nat_lt i.0 (length c.interfaces) ≡ true → i.0 < length c.interfaces
+    under h = grind (arith, nat_tests)
+
+  used_held : (us : List (Name × UsedType)) → holds_all c (used_types us) ≡ true → (e : Name × UsedType) → Contains us e → HasInterface c e.1.interface
+  used_held [] h e w = absurd (in_none e w)
+  used_held (x ∷ us) h e w =
+      let p = and_parts (holds_type c (ty.Interface x.1.interface)) (holds_all c (used_types us)) h in
+      elim (in_parts x e us w) [
+        | inl same ↦ subst (λ (y : Name × UsedType). HasInterface c y.1.interface) (sym same) (there_if_held x.1.interface p.0)
+        | inr r ↦ used_held us p.1 e r
+      ]
+
+  wide_there : IsWellFormed c → (i k : InterfaceId) → UsesWidely c i k → HasInterface c k
+  wide_there wf i _ (by_itself _ n u there) = split (item_at c.interfaces i.0) refl there where
+    split : (o : Option Interface) → item_at c.interfaces i.0 ≡ o → Contains (option_case o [] (λ it. it.uses)) (n, u) → HasInterface c u.interface
+    split None _ w = absurd (in_none (n, u) w)
+    split (Some it) at w = used_held it.uses (uses_held c wf i it at) (n, u) w
+  wide_there wf i k (by_instance _ j _ n there further) = wide_there wf j k further
+
+  pub used_widely : IsWellFormed c → (i k : InterfaceId) → Contains (each_once (wide_uses c i)) k → UsesWidely c i k
+  used_widely wf i k h = elim (each_only [] (wide_uses c i) k h) [ inl none ↦ absurd (in_none k none) | inr w ↦ (wide_law c wf i k).1 w ]
+
+  pub once_there : IsWellFormed c → (i : InterfaceId) → AreThere c (each_once (wide_uses c i))
+  once_there wf i k h = wide_there wf i k (used_widely wf i k h)
+
+  pub used_at : (is : List InterfaceId) → AreThere c is → (i : ℕ) (j : InterfaceId) → slice_get is i ≡ Some j → holds_type c (ty.Interface j) ≡ true
+  used_at is there i j at = lt-ltb j.0 (length c.interfaces) (there j (at_in is i j at))
 
   with_and : (ks ms : List ℕ) (o : Option ℕ) → with_all ks (and_optional o ms) ≡ with_all (with_all ks (and_optional o [])) ms
   with_and ks ms None = refl
   with_and ks ms (Some n) = refl
 
-  pub used_next : (names : List (Name × ℕ)) (us : List (Name × UsedType)) (i : ℕ) (u : UsedType) (ks : List ℕ) → option_map (λ e. e.1) (slice_get us i) ≡ Some u
-      → with_all ks (used_classes c names (drop i us)) ≡ with_all (with_all ks (and_optional (interface_class c names u.interface) [])) (used_classes c names (drop (suc i) us))
-  used_next names [] i u ks at = cc
-  used_next names (e ∷ us) zero u ks at =
-      let same : e.1 ≡ u = cc in
-      ap (λ (y : UsedType). with_all ks (and_optional (interface_class c names y.interface) (used_classes c names us))) same
-      ∙ with_and ks (used_classes c names us) (interface_class c names u.interface)
-  used_next names (e ∷ us) (suc i) u ks at = used_next names us i u ks at
+  pub used_next : (names : List (Name × ℕ)) (is : List InterfaceId) (i : ℕ) (j : InterfaceId) (ks : List ℕ) → slice_get is i ≡ Some j
+      → with_all ks (used_classes c names (drop i is)) ≡ with_all (with_all ks (and_optional (interface_class c names j) [])) (used_classes c names (drop (suc i) is))
+  used_next names [] i j ks at = cc
+  used_next names (e ∷ is) zero j ks at =
+      let same : e ≡ j = cc in
+      ap (λ (y : InterfaceId). with_all ks (and_optional (interface_class c names y) (used_classes c names is))) same
+      ∙ with_and ks (used_classes c names is) (interface_class c names j)
+  used_next names (e ∷ is) (suc i) j ks at = used_next names is i j ks at
 
   -- what an instance leads to
-  pub instance_has : (names : List (Name × ℕ)) (i : InterfaceId) (it : Interface) (R : ℕ → Type 0) (old new : List ℕ) → item_at c.interfaces i.0 ≡ Some it
-      → ((b : ℕ) → Has old b ↔ R b) → new ≡ with_all old (used_classes c names it.uses) → (b : ℕ) → Has new b ↔ (R b ⊎ Has (classes_used c names i) b)
-  instance_has names i it R old new at reached is b =
-      subst (λ (us : List ℕ). Has new b ↔ (R b ⊎ Has us b)) (sym known) (subst (λ (ks : List ℕ). Has ks b ↔ (R b ⊎ Has uses b)) (sym is) (to, back)) where
+  pub instance_has : (names : List (Name × ℕ)) (i : InterfaceId) (used : List InterfaceId) (R : ℕ → Type 0) (old new : List ℕ) → used ≡ each_once (wide_uses c i)
+      → ((b : ℕ) → Has old b ↔ R b) → new ≡ with_all old (used_classes c names used) → (b : ℕ) → Has new b ↔ (R b ⊎ Has (classes_used c names i) b)
+  instance_has names i used R old new all reached is b =
+      subst (λ (us : List ℕ). Has new b ↔ (R b ⊎ Has us b)) known (subst (λ (ks : List ℕ). Has ks b ↔ (R b ⊎ Has uses b)) (sym is) (to, back)) where
         uses : List ℕ
-        uses = used_classes c names it.uses
+        uses = used_classes c names used
 
-        known : classes_used c names i ≡ used_classes c names it.uses
-        known = ap (λ (o : Option Interface). option_case o [] (λ x. used_classes c names x.uses)) at
+        known : used_classes c names used ≡ classes_used c names i
+        known = ap (used_classes c names) all
 
         to : Has (with_all old uses) b → R b ⊎ Has uses b
         to h = elim (has_all uses old b h) [ inl o ↦ inl ((reached b).0 o) | inr m ↦ inr (in_has uses b m) ]

@@ -4,9 +4,9 @@ use Rattle.std.specs.Option.{option_map}
 use Rattle.wac_types_shapes.specs.primitives.Name.{Name, find_name, option_case}
 use Rattle.wac_types_collection.specs.collection.Collection.{Collection, item_at}
 use Rattle.wac_types_collection.specs.collection.Held.{resolved}
+use Rattle.wac_types_collection.specs.wide.Wide.{each_once, wide_uses}
 use Rattle.wac_types_shapes.specs.declared.shapes.component.InterfaceId.{InterfaceId}
 use Rattle.wac_types_shapes.specs.declared.shapes.component.ResourceId.{ResourceId}
-use Rattle.wac_types_shapes.specs.declared.shapes.component.UsedType.{UsedType}
 use Rattle.wac_types_shapes.specs.declared.shapes.component.ItemKind.{ItemKind}
 use Rattle.wac_types_shapes.specs.declared.shapes.component.ItemKind.TheVariants as kind
 use Rattle.wac_types_shapes.specs.declared.shapes.component.«Type».TheVariants as ty
@@ -20,14 +20,14 @@ use Rattle.wac_edges.specs.private.cycles.Numbers.{Has}
 abbrev pub interface_class : Collection → List (Name × ℕ) → InterfaceId → Option ℕ
 interface_class c names i = option_case (item_at c.interfaces i.0) None (λ it. option_case it.id None (λ id. find_name names id))
 
--- The classes of the interfaces from which types are used.
-abbrev pub used_classes : Collection → List (Name × ℕ) → List (Name × UsedType) → List ℕ
+-- The classes of used interfaces.
+abbrev pub used_classes : Collection → List (Name × ℕ) → List InterfaceId → List ℕ
 used_classes c names [] = []
-used_classes c names (u ∷ us) = and_optional (interface_class c names u.1.interface) (used_classes c names us)
+used_classes c names (i ∷ is) = and_optional (interface_class c names i) (used_classes c names is)
 
--- The classes of the interfaces from which an interface uses types.
+-- The classes of the interfaces that an interface uses widely.
 abbrev pub classes_used : Collection → List (Name × ℕ) → InterfaceId → List ℕ
-classes_used c names i = option_case (item_at c.interfaces i.0) [] (λ it. used_classes c names it.uses)
+classes_used c names i = used_classes c names (each_once (wide_uses c i))
 
 -- The first class that binds a resource, after aliases are resolved.
 abbrev pub first_class : Collection → ClassBindings → ResourceId → Option ℕ

@@ -1,4 +1,4 @@
-use Rattle.std.proofs.Common.{◌≡◌, ◌++◌, [], ◌+◌, ap, sym, subst, arith}
+use Rattle.std.proofs.Common.{◌≡◌, ◌++◌, ◌+◌, ap, sym, subst, arith}
 use Rattle.std.specs.List.{flat_map, range_with_len}
 use Rattle.std.proofs.lemmas.List.{append-nil}
 use Rattle.wac_types_shapes.specs.primitives.Name.{Name}
@@ -9,7 +9,7 @@ use Rattle.wac_graph_model.specs.nodes.Asked.{Entry}
 use Rattle.wac_graph_model.specs.nodes.Entries.{with_used}
 use Rattle.wac_graph_model.specs.nodes.Graph.{Graph, IsImportOf}
 use Rattle.wac_graph_fields.proofs.EntryLists.{stands_itself}
-use Rattle.wac_graph_fields.specs.private.EntriesLeft.{entries_of, imported_at, all_imported_by, all_with_used, IsRight, IsHeldKind, AreSettled, AsksAlike}
+use Rattle.wac_graph_fields.specs.private.EntriesLeft.{entries_of, imported_at, all_imported_by, all_with_used, IsRight, IsHeldKind, IsSettled, AsksAlike}
 use Rattle.wac_graph_model.specs.nodes.Sound.{IsSound}
 use Rattle.wac_graph_reader.proofs.lemmas.writing.AskingWalk.{nothing_asked, number_asked, number_passed, one_number, asked_node, no_node, all_imported}
 use Rattle.wac_graph.specs.private.Inside.{fields_of}
@@ -44,7 +44,7 @@ loop-node-preserved c =
     let mid = entries_of c.loop-node.asking in
     let sound : IsSound g = subst (λ (h : Graph). IsSound h) c.self.view_is c.self.invariant.sound in
     let types : c.self.inside.types ≡ g.types = ap (λ (h : Graph). h.types) c.self.view_is in
-    let Goal : Asking → Type 0 = λ a. IsRight a × AreSettled g.types [] (entries_of a) × AsksAlike g.types (old ++ all_with_used g.types (flat_map (imported_at g) (range_with_len 0 (n + 1)))) (entries_of a) in
+    let Goal : Asking → Type 0 = λ a. IsRight a × IsSettled g.types a × AsksAlike g.types (old ++ all_with_used g.types (flat_map (imported_at g) (range_with_len 0 (n + 1)))) (entries_of a) in
     let h : Goal c.match-import_node_at.asking = elim c.match-import_node_at.branch [
       | in-Some+in_ok-ask w ↦
           let e : Entry = record { name = w.in-Some.name.now; kind = w.in-Some.kind; node = n } in
@@ -53,7 +53,7 @@ loop-node-preserved c =
           let stands = subst (λ (t : Collection). AsksAlike t (mid ++ with_used t e) new) types w.in_ok-ask.ensures.stands in
           subst Goal (sym w.asking-is) (
             w.in_ok-ask.ensures.right,
-            subst (λ (t : Collection). AreSettled t [] new) types w.in_ok-ask.ensures.settled,
+            subst (λ (t : Collection). IsSettled t w.ask.new.self) types w.in_ok-ask.ensures.settled,
             number_asked g.types (imported_at g) old mid new n c.loop-node.invariant.stands (one_number g.types mid new e (imported_at g n) is stands),
           )
       | in_default w ↦

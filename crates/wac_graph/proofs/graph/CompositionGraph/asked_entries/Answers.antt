@@ -2,8 +2,12 @@ use Rattle.std.proofs.Common.{◌++◌, ◌∙◌, subst}
 use Rattle.wac_graph_model.specs.nodes.Asked.{asked}
 use Rattle.wac_graph_fields.specs.private.EntriesLeft.{entries_of, all_asked_by, all_with_used, AsksAlike}
 use Rattle.wac_graph_fields.proofs.EntryLists.{stands_once}
+use Rattle.wac_graph_fields.proofs.AskingTasks.{nothing_settled}
 use Rattle.wac_graph_reader.proofs.lemmas.writing.AskingWalk.{both_asked}
 use Rattle.wac_graph.proofs.graph.CompositionGraph.asked_entries.Goals as goal
+
+pub ask_instantiations-requires-clause-settled : goal.ask_instantiations-requires-clause-settled
+ask_instantiations-requires-clause-settled c = nothing_settled c.args.self.now.types c.new-asking.result c.new-asking.ensures.empty c.new-asking.ensures.visited
 
 pub returns : goal.returns
 returns c =

@@ -2,8 +2,9 @@ use Rattle.std.proofs.Common.{◌≡◌, ◌∙◌, [], sym, subst, arith}
 use Rattle.std.specs.List.{flat_map, range_with_len}
 use Rattle.std.specs.FinMap as finite
 use Rattle.wac_graph_model.specs.nodes.Graph.{Graph}
-use Rattle.wac_graph_fields.specs.private.EntriesLeft.{entries_of, all_with_used, AreSettled, AsksAlike}
+use Rattle.wac_graph_fields.specs.private.EntriesLeft.{entries_of, all_with_used, AsksAlike}
 use Rattle.wac_graph_fields.proofs.EntryLists.{stands_itself, stands_once}
+use Rattle.wac_graph_fields.proofs.AskingTasks.{nothing_settled}
 use Rattle.wac_graph_model.specs.causes.TypeFaults.{wanted_at}
 use Rattle.wac_graph_reader.proofs.lemmas.writing.AskingWalk.{number_asked, all_wanted}
 use Rattle.wac_graph.specs.private.Inside.{fields_of}
@@ -30,6 +31,6 @@ loop-n-init c =
     let g = c.args.self.now in
     record {
       right = c.new-asking.ensures.right;
-      settled = subst (λ es. AreSettled g.types [] es) (sym c.new-asking.ensures.empty) tt;
+      settled = nothing_settled g.types c.new-asking.result c.new-asking.ensures.empty c.new-asking.ensures.visited;
       stands = subst (λ es. AsksAlike g.types [] es) (sym c.new-asking.ensures.empty) (stands_itself g.types []);
     }

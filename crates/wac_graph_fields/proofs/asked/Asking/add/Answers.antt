@@ -20,8 +20,14 @@ noted c = elim c.match-asked.branch [
 
 pub returns-clause-right : goal.returns-clause-right
 returns-clause-right c =
-    right_pushed c.args.self.now c.match-asked.self (record { alloc = c.match-asked.self.alloc; entries = c.push.new.self; known = c.match-asked.self.known }) c.args.asked (noted c) c.in_ok-push.ensures.items c.requires refl
+    right_pushed c.args.self.now c.match-asked.self (record { alloc = c.match-asked.self.alloc; entries = c.push.new.self; known = c.match-asked.self.known; visited = c.match-asked.self.visited }) c.args.asked (noted c) c.in_ok-push.ensures.items c.requires refl
 
 pub returns-clause-entries : goal.returns-clause-entries
 returns-clause-entries c =
-    entries_added c.args.self.now c.match-asked.self (record { alloc = c.match-asked.self.alloc; entries = c.push.new.self; known = c.match-asked.self.known }) c.args.asked (noted c) c.in_ok-push.ensures.items
+    entries_added c.args.self.now c.match-asked.self (record { alloc = c.match-asked.self.alloc; entries = c.push.new.self; known = c.match-asked.self.known; visited = c.match-asked.self.visited }) c.args.asked (noted c) c.in_ok-push.ensures.items
+
+pub returns-clause-visited : goal.returns-clause-visited
+returns-clause-visited c = elim c.match-asked.branch [
+  | in-Instance+in-Ok-true w ↦ ap (λ (a : Asking). a.visited.keys) w.self-is
+  | in_default w ↦ ap (λ (a : Asking). a.visited.keys) w.self-is
+]

@@ -7,7 +7,7 @@ use Rattle.wac_graph_fields.proofs.asked.Asking.ask_used.Given as goal
 abbrev pub invariant-loop-task : goal.invariant-loop-task
 invariant-loop-task l = record {
   right : IsRight l.self;
-  under_way : IsUnderWay l.types l.node (entries_of l.fn.self ++ map (by_node l.node) (used_by l.types (Instance l.fn.id))) (entries_of l.self) l.tasks.items;
+  under_way : IsUnderWay l.types l.node (entries_of l.fn.self ++ map (by_node l.node) (used_by l.types (Instance l.fn.id))) (entries_of l.self) l.self.visited.keys l.tasks.items;
 }
 
 abbrev pub decreases-loop-task : goal.decreases-loop-task

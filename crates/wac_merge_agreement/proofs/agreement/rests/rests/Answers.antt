@@ -96,5 +96,5 @@ returns-clause-rests c a b =
     let l = subst (λ (n : ℕ). IsStep c.loop-i.rests.items a b ↔ EntryLeads c.args.nodes.now c.args.types.now es (map item_view c.args.items.now) c.args.classes.now.numbers.items c.args.classes.now.names c.args.bindings.now n a b)
     all (c.loop-i.invariant.leads a b) in
     let r = entries_rest c.args.nodes.now c.args.types.now es (map item_view c.args.items.now) c.args.classes.now.numbers.items c.args.classes.now.positions.items c.args.classes.now.names c.args.bindings.now
-    c.requires.classes c.requires.bindings (length-map c.args.items.now item_view ∙ c.requires.counted) c.requires.items c.requires.agree a b in
+    c.requires.classes c.requires.bindings (length-map c.args.items.now item_view ∙ c.requires.counted) c.requires.items c.requires.agree c.law.ensures a b in
     (λ h. r.0 (l.0 h), λ h. l.1 (r.1 h))
