@@ -3,7 +3,7 @@
 use crate::graph::{Graph, refused};
 use crate::types::{BOOL, numbered, tuples};
 use anyhow::Result;
-use wac_graph::types::{DefinedType, ItemKind, Record, Type, ValueType, WorldId};
+use wac_graph::types::{DefinedType, Interface, ItemKind, Record, Type, ValueType, WorldId};
 
 /// Imports a function over tuples that each hold the one before twice.
 pub fn shared(graph: &mut Graph, count: u64) -> Result<()> {
@@ -47,6 +47,25 @@ pub fn worlds(graph: &mut Graph, count: u64, has_imports: bool) -> Result<()> {
     for _ in 1..count {
         let item = ItemKind::TypeItem(Type::World(world));
         world = around(graph, ("w", item), has_imports)?;
+    }
+    let _node = refused(graph.import("c", ItemKind::Component(world)))?;
+    Ok(())
+}
+
+/// Imports a component of worlds and interfaces by turns. Each world has the interface before as a type import and a type
+/// export, and each interface has the world before as a type export.
+pub fn turns(graph: &mut Graph, count: u64) -> Result<()> {
+    let function = graph.function(&[], None)?;
+    let mut world = around(graph, ("f", function), true)?;
+    for _ in 1..count {
+        let item = ItemKind::TypeItem(Type::World(world));
+        let interface = Interface::new(graph.alloc, None, &[("w", item)])?;
+        let interface = graph.interface(interface)?;
+        world = around(
+            graph,
+            ("i", ItemKind::TypeItem(Type::Interface(interface))),
+            true,
+        )?;
     }
     let _node = refused(graph.import("c", ItemKind::Component(world)))?;
     Ok(())

@@ -1,7 +1,7 @@
 //! Graphs that are made and encoded.
 
 use crate::churn::churn;
-use crate::deep::{defining, listed, shared, worlds};
+use crate::deep::{defining, listed, shared, turns, worlds};
 use crate::graph::Graph;
 use crate::nodes::{aliases, chain, fan, plug, wide};
 use crate::workloads::Step;
@@ -20,6 +20,7 @@ pub enum Sort {
     Wide,
     Defining,
     Sides,
+    Turns,
     Nested,
     Listed,
 }
@@ -38,6 +39,7 @@ pub fn take(alloc: Global, sort: Sort, count: u64, last: Step) -> Result<usize> 
         Sort::Wide => wide(&mut graph, count)?,
         Sort::Defining => defining(&mut graph, count)?,
         Sort::Sides => worlds(&mut graph, count, true)?,
+        Sort::Turns => turns(&mut graph, count)?,
         Sort::Nested => worlds(&mut graph, count, false)?,
         Sort::Listed => listed(&mut graph, count)?,
     }

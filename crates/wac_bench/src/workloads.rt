@@ -39,6 +39,7 @@ pub const WORKLOADS: &[(&str, Sort, u64)] = &[
     ("wide", Sort::Graph(graphs::Sort::Wide), 10),
     ("defining", Sort::Graph(graphs::Sort::Defining), 10),
     ("sides", Sort::Graph(graphs::Sort::Sides), 3),
+    ("turns", Sort::Graph(graphs::Sort::Turns), 3),
     ("nested", Sort::Graph(graphs::Sort::Nested), 3),
     ("listed", Sort::Graph(graphs::Sort::Listed), 3),
     ("comparing-tuples", Sort::Comparing(Items::Tuples), 60),

@@ -4,6 +4,7 @@
 //! it. They find the classes that each class depends on, and the order of the classes.
 
 pub mod apart;
+pub mod closed;
 pub mod compared;
 pub mod flags;
 pub mod order;

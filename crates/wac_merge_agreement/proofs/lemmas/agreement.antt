@@ -1,3 +1,4 @@
+pub mod Closed
 pub mod Searching
 pub mod Leading
 pub mod Descending

@@ -1,5 +1,6 @@
 //! Entries as items of the table of types, and the first two that disagree.
-ghost use Rattle.std.specs.Prelude.{◌≡◌, ◌<◌, true, length, map, Some, None, IfOk, slice_get, string_bytes};
+ghost use Rattle.std.specs.Prelude.{◌≡◌, ◌<◌, true, length, map, Some, None, IfOk, OnOk, slice_get, string_bytes};
+ghost use Rattle.std.specs.List.{All};
 ghost use Rattle.std.specs.Option.{IfNone, MatchOption};
 ghost use Rattle.wac_types_collection.specs.collection.Collection.{holds_type};
 ghost use Rattle.wac_types_shapes.specs.shapes.Kinds.{kind_type};
@@ -8,6 +9,8 @@ ghost use Rattle.wac_merge_classes.specs.entries.Agreement.{AllMembersAgree, joi
 ghost use Rattle.wac_merge_classes.specs.entries.Bindings.{AreBindings, AreHeld};
 ghost use Rattle.wac_merge_classes.specs.entries.Classes.{AreClasses, by_names, class_names};
 ghost use Rattle.wac_merge_trees.specs.private.coding.Coding.{IsGrown};
+ghost use Rattle.wac_merge_trees.specs.private.coding.Listings.{AreKnown};
+ghost use Rattle.wac_merge_agreement.specs.private.agreement.Closed.{HasNumberToo, IsClosed};
 ghost use Rattle.wac_merge_agreement.specs.private.agreement.Compared.{AreCompared, IsItemOf};
 ghost use Rattle.wac_merge_trees.specs.private.coding.CallsView.{AreNamed};
 ghost use Rattle.wac_merge_classes.specs.terms.Faults.{Disagrees};
@@ -16,20 +19,22 @@ ghost use Rattle.wac_merge_tables.specs.private.tables.NodeViews.{item_view};
 
 use crate::agreeing::agreement::first_disagreement;
 use crate::agreement::apart::path_apart;
+use crate::agreement::closed::closed_worlds;
+use crate::agreement::reach::type_of;
 use std::alloc::{AllocError, Global};
 use wac_merge_classes::entries::bindings::Bindings;
 use wac_merge_classes::entries::classes::Classes;
 use wac_merge_classes::entries::entry::Entry;
 use wac_merge_classes::entries::naming::bound_in;
 use wac_merge_classes::entries::outward::outward_in;
-use wac_merge_classes::entries::scopes::{Opener, Scopes};
+use wac_merge_classes::entries::scopes::{Opener, Scopes, known_number};
 use wac_merge_tables::tables::nodes::{Item, Nodes};
 use wac_merge_trees::coding::calls::Calls;
 use wac_merge_trees::coding::coder::Source;
 use wac_merge_trees::coding::listing::scope_instance;
 use wac_merge_trees::coding::listings::{listed_item, listings};
 use wac_merge_trees::coding::memo::Memo;
-use wac_types_collection::{ItemKind, Types};
+use wac_types_collection::{ItemKind, Type, Types, WorldId};
 
 /// Returns the item of an entry in the table. `source` is outside the scopes of the entry.
 fn source_item<'a>(
@@ -39,6 +44,7 @@ fn source_item<'a>(
 ) -> Result<Item, AllocError>
     requires held { holds_type source.now.types.now (kind_type source.now.calls.now.kind) ≡ true }
     requires named { AreNamed source.now.types.now source.now.calls.now }
+    requires known { AreKnown nodes.old source.now.types.now source.now.calls.now.known.now }
     requires outermost { source.now.calls.now.scope ≡ None }
     ensures grown { IsGrown nodes.old nodes.new }
     ensures item { IfOk result (λ x. (name : Name) → slice_get (class_names by_names source.now.calls.now.entries.now) source.now.calls.now.class ≡ Some name
@@ -74,17 +80,19 @@ fn entry_item<'a>(
     memo: &mut Memo,
     nodes: &mut Nodes<'a>,
     asked: &Asked<'a, '_>,
+    known: &[Option<usize>],
     class: usize,
     kind: ItemKind,
 ) -> Result<Item, AllocError>
     requires held { holds_type asked.now.types.now (kind_type kind) ≡ true }
+    requires known { AreKnown nodes.old asked.now.types.now known.now }
     requires bindings { AreBindings asked.now.types.now asked.now.entries.now asked.now.bindings.now }
     requires class { class < length (class_names by_names asked.now.entries.now) }
     ensures grown { IsGrown nodes.old nodes.new }
     ensures item { IfOk result (λ x. (name : Name) → slice_get (class_names by_names asked.now.entries.now) class ≡ Some name → IsItemOf nodes.new asked.now.types.now asked.now.entries.now name kind (item_view x)) }
 {
     let types = asked.types;
-    let scopes = Scopes::new(alloc, types, kind)?;
+    let scopes = Scopes::new(alloc, types, known, kind)?;
     let found = bound_in(alloc, types, &scopes)?;
     let bound = found.as_slice();
     let ways = outward_in(alloc, &scopes, bound)?;
@@ -97,6 +105,7 @@ fn entry_item<'a>(
         scopes: &scopes,
         bound,
         outward,
+        known,
         scope: None,
     };
     let source = Source {
@@ -105,6 +114,88 @@ fn entry_item<'a>(
         calls: &calls,
     };
     source_item(memo, nodes, &source)
+}
+
+/// Records the number of a world, and none for worlds before it that have none.
+fn put_number(known: &mut Vec<Option<usize>>, id: WorldId, number: usize) -> Result<(), AllocError>
+    ensures { OnOk result (HasNumberToo known.old.items id number known.new.items) }
+{
+    while known.len() <= id.0 {
+        known.push(None)?;
+    }
+    known[id.0] = Some(number);
+    Ok(())
+}
+
+/// Puts a world into the table, unless its number is known, and records its number.
+fn number_world<'a>(
+    alloc: Global,
+    memo: &mut Memo,
+    nodes: &mut Nodes<'a>,
+    asked: &Asked<'a, '_>,
+    known: &mut Vec<Option<usize>>,
+    class: usize,
+    id: WorldId,
+) -> Result<(), AllocError>
+    requires closed { IsClosed asked.now.types.now id }
+    requires known { AreKnown nodes.old asked.now.types.now known.old.items }
+    requires bindings { AreBindings asked.now.types.now asked.now.entries.now asked.now.bindings.now }
+    requires class { class < length (class_names by_names asked.now.entries.now) }
+    ensures grown { IsGrown nodes.old nodes.new }
+    ensures known { OnOk result (AreKnown nodes.new asked.now.types.now known.new.items) }
+{
+    match known_number(known.as_slice(), Type::World(id)) {
+        Some(_) => Ok(()),
+        None => {
+            let kind = ItemKind::TypeItem(Type::World(id));
+            let item = entry_item(alloc, memo, nodes, asked, known.as_slice(), class, kind)?;
+            put_number(known, id, type_of(item))
+        }
+    }
+}
+
+/// Puts worlds into the table, unless their numbers are known, and records their numbers.
+fn number_all<'a>(
+    alloc: Global,
+    memo: &mut Memo,
+    nodes: &mut Nodes<'a>,
+    asked: &Asked<'a, '_>,
+    known: &mut Vec<Option<usize>>,
+    class: usize,
+    worlds: &[WorldId],
+) -> Result<(), AllocError>
+    requires closed { All (IsClosed asked.now.types.now) worlds.now }
+    requires known { AreKnown nodes.old asked.now.types.now known.old.items }
+    requires bindings { AreBindings asked.now.types.now asked.now.entries.now asked.now.bindings.now }
+    requires class { class < length (class_names by_names asked.now.entries.now) }
+    ensures grown { IsGrown nodes.old nodes.new }
+    ensures known { OnOk result (AreKnown nodes.new asked.now.types.now known.new.items) }
+{
+    for i in 0..worlds.len() {
+        number_world(alloc, memo, nodes, asked, known, class, worlds[i])?;
+    }
+    Ok(())
+}
+
+/// Puts the worlds into the table that an entry mentions and that are the same in each of its scopes.
+fn number_worlds<'a>(
+    alloc: Global,
+    memo: &mut Memo,
+    nodes: &mut Nodes<'a>,
+    asked: &Asked<'a, '_>,
+    known: &mut Vec<Option<usize>>,
+    class: usize,
+    kind: ItemKind,
+) -> Result<(), AllocError>
+    requires held { holds_type asked.now.types.now (kind_type kind) ≡ true }
+    requires known { AreKnown nodes.old asked.now.types.now known.old.items }
+    requires bindings { AreBindings asked.now.types.now asked.now.entries.now asked.now.bindings.now }
+    requires class { class < length (class_names by_names asked.now.entries.now) }
+    ensures grown { IsGrown nodes.old nodes.new }
+    ensures known { OnOk result (AreKnown nodes.new asked.now.types.now known.new.items) }
+{
+    let worlds = closed_worlds(asked.types, kind)?;
+    number_all(alloc, memo, nodes, asked, known, class, worlds.as_slice())
 }
 
 /// Returns the item of each entry in the table.
@@ -133,11 +224,14 @@ pub fn entry_items<'a>(
     };
     let numbers = classes.numbers();
     let mut memo = Memo::new(alloc);
+    let mut known = Vec::new(alloc);
     let mut items = Vec::new(alloc);
     for i in 0..entries.len() {
         let kind = entries[i].kind();
         let class = numbers[i];
-        items.push(entry_item(alloc, &mut memo, nodes, &asked, class, kind)?)?;
+        number_worlds(alloc, &mut memo, nodes, &asked, &mut known, class, kind)?;
+        let worlds = known.as_slice();
+        items.push(entry_item(alloc, &mut memo, nodes, &asked, worlds, class, kind)?)?;
     }
     Ok(items)
 }

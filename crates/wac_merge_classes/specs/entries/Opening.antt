@@ -6,27 +6,27 @@ use Rattle.wac_types_collection.specs.subtyping.Ranks.{type_rank}
 use Rattle.wac_merge_classes.specs.contracts.entries.scopes.ScopePartialEq.TheImpl as ScopeEq
 use Rattle.wac_merge_classes.specs.declared.entries.scopes.Opener.{Opener}
 use Rattle.wac_merge_classes.specs.declared.entries.scopes.Scope.{Scope}
-use Rattle.wac_merge_classes.specs.entries.Scopes.{opener_type, listed_in, opened, IsBelow, ComesFrom, inside}
+use Rattle.wac_merge_classes.specs.entries.Scopes.{opener_type, listed_in, opened, number_of, unknown, IsBelow, ComesFrom, inside}
 
 -- The scopes after these were appended, except those that were already there.
 abbrev pub with_opened : List Scope → Option ℕ → List Opener → List Scope
 with_opened ss parent os = insert_all (ScopeEq.ghosts).eq ss (map (inside parent) os)
 
--- The scopes directly inside the scope at position n were appended.
-abbrev pub Opens : Collection → List Scope → ℕ → List Scope → Type 0
-Opens c ss n more = (s : Scope) → slice_get ss n ≡ Some s → more ≡ with_opened ss (Some n) (opened (listed_in c s.opener))
+-- The scopes directly inside the scope at position n were appended, except the sides of worlds with a number.
+abbrev pub Opens : Collection → List (Option ℕ) → List Scope → ℕ → List Scope → Type 0
+Opens c known ss n more = (s : Scope) → slice_get ss n ≡ Some s → more ≡ with_opened ss (Some n) (unknown known (opened (listed_in c s.opener)))
 
 -- The collection holds the type that opens the scope at position n.
 abbrev pub IsHeldAt : Collection → List Scope → ℕ → Type 0
 IsHeldAt c ss n = (s : Scope) → slice_get ss n ≡ Some s → holds_type c (opener_type s.opener) ≡ true
 
 -- The scopes of an item, of which the first n were searched.
-pub record AreOpened (c : Collection) (roots : List Opener) (n : ℕ) (ss : List Scope) : Type 0 where
+pub record AreOpened (c : Collection) (known : List (Option ℕ)) (roots : List Opener) (n : ℕ) (ss : List Scope) : Type 0 where
   pub rooted : (j : ℕ) (o : Opener) → slice_get roots j ≡ Some o → (s : Scope) × (slice_get ss j ≡ Some s) × (s.opener ≡ o) × (s.parent ≡ None)
-  pub nested : (i : ℕ) (s : Scope) (o : Opener) → i < n → slice_get ss i ≡ Some s → Contains (opened (listed_in c s.opener)) o → Contains ss (inside (Some i) o)
+  pub nested : (i : ℕ) (s : Scope) (o : Opener) → i < n → slice_get ss i ≡ Some s → Contains (opened (listed_in c s.opener)) o → number_of known (opener_type o) ≡ None → Contains ss (inside (Some i) o)
   pub around : (i : ℕ) (s : Scope) → slice_get ss i ≡ Some s → IsBelow i s.parent
   pub held : (i : ℕ) → IsHeldAt c ss i
-  pub known : (i : ℕ) (s : Scope) → slice_get ss i ≡ Some s → ComesFrom c roots ss i s.opener s.parent
+  pub source : (i : ℕ) (s : Scope) → slice_get ss i ≡ Some s → ComesFrom c roots ss i s.opener s.parent
 
 -- The sum of f over these openers.
 abbrev pub total : (Opener → ℕ) → List Opener → ℕ

@@ -1,5 +1,5 @@
 -- The scopes of an item, and how resources are named in each. Only contracts inside the merge cite this file.
-use Rattle.std.specs.Prelude.{ℕ, zero, suc, ◌≡◌, ◌<◌, true, false, List, [], ◌∷◌, ◌++◌, map, Option, Some, None, Contains, slice_get}
+use Rattle.std.specs.Prelude.{ℕ, zero, suc, ◌≡◌, ◌<◌, true, false, not, is_some, List, [], ◌∷◌, ◌++◌, map, filter, Option, Some, None, Contains, slice_get}
 use Rattle.wac_types_shapes.specs.primitives.Name.{Name, option_case}
 use Rattle.wac_types_shapes.specs.primitives.Tree.{Leaf, TypeTree, instance}
 use Rattle.wac_types_collection.specs.collection.Collection.{Collection, item_at, holds_type, interface_exports, world_imports, world_exports}
@@ -66,14 +66,27 @@ ComesFrom c roots ss i o (Some p) = (t : Scope) × (slice_get ss p ≡ Some t) �
 abbrev pub inside : Option ℕ → Opener → Scope
 inside parent o = record { opener = o; parent = parent }
 
--- The scopes of an item, each once: those that it opens itself, and those that the items of each scope open.
+-- The number of a world's component in this list, if it has one there.
+abbrev pub number_of : List (Option ℕ) → AnyType → Option ℕ
+number_of known (ty.World w) = option_case (slice_get known w.0) None (λ n. n)
+number_of known t = None
+
+-- The openers that are not sides of worlds with a number.
+abbrev pub unknown : List (Option ℕ) → List Opener → List Opener
+unknown known os = filter (λ o. not (is_some (number_of known (opener_type o)))) os
+
+-- The scopes of an item, each once: those that it opens itself, and those that items of other scopes open.
 pub record AreScopes (c : Collection) (roots : List Opener) (ss : List Scope) : Type 0 where
   pub rooted : (j : ℕ) (o : Opener) → slice_get roots j ≡ Some o → (s : Scope) × (slice_get ss j ≡ Some s) × (s.opener ≡ o) × (s.parent ≡ None)
-  pub nested : (i : ℕ) (s : Scope) (o : Opener) → slice_get ss i ≡ Some s → Contains (opened (listed_in c s.opener)) o → Contains ss (inside (Some i) o)
   pub once : (i j : ℕ) (s : Scope) → slice_get ss i ≡ Some s → slice_get ss j ≡ Some s → i ≡ j
   pub around : (i : ℕ) (s : Scope) → slice_get ss i ≡ Some s → IsBelow i s.parent
   pub held : (i : ℕ) (s : Scope) → slice_get ss i ≡ Some s → holds_type c (opener_type s.opener) ≡ true
   pub known : (i : ℕ) (s : Scope) → slice_get ss i ≡ Some s → ComesFrom c roots ss i s.opener s.parent
+
+-- Each scope has the scopes that its items open, except the sides of worlds with a number.
+abbrev pub AreNested : Collection → List (Option ℕ) → List Scope → Type 0
+AreNested c known ss = (i : ℕ) (s : Scope) (o : Opener) → slice_get ss i ≡ Some s → Contains (opened (listed_in c s.opener)) o → number_of known (opener_type o) ≡ None
+    → Contains ss (inside (Some i) o)
 
 -- How resources are named in the outermost scopes of an entry.
 abbrev pub called_in_root : NameRules → Collection → List Entry → Name → ItemKind → Opener → Names Called

@@ -2,7 +2,7 @@
 ghost use Rattle.std.specs.Prelude.{◌≡◌, ◌∷◌, [], ◌<◌, length, true, Some, Contains, IfOk, OnOk, slice_get};
 ghost use Rattle.wac_types_collection.specs.collection.Collection.{holds_type};
 ghost use Rattle.wac_types_shapes.specs.shapes.Kinds.{kind_type};
-ghost use Rattle.wac_merge_classes.specs.entries.Scopes.{AreScopes, opened, opened_by};
+ghost use Rattle.wac_merge_classes.specs.entries.Scopes.{AreNested, AreScopes, number_of, opened, opened_by, unknown};
 ghost use Rattle.wac_merge_classes.specs.entries.Opening.{IsHeldAt, Opens, with_opened};
 
 use indexmap::IndexSet;
@@ -60,30 +60,61 @@ fn push_item(
     }
 }
 
-/// Appends the scopes that items of a scope open, except those that are already there.
+/// Returns the number of a world's component in `known`, if it has one there.
+pub fn known_number(known: &[Option<usize>], ty: Type) -> Option<usize>
+    ensures { result ≡ number_of known.now ty }
+{
+    match ty {
+        Type::World(id) => known.get(id.0).copied()?,
+        _ => None,
+    }
+}
+
+/// Appends the scopes that an item of a scope opens, unless its number is known.
+fn push_unknown(
+    scopes: &mut IndexSet<Scope>,
+    known: &[Option<usize>],
+    kind: ItemKind,
+    parent: usize,
+) -> Result<(), AllocError>
+    ensures { OnOk result (scopes.new.keys ≡ with_opened scopes.old.keys (Some parent) (unknown known.now (opened_by kind))) }
+{
+    match known_number(known, kind.ty()) {
+        Some(_) => Ok(()),
+        None => push_item(scopes, kind, Some(parent)),
+    }
+}
+
+/// Appends the scopes that items of a scope open, except those that are already there and those of known worlds.
 fn push_listed(
     scopes: &mut IndexSet<Scope>,
+    known: &[Option<usize>],
     listed: &Named<ItemKind>,
     parent: usize,
 ) -> Result<(), AllocError>
-    ensures { OnOk result (scopes.new.keys ≡ with_opened scopes.old.keys (Some parent) (opened listed.now)) }
+    ensures { OnOk result (scopes.new.keys ≡ with_opened scopes.old.keys (Some parent) (unknown known.now (opened listed.now))) }
 {
     for index in 0..listed.len() {
-        push_item(scopes, *listed.value_at(index), Some(parent))?;
+        push_unknown(scopes, known, *listed.value_at(index), parent)?;
     }
     Ok(())
 }
 
 /// Appends the scopes directly inside the scope at `position`.
-fn open(scopes: &mut IndexSet<Scope>, types: &Types, position: usize) -> Result<(), AllocError>
+fn open(
+    scopes: &mut IndexSet<Scope>,
+    types: &Types,
+    known: &[Option<usize>],
+    position: usize,
+) -> Result<(), AllocError>
     requires within { position < length scopes.old.keys }
     requires held { IsHeldAt types.now scopes.old.keys position }
-    ensures { OnOk result (Opens types.now scopes.old.keys position scopes.new.keys) }
+    ensures { OnOk result (Opens types.now known.now scopes.old.keys position scopes.new.keys) }
 {
     match scopes[position].opener {
-        Opener::Interface(id) => push_listed(scopes, &types[id].exports, position),
-        Opener::Imports(id) => push_listed(scopes, &types[id].imports, position),
-        Opener::Exports(id) => push_listed(scopes, &types[id].exports, position),
+        Opener::Interface(id) => push_listed(scopes, known, &types[id].exports, position),
+        Opener::Imports(id) => push_listed(scopes, known, &types[id].imports, position),
+        Opener::Exports(id) => push_listed(scopes, known, &types[id].exports, position),
     }
 }
 
@@ -111,20 +142,27 @@ impl Model for Scopes {
 }
 
 impl Scopes {
-    /// Finds the scopes of an item, without recursion.
+    /// Finds the scopes of an item, without recursion. `known` has the numbers of worlds that are not opened when an
+    /// item of a scope has their type.
     ///
     /// # Errors
     /// - [`AllocError`] if out of memory.
-    pub fn new(alloc: Global, types: &Types, kind: ItemKind) -> Result<Scopes, AllocError>
+    pub fn new(
+        alloc: Global,
+        types: &Types,
+        known: &[Option<usize>],
+        kind: ItemKind,
+    ) -> Result<Scopes, AllocError>
         requires { holds_type types.now (kind_type kind) ≡ true }
-        ensures { IfOk result (λ ss. AreScopes types.now (opened_by kind) ss) }
+        ensures scopes { IfOk result (λ ss. AreScopes types.now (opened_by kind) ss) }
+        ensures nested { IfOk result (λ ss. AreNested types.now known.now ss) }
     {
         types.law(); // proof only
         let mut scopes = IndexSet::new(alloc);
         push_item(&mut scopes, kind, None)?;
         let mut position = 0;
         while position < scopes.len() {
-            open(&mut scopes, types, position)?;
+            open(&mut scopes, types, known, position)?;
             position += 1;
         }
         Ok(Scopes { scopes })

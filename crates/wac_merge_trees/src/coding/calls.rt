@@ -34,6 +34,8 @@ pub struct Calls<'a> {
     pub bound: &'a [Bound],
     /// For each scope, the next scope on the way out.
     pub outward: &'a [Option<Outward>],
+    /// For each world that was numbered before, the number of its component. It is the same in each scope.
+    pub known: &'a [Option<usize>],
     /// The position of the scope; `None` outside the scopes of the entry.
     pub scope: Option<usize>,
 }

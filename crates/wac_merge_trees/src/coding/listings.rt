@@ -1,5 +1,5 @@
 //! The items of each scope of an entry, put into a table, innermost scopes first.
-ghost use Rattle.std.specs.Prelude.{◌≡◌, ◌≢◌, ◌+◌, ◌<◌, true, List, [], length, Some, IfOk, OnOk, slice_get};
+ghost use Rattle.std.specs.Prelude.{◌≡◌, ◌≢◌, ◌+◌, ◌<◌, true, List, [], length, None, Some, IfOk, OnOk, slice_get};
 ghost use Rattle.wac_types_collection.specs.subtyping.Called.{Called};
 ghost use Rattle.wac_types_shapes.specs.primitives.Tree.{TypeTree};
 ghost use Rattle.wac_types_shapes.specs.declared.shapes.component.«Type».{«Type» as AnyType};
@@ -11,15 +11,15 @@ ghost use Rattle.wac_merge_tables.specs.private.tables.NodeViews.{item_view};
 ghost use Rattle.wac_merge_trees.specs.private.coding.CallsView.{AreNamed, names_in};
 ghost use Rattle.wac_merge_trees.specs.private.coding.Coding.{source_tree, tree_in, HasSame, HasTree, IsGrown, IsRight};
 ghost use Rattle.wac_merge_trees.specs.private.coding.ItemCoding.{AreItems, HasItem};
-ghost use Rattle.wac_merge_trees.specs.private.coding.Listings.{at_scope, AreOpen, IsAround, AreListings, AreInnerListings};
-ghost use Rattle.wac_merge_classes.specs.entries.Scopes.{listed_in, opened, opened_by, opened_by_type};
+ghost use Rattle.wac_merge_trees.specs.private.coding.Listings.{at_scope, AreOpen, AreKnown, IsAround, AreListings, AreInnerListings};
+ghost use Rattle.wac_merge_classes.specs.entries.Scopes.{listed_in, number_of, opened, opened_by, opened_by_type};
 ghost use Rattle.wac_merge_classes.specs.declared.entries.scopes.Scope.{Scope as AScope};
 
 use crate::coding::coder::Source;
 use crate::coding::listing::{component, listed_kinds, scope_instance};
 use crate::coding::memo::Memo;
 use std::alloc::{AllocError, Global};
-use wac_merge_classes::entries::scopes::Opener;
+use wac_merge_classes::entries::scopes::{Opener, known_number};
 use wac_merge_tables::tables::nodes::{Item, Nodes};
 use wac_types_collection::subtyping::laws::trees_are_whole;
 use wac_types_collection::{ItemKind, Named, Type, WorldId};
@@ -35,7 +35,7 @@ fn opened_item(kind: ItemKind, number: usize) -> Item
     }
 }
 
-/// Returns the number of a world's component, given the items of the scopes inside this one.
+/// Returns the number of a world's component that is not known, given the items of the scopes inside this one.
 fn inner_component<'a>(
     memo: &mut Memo,
     nodes: &mut Nodes<'a>,
@@ -46,6 +46,7 @@ fn inner_component<'a>(
     requires held { holds_type source.now.types.now (ty.World id) ≡ true }
     requires named { AreNamed source.now.types.now source.now.calls.now }
     requires around { IsAround source.now.calls.now }
+    requires unknown { number_of source.now.calls.now.known.now (ty.World id) ≡ None }
     requires opened { AreOpen source.now.calls.now (opened_by_type (ty.World id)) }
     requires counted { length listings.now ≡ length source.now.calls.now.scopes.now }
     requires listings { AreInnerListings nodes.old source.now.types.now source.now.calls.now listings.now }
@@ -65,6 +66,31 @@ fn inner_component<'a>(
     component(memo, nodes, id, &inside, imported, &outside, exported)
 }
 
+/// Returns the number of a world's component: the known one, else that of the items of the scopes inside this one.
+fn world_number<'a>(
+    memo: &mut Memo,
+    nodes: &mut Nodes<'a>,
+    source: &Source<'a, '_>,
+    id: WorldId,
+    listings: &[Vec<Item>],
+) -> Result<usize, AllocError>
+    requires held { holds_type source.now.types.now (ty.World id) ≡ true }
+    requires named { AreNamed source.now.types.now source.now.calls.now }
+    requires known { AreKnown nodes.old source.now.types.now source.now.calls.now.known.now }
+    requires around { IsAround source.now.calls.now }
+    requires opened { AreOpen source.now.calls.now (opened_by_type (ty.World id)) }
+    requires counted { length listings.now ≡ length source.now.calls.now.scopes.now }
+    requires listings { AreInnerListings nodes.old source.now.types.now source.now.calls.now listings.now }
+    ensures same { HasSame memo.old memo.new }
+    ensures grown { IsGrown nodes.old nodes.new }
+    ensures number { IfOk result (λ n. HasTree nodes.new (source_tree source.now (ty.World id)) n) }
+{
+    match known_number(source.calls.known, Type::World(id)) {
+        Some(number) => Ok(number),
+        None => inner_component(memo, nodes, source, id, listings),
+    }
+}
+
 /// Returns the item of a kind in a scope, given the items of the scopes inside it.
 ///
 /// # Errors
@@ -78,6 +104,7 @@ pub fn listed_item<'a>(
 ) -> Result<Item, AllocError>
     requires held { holds_type source.now.types.now (kind_type kind) ≡ true }
     requires named { AreNamed source.now.types.now source.now.calls.now }
+    requires known { AreKnown nodes.old source.now.types.now source.now.calls.now.known.now }
     requires right { IsRight (source_tree source.now) memo.old nodes.old }
     requires around { IsAround source.now.calls.now }
     requires opened { AreOpen source.now.calls.now (opened_by kind) }
@@ -98,7 +125,7 @@ pub fn listed_item<'a>(
             Ok(opened_item(kind, number))
         }
         Type::World(id) => {
-            let number = inner_component(memo, nodes, source, id, listings)?;
+            let number = world_number(memo, nodes, source, id, listings)?;
             Ok(opened_item(kind, number))
         }
         _ => memo.plain_item(nodes, source, kind),
@@ -115,6 +142,7 @@ fn listed_items<'a>(
 ) -> Result<Vec<Item>, AllocError>
     requires held { holds_all source.now.types.now (kind_types kinds.now) ≡ true }
     requires named { AreNamed source.now.types.now source.now.calls.now }
+    requires known { AreKnown nodes.old source.now.types.now source.now.calls.now.known.now }
     requires around { IsAround source.now.calls.now }
     requires opened { AreOpen source.now.calls.now (opened kinds.now) }
     requires counted { length listings.now ≡ length source.now.calls.now.scopes.now }
@@ -140,6 +168,7 @@ fn listing_at<'a>(
     listings: &[Vec<Item>],
 ) -> Result<Vec<Item>, AllocError>
     requires named { AreNamed source.now.types.now source.now.calls.now }
+    requires known { AreKnown nodes.old source.now.types.now source.now.calls.now.known.now }
     requires within { position < length source.now.calls.now.scopes.now }
     requires counted { length listings.now ≡ length source.now.calls.now.scopes.now }
     requires listings { AreListings nodes.old source.now.types.now source.now.calls.now (position + 1) listings.now }
@@ -174,6 +203,7 @@ pub fn listings<'a>(
     source: &Source<'a, '_>,
 ) -> Result<Vec<Vec<Item>>, AllocError>
     requires named { AreNamed source.now.types.now source.now.calls.now }
+    requires known { AreKnown nodes.old source.now.types.now source.now.calls.now.known.now }
     ensures grown { IsGrown nodes.old nodes.new }
     ensures counted { IfOk result (λ v. length v.items ≡ length source.now.calls.now.scopes.now) }
     ensures listings { IfOk result (λ v. AreListings nodes.new source.now.types.now source.now.calls.now 0 v.items) }

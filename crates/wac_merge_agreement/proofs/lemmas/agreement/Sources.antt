@@ -69,7 +69,7 @@ plain_kind c es class (kind.Value v) e = refl
 module _ (c : Collection) (s : Calls) (named : AreNamed c s) where
   -- the scopes that the item itself opens
   pub opens : s.scope ≡ None → AreOpen s (opened_by s.kind)
-  opens none o among =
+  opens none o among unknown =
       let j = at-of (opened_by s.kind) o among in
       let w = named.scopes.rooted j.0 o j.1 in
       let here : w.0 ≡ inside s.scope o = (λ i. record { opener = w.2 i; parent = (w.3 ∙ sym none) i }) in

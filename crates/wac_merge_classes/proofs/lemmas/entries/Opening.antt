@@ -1,6 +1,7 @@
 -- Scopes while they are found: what one more opened scope leaves, and that there are fewer left to open.
-use Rattle.std.proofs.Common.{◌≡◌, ℕ, zero, suc, ◌+◌, ◌<◌, ◌≤◌, Bool, true, false, if◌then◌else◌, List, [], ◌∷◌, ◌++◌, map, take, length, slice_get, Option, Some, None, Contains, ◌⊎◌, inl, inr, refl, sym, ap, ◌∙◌, subst, arith, append_assoc, add-one, nat_lt}
+use Rattle.std.proofs.Common.{◌≡◌, ℕ, zero, suc, ◌+◌, ◌<◌, ◌≤◌, Bool, true, false, not, is_some, if◌then◌else◌, cond, List, [], ◌∷◌, ◌++◌, map, take, length, slice_get, Option, Some, None, Contains, ◌⊎◌, inl, inr, refl, sym, ap, ◌∙◌, subst, arith, append_assoc, add-one, nat_lt}
 use Rattle.std.proofs.lemmas.List.Sums.{fold-append}
+use Rattle.std.proofs.lemmas.List.Elements.{filter-append}
 use Rattle.std.proofs.lemmas.Option.{slice_get_within}
 use Rattle.std.specs.List.{AllByRecursion, IsDistinct, list_any}
 use Rattle.indexmap.specs.IndexSet.{insert_key, insert_all}
@@ -23,7 +24,7 @@ use Rattle.wac_merge_classes.specs.declared.entries.scopes.Opener.{Opener}
 use Rattle.wac_merge_classes.specs.declared.entries.scopes.Opener.TheVariants as opener
 use Rattle.wac_merge_classes.specs.declared.entries.scopes.Scope.{Scope}
 use Rattle.wac_merge_classes.specs.contracts.entries.scopes.ScopePartialEq.TheImpl as ScopeEq
-use Rattle.wac_merge_classes.specs.entries.Scopes.{opener_type, listed_in, opened_by_type, opened_by, opened, inside, IsBelow, ComesFrom, AreScopes}
+use Rattle.wac_merge_classes.specs.entries.Scopes.{opener_type, listed_in, opened_by_type, opened_by, opened, number_of, unknown, inside, IsBelow, ComesFrom, AreScopes, AreNested}
 use Rattle.wac_merge_classes.specs.entries.Opening.{with_opened, Opens, IsHeldAt, AreOpened, total, count_to, count_in, left_from}
 use Rattle.wac_merge_classes.proofs.lemmas.entries.Inserting.{at-of, of-at, all-kept, all-there, all-cases, one-more, once-there}
 use Rattle.wac_merge_classes.proofs.lemmas.entries.Lists.{some-at}
@@ -78,11 +79,79 @@ map-both f (x ∷ xs) ys = ap (λ r. f x ∷ r) (map-both f xs ys)
 pub opened-both : (ss : List Scope) (p : Option ℕ) (xs ys : List Opener) → with_opened ss p (xs ++ ys) ≡ with_opened (with_opened ss p xs) p ys
 opened-both ss p xs ys = ap (insert_all (ScopeEq.ghosts).eq ss) (map-both (inside p) xs ys) ∙ fold-append (insert_key (ScopeEq.ghosts).eq) ss (map (inside p) xs) (map (inside p) ys)
 
+-- those that are no sides of worlds with a number
+module _ (known : List (Option ℕ)) where
+  abbrev is_unknown : Opener → Bool
+  is_unknown o = not (is_some (number_of known (opener_type o)))
+
+  all-unknown-type : (t : AnyType) → number_of known t ≡ None → unknown known (opened_by_type t) ≡ opened_by_type t
+  all-unknown-type (ty.Resource r) e = refl
+  all-unknown-type (ty.Func f) e = refl
+  all-unknown-type (ty.Value v) e = refl
+  all-unknown-type (ty.Interface i) e = refl
+  all-unknown-type (ty.World w) e = ap (λ (n : Option ℕ). cond (not (is_some n)) (opener.Imports w ∷ cond (not (is_some n)) (opener.Exports w ∷ []) []) (cond (not (is_some n)) (opener.Exports w ∷ []) [])) e
+  all-unknown-type (ty.Module m) e = refl
+
+  none-unknown-type : (t : AnyType) (k : ℕ) → number_of known t ≡ Some k → unknown known (opened_by_type t) ≡ []
+  none-unknown-type (ty.Resource r) k e = refl
+  none-unknown-type (ty.Func f) k e = refl
+  none-unknown-type (ty.Value v) k e = refl
+  none-unknown-type (ty.Interface i) k e = cc
+  none-unknown-type (ty.World w) k e = ap (λ (n : Option ℕ). cond (not (is_some n)) (opener.Imports w ∷ cond (not (is_some n)) (opener.Exports w ∷ []) []) (cond (not (is_some n)) (opener.Exports w ∷ []) [])) e
+  none-unknown-type (ty.Module m) k e = refl
+
+  unknown-kept : (os : List Opener) (o : Opener) → Contains os o → number_of known (opener_type o) ≡ None → Contains (unknown known os) o
+  unknown-kept os o h none = let w = at-of os o h in let k = there-at os w.0 w.1 in of-at (unknown known os) k.0 o k.1 where
+    one : (b : Bool) (x : Opener) (xs : List Opener) → b ≡ true → (k : ℕ) × (slice_get (cond b (x ∷ xs) xs) k ≡ Some x)
+    one true x xs e = (0, refl)
+    one false x xs e = cc
+
+    more : (b : Bool) (x : Opener) (xs : List Opener) (j : ℕ) → slice_get xs j ≡ Some o → (k : ℕ) × (slice_get (cond b (x ∷ xs) xs) k ≡ Some o)
+    more true x xs j at = (suc j, at)
+    more false x xs j at = (j, at)
+
+    there-at : (os : List Opener) (i : ℕ) → slice_get os i ≡ Some o → (k : ℕ) × (slice_get (unknown known os) k ≡ Some o)
+    there-at [] i at = cc
+    there-at (x ∷ os) zero at =
+        let same : x ≡ o = some-same x o at in
+        let w = one (is_unknown x) x (unknown known os) (ap is_unknown same ∙ ap (λ (n : Option ℕ). not (is_some n)) none) in
+        (w.0, w.1 ∙ ap (λ y. Some y) same)
+    there-at (x ∷ os) (suc i) at = let w = there-at os i at in more (is_unknown x) x (unknown known os) w.0 w.1
+
+  unknown-all : (P : Opener → Type 0) (os : List Opener) → AllByRecursion P os → AllByRecursion P (unknown known os)
+  unknown-all P [] h = tt
+  unknown-all P (o ∷ os) h = one (is_unknown o) h.0 (unknown-all P os h.1) where
+    one : (b : Bool) → P o → AllByRecursion P (unknown known os) → AllByRecursion P (cond b (o ∷ unknown known os) (unknown known os))
+    one true x xs = (x, xs)
+    one false x xs = xs
+
+  unknown-from : (os : List Opener) (o : Opener) → Contains (unknown known os) o → Contains os o
+  unknown-from os o h = let w = at-of (unknown known os) o h in all-at (Contains os) (unknown known os) w.0 o (unknown-all (Contains os) os (itself os)) w.1 where
+    later : (x : Opener) (xs : List Opener) (y : Opener) → Contains xs y → Contains (x ∷ xs) y
+    later x xs y h = let w = at-of xs y h in of-at (x ∷ xs) (suc w.0) y w.1
+
+    widen : (x : Opener) (xs ys : List Opener) → AllByRecursion (Contains xs) ys → AllByRecursion (Contains (x ∷ xs)) ys
+    widen x xs [] h = tt
+    widen x xs (y ∷ ys) h = (later x xs y h.0, widen x xs ys h.1)
+
+    itself : (os : List Opener) → AllByRecursion (Contains os) os
+    itself [] = tt
+    itself (o ∷ os) = (of-at (o ∷ os) 0 o refl, widen o os os (itself os))
+
+  total-unknown : (f : Opener → ℕ) (os : List Opener) → total f (unknown known os) ≤ total f os
+  total-unknown f [] = omega arith
+  total-unknown f (o ∷ os) = one (is_unknown o) (total-unknown f os) where
+    one : (b : Bool) → total f (unknown known os) ≤ total f os → total f (cond b (o ∷ unknown known os) (unknown known os)) ≤ f o + total f os
+    one true le = omega (arith, le)
+    one false le = omega (arith, le)
+
 -- one more listed item
-listed-more : (ss more last : List Scope) (p : Option ℕ) (es : List (Name × ItemKind)) (e : Name × ItemKind) → more ≡ with_opened ss p (opened es) → last ≡ with_opened more p (opened_by e.1) → last ≡ with_opened ss p (opened (es ++ e ∷ []))
-listed-more ss more last p es e first next =
+listed-more : (known : List (Option ℕ)) (ss more last : List Scope) (p : Option ℕ) (es : List (Name × ItemKind)) (e : Name × ItemKind) → more ≡ with_opened ss p (unknown known (opened es))
+    → last ≡ with_opened more p (unknown known (opened_by e.1)) → last ≡ with_opened ss p (unknown known (opened (es ++ e ∷ [])))
+listed-more known ss more last p es e first next =
     let whole : opened (es ++ e ∷ []) ≡ opened es ++ opened_by e.1 = opened-append es (e ∷ []) ∙ ap (λ r. opened es ++ r) (append-none (opened_by e.1)) in
-    next ∙ (ap (λ r. with_opened r p (opened_by e.1)) first ∙ (sym (opened-both ss p (opened es) (opened_by e.1)) ∙ ap (with_opened ss p) (sym whole)))
+    let both : unknown known (opened (es ++ e ∷ [])) ≡ unknown known (opened es) ++ unknown known (opened_by e.1) = ap (unknown known) whole ∙ filter-append (is_unknown known) (opened es) (opened_by e.1) in
+    next ∙ (ap (λ r. with_opened r p (unknown known (opened_by e.1))) first ∙ (sym (opened-both ss p (unknown known (opened es)) (unknown known (opened_by e.1))) ∙ ap (with_opened ss p) (sym both)))
 
 -- the item whose kind is read at a position
 pub entry-at : (es : List (Name × ItemKind)) (i : ℕ) (k : ItemKind) → option_map (λ e. e.1) (slice_get es i) ≡ Some k → (e : Name × ItemKind) × (slice_get es i ≡ Some e) × (e.1 ≡ k)
@@ -91,11 +160,11 @@ entry-at (e ∷ es) zero k at = (e, refl, some-same e.1 k at)
 entry-at (e ∷ es) (suc i) k at = entry-at es i k at
 
 -- one more of those that are listed
-pub listed-next : (ss more last : List Scope) (p : Option ℕ) (es : List (Name × ItemKind)) (i : ℕ) (k : ItemKind) → option_map (λ e. e.1) (slice_get es i) ≡ Some k
-    → more ≡ with_opened ss p (opened (take i es)) → last ≡ with_opened more p (opened_by k) → last ≡ with_opened ss p (opened (take (i + 1) es))
-listed-next ss more last p es i k at first next =
+pub listed-next : (known : List (Option ℕ)) (ss more last : List Scope) (p : Option ℕ) (es : List (Name × ItemKind)) (i : ℕ) (k : ItemKind) → option_map (λ e. e.1) (slice_get es i) ≡ Some k
+    → more ≡ with_opened ss p (unknown known (opened (take i es))) → last ≡ with_opened more p (unknown known (opened_by k)) → last ≡ with_opened ss p (unknown known (opened (take (i + 1) es)))
+listed-next known ss more last p es i k at first next =
     let w = entry-at es i k at in
-    rw (add-one, take_at es i w.0 w.1) (listed-more ss more last p (take i es) w.0 first (next ∙ ap (λ x. with_opened more p (opened_by x)) (sym w.2)))
+    rw (add-one, take_at es i w.0 w.1) (listed-more known ss more last p (take i es) w.0 first (next ∙ ap (λ x. with_opened more p (unknown known (opened_by x))) (sym w.2)))
 
 -- an item opens what its type does
 pub opened-kind : (k : ItemKind) → opened_by k ≡ opened_by_type (kind_type k)
@@ -105,6 +174,13 @@ opened-kind (kind.Instance i) = refl
 opened-kind (kind.Component w) = refl
 opened-kind (kind.Module m) = refl
 opened-kind (kind.Value v) = refl
+
+-- an item without a number opens all of its scopes, and an item with one opens none
+pub all-unknown : (known : List (Option ℕ)) (k : ItemKind) → number_of known (kind_type k) ≡ None → unknown known (opened_by k) ≡ opened_by k
+all-unknown known k e = ap (unknown known) (opened-kind k) ∙ (all-unknown-type known (kind_type k) e ∙ sym (opened-kind k))
+
+pub none-unknown : (known : List (Option ℕ)) (k : ItemKind) (n : ℕ) → number_of known (kind_type k) ≡ Some n → unknown known (opened_by k) ≡ []
+none-unknown known k n e = ap (unknown known) (opened-kind k) ∙ none-unknown-type known (kind_type k) n e
 
 -- the scopes that an item opens are apart
 type-apart : (t : AnyType) → with_opened [] None (opened_by_type t) ≡ map (inside None) (opened_by_type t)
@@ -135,11 +211,12 @@ opened-listed P [] h = tt
 opened-listed P (e ∷ es) h = all_both (λ o. P (opener_type o)) (opened_by e.1) (opened es) (opened-by-all P e.1 h.0) (opened-listed P es h.1)
 
 -- the scope at a position is opened by what it lists
-pub opens-listed : (c : Collection) (n : ℕ) (ss more : List Scope) (s : Scope) (es : List (Name × ItemKind)) → slice_get ss n ≡ Some s → listed_in c s.opener ≡ es → more ≡ with_opened ss (Some n) (opened es) → Opens c ss n more
-opens-listed c n ss more s es at listed is =
+pub opens-listed : (c : Collection) (known : List (Option ℕ)) (n : ℕ) (ss more : List Scope) (s : Scope) (es : List (Name × ItemKind)) → slice_get ss n ≡ Some s → listed_in c s.opener ≡ es
+    → more ≡ with_opened ss (Some n) (unknown known (opened es)) → Opens c known ss n more
+opens-listed c known n ss more s es at listed is =
     λ t there.
     let same : s ≡ t = some-same s t (sym at ∙ there) in
-    subst (λ (x : Scope). more ≡ with_opened ss (Some n) (opened (listed_in c x.opener))) same (is ∙ ap (λ l. with_opened ss (Some n) (opened l)) (sym listed))
+    subst (λ (x : Scope). more ≡ with_opened ss (Some n) (unknown known (opened (listed_in c x.opener)))) same (is ∙ ap (λ l. with_opened ss (Some n) (unknown known (opened l))) (sym listed))
 
 -- ---- what is held
 
@@ -187,22 +264,22 @@ lists c wf (opener.Exports w) held =
 
 -- ---- a scope more that is opened
 
-module _ (c : Collection) (wf : IsWellFormed c) (roots : List Opener) where
+module _ (c : Collection) (wf : IsWellFormed c) (known : List (Option ℕ)) (roots : List Opener) where
   -- only the roots
-  pub first-opened : (ss : List Scope) → ss ≡ map (inside None) roots → AllByRecursion (λ o. holds_type c (opener_type o) ≡ true) roots → AreOpened c roots 0 ss
+  pub first-opened : (ss : List Scope) → ss ≡ map (inside None) roots → AllByRecursion (λ o. holds_type c (opener_type o) ≡ true) roots → AreOpened c known roots 0 ss
   first-opened ss is held = record {
     rooted = λ j o at. (inside None o, ap (λ l. slice_get l j) is ∙ get-map (inside None) roots j o at, refl, refl);
     nested = λ i s o lt. absurd (omega (arith, lt));
     around = λ i s at. let w = root i s at in subst (λ (t : Scope). IsBelow i t.parent) (sym w.2) tt;
     held = λ i s at. let w = root i s at in subst (λ (t : Scope). holds_type c (opener_type t.opener) ≡ true) (sym w.2) (all-at (λ o. holds_type c (opener_type o) ≡ true) roots i w.0 held w.1);
-    known = λ i s at. let w = root i s at in subst (λ (t : Scope). ComesFrom c roots ss i t.opener t.parent) (sym w.2) w.1;
+    source = λ i s at. let w = root i s at in subst (λ (t : Scope). ComesFrom c roots ss i t.opener t.parent) (sym w.2) w.1;
   } where
     root : (i : ℕ) (s : Scope) → slice_get ss i ≡ Some s → (o : Opener) × (slice_get roots i ≡ Some o) × (s ≡ inside None o)
     root i s at = map-cases (inside None) roots i s (ap (λ l. slice_get l i) (sym is) ∙ at)
 
   module _ (n : ℕ) (ss : List Scope) (s : Scope) (here : slice_get ss n ≡ Some s) where
     abbrev added : List Opener
-    added = opened (listed_in c s.opener)
+    added = unknown known (opened (listed_in c s.opener))
 
     abbrev whole : List Scope
     whole = with_opened ss (Some n) added
@@ -240,18 +317,18 @@ module _ (c : Collection) (wf : IsWellFormed c) (roots : List Opener) where
       by true e = inl (grind arith)
       by false e = inr (grind arith)
 
-    module _ (was : AreOpened c roots n ss) where
+    module _ (was : AreOpened c known roots n ss) where
       new-held : AllByRecursion (λ o. IsBefore c (lists c wf s.opener (was.held n s here)).before (opener_type o)) added
-      new-held = let l = lists c wf s.opener (was.held n s here) in opened-listed (IsBefore c l.before) (listed_in c s.opener) l.listed
+      new-held = let l = lists c wf s.opener (was.held n s here) in unknown-all known (λ o. IsBefore c l.before (opener_type o)) (opened (listed_in c s.opener)) (opened-listed (IsBefore c l.before) (listed_in c s.opener) l.listed)
 
-      nested-next : (i : ℕ) (t : Scope) (o : Opener) → i < suc n → Comes i t → Contains (opened (listed_in c t.opener)) o → Contains whole (inside (Some i) o)
-      nested-next i t o lt (old there) listed = elim (earlier i lt) [
-        | inl less ↦ still-there (inside (Some i) o) (was.nested i t o less there listed)
+      nested-next : (i : ℕ) (t : Scope) (o : Opener) → i < suc n → Comes i t → Contains (opened (listed_in c t.opener)) o → number_of known (opener_type o) ≡ None → Contains whole (inside (Some i) o)
+      nested-next i t o lt (old there) listed none = elim (earlier i lt) [
+        | inl less ↦ still-there (inside (Some i) o) (was.nested i t o less there listed none)
         | inr e ↦
             let same : t ≡ s = some-same t s (sym there ∙ (ap (slice_get ss) e ∙ here)) in
-            subst (λ (k : ℕ). Contains whole (inside (Some k) o)) (sym e) (put-there o (subst (λ (x : Scope). Contains (opened (listed_in c x.opener)) o) same listed))
+            subst (λ (k : ℕ). Contains whole (inside (Some k) o)) (sym e) (put-there o (unknown-kept known (opened (listed_in c s.opener)) o (subst (λ (x : Scope). Contains (opened (listed_in c x.opener)) o) same listed) none))
       ]
-      nested-next i t o lt (new p le among same) listed = absurd (omega (arith, lt, le, within))
+      nested-next i t o lt (new p le among same) listed none = absurd (omega (arith, lt, le, within))
 
       around-next : (i : ℕ) (t : Scope) → Comes i t → IsBelow i t.parent
       around-next i t (old there) = was.around i t there
@@ -270,33 +347,35 @@ module _ (c : Collection) (wf : IsWellFormed c) (roots : List Opener) where
       known-still i o (Some p) from = (from.0, stays p from.0 from.1, from.2)
 
       known-next : (i : ℕ) (t : Scope) → Comes i t → ComesFrom c roots whole i t.opener t.parent
-      known-next i t (old there) = known-still i t.opener t.parent (was.known i t there)
-      known-next i t (new p le among same) = subst (λ (x : Scope). ComesFrom c roots whole i x.opener x.parent) (sym same) (s, stays n s here, among)
+      known-next i t (old there) = known-still i t.opener t.parent (was.source i t there)
+      known-next i t (new p le among same) = subst (λ (x : Scope). ComesFrom c roots whole i x.opener x.parent) (sym same) (s, stays n s here, unknown-from known (opened (listed_in c s.opener)) p among)
 
-      pub opened-next : AreOpened c roots (suc n) whole
+      pub opened-next : AreOpened c known roots (suc n) whole
       opened-next = record {
         rooted = λ j o at. let w = was.rooted j o at in (w.0, stays j w.0 w.1, w.2, w.3);
         nested = λ i t o lt at. nested-next i t o lt (comes i t at);
         around = λ i t at. around-next i t (comes i t at);
         held = λ i t at. held-next i t (comes i t at);
-        known = λ i t at. known-next i t (comes i t at);
+        source = λ i t at. known-next i t (comes i t at);
       }
 
   -- after the scope at a position was opened
-  pub opened-after : (n : ℕ) (ss more : List Scope) → n < length ss → AreOpened c roots n ss → Opens c ss n more → AreOpened c roots (n + 1) more
+  pub opened-after : (n : ℕ) (ss more : List Scope) → n < length ss → AreOpened c known roots n ss → Opens c known ss n more → AreOpened c known roots (n + 1) more
   opened-after n ss more lt was opens =
       let w = some-at ss n lt in
       rw (add-one, opens w.0 w.1) (opened-next n ss w.0 w.1 was)
 
   -- all are opened
-  pub all-opened : (n : ℕ) (ss : List Scope) → length ss ≤ n → IsDistinct (ScopeEq.ghosts).eq ss → AreOpened c roots n ss → AreScopes c roots ss
+  pub all-nested : (n : ℕ) (ss : List Scope) → length ss ≤ n → AreOpened c known roots n ss → AreNested c known ss
+  all-nested n ss le was = λ i s o at. was.nested i s o (let lt = slice_get_within ss i s at in omega (arith, lt, le)) at
+
+  pub all-opened : (n : ℕ) (ss : List Scope) → length ss ≤ n → IsDistinct (ScopeEq.ghosts).eq ss → AreOpened c known roots n ss → AreScopes c roots ss
   all-opened n ss le apart was = record {
     rooted = was.rooted;
-    nested = λ i s o at. was.nested i s o (let lt = slice_get_within ss i s at in omega (arith, lt, le)) at;
     once = once-there (ScopeEq.ghosts).eq scope-itself ss apart;
     around = was.around;
     held = was.held;
-    known = was.known;
+    known = was.source;
   }
 
 -- ---- there are fewer left
@@ -360,11 +439,12 @@ module _ (c : Collection) where
   left-at (x ∷ ss) zero s at = let same : x ≡ s = cc in ap (λ (y : Scope). count_in c y.opener + left_from c ss 0) same
   left-at (x ∷ ss) (suc n) s at = left-at ss n s at
 
-  pub fewer : IsWellFormed c → (n : ℕ) (ss more : List Scope) → n < length ss → IsHeldAt c ss n → Opens c ss n more → left_from c more (n + 1) < left_from c ss n
-  fewer wf n ss more lt held opens =
+  pub fewer : IsWellFormed c → (known : List (Option ℕ)) (n : ℕ) (ss more : List Scope) → n < length ss → IsHeldAt c ss n → Opens c known ss n more → left_from c more (n + 1) < left_from c ss n
+  fewer wf known n ss more lt held opens =
       let w = some-at ss n lt in
       let os = opened (listed_in c w.0.opener) in
-      let a = left-opened ss (Some n) os (suc n) (omega (arith, lt)) in
+      let a = left-opened ss (Some n) (unknown known os) (suc n) (omega (arith, lt)) in
+      let e = total-unknown known (count_in c) os in
       let b = left-at ss n w.0 w.1 in
       let d = count-inner wf w.0.opener (held w.0 w.1) in
-      rw (add-one, opens w.0 w.1) (omega (arith, a, b, d))
+      rw (add-one, opens w.0 w.1) (omega (arith, a, b, d, e))

@@ -170,7 +170,7 @@ listed-all c wf s i t d es named at same listed =
 -- the scopes that it opens are there
 pub listed-opens : (c : Collection) (s : Calls) (i : ℕ) (t : Scope) (calls : Calls) (es : List (Name × ItemKind)) → AreNamed c s → slice_get s.scopes.now i ≡ Some t → calls ≡ at_scope s i → listed_in c t.opener ≡ es → AreOpen calls (opened es)
 listed-opens c s i t calls es named at same listed =
-    subst (λ (x : Calls). AreOpen x (opened es)) (sym same) (λ o among. named.scopes.nested i t o at (subst (λ (l : List (Name × ItemKind)). Contains (opened l) o) (sym listed) among))
+    subst (λ (x : Calls). AreOpen x (opened es)) (sym same) (λ o among. named.nested i t o at (subst (λ (l : List (Name × ItemKind)). Contains (opened l) o) (sym listed) among))
 
 -- what stands behind a scope stands also in it
 pub listed-behind : (ns : List Node) (c : Collection) (s : Calls) (i : ℕ) (d : Collection) (calls : Calls) (ls : List (Vec Item Global)) → AreNamed c s → d ≡ c → calls ≡ at_scope s i → AreListings ns c s (i + 1) ls → AreInnerListings ns d calls ls

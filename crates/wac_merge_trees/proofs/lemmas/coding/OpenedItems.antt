@@ -1,6 +1,6 @@
 -- Items of a scope while they are listed: the scopes that each opens, and what is listed already.
 use Rattle.std.specs.Global.{Global}
-use Rattle.std.proofs.Common.{◌≡◌, ℕ, zero, suc, ◌+◌, ◌<◌, true, List, [], ◌∷◌, ◌++◌, take, length, Vec, Some, Contains, slice_get, inl, inr, sym, ap, ◌∙◌, subst, add-one, arith}
+use Rattle.std.proofs.Common.{◌≡◌, ℕ, zero, suc, ◌+◌, ◌<◌, true, List, [], ◌∷◌, ◌++◌, take, length, Vec, Option, Some, Contains, slice_get, inl, inr, sym, ap, ◌∙◌, subst, add-one, arith}
 use Rattle.std.proofs.Math.ListN.{set}
 use Rattle.std.proofs.lemmas.List.Elements.{Contains-append_left, Contains-append_right}
 use Rattle.std.specs.List.{AllByRecursion}
@@ -21,12 +21,12 @@ use Rattle.wac_merge_classes.specs.declared.entries.scopes.Scope.{Scope}
 use Rattle.wac_merge_trees.specs.private.coding.CallsView.{names_in}
 use Rattle.wac_merge_trees.specs.private.coding.Coding.{tree_in, IsGrown}
 use Rattle.wac_merge_trees.specs.private.coding.ItemCoding.{HasItem, AreItems}
-use Rattle.wac_merge_trees.specs.private.coding.Listings.{at_scope, AreOpen, AreListings, AreInnerListings}
+use Rattle.wac_merge_trees.specs.private.coding.Listings.{at_scope, AreKnown, AreOpen, AreListings, AreInnerListings}
 use Rattle.wac_merge_tables.specs.private.tables.NodeViews.{item_view}
 use Rattle.wac_merge_tables.specs.private.tables.Nodes.{Node, type_of, item_tree, tree_at}
 use Rattle.wac_merge_tables.specs.private.tables.Nodes as table
 use Rattle.wac_merge_classes.specs.entries.Scopes.{listed_in, opened_by, opened}
-use Rattle.wac_merge_trees.proofs.lemmas.coding.CodingGrowth.{longer}
+use Rattle.wac_merge_trees.proofs.lemmas.coding.CodingGrowth.{longer, tree_grown}
 use Rattle.wac_merge_classes.proofs.lemmas.entries.Lists.{set-cases, zip_all, zip_push}
 use Rattle.wac_merge_classes.proofs.lemmas.entries.Opening.{entry-at}
 
@@ -74,6 +74,17 @@ opens-at s es i k at all =
     λ o there.
     let w = entry-at es i k at in
     all o (entry-opens es i w.0 o w.1 (subst (λ (y : ItemKind). Contains (opened_by y) o) (sym w.2) there))
+
+-- ---- worlds with a number
+
+-- their numbers stay as the table grows
+pub known-grown : (old new : List Node) (c : Collection) (known : List (Option ℕ)) → IsGrown old new → AreKnown old c known → AreKnown new c known
+known-grown old new c known g h = λ w n at m. tree_grown old new _ n g (h w n at m)
+
+-- and where the same is written otherwise
+pub known-with : (ns : List Node) (c d : Collection) (s t : Calls) → d ≡ c → t ≡ s → AreKnown ns c s.known.now → AreKnown ns d t.known.now
+known-with ns c d s t types calls h =
+    subst (λ (x : Calls). AreKnown ns d x.known.now) (sym calls) (subst (λ (b : Collection). AreKnown ns b s.known.now) (sym types) h)
 
 -- ---- what is held
 

@@ -10,7 +10,7 @@ use Rattle.wac_merge_classes.specs.declared.entries.scopes.Scope.{Scope}
 use Rattle.wac_merge_classes.specs.entries.Classes.{Entry, by_names, class_names}
 use Rattle.wac_merge_classes.specs.entries.Agreement.{called_in_class}
 use Rattle.wac_merge_classes.specs.entries.Bindings.{AreBindings}
-use Rattle.wac_merge_classes.specs.entries.Scopes.{AreScopes, called_in, called_in_root, opened_by}
+use Rattle.wac_merge_classes.specs.entries.Scopes.{AreNested, AreScopes, called_in, called_in_root, opened_by}
 use Rattle.wac_merge_classes.specs.private.entries.Walking.{AreBound}
 use Rattle.wac_merge_classes.specs.private.entries.Ways.{AreOutward}
 
@@ -34,6 +34,7 @@ pub record AreNamed (c : Collection) (s : Calls) : Type 0 where
   pub class : slice_get (class_names by_names s.entries.now) s.class ≡ Some name
   pub bindings : AreBindings c s.entries.now s.bindings.now
   pub scopes : AreScopes c (opened_by s.kind) s.scopes.now
+  pub nested : AreNested c s.known.now s.scopes.now
   pub bound : AreBound c s.scopes.now s.bound.now
   pub outward : AreOutward s.scopes.now s.bound.now s.outward.now
   pub within : IsScopeOf (length s.scopes.now) s.scope

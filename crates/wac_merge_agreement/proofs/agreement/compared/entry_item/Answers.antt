@@ -9,7 +9,7 @@ use Rattle.wac_merge_classes.proofs.lemmas.entries.Lists.{some-at}
 use Rattle.wac_merge_agreement.proofs.agreement.compared.entry_item.Goals as goal
 
 pub outward_in-requires-clause-around : goal.outward_in-requires-clause-around
-outward_in-requires-clause-around c = c.in_ok-scopes.ensures.around
+outward_in-requires-clause-around c = c.in_ok-scopes.ensures.scopes.around
 
 pub outward_in-requires-clause-counted : goal.outward_in-requires-clause-counted
 outward_in-requires-clause-counted c = ap (λ (bs : List (List (ResourceId × Leaf))). length bs) c.as_slice-bound.ensures.value ∙ c.in_ok-found.ensures.counted
@@ -21,7 +21,8 @@ source_item-requires-clause-named c =
       name = w.0;
       class = w.1;
       bindings = c.requires.bindings;
-      scopes = c.in_ok-scopes.ensures;
+      scopes = c.in_ok-scopes.ensures.scopes;
+      nested = c.in_ok-scopes.ensures.nested;
       bound = subst (λ bs. AreBound c.args.asked.now.types.now c.in_ok-scopes.scopes bs) (sym c.as_slice-bound.ensures.value) c.in_ok-found.ensures;
       outward = subst (λ (ws : List (Option Outward)). AreOutward c.in_ok-scopes.scopes c.as_slice-bound.result.now ws) (sym c.as_slice-outward.ensures.value) c.in_ok-ways.ensures;
       within = tt;

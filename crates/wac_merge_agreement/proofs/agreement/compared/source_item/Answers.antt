@@ -12,6 +12,7 @@ use Rattle.wac_merge_trees.specs.declared.coding.coder.Source.{Source}
 use Rattle.wac_merge_tables.specs.declared.tables.nodes.Item.{Item as AnItem}
 use Rattle.wac_merge_classes.specs.declared.entries.scopes.Opener.TheVariants as opener
 use Rattle.wac_merge_trees.proofs.lemmas.coding.CodingGrowth.{grown_twice}
+use Rattle.wac_merge_trees.proofs.lemmas.coding.OpenedItems.{known-grown}
 use Rattle.wac_merge_agreement.proofs.lemmas.agreement.Leading.{if_ok}
 use Rattle.wac_merge_agreement.proofs.lemmas.agreement.Sources as source
 use Rattle.wac_merge_agreement.proofs.agreement.compared.source_item.Goals as goal
@@ -49,6 +50,7 @@ listed_item-requires c =
     record {
       held = c.requires.held;
       named = c.requires.named;
+      known = known-grown c.args.nodes.now c.listings.new.nodes s.types.now s.calls.now.known.now c.in_ok-listings.ensures.grown c.requires.known;
       right = source.right_new (source_tree s) c.clear.new.self c.listings.new.nodes c.clear.ensures.defined c.clear.ensures.funcs;
       around = source.around s.types.now s.calls.now c.requires.named plain c.requires.outermost;
       opened = source.opens s.types.now s.calls.now c.requires.named c.requires.outermost;

@@ -29,7 +29,7 @@ returns-in-Interface c =
     let s = c.index.result.now in
     let es = c.index-in-Interface.result.now.exports in
     let listed : listed_in t s.opener ≡ es = ap (listed_in t) c.in-Interface.is ∙ ap (λ x. option_case x [] (λ it. it.exports)) c.index-in-Interface.ensures in
-    on_ok c.push_listed.result (opens-listed t c.args.position ss c.push_listed.new.scopes.keys s es c.index.ensures listed) c.push_listed.ensures
+    on_ok c.push_listed.result (opens-listed t c.args.known.now c.args.position ss c.push_listed.new.scopes.keys s es c.index.ensures listed) c.push_listed.ensures
 
 pub returns-in-Imports : goal.returns-in-Imports
 returns-in-Imports c =
@@ -38,7 +38,7 @@ returns-in-Imports c =
     let s = c.index.result.now in
     let es = c.index-in-Imports.result.now.imports in
     let listed : listed_in t s.opener ≡ es = ap (listed_in t) c.in-Imports.is ∙ ap (λ x. option_case x [] (λ it. it.imports)) c.index-in-Imports.ensures in
-    on_ok c.push_listed-in-Imports.result (opens-listed t c.args.position ss c.push_listed-in-Imports.new.scopes.keys s es c.index.ensures listed) c.push_listed-in-Imports.ensures
+    on_ok c.push_listed-in-Imports.result (opens-listed t c.args.known.now c.args.position ss c.push_listed-in-Imports.new.scopes.keys s es c.index.ensures listed) c.push_listed-in-Imports.ensures
 
 pub returns-in-Exports : goal.returns-in-Exports
 returns-in-Exports c =
@@ -47,4 +47,4 @@ returns-in-Exports c =
     let s = c.index.result.now in
     let es = c.index-in-Exports.result.now.exports in
     let listed : listed_in t s.opener ≡ es = ap (listed_in t) c.in-Exports.is ∙ ap (λ x. option_case x [] (λ it. it.exports)) c.index-in-Exports.ensures in
-    on_ok c.push_listed-in-Exports.result (opens-listed t c.args.position ss c.push_listed-in-Exports.new.scopes.keys s es c.index.ensures listed) c.push_listed-in-Exports.ensures
+    on_ok c.push_listed-in-Exports.result (opens-listed t c.args.known.now c.args.position ss c.push_listed-in-Exports.new.scopes.keys s es c.index.ensures listed) c.push_listed-in-Exports.ensures

@@ -14,10 +14,10 @@ use Rattle.wac_merge_trees.proofs.lemmas.coding.Opened.{world-is, inner-names, i
 use Rattle.wac_merge_trees.proofs.coding.listings.inner_component.Goals as goal
 
 pub position-imports-requires : goal.position-imports-requires
-position-imports-requires c = c.requires.opened (opener.Imports c.args.id) (imports-listed (kind.TypeItem (ty.World c.args.id)) c.args.id refl)
+position-imports-requires c = c.requires.opened (opener.Imports c.args.id) (imports-listed (kind.TypeItem (ty.World c.args.id)) c.args.id refl) c.requires.unknown
 
 pub position-exports-requires : goal.position-exports-requires
-position-exports-requires c = c.requires.opened (opener.Exports c.args.id) (exports-listed (kind.TypeItem (ty.World c.args.id)) c.args.id refl)
+position-exports-requires c = c.requires.opened (opener.Exports c.args.id) (exports-listed (kind.TypeItem (ty.World c.args.id)) c.args.id refl) c.requires.unknown
 
 pub offset_bounds-listings-imports : goal.offset_bounds-listings-imports
 offset_bounds-listings-imports c =

@@ -1,4 +1,4 @@
-use Rattle.std.proofs.Common.{rules, ◌≡◌, ◌<◌, true, List, length, sym, ap, ◌∙◌, subst}
+use Rattle.std.proofs.Common.{rules, ◌≡◌, ◌<◌, true, List, length, sym, refl, ap, ◌∙◌, subst}
 use Rattle.wac_types_collection.specs.collection.Collection.{holds_type}
 use Rattle.wac_types_shapes.specs.shapes.Kinds.{kind_type}
 use Rattle.wac_types_shapes.specs.declared.shapes.component.«Type».{«Type» as AnyType}
@@ -20,7 +20,7 @@ use Rattle.wac_merge_trees.proofs.coding.listings.listed_item.Goals as goal
 -- ---- an interface
 
 pub position-position-requires : goal.position-position-requires
-position-position-requires c = c.requires.opened (opener.Interface c.in-Interface.id) (interface-listed c.args.kind c.in-Interface.id (sym c.ty.ensures ∙ c.in-Interface.is))
+position-position-requires c = c.requires.opened (opener.Interface c.in-Interface.id) (interface-listed c.args.kind c.in-Interface.id (sym c.ty.ensures ∙ c.in-Interface.is)) refl
 
 pub offset_bounds-listings-position : goal.offset_bounds-listings-position
 offset_bounds-listings-position c =
@@ -59,20 +59,20 @@ returns-in_ok-number-in-Interface-clause-item c =
 
 -- ---- a world
 
-pub inner_component-requires-clause-held : goal.inner_component-requires-clause-held
-inner_component-requires-clause-held c = subst (λ (a : AnyType). holds_type c.args.source.now.types.now a ≡ true) (sym c.ty.ensures ∙ c.in-World.is) c.requires.held
+pub world_number-requires-clause-held : goal.world_number-requires-clause-held
+world_number-requires-clause-held c = subst (λ (a : AnyType). holds_type c.args.source.now.types.now a ≡ true) (sym c.ty.ensures ∙ c.in-World.is) c.requires.held
 
-pub inner_component-requires-clause-opened : goal.inner_component-requires-clause-opened
-inner_component-requires-clause-opened c = subst (λ (os : List Opener). AreOpen c.args.source.now.calls.now os) (opened-kind c.args.kind ∙ ap opened_by_type (sym c.ty.ensures ∙ c.in-World.is)) c.requires.opened
+pub world_number-requires-clause-opened : goal.world_number-requires-clause-opened
+world_number-requires-clause-opened c = subst (λ (os : List Opener). AreOpen c.args.source.now.calls.now os) (opened-kind c.args.kind ∙ ap opened_by_type (sym c.ty.ensures ∙ c.in-World.is)) c.requires.opened
 
 pub returns-in_ok-number-in-World-clause-right : goal.returns-in_ok-number-in-World-clause-right
 returns-in_ok-number-in-World-clause-right c =
-    same_right (source_tree c.args.source.now) c.inner_component.new.nodes c.args.memo.now c.inner_component.new.memo c.inner_component.ensures.same
-    (right_grown (source_tree c.args.source.now) c.args.memo.now c.args.nodes.now c.inner_component.new.nodes c.inner_component.ensures.grown c.requires.right)
+    same_right (source_tree c.args.source.now) c.world_number.new.nodes c.args.memo.now c.world_number.new.memo c.world_number.ensures.same
+    (right_grown (source_tree c.args.source.now) c.args.memo.now c.args.nodes.now c.world_number.new.nodes c.world_number.ensures.grown c.requires.right)
 
 pub returns-in_ok-number-in-World-clause-item : goal.returns-in_ok-number-in-World-clause-item
 returns-in_ok-number-in-World-clause-item c =
     let t = source_tree c.args.source.now in
-    let ns = c.inner_component.new.nodes in
+    let ns = c.world_number.new.nodes in
     let is : kind_type c.args.kind ≡ ty.World c.in-World.id = sym c.ty.ensures ∙ c.in-World.is in
     c.opened_item-in-World.ensures ns t (world-opens c.args.kind c.in-World.id is) (tree_same ns _ _ c.in_ok-number-in-World.number (ap t (sym is)) c.in_ok-number-in-World.ensures.number)

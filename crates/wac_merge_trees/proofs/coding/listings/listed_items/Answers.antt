@@ -7,7 +7,7 @@ use Rattle.wac_merge_tables.specs.declared.tables.nodes.Item.{Item}
 use Rattle.wac_merge_trees.specs.private.coding.Coding.{source_tree}
 use Rattle.wac_merge_trees.specs.private.coding.ItemCoding.{AreItems}
 use Rattle.wac_merge_trees.proofs.lemmas.coding.CodingGrowth.{grown_not, grown_twice}
-use Rattle.wac_merge_trees.proofs.lemmas.coding.OpenedItems.{listings-grown, items-more, opens-at, listed-held}
+use Rattle.wac_merge_trees.proofs.lemmas.coding.OpenedItems.{known-grown, listings-grown, items-more, opens-at, listed-held}
 use Rattle.wac_merge_trees.proofs.coding.listings.listed_items.Goals as goal
 
 pub loop-i-init : goal.loop-i-init
@@ -25,6 +25,11 @@ listed_item-requires-clause-right c = c.loop-i.invariant.right
 
 pub listed_item-requires-clause-opened : goal.listed_item-requires-clause-opened
 listed_item-requires-clause-opened c = opens-at c.args.source.now.calls.now c.args.kinds.now c.loop-i.i c.value_at-kind.result.now c.value_at-kind.ensures c.requires.opened
+
+pub listed_item-requires-clause-known : goal.listed_item-requires-clause-known
+listed_item-requires-clause-known c =
+    let s = c.args.source.now in
+    known-grown c.args.nodes.now c.loop-i.nodes s.types.now s.calls.now.known.now c.loop-i.invariant.grown c.requires.known
 
 pub listed_item-requires-clause-listings : goal.listed_item-requires-clause-listings
 listed_item-requires-clause-listings c =

@@ -2,7 +2,7 @@ use Rattle.std.proofs.Common.{◌≡◌, ◌+◌, ◌-◌, ℕ, refl, ◌∙◌,
 use Rattle.std.proofs.Math.ListN.{length-set}
 use Rattle.std.proofs.lemmas.Option.{slice_get_within}
 use Rattle.wac_merge_trees.proofs.lemmas.coding.CodingGrowth.{grown_not, grown_twice}
-use Rattle.wac_merge_trees.proofs.lemmas.coding.OpenedItems.{listings-more}
+use Rattle.wac_merge_trees.proofs.lemmas.coding.OpenedItems.{known-grown, listings-more}
 use Rattle.wac_merge_trees.proofs.coding.listings.listings.Goals as goal
 
 pub loop-position-init : goal.loop-position-init
@@ -12,6 +12,11 @@ loop-position-init c = record {
   grown = grown_not c.args.nodes.now;
   listings = λ i t xs le at there. (let lt = slice_get_within c.args.source.now.calls.now.scopes.now i t at in absurd (omega (arith, le, lt, c.len-position.ensures)));
 }
+
+pub listing_at-requires-clause-known : goal.listing_at-requires-clause-known
+listing_at-requires-clause-known c =
+    let s = c.args.source.now in
+    known-grown c.args.nodes.now c.loop-position.nodes s.types.now s.calls.now.known.now c.loop-position.invariant.grown c.requires.known
 
 pub loop-position-preserved : goal.loop-position-preserved
 loop-position-preserved c =
