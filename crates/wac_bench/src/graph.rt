@@ -168,7 +168,8 @@ impl Graph {
             bail!("a package is not registered");
         }
         let plugs = vec![in self.alloc; giver]?;
-        Ok(plug(&mut self.graph, plugs, taker)?)
+        let _passed = plug(&mut self.graph, plugs, taker)?;
+        Ok(())
     }
 
     /// Encodes the graph, its outer names unvalidated. Returns the number of bytes.

@@ -1,5 +1,6 @@
 mod Cycling
 mod Following
+mod Lines
 mod Passing
 mod Plugging
 mod Weakening

@@ -1,10 +1,11 @@
 -- What plugging one package into another leaves in the graph.
-use Rattle.std.proofs.Common.{◌≡◌, ℕ, Bool, cond, true, false, List, [], ◌∷◌, ◌++◌, zero, suc, slice_get, refl, ap, ◌∙◌, sym, subst, Option, Some, None, Result, Ok, Err, IfSome, IsSome, is_some, IsErr, ◌⊎◌, inl, inr}
+use Rattle.std.proofs.Common.{map as list_map, ◌≡◌, ℕ, Bool, cond, true, false, List, [], ◌∷◌, ◌++◌, zero, suc, slice_get, refl, ap, ◌∙◌, sym, subst, Option, Some, None, Result, Ok, Err, IfSome, IsSome, is_some, IsErr, ◌⊎◌, inl, inr}
 use Rattle.std.specs.Prelude.{IsSomeAnd, MatchOption}
 use Rattle.std.specs.FinMap as map
 use Rattle.std.specs.FinSet as set
+use Rattle.std.specs.Option.{option_map}
 use Rattle.std.proofs.lemmas.Bool.{false≢true}
-use Rattle.std.proofs.lemmas.List.{append-nil}
+use Rattle.std.proofs.lemmas.Option.{slice_get-map}
 use Rattle.wac_types_shapes.specs.primitives.Name.{Name, find_name, same_name, option_case}
 use Rattle.wac_types_shapes.specs.shapes.Named.{names_of}
 use Rattle.wac_types_shapes.proofs.lemmas.shapes.Names.{same_name-refl}
@@ -26,12 +27,15 @@ use Rattle.wac_graph_model.specs.nodes.Stays.{Stays, IsAliasBy, IsArgumentBy}
 use Rattle.wac_graph_model.specs.nodes.Steps.{AddsNode, Instantiates, instance_node, Aliases, AliasesOf, GivesAlias, export_named, import_named, SetsArgument, Exports}
 use Rattle.wac_graph_model.proofs.lemmas.nodes.Added.{by_eq, insert_same, insert_other}
 use Rattle.wac_graph_model.proofs.lemmas.nodes.StaysLemmas.{stays-trans, node-stays, alias-stays, argument-stays}
-use Rattle.wac_graph.specs.plugs.Matching.{Match, IsFirstOnTrack, IsMatch, HasNoMatch, AreMatches, AreMatchesOf, AreAllMatches, imports_of_package, exports_of_package}
+use Rattle.wac_graph.specs.plugs.Matching.{Match, PlugMatches, IsFirstOnTrack, IsMatch, HasNoMatch, AreMatches, AreMatchesOf, AreAllMatches, imports_of_package, exports_of_package}
+use Rattle.wac_graph.specs.plugs.Precedence.{PlugMatch, is_taken, with_any, wired, each_of, passed_over, named_by}
+use Rattle.wac_graph.specs.declared.plugs.precedence.PassedOver.{PassedOver}
 use Rattle.wac_graph.specs.plugs.Plugging.{Answer, answered, InOrder, Wires, PassesOn, PlugsIn, Plugs, Ends, PlugsAll}
 use Rattle.wac_graph.specs.plugs.Refusals.{of_alias, of_argument, of_export}
 use Rattle.wac_graph.specs.declared.plugs.errors.PlugError.{PlugError}
 use Rattle.wac_graph.specs.declared.plugs.errors.PlugError.TheVariants.{NoPlugHappened, OutOfMemory}
 use Rattle.wac_demo.specs.Composed.{IsEmptyPackage, IsPluggedInto}
+use Rattle.wac_demo.specs.private.Lines.{package_name, match_line, lines_of}
 use Rattle.wac_demo.proofs.Following.{alias-later, some-of, there-is, parts-of}
 
 abbrev done : Answer
@@ -107,9 +111,9 @@ one-step Step old new x (inr h) = subst (λ g. Step old x (Ok tt) g) (sym h.2.1)
 abbrev IsWired : NodeId → NodeId → Graph → Match → Graph → Type 0
 IsWired plug socket old m new = (alias : NodeId) × (mid : Graph) × Aliases old plug m.export (Ok alias) mid × SetsArgument mid socket m.import alias (Ok tt) new
 
-wired : (plug socket : NodeId) (old new : Graph) (m : Match) → Wires plug socket old m (Ok tt) new → IsWired plug socket old m new
-wired plug socket old new m (inl h) = absurd (not-refused (of_alias h.0) h.2)
-wired plug socket old new m (inr h) = (h.0, h.1, h.2, by h.3.0 h.3.1 h.3.2) where
+wired_by : (plug socket : NodeId) (old new : Graph) (m : Match) → Wires plug socket old m (Ok tt) new → IsWired plug socket old m new
+wired_by plug socket old new m (inl h) = absurd (not-refused (of_alias h.0) h.2)
+wired_by plug socket old new m (inr h) = (h.0, h.1, h.2, by h.3.0 h.3.1 h.3.2) where
   by : (r : Result (Unit {0}) InstantiationArgumentError) → SetsArgument h.1 socket m.import h.0 r new → Ok tt ≡ answered of_argument r → SetsArgument h.1 socket m.import h.0 (Ok tt) new
   by (Ok made) set is = set
   by (Err e) set is = absurd (not-refused (of_argument e) is)
@@ -140,68 +144,127 @@ record Made (old new : Graph) (plug socket : PackageId) (a run : Name) : Type 0 
   wiring : IsWired plugged node there found mid
   passing : IsPassedOn node mid run new
 
--- an instance leaves what the packages list
-same-matches : (old made : Graph) (plug socket : PackageId) (p : PackageParts) (n : NodeId) (ms : List Match) → package_at old socket ≡ Some p → Instantiates old socket (Ok n) made → AreMatchesOf made socket plug ms → AreMatchesOf old socket plug ms
-same-matches old made plug socket p n ms is step h =
-    let added : AddsNode old n (instance_node socket p) made = subst (λ o. IfSome o (λ p. AddsNode old n (instance_node socket p) made)) is step in
-    subst (λ (g : Graph). AreMatchesOf g socket plug ms) added.2 h
-
 module _ (old new : Graph) (plug socket : PackageId) (q : PackageParts) (a run : Name) (f : ItemKind) (is : package_at old socket ≡ Some q)
     (imports : imports_of_package old socket ≡ (a, f) ∷ []) (exports : exports_of_package old plug ≡ (a, f) ∷ []) (passes : exports_of_package old socket ≡ (run, f) ∷ []) where
-  matches-are : (ms : List Match) → AreMatchesOf old socket plug ms → (HasNoMatch old.types ((a, f) ∷ []) (a, f) × (ms ≡ [])) ⊎ IsOneMatch old.types a f ms
-  matches-are ms h = one-match old.types a f ms (subst (λ es. AreMatches old.types ((a, f) ∷ []) es ms) exports (subst (λ is. AreMatches old.types is (exports_of_package old plug) ms) imports h))
+  abbrev HasOneOrNone : List Match → Type 0
+  HasOneOrNone ms = (HasNoMatch old.types ((a, f) ∷ []) (a, f) × (ms ≡ [])) ⊎ IsOneMatch old.types a f ms
 
-  made-of : (node : NodeId) (made mid : Graph) (all : List Match) → Instantiates old socket (Ok node) made → InOrder (Plugs socket node) made (plug ∷ []) (Ok tt) mid → AreAllMatches old socket (plug ∷ []) all
-      → Ends node (names_of (exports_of_package old socket)) mid all (Ok tt) new → Made old new plug socket a run
-  made-of node made mid all instance plugs matches end = own_is (matches-are matches.0 matches.3) where
-    all_is : all ≡ matches.0
-    all_is = matches.2 ∙ ap (λ rest. matches.0 ++ rest) matches.4 ∙ append-nil matches.0
+  matches-of : (id : PackageId) → exports_of_package old id ≡ (a, f) ∷ [] → (ms : List Match) → AreMatchesOf old socket id ms → HasOneOrNone ms
+  matches-of id listed ms h = one-match old.types a f ms (subst (λ es. AreMatches old.types ((a, f) ∷ []) es ms) listed (subst (λ is. AreMatches old.types is (exports_of_package old id) ms) imports h))
 
-    none : matches.0 ≡ [] → Made old new plug socket a run
-    none is_none = nothing (subst (λ ms. Ends node (names_of (exports_of_package old socket)) mid ms (Ok tt) new) (all_is ∙ is_none) end) where
-      nothing : Ends node (names_of (exports_of_package old socket)) mid [] (Ok tt) new → Made old new plug socket a run
-      nothing h = absurd (not-refused NoPlugHappened h.0)
+  -- something is plugged in
+  nothing : Plugs old socket [] (Ok tt) new → ⊥
+  nothing (inl w) = not-refused OutOfMemory w.0
+  nothing (inr w) = by w.3 where
+    by : (IsErr done × InOrder (PlugsIn w.0) w.1 [] (Ok tt) new) ⊎ ((mid : Graph) × InOrder (PlugsIn w.0) w.1 [] (Ok tt) mid × Ends w.0 (names_of (exports_of_package old socket)) mid [] (Ok tt) new) → ⊥
+    by (inl v) = false≢true v.0
+    by (inr v) = not-refused NoPlugHappened v.2.0
 
-    passing : (m : Match) → matches.0 ≡ m ∷ [] → IsPassedOn node mid run new
-    passing m is_one = passed node mid new run (one-step (PassesOn node) mid new run
-        (subst (λ es. InOrder (PassesOn node) mid (names_of es) (Ok tt) new) passes (subst (λ ms. Ends node (names_of (exports_of_package old socket)) mid ms (Ok tt) new) (all_is ∙ is_one) end)))
+  abbrev of_plug : Match → PlugMatches
+  of_plug m = record { plug = plug; matches = m ∷ [] }
 
-    in_one : (m : Match) → IsMatch old.types ((a, f) ∷ []) (a, f) m → IsPassedOn node mid run new → Plugs socket node made plug (Ok tt) mid → Made old new plug socket a run
-    in_one found matching passing_on (inl h) = absurd (not-refused OutOfMemory h.0)
-    in_one found matching passing_on (inr h) = by (matches-are h.0 (same-matches old made plug socket q node h.0 is instance h.1)) where
-      by : (HasNoMatch old.types ((a, f) ∷ []) (a, f) × (h.0 ≡ [])) ⊎ IsOneMatch old.types a f h.0 → Made old new plug socket a run
-      by (inl no_match) = absurd (no_match.0 found matching)
-      by (inr one) = in_it (subst (λ ms. PlugsIn plug node made ms (Ok tt) mid) one.1 h.2) where
-        in_it : PlugsIn plug node made (one.0 ∷ []) (Ok tt) mid → Made old new plug socket a run
-        in_it (inl w) = absurd (not-refused OutOfMemory w.0)
-        in_it (inr w) = record {
-          node = node;
-          made = made;
-          instance = instance;
-          plugged = w.0;
-          there = w.1;
-          plug_instance = w.2;
-          found = one.0;
-          export_is = one.3;
-          import_is = one.4;
-          mid = mid;
-          wiring = wired w.0 node w.1 mid one.0 (one-step (Wires w.0 node) w.1 mid one.0 w.3);
-          passing = passing_on;
-        }
+  -- the plug is plugged in with its match
+  something : (m : Match) → m.export ≡ a → m.import ≡ a → Plugs old socket (of_plug m ∷ []) (Ok tt) new → Made old new plug socket a run
+  something m export_is import_is (inl w) = absurd (not-refused OutOfMemory w.0)
+  something m export_is import_is (inr w) = by w.3 where
+    in_it : (mid : Graph) → IsPassedOn w.0 mid run new → PlugsIn w.0 w.1 (of_plug m) (Ok tt) mid → Made old new plug socket a run
+    in_it mid passing (inl u) = absurd (not-refused OutOfMemory u.0)
+    in_it mid passing (inr u) = record {
+      node = w.0;
+      made = w.1;
+      instance = w.2;
+      plugged = u.0;
+      there = u.1;
+      plug_instance = u.2;
+      found = m;
+      export_is = export_is;
+      import_is = import_is;
+      mid = mid;
+      wiring = wired_by u.0 w.0 u.1 mid m (one-step (Wires u.0 w.0) u.1 mid m u.3);
+      passing = passing;
+    }
 
-    own_is : (HasNoMatch old.types ((a, f) ∷ []) (a, f) × (matches.0 ≡ [])) ⊎ IsOneMatch old.types a f matches.0 → Made old new plug socket a run
-    own_is (inl h) = none h.1
-    own_is (inr h) = in_one h.0 h.2 (passing h.0 h.1) (one-step (Plugs socket node) made mid plug plugs)
+    by : (IsErr done × InOrder (PlugsIn w.0) w.1 (of_plug m ∷ []) (Ok tt) new)
+        ⊎ ((mid : Graph) × InOrder (PlugsIn w.0) w.1 (of_plug m ∷ []) (Ok tt) mid × Ends w.0 (names_of (exports_of_package old socket)) mid (of_plug m ∷ []) (Ok tt) new)
+        → Made old new plug socket a run
+    by (inl v) = absurd (false≢true v.0)
+    by (inr v) = in_it v.0 (passed w.0 v.0 new run (one-step (PassesOn w.0) v.0 new run (subst (λ es. InOrder (PassesOn w.0) v.0 (names_of es) (Ok tt) new) passes v.2))) (one-step (PlugsIn w.0) w.1 v.0 (of_plug m) v.1)
 
   made-all : PlugsAll old (plug ∷ []) socket (Ok tt) new → Made old new plug socket a run
   made-all (inl h) = absurd (not-refused OutOfMemory h.0)
-  made-all (inr h) = after h.3 where
-    after : (IsErr done × InOrder (Plugs socket h.0) h.1 (plug ∷ []) (Ok tt) new)
-        ⊎ ((mid : Graph) × (ms : List Match) × InOrder (Plugs socket h.0) h.1 (plug ∷ []) (Ok tt) mid × AreAllMatches old socket (plug ∷ []) ms
-        × Ends h.0 (names_of (exports_of_package old socket)) mid ms (Ok tt) new)
-        → Made old new plug socket a run
-    after (inl w) = absurd (false≢true w.0)
-    after (inr w) = made-of h.0 h.1 w.0 w.1 h.2 w.2 w.3 w.4
+  made-all (inr h) = own_is (matches-of plug exports h.1.0 h.1.3) where
+    all_is : (ms : List Match) → h.1.0 ≡ ms → h.0 ≡ record { plug = plug; matches = ms } ∷ []
+    all_is ms is = h.1.2 ∙ (λ i. record { plug = plug; matches = is i } ∷ h.1.4 i)
+
+    step : (ms : List Match) → h.1.0 ≡ ms → Plugs old socket (wired [] (record { plug = plug; matches = ms } ∷ [])) (Ok tt) new
+    step ms is = subst (λ all. Plugs old socket (wired [] all) (Ok tt) new) (all_is ms is) h.2
+
+    own_is : HasOneOrNone h.1.0 → Made old new plug socket a run
+    own_is (inl none) = absurd (nothing (step [] none.1))
+    own_is (inr one) = something one.0 one.3 one.4 (step (one.0 ∷ []) one.1)
+
+  -- the plug is the first of two that export the same
+  module _ (second : PackageId) (listed : exports_of_package old second ≡ (a, f) ∷ []) where
+    abbrev of_both : List Match → List Match → List PlugMatches
+    of_both ms ns = record { plug = plug; matches = ms } ∷ record { plug = second; matches = ns } ∷ []
+
+    module _ (m n : Match) (import_is : m.import ≡ a) (same_is : n.import ≡ a) where
+      taken : is_taken (m.import ∷ []) n.import ≡ true
+      taken = ap (λ b. cond b true false) (ap (λ x. same_name x n.import) import_is ∙ ap (same_name a) same_is ∙ same_name-refl a)
+
+      first-wins : wired [] (of_both (m ∷ []) (n ∷ [])) ≡ of_plug m ∷ []
+      first-wins = ap (λ b. with_any plug (m ∷ []) (with_any second (cond b [] (n ∷ [])) [])) taken
+
+      second-loses : passed_over [] (of_both (m ∷ []) (n ∷ [])) ≡ record { plug = second; match = n } ∷ []
+      second-loses = ap (λ b. each_of second (cond b (n ∷ []) []) ++ []) taken
+
+    -- what both match, and what that makes
+    record Both (all : List PlugMatches) : Type 0 where
+      of_first : Match
+      of_second : Match
+      all_are : all ≡ of_both (of_first ∷ []) (of_second ∷ [])
+      export_is : of_first.export ≡ a
+      import_is : of_first.import ≡ a
+      same_export : of_second.export ≡ a
+      same_import : of_second.import ≡ a
+
+    both-match : (all : List PlugMatches) → AreAllMatches old socket (plug ∷ second ∷ []) all → Plugs old socket (wired [] all) (Ok tt) new → Both all
+    both-match all are step = by are.0 are.1 are.2 are.3 are.4 where
+      by : (ms : List Match) (rest : List PlugMatches) → all ≡ record { plug = plug; matches = ms } ∷ rest → AreMatchesOf old socket plug ms → AreAllMatches old socket (second ∷ []) rest → Both all
+      by ms rest is own more = in_both (matches-of plug exports ms own) (matches-of second listed more.0 more.3) where
+        all_is : (xs ys : List Match) → ms ≡ xs → more.0 ≡ ys → all ≡ of_both xs ys
+        all_is xs ys same same_2 =
+            let behind : rest ≡ record { plug = second; matches = ys } ∷ [] = more.2 ∙ (λ i. record { plug = second; matches = same_2 i } ∷ more.4 i) in
+            is ∙ (λ i. record { plug = plug; matches = same i } ∷ behind i)
+
+        in_both : HasOneOrNone ms → HasOneOrNone more.0 → Both all
+        in_both (inl none) (inl none_2) = absurd (nothing (subst (λ l. Plugs old socket (wired [] l) (Ok tt) new) (all_is [] [] none.1 none_2.1) step))
+        in_both (inl none) (inr one_2) = absurd (none.0 one_2.0 one_2.2)
+        in_both (inr one) (inl none_2) = absurd (none_2.0 one.0 one.2)
+        in_both (inr one) (inr one_2) = record {
+          of_first = one.0;
+          of_second = one_2.0;
+          all_are = all_is (one.0 ∷ []) (one_2.0 ∷ []) one.1 one_2.1;
+          export_is = one.3;
+          import_is = one.4;
+          same_export = one_2.3;
+          same_import = one_2.4;
+        }
+
+    made-first : PlugsAll old (plug ∷ second ∷ []) socket (Ok tt) new → Made old new plug socket a run
+    made-first (inl h) = absurd (not-refused OutOfMemory h.0)
+    made-first (inr h) =
+        let both = both-match h.0 h.1 h.2 in
+        something both.of_first both.export_is both.import_is
+        (subst (λ ps. Plugs old socket ps (Ok tt) new) (ap (wired []) both.all_are ∙ first-wins both.of_first both.of_second both.import_is both.same_import) h.2)
+
+    passed-second : (over : List PlugMatch) → ((all : List PlugMatches) → AreAllMatches old socket (plug ∷ second ∷ []) all → over ≡ passed_over [] all) → PlugsAll old (plug ∷ second ∷ []) socket (Ok tt) new
+        → over ≡ record { plug = second; match = record { export = a; import = a } } ∷ []
+    passed-second over are (inl h) = absurd (not-refused OutOfMemory h.0)
+    passed-second over are (inr h) =
+        let both = both-match h.0 h.1 h.2 in
+        are h.0 h.1 ∙ ap (passed_over []) both.all_are ∙ second-loses both.of_first both.of_second both.import_is both.same_import
+        ∙ (λ i. record { plug = second; match = record { export = both.same_export i; import = both.same_import i } } ∷ [])
 
 -- an alias of a new instance is there
 alias-there : (old mid new : Graph) (instance : NodeId) (n : GraphNode) (name : Name) (alias : NodeId) → ((e : Edge) → set.contains old.edges e ≡ true → IsSome (node_at old e.source))
@@ -407,3 +470,65 @@ module _ (g2 g3 : Graph) (plug socket : PackageId) (plugs : List PackageId) (one
       plugged-into g3 g4 plug socket a run plug_parts.0 socket_parts.0 sound sound_new plug_there socket_parts.1
       (made-all g3 g4 plug socket socket_parts.0 a run f socket_parts.1 listed.0 (exports-later g2 g3 plug one [] (a, f) [] between registered_plug) listed.1 (subst (λ l. PlugsAll g3 l socket (Ok tt) g4) plugs_are step))
       one two plug_parts.2 socket_parts.2
+
+-- the call of a composition that plugs the first of two packages into another, each of one function
+module _ (g2 g3 g4 : Graph) (plug second socket : PackageId) (plugs : List PackageId) (one two three run : Name) (a : Name) (f : ItemKind) (registered_plug : IsEmptyPackage g2 plug one [] ((a, f) ∷ [])) (between : Stays g2 g3)
+    (registered_second : IsEmptyPackage g3 second two [] ((a, f) ∷ [])) (behind : Stays g3 g4) (registered_socket : IsEmptyPackage g4 socket three ((a, f) ∷ []) ((run, f) ∷ [])) (plugs_are : plugs ≡ plug ∷ second ∷ []) where
+  first_parts : (p : PackageParts) × (package_at g2 plug ≡ Some p) × (p.name ≡ one)
+  first_parts = parts-of g2 plug one [] ((a, f) ∷ []) registered_plug
+
+  second_parts : (p : PackageParts) × (package_at g3 second ≡ Some p) × (p.name ≡ two)
+  second_parts = parts-of g3 second two [] ((a, f) ∷ []) registered_second
+
+  taker_parts : (q : PackageParts) × (package_at g4 socket ≡ Some q) × (q.name ≡ three)
+  taker_parts = parts-of g4 socket three ((a, f) ∷ []) ((run, f) ∷ []) registered_socket
+
+  pub taker-there : IsSome (package_at g4 socket)
+  taker-there = there-is (package_at g4 socket) taker_parts.0 taker_parts.1
+
+  until : Stays g2 g4
+  until = stays-trans g2 g3 g4 between behind
+
+  first_there : package_at g4 plug ≡ Some first_parts.0
+  first_there = until.packages plug first_parts.0 first_parts.1
+
+  second_there : package_at g4 second ≡ Some second_parts.0
+  second_there = behind.packages second second_parts.0 second_parts.1
+
+  pub both-there : (i : ℕ) (id : PackageId) → slice_get plugs i ≡ Some id → IsSome (package_at g4 id)
+  both-there i id at = place i (ap (λ l. slice_get l i) (sym plugs_are) ∙ at) where
+    place : (i : ℕ) → slice_get (plug ∷ second ∷ []) i ≡ Some id → IsSome (package_at g4 id)
+    place zero h = let same : plug ≡ id = cc in subst (λ k. IsSome (package_at g4 k)) same (there-is (package_at g4 plug) first_parts.0 first_there)
+    place (suc zero) h = let same : second ≡ id = cc in subst (λ k. IsSome (package_at g4 k)) same (there-is (package_at g4 second) second_parts.0 second_there)
+    place (suc (suc i)) h = cc
+
+  module _ (g5 : Graph) (step : PlugsAll g4 plugs socket (Ok tt) g5) where
+    listed : (imports_of_package g4 socket ≡ (a, f) ∷ []) × (exports_of_package g4 socket ≡ (run, f) ∷ [])
+    listed = listed-of g4 socket three ((a, f) ∷ []) ((run, f) ∷ []) registered_socket
+
+    stepped : PlugsAll g4 (plug ∷ second ∷ []) socket (Ok tt) g5
+    stepped = subst (λ l. PlugsAll g4 l socket (Ok tt) g5) plugs_are step
+
+    made : Made g4 g5 plug socket a run
+    made = made-first g4 g5 plug socket taker_parts.0 a run f taker_parts.1 listed.0 (exports-later g2 g4 plug one [] (a, f) [] until registered_plug) listed.1 second (exports-later g3 g4 second two [] (a, f) [] behind registered_second) stepped
+
+    pub plugs-first : IsSound g4 → IsSound g5 → IsPluggedInto g5 one a three run
+    plugs-first sound sound_new = plugged-into g4 g5 plug socket a run first_parts.0 taker_parts.0 sound sound_new first_there taker_parts.1 made one three first_parts.2 taker_parts.2
+
+    second_later : IsSound g4 → IsSound g5 → package_at g5 second ≡ Some second_parts.0
+    second_later sound sound_new = package_new g4 g5 plug socket a run first_parts.0 taker_parts.0 sound sound_new first_there taker_parts.1 made second second_parts.0 second_there
+
+    module _ (passed : List PassedOver) (are : (all : List PlugMatches) → AreAllMatches g4 socket plugs all → list_map named_by passed ≡ passed_over [] all) where
+      passed_is : list_map named_by passed ≡ record { plug = second; match = record { export = a; import = a } } ∷ []
+      passed_is = passed-second g4 g5 plug socket taker_parts.0 a run f taker_parts.1 listed.0 (exports-later g2 g4 plug one [] (a, f) [] until registered_plug) listed.1 second
+          (exports-later g3 g4 second two [] (a, f) [] behind registered_second) (list_map named_by passed) (λ all h. are all (subst (λ l. AreAllMatches g4 socket l all) (sym plugs_are) h)) stepped
+
+      pub passed-there : IsSound g4 → IsSound g5 → (i : ℕ) (over : PassedOver) → slice_get passed i ≡ Some over → IsSome (package_at g5 over.plug)
+      passed-there sound sound_new i over at =
+          let same : over.plug ≡ second = ap (λ (p : PlugMatch). p.plug) (only-one (list_map named_by passed) (record { plug = second; match = record { export = a; import = a } }) i (named_by over) passed_is (slice_get-map named_by passed i ∙ ap (option_map named_by) at)) in
+          subst (λ k. IsSome (package_at g5 k)) (sym same) (there-is (package_at g5 second) second_parts.0 (second_later sound sound_new))
+
+      pub lines-are : IsSound g4 → IsSound g5 → lines_of g5 (list_map named_by passed) ≡ match_line two (record { export = a; import = a }) ++ []
+      lines-are sound sound_new =
+          let named : package_name g5 second ≡ two = ap (λ o. option_case o [] (λ (p : PackageParts). p.name)) (second_later sound sound_new) ∙ second_parts.2 in
+          ap (lines_of g5) passed_is ∙ ap (λ n. match_line n (record { export = a; import = a }) ++ []) named

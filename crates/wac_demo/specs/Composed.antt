@@ -57,6 +57,10 @@ IsPluggedInto g plug given_name socket passed_name =
 abbrev pub IsPlugged : Graph → Type 0
 IsPlugged g = IsPluggedInto g (codes "my:plug") (codes "a") (codes "my:socket") (codes "run")
 
+-- The composition `precedence`: the same with `my:first` in place of `my:plug`.
+abbrev pub IsPrecedence : Graph → Type 0
+IsPrecedence g = IsPluggedInto g (codes "my:first") (codes "a") (codes "my:socket") (codes "run")
+
 -- The package has this name, no version, these imports and exports, and the bytes of an empty component.
 abbrev pub IsEmptyPackage : Graph → PackageId → Name → List (Name × ItemKind) → List (Name × ItemKind) → Type 0
 IsEmptyPackage g id name imports exports =
@@ -107,11 +111,14 @@ cycle_word = codes "cycle"
 abbrev pub function_word : List ℕ
 function_word = codes "function"
 
+abbrev pub precedence_word : List ℕ
+precedence_word = codes "precedence"
+
 -- The word has a composition.
 abbrev pub IsWord : List ℕ → Type 0
-IsWord word = (word ≡ empty_word) ⊎ ((word ≡ processor_word) ⊎ ((word ≡ function_word) ⊎ ((word ≡ readme_word) ⊎ ((word ≡ cycle_word) ⊎ (word ≡ plug_word)))))
+IsWord word = (word ≡ empty_word) ⊎ ((word ≡ processor_word) ⊎ ((word ≡ function_word) ⊎ ((word ≡ readme_word) ⊎ ((word ≡ cycle_word) ⊎ ((word ≡ plug_word) ⊎ (word ≡ precedence_word))))))
 
--- The bytes are those of the word's composition; `cycle` has none.
+-- The bytes are those of the word's composition, if its line alone is printed; `cycle` has none.
 pub data IsComposed (word bytes : List ℕ) : Type 0 where
   of_empty : word ≡ empty_word → Compose bytes AreDefault IsEmpty → IsComposed word bytes
   of_processor : word ≡ processor_word → Compose bytes (NameProcessor (codes "x") (codes "1")) IsEmpty → IsComposed word bytes

@@ -1,16 +1,22 @@
 //! The compositions that the program prints.
 
-ghost use Rattle.std.specs.Prelude.{codes, IfOk, IsErr};
+ghost use Rattle.std.specs.Prelude.{◌≡◌, ℕ, Some, IsSome, codes, IfOk, IsErr, map, slice_get, string_bytes};
 ghost use Rattle.wac_types_shapes.specs.shapes.Named.{named_pairs};
-ghost use Rattle.wac_graph_model.specs.nodes.Graph.{Graph};
+ghost use Rattle.wac_graph_model.specs.nodes.Graph.{Graph, package_at};
 ghost use Rattle.wac_graph_model.specs.nodes.Steps.{IsEmpty};
-ghost use Rattle.wac_demo.specs.Composed.{AreDefault, Compose, IsCycle, IsFunction, IsReadme, IsPlugged, IsPlainFunction, IsEmptyPackage, NameProcessor, RefusesCycle};
+ghost use Rattle.wac_demo.specs.Composed.{AreDefault, Compose, IsCycle, IsFunction, IsReadme, IsPlugged, IsPrecedence, IsPlainFunction, IsEmptyPackage, NameProcessor, RefusesCycle};
 ghost use Rattle.wac_graph_model.specs.nodes.Stays.{Stays};
+ghost use Rattle.wac_graph.specs.declared.plugs.precedence.PassedOver.{PassedOver as AMatch};
+ghost use Rattle.wac_graph.specs.plugs.Precedence.{named_by};
+ghost use Rattle.wac_demo.specs.Printed.{passed_line as line_of_second};
+ghost use Rattle.wac_demo.specs.private.Lines.{match_line, lines_of};
 
 use anyhow::Result;
 use std::alloc::Global;
 use wac_graph::types::{FuncType, Interface, ItemKind, World};
-use wac_graph::{CompositionGraph, EncodeError, EncodeOptions, PackageId, Processor, plug};
+use wac_graph::{
+    CompositionGraph, EncodeError, EncodeOptions, PackageId, PassedOver, Processor, plug,
+};
 
 /// The bytes of a component without sections.
 pub const EMPTY_COMPONENT: [u8; 8] = [0x00, 0x61, 0x73, 0x6d, 0x0d, 0x00, 0x01, 0x00];
@@ -103,6 +109,50 @@ pub fn plugged(alloc: Global) -> Result<Vec<u8>>
     plug(&mut graph, plugs, socket)?;
     graph.law(); // proof only
     Ok(graph.encode(EncodeOptions::default())?)
+}
+
+/// Encodes the first of two plugs that export the function `a`, plugged into a socket as in [`plugged`].
+///
+/// Returns the bytes, and a line for the match of the second plug, which is passed over.
+pub fn precedence(alloc: Global) -> Result<(Vec<u8>, String)>
+    ensures composed { IfOk result (λ r. Compose r.0.items AreDefault IsPrecedence) }
+    ensures passed { IfOk result (λ r. string_bytes r.1 ≡ line_of_second) }
+{
+    let mut graph = CompositionGraph::new(alloc);
+    let function = function(alloc, &mut graph)?;
+    let first = register(alloc, &mut graph, "my:first", &[], &[("a", function)])?;
+    let second = register(alloc, &mut graph, "my:second", &[], &[("a", function)])?;
+    let run = ("run", function);
+    let socket = register(alloc, &mut graph, "my:socket", &[("a", function)], &[run])?;
+    let plugs = vec![in alloc; first, second]?;
+    graph.law(); // proof only
+    let passed = plug(&mut graph, plugs, socket)?;
+    graph.law(); // proof only
+    let lines = passed_lines(alloc, &graph, &passed)?;
+    Ok((graph.encode(EncodeOptions::default())?, lines))
+}
+
+/// Returns a line for each match that is passed over, in order.
+fn passed_lines(alloc: Global, graph: &CompositionGraph, passed: &[PassedOver]) -> Result<String>
+    requires { (i : ℕ) (over : AMatch) → slice_get passed.now i ≡ Some over → IsSome (package_at graph.now over.plug) }
+    ensures { IfOk result (λ lines. string_bytes lines ≡ lines_of graph.now (map named_by passed.now)) }
+{
+    let mut lines = String::new(alloc);
+    for i in 0..passed.len() {
+        let over = &passed[i];
+        let line = passed_line(alloc, graph[over.plug].name(), over)?;
+        lines.push_str(line.as_str())?;
+    }
+    Ok(lines)
+}
+
+/// Returns the line for a match of the plug with this name.
+fn passed_line(alloc: Global, plug: &str, over: &PassedOver) -> Result<String>
+    ensures { IfOk result (λ line. string_bytes line ≡ match_line plug.now (named_by over.now).match) }
+{
+    let export = over.export.as_str();
+    let import = over.import.as_str();
+    Ok(format!(in alloc; "passed over: {plug} {export} {import}\n")?)
 }
 
 /// Adds a function type without parameters and result.

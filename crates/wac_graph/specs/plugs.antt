@@ -1,4 +1,5 @@
 pub mod Refusals
 pub mod Matching
+pub mod Precedence
 pub mod Plugging
 pub mod Outcome

@@ -42,6 +42,7 @@ mod imports;
 mod iterators;
 pub mod laws;
 mod lookups;
+mod matches;
 mod merging;
 mod plugging;
 mod plugs;
@@ -52,7 +53,7 @@ mod wanted;
 mod wiring;
 mod writing;
 
-pub use crate::plugs::{PlugError, PlugFault};
+pub use crate::plugs::{PassedOver, PlugError, PlugFault};
 pub use arguments_of::Arguments;
 pub use graph::CompositionGraph;
 pub use imports::Imports;

@@ -1,69 +1,42 @@
 //! Plugging components into a socket component.
-ghost use Rattle.std.specs.Prelude.{◌≡◌, ◌⊎◌, ℕ, List, [], Some, IsSome, IfOk, IfErr, IfSome, slice_get, Ok, Err};
+ghost use Rattle.std.specs.Prelude.{◌≡◌, ◌⊎◌, ℕ, List, [], Some, IsSome, IfOk, OnOk, map, slice_get, Err};
 ghost use Rattle.wac_graph_model.specs.nodes.Graph.{package_at};
-ghost use Rattle.wac_graph_model.specs.declared.nodes.errors.AliasError.{AliasError as AnAliasFault};
 ghost use Rattle.wac_graph_model.specs.declared.nodes.errors.ExportError.{ExportError as AnExportFault};
-ghost use Rattle.wac_graph_model.specs.declared.nodes.errors.InstantiationArgumentError.{InstantiationArgumentError as AFault};
 ghost use Rattle.wac_graph_model.specs.declared.nodes.packages.PackageId.{PackageId as AnId};
 ghost use Rattle.wac_types_shapes.specs.shapes.Named.{NoNameTwice, names_of};
+ghost use Rattle.wac_graph.specs.declared.plugs.errors.PlugFault.{PlugFault as AFault};
+ghost use Rattle.wac_graph.specs.plugs.Matching.{PlugMatches, AreAllMatches, NothingMatches, imports_of_package, exports_of_package};
+ghost use Rattle.wac_graph.specs.plugs.Precedence.{passed_over, named_by};
+ghost use Rattle.wac_graph.specs.plugs.Outcome.{IsFirstRefused, IsFirstFault, IsExportRefused};
+ghost use Rattle.wac_graph.specs.plugs.Plugging.{InOrder, Plugs, PlugsIn, PlugsAll, Keeps, answer_of};
 ghost use Rattle.wac_graph.specs.private.plugs.Fitting.{IsNodeOf};
-ghost use Rattle.wac_graph.specs.plugs.Matching.{Match, AreMatchesOf, AreAllMatches, imports_of_package, exports_of_package};
-ghost use Rattle.wac_graph.specs.private.plugs.Naming.{PlugsNamed, PlugsAllNamed};
-ghost use Rattle.wac_graph.specs.plugs.Outcome.{IsMatchedTwice, IsAlreadyPassed, IsFirstRefused, IsExportRefused};
-ghost use Rattle.wac_graph.specs.plugs.Plugging.{InOrder, PlugsAll, PlugsIn, Keeps, has_any};
-ghost use Rattle.wac_graph.specs.private.plugs.Tracks.{AreFirsts};
+ghost use Rattle.wac_graph.specs.private.plugs.Ready.{plugs_at, AreReady};
 
 use crate::graph::CompositionGraph;
-use crate::plugs::{PlugError, PlugFault, find_matches};
+use crate::matches::{Matches, find_all_matches};
+use crate::plugs::{PassedOver, PlugError, PlugPairs};
 use crate::wiring::{pass_on_all, plug_in};
 use wac_graph_model::{NodeId, PackageId, one_export_answer};
-use wac_types::Named;
 
-/// Plugs in one plug. Returns whether any of its exports matches.
-fn plug_one(
-    graph: &mut CompositionGraph,
-    plug: PackageId,
-    socket: PackageId,
-    node: NodeId,
-    firsts: &mut Option<Named<usize>>,
-) -> Result<bool, PlugError>
-    requires plug { IsSome (package_at graph.old plug) }
-    requires socket { IsSome (package_at graph.old socket) }
-    requires node { IsNodeOf graph.old node socket }
-    requires firsts { IfSome firsts.old (AreFirsts (imports_of_package graph.old socket)) }
-    ensures firsts { IfSome firsts.new (AreFirsts (imports_of_package graph.old socket)) }
-    ensures plugged { IfOk result (λ has_match. Keeps graph.old graph.new × NoNameTwice (exports_of_package graph.old plug) × ((ms : List Match) × AreMatchesOf graph.old socket plug ms × PlugsIn plug node graph.old ms (Ok tt) graph.new × (has_match ≡ has_any ms))) }
-    ensures refused { IfErr result (λ e. PlugsNamed socket node graph.old plug (Err e) graph.new) }
-{
-    graph.law(); // proof only
-    let exporting = graph[plug].ty();
-    let importing = graph[socket].ty();
-    let pairs = find_matches(graph.types(), exporting, importing, firsts)?;
-    plug_in(graph, plug, node, &pairs)?;
-    Ok(!pairs.is_empty())
-}
-
-/// Plugs in each plug, in order. Returns whether any export matches.
+/// Plugs in each plug, in order.
 fn plug_each(
     graph: &mut CompositionGraph,
-    plugs: &[PackageId],
+    wired: &[PlugPairs],
     socket: PackageId,
     node: NodeId,
-    firsts: &mut Option<Named<usize>>,
-) -> Result<bool, PlugError>
-    requires plugs { (i : ℕ) (id : AnId) → slice_get plugs.now i ≡ Some id → IsSome (package_at graph.old id) }
+) -> Result<(), PlugError>
+    requires ready { AreReady graph.old socket wired.now }
     requires socket { IsSome (package_at graph.old socket) }
     requires node { IsNodeOf graph.old node socket }
-    requires firsts { IfSome firsts.old (AreFirsts (imports_of_package graph.old socket)) }
-    ensures plugged { IfOk result (λ has_match. InOrder (PlugsNamed socket node) graph.old plugs.now (Ok tt) graph.new × Keeps graph.old graph.new × ((ms : List Match) × AreAllMatches graph.old socket plugs.now ms × (has_match ≡ has_any ms))) }
-    ensures refused { IfErr result (λ e. InOrder (PlugsNamed socket node) graph.old plugs.now (Err e) graph.new) }
+    requires asked { NoNameTwice (imports_of_package graph.old socket) }
+    ensures step { InOrder (PlugsIn node) graph.old (plugs_at graph.old socket wired.now) result graph.new }
+    ensures kept { OnOk result (Keeps graph.old graph.new) }
 {
-    let mut has_match = false;
-    for i in 0..plugs.len() {
-        let is_plugged = plug_one(graph, plugs[i], socket, node, firsts)?;
-        has_match = has_match || is_plugged;
+    for i in 0..wired.len() {
+        let plugged = &wired[i];
+        plug_in(graph, plugged.plug, node, &plugged.pairs)?;
     }
-    Ok(has_match)
+    Ok(())
 }
 
 /// Proves that a package's world imports no name twice.
@@ -86,23 +59,22 @@ fn exports_law(graph: &CompositionGraph, id: PackageId)
     graph.types()[world].exports.law(); // proof only
 }
 
-/// Does the work of [`plug`].
+/// Does the work of [`plug`] for the matches that win.
 fn plug_all(
     graph: &mut CompositionGraph,
-    plugs: &[PackageId],
+    wired: &[PlugPairs],
     socket: PackageId,
 ) -> Result<(), PlugError>
-    requires plugs { (i : ℕ) (id : AnId) → slice_get plugs.now i ≡ Some id → IsSome (package_at graph.old id) }
+    requires ready { AreReady graph.old socket wired.now }
     requires socket { IsSome (package_at graph.old socket) }
-    ensures { PlugsAllNamed graph.old plugs.now socket result graph.new }
+    ensures { Plugs graph.old socket (plugs_at graph.old socket wired.now) result graph.new }
 {
     graph.law(); // proof only
     imports_law(graph, socket); // proof only
-    let mut firsts = None;
     let world = graph[socket].ty();
     let node = graph.instantiate(socket)?;
-    let has_match = plug_each(graph, plugs, socket, node, &mut firsts)?;
-    if !has_match {
+    plug_each(graph, wired, socket, node)?;
+    if wired.is_empty() {
         return Err(PlugError::NoPlugHappened);
     }
     pass_on_all(graph, world, node)
@@ -110,16 +82,17 @@ fn plug_all(
 
 /// Instantiates a socket package and sets its arguments to the exports of plug packages.
 ///
-/// 1. The socket is instantiated.
-/// 2. Each export of each plug is matched, in order, with the socket's import of the same name. If there is none, it is
+/// 1. Each export of each plug is matched, in order, with the socket's import of the same name. If there is none, it is
 ///    matched with the first import on the same track. It matches only if its type is a subtype of the import's.
-/// 3. A plug with a match is instantiated once. Each export that matches is aliased and set as the argument.
-/// 4. If any export matched, each export of the socket is aliased and exported under its name, in order.
+/// 2. The first match of each import wins. The others are passed over, and are returned in order.
+/// 3. The socket is instantiated.
+/// 4. A plug with a match that wins is instantiated once. Each export whose match wins is aliased and set as the argument.
+/// 5. If any export matched, each export of the socket is aliased and exported under its name, in order.
 ///
 /// # Errors
 /// - [`NoPlugHappened`](PlugError::NoPlugHappened) if no export matches.
-/// - [`GraphError`](PlugError::GraphError) if an import is matched twice (`ArgumentAlreadyPassed`), or if a name of the
-///   socket cannot be exported (the error of [`CompositionGraph::export`]).
+/// - [`GraphError`](PlugError::GraphError) if a name of the socket cannot be exported (the error of
+///   [`CompositionGraph::export`]).
 /// - [`OutOfMemory`](PlugError::OutOfMemory).
 ///
 /// On an error, everything that the earlier steps added remains in the graph.
@@ -127,25 +100,26 @@ pub fn plug(
     graph: &mut CompositionGraph,
     plugs: Vec<PackageId>,
     socket: PackageId,
-) -> Result<(), PlugError>
+) -> Result<Vec<PassedOver>, PlugError>
     requires plugs { (i : ℕ) (id : AnId) → slice_get plugs.items i ≡ Some id → IsSome (package_at graph.old id) }
     requires socket { IsSome (package_at graph.old socket) }
     // The graph changes by the steps above, and the result is theirs.
-    ensures step { PlugsAll graph.old plugs.items socket result graph.new }
-    // If an import is matched twice, that is the error, and the only one from setting arguments.
-    ensures twice { (ms : List Match) → AreAllMatches graph.old socket plugs.items ms → IsMatchedTwice ms → IsAlreadyPassed result ⊎ (result ≡ Err PlugError.OutOfMemory) }
-    ensures only_twice { (e : AFault) → result ≡ Err (PlugError.GraphError (PlugFault.Argument e)) → IsAlreadyPassed result × ((ms : List Match) → AreAllMatches graph.old socket plugs.items ms → IsMatchedTwice ms) }
-    // An alias never fails, except for lack of memory.
-    ensures no_alias { (e : AnAliasFault) → result ≡ Err (PlugError.GraphError (PlugFault.Alias e)) → ⊥ }
-    // If a name of the socket cannot be exported, the first one is the error, and the only one from exporting.
-    ensures refused { (e : AnExportFault) → IsFirstRefused graph.old (names_of (exports_of_package graph.old socket)) e → (ms : List Match) → AreAllMatches graph.old socket plugs.items ms → (ms ≡ [] → ⊥) → (IsMatchedTwice ms → ⊥) → IsExportRefused result ⊎ (result ≡ Err PlugError.OutOfMemory) }
-    ensures only_refused { (e : AnExportFault) → result ≡ Err (PlugError.GraphError (PlugFault.Export e)) → IsFirstRefused graph.old (names_of (exports_of_package graph.old socket)) e }
+    ensures step { PlugsAll graph.old plugs.items socket (answer_of result) graph.new }
+    // The result is the matches that do not win, in order.
+    ensures passed_over { IfOk result (λ passed. (all : List PlugMatches) → AreAllMatches graph.old socket plugs.items all → map named_by passed.items ≡ passed_over [] all) }
+    // If something matches and a name of the socket cannot be exported, the first one is the error.
+    ensures refused { (e : AnExportFault) → IsFirstRefused graph.old (names_of (exports_of_package graph.old socket)) e → (NothingMatches graph.old socket plugs.items → ⊥) → IsExportRefused result ⊎ (result ≡ Err PlugError.OutOfMemory) }
+    // That is the only `GraphError`: no alias and no argument fails, except for lack of memory.
+    ensures only_refused { (fault : AFault) → result ≡ Err (PlugError.GraphError fault) → IsFirstFault graph.old (names_of (exports_of_package graph.old socket)) fault × (NothingMatches graph.old socket plugs.items → ⊥) }
     // Without any match, and only then, the result is `NoPlugHappened`.
-    ensures nothing { AreAllMatches graph.old socket plugs.items [] → (result ≡ Err PlugError.NoPlugHappened) ⊎ (result ≡ Err PlugError.OutOfMemory) }
-    ensures only_nothing { result ≡ Err PlugError.NoPlugHappened → AreAllMatches graph.old socket plugs.items [] }
+    ensures nothing { NothingMatches graph.old socket plugs.items → (result ≡ Err PlugError.NoPlugHappened) ⊎ (result ≡ Err PlugError.OutOfMemory) }
+    ensures only_nothing { result ≡ Err PlugError.NoPlugHappened → NothingMatches graph.old socket plugs.items }
 {
     graph.law(); // proof only
     one_export_answer(); // proof only
+    imports_law(graph, socket); // proof only
     exports_law(graph, socket); // proof only
-    plug_all(graph, &plugs, socket)
+    let Matches { wired, passed } = find_all_matches(graph, &plugs, socket)?;
+    plug_all(graph, &wired, socket)?;
+    Ok(passed)
 }

@@ -59,7 +59,7 @@ fn wire(
     Ok(())
 }
 
-/// Instantiates a plug and wires its matches. Does nothing without matches.
+/// Instantiates a plug and wires its matches.
 pub fn plug_in(
     graph: &mut CompositionGraph,
     plug: PackageId,
@@ -72,12 +72,9 @@ pub fn plug_in(
     requires fit { AllFit graph.old plug socket (matches_at (exports_of_package graph.old plug) (node_imports graph.old socket) pairs.now) }
     requires named { NoNameTwice (exports_of_package graph.old plug) }
     requires asked { NoNameTwice (node_imports graph.old socket) }
-    ensures step { PlugsIn plug socket graph.old (matches_at (exports_of_package graph.old plug) (node_imports graph.old socket) pairs.now) result graph.new }
+    ensures step { PlugsIn socket graph.old (record { plug = plug; matches = matches_at (exports_of_package graph.old plug) (node_imports graph.old socket) pairs.now }) result graph.new }
     ensures kept { OnOk result (Keeps graph.old graph.new) }
 {
-    if pairs.is_empty() {
-        return Ok(());
-    }
     graph.law(); // proof only
     let node = instantiate_plug(graph, plug, pairs.len())?;
     for i in 0..pairs.len() {

@@ -8,7 +8,8 @@ use crate::tables::Row::{Func, Instance};
 use crate::tables::{Item, Made, Row, Want, assert_encoded};
 use std::process::Abort;
 use wac_graph::{
-    CompositionGraph, ExportError, Node, NodeKind, PackageId, PlugError, PlugFault, plug,
+    CompositionGraph, ExportError, Node, NodeKind, PackageId, PassedOver, PlugError, PlugFault,
+    plug,
 };
 
 // The second of two plugs.
@@ -29,7 +30,7 @@ struct Plugging {
     second: Second,
     imports: &'static [Item],
     exports: &'static [Item],
-    // The text of the refusal, or of the error in it; empty where there is none.
+    // What is passed over, or the text of the refusal or of the error in it.
     answer: &'static str,
     // The nodes that are made, in order.
     nodes: &'static str,
@@ -51,8 +52,6 @@ const TYPES: &[Row] = &[
 
 const NONE: &str = "the socket component had no matching imports for the plugs that were provided";
 
-const PASSED_A: &str = "argument `a` has already been passed to the instantiation";
-
 const REFUSED: &str = "out of memory";
 
 const PLUG_A: &[Item] = &[("a", 0)];
@@ -61,10 +60,31 @@ const SOCKET_A: &[Item] = &[("a", 2)];
 
 const RUN: &[Item] = &[("run", 2)];
 
-// The text of the refusal, or of the error in it; empty where there is none.
-fn answer(rt: &(impl Abort + AllocGlobal), plugged: Result<(), PlugError>) -> String {
+// The matches that were passed over: the plug's package, the export and the import of each.
+fn passed_over(
+    rt: &(impl Abort + AllocGlobal),
+    graph: &CompositionGraph,
+    passed: &[PassedOver],
+) -> String {
+    let mut text = String::new(rt.alloc());
+    for over in passed {
+        let plug = package_name(rt, graph, Some(over.plug));
+        let export = over.export.as_str();
+        let import = over.import.as_str();
+        let one = format!(in rt.alloc(); "{plug} {export} {import}; ").expect(rt, "a text");
+        text.push_str(one.as_str()).expect(rt, "a text");
+    }
+    text
+}
+
+// What is passed over, or the text of the refusal or of the error in it.
+fn answer(
+    rt: &(impl Abort + AllocGlobal),
+    graph: &CompositionGraph,
+    plugged: Result<Vec<PassedOver>, PlugError>,
+) -> String {
     let text = match plugged {
-        Ok(()) => return String::new(rt.alloc()),
+        Ok(passed) => return passed_over(rt, graph, &passed),
         Err(PlugError::GraphError { source }) => format!(in rt.alloc(); "{source}"),
         Err(error) => format!(in rt.alloc(); "{error}"),
     };
@@ -75,7 +95,7 @@ fn plug_all(
     graph: &mut CompositionGraph,
     plugs: Vec<PackageId>,
     socket: PackageId,
-) -> Result<(), PlugError>
+) -> Result<Vec<PassedOver>, PlugError>
     requires plugs { (i : ℕ) (id : AnId) → slice_get plugs.items i ≡ Some id → IsSome (package_at graph.old id) }
     requires socket { IsSome (package_at graph.old socket) }
 {
@@ -89,7 +109,7 @@ fn plugged(
     rt: &(impl Abort + AllocGlobal),
     graph: &mut CompositionGraph,
     packages: Packages,
-) -> Result<(), PlugError> {
+) -> Result<Vec<PassedOver>, PlugError> {
     let (first, second, socket) = packages;
     let held = graph.has_package(socket);
     assert!(rt; held);
@@ -177,7 +197,9 @@ fn assert_made(
     let begun = refused && row.nodes.starts_with(nodes.as_str());
     assert_row(rt, begun || nodes.as_str() == row.nodes, row.what);
     let asked = asked(rt, graph);
-    let is_asked = is_asked(row, graph.node_ids().count(), asked.as_str());
+    let count = graph.node_ids().count();
+    let is_begun = refused && row.asked.ends_with(asked.as_str());
+    let is_asked = is_begun || is_asked(row, count, asked.as_str());
     assert_row(rt, is_asked, row.what);
 }
 
@@ -185,7 +207,8 @@ fn assert_made(
 fn assert_plugged(rt: &(impl Abort + AllocGlobal), row: &Plugging) {
     let mut made = Made::new(rt, TYPES, &[]);
     let packages = registered(rt, &mut made, row);
-    let answer = answer(rt, plugged(rt, &mut made.graph, packages));
+    let result = plugged(rt, &mut made.graph, packages);
+    let answer = answer(rt, &made.graph, result);
     let refused = answer.as_str() == REFUSED;
     assert_row(rt, refused || answer.as_str() == row.answer, row.what);
     assert_made(rt, &made.graph, row, refused);
@@ -209,28 +232,28 @@ const ONE_ENCODED: &[&str] = &[
     "04080061736d0d000100050401000000060601010000016104080061736d0d000100050801000101016101000608010100010372756e0b0901000372756e010100",
 ];
 
-// Two plugs with one export.
+// Two plugs with one export: the earlier wins, and the later is not instantiated.
 const TWO: Plugging = Plugging {
-    what: "two plugs match an import",
+    what: "the earlier of two plugs wins",
     first: PLUG_A,
     second: Second::Other(PLUG_A),
     imports: SOCKET_A,
     exports: RUN,
-    answer: PASSED_A,
-    nodes: "instance my:socket; instance my:plug0; alias my:plug0; instance my:plug1; alias my:plug1",
+    answer: "my:plug1 a a; ",
+    nodes: "instance my:socket; instance my:plug0; alias my:plug0; alias my:socket as run",
     asked: "a; ",
     passed: Some((3, "")),
 };
 
-// One plug twice.
+// One plug twice: the second time all is passed over.
 const TWICE: Plugging = Plugging {
     what: "a plug is plugged in twice",
     first: PLUG_A,
     second: Second::Same,
     imports: SOCKET_A,
     exports: RUN,
-    answer: PASSED_A,
-    nodes: "instance my:socket; instance my:plug0; alias my:plug0; instance my:plug0; alias my:plug0",
+    answer: "my:plug0 a a; ",
+    nodes: "instance my:socket; instance my:plug0; alias my:plug0; alias my:socket as run",
     asked: "a; ",
     passed: Some((3, "")),
 };
@@ -274,17 +297,43 @@ const OTHER_TYPE: Plugging = Plugging {
     passed: None,
 };
 
-// Two exports on the track of one import.
+// Two exports on the track of one import: the earlier wins.
 const ONE_TRACK: Plugging = Plugging {
-    what: "two exports match an import",
+    what: "the earlier of two exports wins",
     first: &[("a:b/c@1.0.0", 1), ("a:b/c@1.1.0", 1)],
     second: Second::Absent,
     imports: &[("a:b/c@1.2.0", 3)],
-    exports: RUN,
-    answer: "argument `a:b/c@1.2.0` has already been passed to the instantiation",
-    nodes: "instance my:socket; instance my:plug0; alias my:plug0; alias my:plug0",
+    exports: &[],
+    answer: "my:plug0 a:b/c@1.1.0 a:b/c@1.2.0; ",
+    nodes: "instance my:socket; instance my:plug0; alias my:plug0",
     asked: "a:b/c@1.2.0; ",
     passed: Some((3, "")),
+};
+
+// The second plug wins one import and loses another.
+const IN_PART: Plugging = Plugging {
+    what: "a plug is passed over in part",
+    first: PLUG_A,
+    second: Second::Other(&[("b", 0), ("a", 0)]),
+    imports: &[("a", 2), ("b", 2)],
+    exports: &[],
+    answer: "my:plug1 a a; ",
+    nodes: "instance my:socket; instance my:plug0; alias my:plug0; instance my:plug1; alias my:plug1",
+    asked: "a; b; ",
+    passed: Some((5, "")),
+};
+
+// Several matches are passed over, in order of the plug's exports.
+const IN_ORDER: Plugging = Plugging {
+    what: "what is passed over is in order",
+    first: &[("b", 0), ("a", 0)],
+    second: Second::Other(&[("a", 0), ("b", 0)]),
+    imports: &[("b", 2), ("a", 2)],
+    exports: &[],
+    answer: "my:plug1 a a; my:plug1 b b; ",
+    nodes: "instance my:socket; instance my:plug0; alias my:plug0; alias my:plug0",
+    asked: "b; a; ",
+    passed: Some((4, "")),
 };
 
 // No import has the export's name, and two are on its track: the first is taken, whose version is the higher one.
@@ -334,6 +383,8 @@ const ROWS: &[Plugging] = &[
     UNASKED,
     OTHER_TYPE,
     ONE_TRACK,
+    IN_PART,
+    IN_ORDER,
     FIRST_ON_TRACK,
     SECOND_ALONE,
     BAD_EXPORT,
@@ -355,13 +406,26 @@ const AGAIN: &str =
 fn what_is_plugged_is_encoded(rt: HostRuntime) {
     let mut made = Made::new(&rt, TYPES, &[]);
     let packages = registered(&rt, &mut made, &ONE);
-    let first = answer(&rt, plugged(&rt, &mut made.graph, packages));
+    let result = plugged(&rt, &mut made.graph, packages);
+    let first = answer(&rt, &made.graph, result);
     assert_row(&rt, first.is_empty(), first.as_str());
     assert_encoded(&rt, &made.graph, Want::Parts(ONE_ENCODED));
-    let second = answer(&rt, plugged(&rt, &mut made.graph, packages));
+    let result = plugged(&rt, &mut made.graph, packages);
+    let second = answer(&rt, &made.graph, result);
     let taken = second.as_str() == "an export with the name `run` already exists";
     assert_row(&rt, taken, second.as_str());
     assert_row(&rt, nodes(&rt, &made.graph).as_str() == AGAIN, AGAIN);
+}
+
+// A plug that is passed over leaves the bytes as they are without it.
+#[test]
+fn what_is_passed_over_is_not_encoded(rt: HostRuntime) {
+    let mut made = Made::new(&rt, TYPES, &[]);
+    let packages = registered(&rt, &mut made, &TWO);
+    let result = plugged(&rt, &mut made.graph, packages);
+    let passed = answer(&rt, &made.graph, result);
+    assert_row(&rt, passed.as_str() == TWO.answer, passed.as_str());
+    assert_encoded(&rt, &made.graph, Want::Parts(ONE_ENCODED));
 }
 
 #[test]

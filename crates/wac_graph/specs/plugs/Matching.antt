@@ -1,5 +1,5 @@
 -- The matches between a plug's exports and a socket's imports.
-use Rattle.std.specs.Prelude.{◌≡◌, ◌⊎◌, List, [], ◌∷◌, ◌++◌, MatchOption}
+use Rattle.std.specs.Prelude.{◌≡◌, ◌⊎◌, List, [], ◌∷◌, MatchOption}
 use Rattle.wac_names.specs.Track.{OneTrack}
 use Rattle.wac_types_shapes.specs.primitives.Name.{Name, find_name, option_case}
 use Rattle.wac_types_shapes.specs.declared.shapes.component.ItemKind.{ItemKind}
@@ -49,8 +49,19 @@ exports_of_package g id = option_case (package_at g id) [] (λ p. world_exports 
 abbrev pub AreMatchesOf : Graph → PackageId → PackageId → List Match → Type 0
 AreMatchesOf g socket plug ms = AreMatches g.types (imports_of_package g socket) (exports_of_package g plug) ms
 
--- The matches of several plugs with a socket, plug by plug.
-abbrev pub AreAllMatches : Graph → PackageId → List PackageId → List Match → Type 0
-AreAllMatches g socket [] ms = ms ≡ []
-AreAllMatches g socket (plug ∷ plugs) ms =
-    (own : List Match) × (rest : List Match) × (ms ≡ own ++ rest) × AreMatchesOf g socket plug own × AreAllMatches g socket plugs rest
+-- A plug of the list with matches of its exports, in order.
+pub record PlugMatches : Type 0 where
+  pub plug : PackageId
+  pub matches : List Match
+
+-- Each plug of the list with all its matches. A package that is in the list twice has two entries.
+abbrev pub AreAllMatches : Graph → PackageId → List PackageId → List PlugMatches → Type 0
+AreAllMatches g socket [] all = all ≡ []
+AreAllMatches g socket (plug ∷ plugs) all =
+    (own : List Match) × (rest : List PlugMatches) × (all ≡ record { plug = plug; matches = own } ∷ rest) × AreMatchesOf g socket plug own
+    × AreAllMatches g socket plugs rest
+
+-- No export of a plug matches.
+abbrev pub NothingMatches : Graph → PackageId → List PackageId → Type 0
+NothingMatches g socket [] = Unit {0}
+NothingMatches g socket (plug ∷ plugs) = AreMatchesOf g socket plug [] × NothingMatches g socket plugs

@@ -1,5 +1,5 @@
 -- What `plug` adds to a graph, as steps of the graph, and its result.
-use Rattle.std.specs.Prelude.{◌≡◌, ◌⊎◌, Bool, true, false, List, [], ◌∷◌, Result, Ok, Err, IsErr, IsSome, Some}
+use Rattle.std.specs.Prelude.{◌≡◌, ◌⊎◌, List, [], ◌∷◌, Result, Ok, Err, IsErr, IsSome, Some}
 use Rattle.wac_types_shapes.specs.primitives.Name.{Name}
 use Rattle.wac_types_shapes.specs.shapes.Named.{names_of}
 use Rattle.wac_graph_model.specs.declared.nodes.errors.AliasError.{AliasError}
@@ -11,7 +11,8 @@ use Rattle.wac_graph_model.specs.nodes.Graph.{Graph, GraphNode, node_at}
 use Rattle.wac_graph_model.specs.nodes.Steps.{Instantiates, Aliases, SetsArgument, Exports}
 use Rattle.wac_graph.specs.declared.plugs.errors.PlugError.{PlugError}
 use Rattle.wac_graph.specs.declared.plugs.errors.PlugError.TheVariants.{NoPlugHappened, OutOfMemory}
-use Rattle.wac_graph.specs.plugs.Matching.{Match, AreMatchesOf, AreAllMatches, exports_of_package}
+use Rattle.wac_graph.specs.plugs.Matching.{Match, PlugMatches, AreAllMatches, exports_of_package}
+use Rattle.wac_graph.specs.plugs.Precedence.{wired}
 use Rattle.wac_graph.specs.plugs.Refusals.{of_alias, of_argument, of_export}
 
 -- The result of `plug` and of its steps.
@@ -22,6 +23,11 @@ Answer = Result (Unit {0}) PlugError
 abbrev pub answered : {A E : Type 0} → (E → PlugError) → Result A E → Answer
 answered refusal (Ok a) = Ok tt
 answered refusal (Err e) = Err (refusal e)
+
+-- The result of `plug` without the matches that it returns.
+abbrev pub answer_of : {A : Type 0} → Result A PlugError → Answer
+answer_of (Ok a) = Ok tt
+answer_of (Err e) = Err e
 
 -- A step for each item of the list, in order, up to the first error.
 abbrev pub InOrder : {A : Type 0} → (Graph → A → Answer → Graph → Type 0) → Graph → List A → Answer → Graph → Type 0
@@ -50,37 +56,35 @@ PassesOn socket old name answer new = AliasesAnd old socket name (λ mid alias a
     ExportsIt : Graph → NodeId → Answer → Graph → Type 0
     ExportsIt mid alias a n = (r : Result (Unit {0}) ExportError) × Exports mid alias name r n × (a ≡ answered of_export r) × IsSome (node_at mid alias)
 
--- Instantiates a plug and wires its matches; without matches nothing changes.
-abbrev pub PlugsIn : PackageId → NodeId → Graph → List Match → Answer → Graph → Type 0
-PlugsIn plug socket old [] answer new = (answer ≡ Ok tt) × (new ≡ old)
-PlugsIn plug socket old (m ∷ ms) answer new =
+-- Instantiates a plug and wires its matches.
+abbrev pub PlugsIn : NodeId → Graph → PlugMatches → Answer → Graph → Type 0
+PlugsIn socket old p answer new =
     ((answer ≡ Err OutOfMemory) × (new ≡ old))
-    ⊎ ((node : NodeId) × (mid : Graph) × Instantiates old plug (Ok node) mid × InOrder (Wires node socket) mid (m ∷ ms) answer new)
+    ⊎ ((node : NodeId) × (mid : Graph) × Instantiates old p.plug (Ok node) mid × InOrder (Wires node socket) mid p.matches answer new)
 
--- Finds the matches of a plug and plugs it in.
-abbrev pub Plugs : PackageId → NodeId → Graph → PackageId → Answer → Graph → Type 0
-Plugs socket node old plug answer new =
-    ((answer ≡ Err OutOfMemory) × (new ≡ old))
-    ⊎ ((ms : List Match) × AreMatchesOf old socket plug ms × PlugsIn plug node old ms answer new)
-
--- Without any match the result is `NoPlugHappened`; otherwise each export of the socket is exported.
-abbrev pub Ends : NodeId → List Name → Graph → List Match → Answer → Graph → Type 0
+-- Without a plug that is plugged in the result is `NoPlugHappened`; otherwise each export of the socket is exported.
+abbrev pub Ends : NodeId → List Name → Graph → List PlugMatches → Answer → Graph → Type 0
 Ends node exports old [] answer new = (answer ≡ Err NoPlugHappened) × (new ≡ old)
-Ends node exports old (m ∷ ms) answer new = InOrder (PassesOn node) old exports answer new
+Ends node exports old (p ∷ ps) answer new = InOrder (PassesOn node) old exports answer new
 
--- `plug`: instantiates the socket, plugs in each plug in order, and exports the socket's exports.
---
--- What the steps before an error added remains.
-abbrev pub PlugsAll : Graph → List PackageId → PackageId → Answer → Graph → Type 0
-PlugsAll old plugs socket answer new =
+-- Instantiates the socket, plugs in each plug in order, and exports the socket's exports.
+abbrev pub Plugs : Graph → PackageId → List PlugMatches → Answer → Graph → Type 0
+Plugs old socket ps answer new =
     ((answer ≡ Err OutOfMemory) × (new ≡ old))
     ⊎ ((node : NodeId) × (made : Graph) × Instantiates old socket (Ok node) made × After node made)
   where
     After : NodeId → Graph → Type 0
     After node made =
-        (IsErr answer × InOrder (Plugs socket node) made plugs answer new)
-        ⊎ ((mid : Graph) × (ms : List Match) × InOrder (Plugs socket node) made plugs (Ok tt) mid × AreAllMatches old socket plugs ms
-        × Ends node (names_of (exports_of_package old socket)) mid ms answer new)
+        (IsErr answer × InOrder (PlugsIn node) made ps answer new)
+        ⊎ ((mid : Graph) × InOrder (PlugsIn node) made ps (Ok tt) mid × Ends node (names_of (exports_of_package old socket)) mid ps answer new)
+
+-- `plug`: finds the matches of all plugs, then wires those that win.
+--
+-- What the steps before an error added remains.
+abbrev pub PlugsAll : Graph → List PackageId → PackageId → Answer → Graph → Type 0
+PlugsAll old plugs socket answer new =
+    ((answer ≡ Err OutOfMemory) × (new ≡ old))
+    ⊎ ((all : List PlugMatches) × AreAllMatches old socket plugs all × Plugs old socket (wired [] all) answer new)
 
 -- Types and packages are unchanged, and each node remains with its item and package.
 pub record Keeps (old new : Graph) : Type 0 where
@@ -88,8 +92,3 @@ pub record Keeps (old new : Graph) : Type 0 where
   pub slots : new.slots ≡ old.slots
   pub nodes : (n : NodeId) → IsSome (node_at old n) → IsSome (node_at new n)
   pub same : (n : NodeId) (x y : GraphNode) → node_at old n ≡ Some x → node_at new n ≡ Some y → (y.item_kind ≡ x.item_kind) × (y.owner ≡ x.owner)
-
--- There is a match.
-abbrev pub has_any : List Match → Bool
-has_any [] = false
-has_any (m ∷ ms) = true

@@ -1,5 +1,6 @@
 pub mod Pairs
 pub mod Tracks
+pub mod Taking
 pub mod Positions
 pub mod Fitting
-pub mod Naming
+pub mod Ready

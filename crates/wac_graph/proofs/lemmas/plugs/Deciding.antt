@@ -1,10 +1,10 @@
--- What the wiring of matches answers: an import that is given already decides it.
-use Rattle.std.proofs.Common.{◌≡◌, ◌≢◌, ℕ, suc, ◌+◌, cond, List, [], ◌∷◌, slice_get, refl, ap, ◌∙◌, sym, subst, Some, Ok, Err, IsErr, ◌⊎◌, inl, inr, arith}
+-- What the wiring of matches answers, where none has an import that is taken.
+use Rattle.std.proofs.Common.{◌≡◌, ◌≢◌, ℕ, suc, ◌+◌, Bool, true, false, cond, List, [], ◌∷◌, slice_get, refl, ap, ◌∙◌, sym, subst, Some, Ok, Err, IsErr, ◌⊎◌, inl, inr, arith}
 use Rattle.std.specs.List.{AllByRecursion}
 use Rattle.std.proofs.lemmas.Bool.{cases_Bool, false≢true}
 use Rattle.wac_types_shapes.specs.primitives.Name.{Name, same_name}
 use Rattle.wac_types_shapes.specs.shapes.Named.{named_at}
-use Rattle.wac_types_shapes.proofs.lemmas.shapes.Names.{same_name-true}
+use Rattle.wac_types_shapes.proofs.lemmas.shapes.Names.{same_name-true, same_name-from}
 use Rattle.wac_types_shapes.specs.declared.shapes.component.ItemKind.{ItemKind}
 use Rattle.wac_types_collection.specs.collection.Collection.{Collection, interface_exports, world_imports}
 use Rattle.wac_types_collection.specs.collection.Package.{PackageParts}
@@ -16,8 +16,9 @@ use Rattle.wac_graph_model.specs.nodes.Steps.{instance_node, import_named}
 use Rattle.wac_graph.specs.declared.plugs.errors.PlugError.TheVariants.{OutOfMemory}
 use Rattle.wac_graph.specs.plugs.Matching.{Match}
 use Rattle.wac_graph.specs.plugs.Plugging.{Answer, InOrder, Wires}
-use Rattle.wac_graph.specs.plugs.Outcome.{IsMatched, IsMatchedAgain, IsAlreadyPassed}
+use Rattle.wac_graph.specs.plugs.Precedence.{is_taken}
 use Rattle.wac_graph.proofs.lemmas.plugs.Wired.{SourcesThere, Wired, wire-answer}
+use Rattle.wac_graph.proofs.lemmas.plugs.Winning.{AreFresh, given_then}
 
 some-is : {A : Type 0} (a b : A) → Some a ≡ Some b → a ≡ b
 some-is a b h = cc
@@ -84,21 +85,20 @@ IsUnaliased g n exports name = (x : ℕ × ItemKind) (a : NodeId) → named_at 0
 abbrev pub AreUnaliased : Graph → NodeId → List (Name × ItemKind) → List Match → Type 0
 AreUnaliased g n exports ms = AllByRecursion (λ m. IsUnaliased g n exports m.export) ms
 
--- the matches that were given, and these, the last first
-abbrev pub given_then : List Match → List Match → List Match
-given_then given [] = given
-given_then given (m ∷ ms) = given_then (m ∷ given) ms
-
--- the arguments of the socket's node are those that were given
-pub record IsWiring (g : Graph) (s : NodeId) (socket : PackageId) (q : PackageParts) (given : List Match) : Type 0 where
+-- only imports that are taken have an argument at the socket's node
+pub record IsWiring (g : Graph) (s : NodeId) (socket : PackageId) (q : PackageParts) (given : List Name) : Type 0 where
   pub sources : SourcesThere g
   pub there : node_at g s ≡ Some (instance_node socket q)
   pub registered : package_at g socket ≡ Some q
-  pub only : (name : Name) (y : ℕ × ItemKind) → named_at 0 name (world_imports g.types q.world) ≡ Some y → IsSatisfied g s y.0 → IsMatched name given
-  pub all : (name : Name) (y : ℕ × ItemKind) → named_at 0 name (world_imports g.types q.world) ≡ Some y → IsMatched name given → IsSatisfied g s y.0
+  pub only : (name : Name) (y : ℕ × ItemKind) → named_at 0 name (world_imports g.types q.world) ≡ Some y → IsSatisfied g s y.0 → is_taken given name ≡ true
+
+-- an import that is the first, or one of the others
+taken-more : (b x : Bool) → x ≡ true → cond b true x ≡ true
+taken-more true x h = refl
+taken-more false x h = h
 
 module _ (s : NodeId) (socket : PackageId) (q : PackageParts) where
-  wiring-next : (g new : Graph) (n : NodeId) (i : ℕ) (m : Match) (y : ℕ × ItemKind) (given : List Match) → named_at 0 m.import (world_imports g.types q.world) ≡ Some y → IsWiring g s socket q given → Wired g n s i y.0 new → IsWiring new s socket q (m ∷ given)
+  wiring-next : (g new : Graph) (n : NodeId) (i : ℕ) (m : Match) (y : ℕ × ItemKind) (given : List Name) → named_at 0 m.import (world_imports g.types q.world) ≡ Some y → IsWiring g s socket q given → Wired g n s i y.0 new → IsWiring new s socket q (m.import ∷ given)
   wiring-next g new n i m y given imported w h = record {
     sources = h.sources;
     there = h.nodes s (instance_node socket q) w.there;
@@ -106,17 +106,8 @@ module _ (s : NodeId) (socket : PackageId) (q : PackageParts) where
     only = λ name z at sat.
         let before : named_at 0 name (world_imports g.types q.world) ≡ Some z = sym (ap (λ c. named_at 0 name (world_imports c q.world)) h.types) ∙ at in
         elim (h.only z.0 sat) [
-          | inl is ↦ inl (one-name (world_imports g.types q.world) m.import name y z imported before (sym is))
-          | inr was ↦ inr (w.only name z before was)
-        ];
-    all = λ name z at among.
-        let before : named_at 0 name (world_imports g.types q.world) ≡ Some z = sym (ap (λ c. named_at 0 name (world_imports c q.world)) h.types) ∙ at in
-        elim among [
-          | inl is ↦
-              let same : Some y ≡ Some z = sym imported ∙ ap (λ k. named_at 0 k (world_imports g.types q.world)) is ∙ before in
-              let pair : y ≡ z = some-is y z same in
-              subst (λ (k : ℕ × ItemKind). IsSatisfied new s k.0) pair h.now
-          | inr was ↦ h.still z.0 (w.all name z before was)
+          | inl is ↦ ap (λ b. cond b true (is_taken given name)) (same_name-from m.import name (one-name (world_imports g.types q.world) m.import name y z imported before (sym is)))
+          | inr was ↦ taken-more (same_name m.import name) (is_taken given name) (w.only name z before was)
         ];
   }
 
@@ -131,86 +122,67 @@ module _ (s : NodeId) (socket : PackageId) (q : PackageParts) where
     unaliased-next g new n exports m x j ms at h others.1 none.1,
   )
 
-  -- what follows from matches that were wired, or were not
-  pub record AreGiven (g : Graph) (n : NodeId) (given ms : List Match) (new : Graph) : Type 0 where
-    pub once : IsMatchedAgain given ms → ⊥
+  -- what follows from matches that were wired
+  pub record AreGiven (g : Graph) (n : NodeId) (given : List Name) (ms : List Match) (new : Graph) : Type 0 where
     pub wiring : IsWiring new s socket q (given_then given ms)
     pub types : new.types ≡ g.types
     pub slots : new.slots ≡ g.slots
     pub exports : new.exports ≡ g.exports
-    pub aliases : (k : NodeId) (p : ℕ) (a : NodeId) → (k.0 ≢ n.0) → IsAliasOf new k p a → IsAliasOf g k p a
 
   -- what matches that are wired from a plug's node answer
-  abbrev pub Decides : PackageId → PackageParts → NodeId → List Match → Graph → List Match → Answer → Graph → Type 0
+  abbrev pub Decides : PackageId → PackageParts → NodeId → List Match → Graph → List Name → Answer → Graph → Type 0
   Decides plug p n ms g given answer new =
-      AreWirable g.types (interface_exports g.types p.instance_type) (world_imports g.types q.world) ms → AreUnaliased g n (interface_exports g.types p.instance_type) ms
+      AreWirable g.types (interface_exports g.types p.instance_type) (world_imports g.types q.world) ms → AreFresh given ms → AreUnaliased g n (interface_exports g.types p.instance_type) ms
       → node_at g n ≡ Some (instance_node plug p) → IsWiring g s socket q given → InOrder (Wires n s) g ms answer new
-      → (answer ≡ Err OutOfMemory) ⊎ ((IsAlreadyPassed answer × IsMatchedAgain given ms) ⊎ ((answer ≡ Ok tt) × AreGiven g n given ms new))
+      → (answer ≡ Err OutOfMemory) ⊎ ((answer ≡ Ok tt) × AreGiven g n given ms new)
 
-  pub wires-decide : (plug : PackageId) (p : PackageParts) (n : NodeId) (ms : List Match) (g : Graph) (given : List Match) (answer : Answer) (new : Graph) → Decides plug p n ms g given answer new
-  wires-decide plug p n [] g given answer new wirable unaliased there w h = inr (inr (
+  pub wires-decide : (plug : PackageId) (p : PackageParts) (n : NodeId) (ms : List Match) (g : Graph) (given : List Name) (answer : Answer) (new : Graph) → Decides plug p n ms g given answer new
+  wires-decide plug p n [] g given answer new wirable fresh unaliased there w h = inr (
     h.0,
     record {
-      once = λ none. none;
       wiring = subst (λ (k : Graph). IsWiring k s socket q given) (sym h.1) w;
       types = ap (λ (k : Graph). k.types) h.1;
       slots = ap (λ (k : Graph). k.slots) h.1;
       exports = ap (λ (k : Graph). k.exports) h.1;
-      aliases = λ k i a other al. subst (λ (x : Graph). IsAliasOf x k i a) h.1 al;
     },
-  ))
-  wires-decide plug p n (m ∷ ms) g given answer new wirable unaliased there w h = by (λ mid. wires-decide plug p n ms mid (m ∷ given) answer new) h where
+  )
+  wires-decide plug p n (m ∷ ms) g given answer new wirable fresh unaliased there w h = by (λ mid. wires-decide plug p n ms mid (m.import ∷ given) answer new) h where
     x : ℕ × ItemKind
     x = wirable.0.given
 
     y : ℕ × ItemKind
     y = wirable.0.taken
 
-    step : (r : Answer) (k : Graph) → Wires n s g m r k → (r ≡ Err OutOfMemory) ⊎ ((IsAlreadyPassed r × IsSatisfied g s y.0) ⊎ ((r ≡ Ok tt) × Wired g n s x.0 y.0 k))
+    free : IsSatisfied g s y.0 → ⊥
+    free sat = false≢true (sym fresh.0 ∙ w.only m.import y wirable.0.imported sat)
+
+    step : (r : Answer) (k : Graph) → Wires n s g m r k → (r ≡ Err OutOfMemory) ⊎ ((r ≡ Ok tt) × Wired g n s x.0 y.0 k)
     step r k one = wire-answer g n s (instance_node plug p) (instance_node socket q) m x y w.sources there w.there refl refl wirable.0.exported (imported-at g socket q m.import w.registered ∙ wirable.0.imported) wirable.0.fits
-        (λ a al. unaliased.0 x a wirable.0.exported al) r k one
+        (λ a al. unaliased.0 x a wirable.0.exported al) free r k one
 
-    before : IsMatched m.import given → IsSatisfied g s y.0
-    before among = w.all m.import y wirable.0.imported among
-
-    onward : ((mid : Graph) → Decides plug p n ms mid (m ∷ given) answer new) → (mid : Graph) → Wired g n s x.0 y.0 mid → InOrder (Wires n s) mid ms answer new → (answer ≡ Err OutOfMemory) ⊎ ((IsAlreadyPassed answer × IsMatchedAgain given (m ∷ ms)) ⊎ ((answer ≡ Ok tt) × AreGiven g n given (m ∷ ms) new))
+    onward : ((mid : Graph) → Decides plug p n ms mid (m.import ∷ given) answer new) → (mid : Graph) → Wired g n s x.0 y.0 mid → InOrder (Wires n s) mid ms answer new → (answer ≡ Err OutOfMemory) ⊎ ((answer ≡ Ok tt) × AreGiven g n given (m ∷ ms) new)
     onward later mid wired rest =
         elim (later mid
         (subst (λ (c : Collection). AreWirable c (interface_exports c p.instance_type) (world_imports c q.world) ms) (sym wired.types) wirable.2)
+        fresh.1
         (subst (λ (c : Collection). AreUnaliased mid n (interface_exports c p.instance_type) ms) (sym wired.types) (unaliased-next g mid n (interface_exports g.types p.instance_type) m x y.0 ms wirable.0.exported wired wirable.1 unaliased.1))
         (wired.nodes n (instance_node plug p) there)
         (wiring-next g mid n x.0 m y given wirable.0.imported w wired)
         rest) [
           | inl memory ↦ inl memory
-          | inr decided ↦ elim decided [
-            | inl passed ↦ inr (inl (passed.0, inr passed.1))
-            | inr done ↦ inr (inr (
-              done.0,
-              record {
-                once = λ again. elim again [ inl among ↦ (let sat = before among in wired.was_free sat.0 sat.1) | inr later ↦ done.1.once later ];
-                wiring = done.1.wiring;
-                types = done.1.types ∙ wired.types;
-                slots = done.1.slots ∙ wired.slots;
-                exports = done.1.exports ∙ wired.exports;
-                aliases = λ k i a other al. elim (wired.aliases k i a (done.1.aliases k i a other al)) [ inl is ↦ absurd (other is.0) | inr was ↦ was ];
-              },
-            ))
-          ]
+          | inr done ↦ inr (
+            done.0,
+            record { wiring = done.1.wiring; types = done.1.types ∙ wired.types; slots = done.1.slots ∙ wired.slots; exports = done.1.exports ∙ wired.exports },
+          )
         ]
 
-    by : ((mid : Graph) → Decides plug p n ms mid (m ∷ given) answer new) → (IsErr answer × Wires n s g m answer new) ⊎ ((mid : Graph) × Wires n s g m (Ok tt) mid × InOrder (Wires n s) mid ms answer new)
-        → (answer ≡ Err OutOfMemory) ⊎ ((IsAlreadyPassed answer × IsMatchedAgain given (m ∷ ms)) ⊎ ((answer ≡ Ok tt) × AreGiven g n given (m ∷ ms) new))
+    by : ((mid : Graph) → Decides plug p n ms mid (m.import ∷ given) answer new) → (IsErr answer × Wires n s g m answer new) ⊎ ((mid : Graph) × Wires n s g m (Ok tt) mid × InOrder (Wires n s) mid ms answer new)
+        → (answer ≡ Err OutOfMemory) ⊎ ((answer ≡ Ok tt) × AreGiven g n given (m ∷ ms) new)
     by later (inl refused) = elim (step answer new refused.1) [
       | inl memory ↦ inl memory
-      | inr decided ↦ elim decided [
-        | inl passed ↦ inr (inl (passed.0, inl (w.only m.import y wirable.0.imported passed.1)))
-        | inr done ↦ absurd (ok-is-no-refusal answer done.0 refused.0)
-      ]
+      | inr done ↦ absurd (ok-is-no-refusal answer done.0 refused.0)
     ]
     by later (inr made) = elim (step (Ok tt) made.0 made.1) [
       | inl memory ↦ absurd (ok-is-no-error memory)
-      | inr decided ↦ elim decided [
-        | inl passed ↦ absurd passed.0
-        | inr done ↦ onward later made.0 done.1 made.2
-      ]
+      | inr done ↦ onward later made.0 done.1 made.2
     ]

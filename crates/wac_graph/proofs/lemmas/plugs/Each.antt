@@ -1,11 +1,9 @@
--- One plug after another: what is matched in a graph is so in one with the same types and packages.
-use Rattle.std.proofs.Common.{◌≡◌, ℕ, suc, ◌+◌, ◌≤◌, ◌||◌, Bool, true, false, List, [], ◌∷◌, ◌++◌, length, drop, slice_get, refl, ap, ◌∙◌, sym, subst, Some, Err, arith}
-use Rattle.std.specs.Option.{option_map}
+-- What packages list, in a graph with the same types and packages.
+use Rattle.std.proofs.Common.{◌≡◌, ◌==◌, ℕ, suc, true, false, List, [], ◌∷◌, length, slice_get, refl, ap, ◌∙◌, sym, Some, Err, arith}
 use Rattle.std.proofs.lemmas.Bool.{false≢true}
-use Rattle.std.proofs.lemmas.List.{drop_all}
+use Rattle.std.specs.Option.{option_map}
 use Rattle.wac_types_shapes.specs.primitives.Name.{Name, option_case}
 use Rattle.wac_types_shapes.specs.shapes.Named.{names_of}
-use Rattle.wac_types_shapes.proofs.lemmas.shapes.Loops.{drop_at}
 use Rattle.wac_types_shapes.specs.declared.shapes.component.ItemKind.{ItemKind}
 use Rattle.wac_types_shapes.specs.declared.shapes.component.World.{World}
 use Rattle.wac_types_shapes.specs.declared.shapes.component.WorldId.{WorldId}
@@ -15,9 +13,11 @@ use Rattle.wac_edges.specs.declared.node.NodeId.{NodeId}
 use Rattle.wac_graph_model.specs.declared.nodes.packages.PackageId.{PackageId}
 use Rattle.wac_graph_model.specs.nodes.Graph.{Graph, package_at, package_in}
 use Rattle.wac_graph.specs.declared.plugs.errors.PlugError.TheVariants.{NoPlugHappened}
-use Rattle.wac_graph.specs.plugs.Matching.{Match, AreMatchesOf, AreAllMatches, imports_of_package, exports_of_package}
-use Rattle.wac_graph.specs.plugs.Plugging.{Answer, InOrder, PassesOn, Ends, Keeps, has_any}
-use Rattle.wac_graph.proofs.lemmas.plugs.Order.{any-append, name-at}
+use Rattle.wac_graph.specs.declared.plugs.precedence.PlugPairs.{PlugPairs}
+use Rattle.wac_graph.specs.private.plugs.Ready.{plugs_at}
+use Rattle.wac_graph.specs.plugs.Matching.{PlugMatches, imports_of_package, exports_of_package}
+use Rattle.wac_graph.specs.plugs.Plugging.{Answer, InOrder, PassesOn, Ends, Keeps}
+use Rattle.wac_graph.proofs.lemmas.plugs.Order.{name-at}
 
 -- what the worlds of packages list
 pub imports-of : (g : Graph) (id : PackageId) (p : PackageParts) → package_at g id ≡ Some p → imports_of_package g id ≡ world_imports g.types p.world
@@ -45,58 +45,32 @@ export-named old now w x i name same there h =
     let listed : world_exports old w ≡ x.exports = ap (λ c. world_exports c w) (sym same) ∙ world-exports now w x there in
     ap (λ es. slice_get (names_of es) i) listed ∙ name-at x.exports i name h
 
--- matches in a graph with the same types and packages
-pub matches-same : (g now : Graph) (socket plug : PackageId) (ms : List Match) → Keeps g now → AreMatchesOf now socket plug ms → AreMatchesOf g socket plug ms
-matches-same g now socket plug ms k h =
-    subst (λ s. AreMatchesOf (record g { slots = s }) socket plug ms) k.slots
-    (subst (λ t. AreMatchesOf (record g { types = t; slots = now.slots }) socket plug ms) k.types h)
-
-pub all-same : (g now : Graph) (socket : PackageId) (plugs : List PackageId) (ms : List Match) → Keeps g now → AreAllMatches now socket plugs ms → AreAllMatches g socket plugs ms
-all-same g now socket [] ms k h = h
-all-same g now socket (plug ∷ plugs) ms k h = (h.0, h.1, h.2, matches-same g now socket plug h.0 k h.3, all-same g now socket plugs h.1 k h.4)
-
-or-assoc : (a b c : Bool) → (a || (b || c)) ≡ ((a || b) || c)
-or-assoc true b c = refl
-or-assoc false b c = refl
-
--- the matches of one plug more
-pub matched-more : (g now : Graph) (socket plug : PackageId) (plugs : List PackageId) (i : ℕ) (own : List Match) (has b : Bool) → slice_get plugs i ≡ Some plug → Keeps g now → AreMatchesOf now socket plug own → b ≡ has_any own
-    → ((ms : List Match) → AreAllMatches g socket (drop i plugs) ms → (all : List Match) × AreAllMatches g socket plugs all × (has_any all ≡ (has || has_any ms)))
-    → (ms : List Match) → AreAllMatches g socket (drop (i + 1) plugs) ms → (all : List Match) × AreAllMatches g socket plugs all × (has_any all ≡ ((has || b) || has_any ms))
-matched-more g now socket plug plugs i own has b at k are any before ms rest =
-    let place : i + 1 ≡ suc i = omega arith in
-    let more : AreAllMatches g socket (drop i plugs) (own ++ ms) =
-    subst (λ l. AreAllMatches g socket l (own ++ ms)) (sym (drop_at plugs i plug at))
-    (own, ms, refl, matches-same g now socket plug own k are, subst (λ j. AreAllMatches g socket (drop j plugs) ms) place rest) in
-    let r = before (own ++ ms) more in
-    (r.0, r.1, r.2 ∙ ap (λ a. has || a) (any-append own ms) ∙ or-assoc has (has_any own) (has_any ms) ∙ ap (λ a. (has || a) || has_any ms) (sym any))
-
-or-nothing : (a : Bool) → (a || false) ≡ a
-or-nothing true = refl
-or-nothing false = refl
-
--- all plugs were matched
-pub matched-all : (g : Graph) (socket : PackageId) (plugs : List PackageId) (i : ℕ) (has : Bool) → length plugs ≤ i
-    → ((ms : List Match) → AreAllMatches g socket (drop i plugs) ms → (all : List Match) × AreAllMatches g socket plugs all × (has_any all ≡ (has || has_any ms)))
-    → (all : List Match) × AreAllMatches g socket plugs all × (has ≡ has_any all)
-matched-all g socket plugs i has past before =
-    let r = before [] (subst (λ l. AreAllMatches g socket l []) (sym (drop_all i plugs past)) refl) in
-    (r.0, r.1, sym (r.2 ∙ or-nothing has))
-
 -- the names of what a package's world exports, in a graph with the same types
 pub listed-names : (g mid : Graph) (id : PackageId) (p : PackageParts) (w : WorldId) → package_at g id ≡ Some p → w ≡ p.world → mid.types ≡ g.types → names_of (world_exports mid.types w) ≡ names_of (exports_of_package g id)
 listed-names g mid id p w at is same =
     ap (λ c. names_of (world_exports c w)) same ∙ ap (λ x. names_of (world_exports g.types x)) is ∙ ap (λ (es : List (Name × ItemKind)). names_of es) (sym (exports-of g id p at))
 
--- the end, where nothing matched and where something did
-pub ends-none : (node : NodeId) (exports : List Name) (g : Graph) (ms : List Match) → has_any ms ≡ false → Ends node exports g ms (Err NoPlugHappened) g
-ends-none node exports g [] h = (refl, refl)
-ends-none node exports g (m ∷ ms) h = absurd (false≢true (sym h))
+-- the end, where something is plugged in
+pub ends-some : (node : NodeId) (exports : List Name) (g new : Graph) (ps : List PlugMatches) (r : Answer) → (ps ≡ [] → ⊥) → InOrder (PassesOn node) g exports r new → Ends node exports g ps r new
+ends-some node exports g new [] r some w = absurd (some refl)
+ends-some node exports g new (p ∷ ps) r some w = w
 
-pub ends-some : (node : NodeId) (exports : List Name) (g new : Graph) (ms : List Match) (r : Answer) → has_any ms ≡ true → InOrder (PassesOn node) g exports r new → Ends node exports g ms r new
-ends-some node exports g new [] r h w = absurd (false≢true h)
-ends-some node exports g new (m ∷ ms) r h w = w
+-- and where nothing is
+not-zero : (n : ℕ) → (suc n == 0) ≡ false
+not-zero n = grind arith
+
+pub ends-none : (node : NodeId) (exports : List Name) (g old : Graph) (socket : PackageId) (ws : List PlugPairs) → (length ws == 0) ≡ true → Ends node exports g (plugs_at old socket ws) (Err NoPlugHappened) g
+ends-none node exports g old socket [] h = (refl, refl)
+ends-none node exports g old socket (w ∷ ws) h = absurd (false≢true (sym (not-zero (length ws)) ∙ h))
+
+pub plugs-some : (old : Graph) (socket : PackageId) (ws : List PlugPairs) → (length ws == 0) ≡ false → plugs_at old socket ws ≡ [] → ⊥
+plugs-some old socket [] h is = false≢true (sym h)
+plugs-some old socket (w ∷ ws) h is = cc
 
 -- what a package imports, where the types and the packages are as they were
 pub imports-kept : (old new : Graph) (id : PackageId) → Keeps old new → imports_of_package new id ≡ imports_of_package old id
 imports-kept old new id kept = λ i. option_case (package_in (slice_get (kept.slots i) id.slot) id) [] (λ p. world_imports (kept.types i) p.world)
+
+-- and what it exports
+pub exports-kept : (old new : Graph) (id : PackageId) → Keeps old new → exports_of_package new id ≡ exports_of_package old id
+exports-kept old new id kept = λ i. option_case (package_in (slice_get (kept.slots i) id.slot) id) [] (λ p. world_exports (kept.types i) p.world)

@@ -1,38 +1,39 @@
--- The exports of the socket: the first that `export` refuses is what is answered.
-use Rattle.std.proofs.Common.{◌≡◌, ℕ, cond, false, List, [], ◌∷◌, ◌++◌, slice_get, refl, ap, ◌∙◌, sym, subst, Option, Some, None, Result, Ok, Err, IfSome, IsErr, IsSome, is_some, ◌⊎◌, inl, inr}
+-- The exports of the socket: the first that `export` refuses is what is answered, and no other fault.
+use Rattle.std.proofs.Common.{◌≡◌, ℕ, cond, false, List, [], ◌∷◌, ◌++◌, refl, ap, ◌∙◌, sym, subst, Option, Some, None, Result, Ok, Err, IfSome, IsErr, IsSome, is_some, ◌⊎◌, inl, inr}
 use Rattle.std.specs.Prelude.{IsSomeAnd}
 use Rattle.std.specs.FinMap as map
 use Rattle.std.specs.List.{AllByRecursion}
 use Rattle.std.proofs.lemmas.Bool.{false≢true}
 use Rattle.wac_types_shapes.specs.primitives.Name.{Name, same_name, find_name}
-use Rattle.wac_types_shapes.specs.shapes.Named.{names_of, NoNameTwice}
+use Rattle.wac_types_shapes.specs.shapes.Named.{named_at, names_of, NoNameTwice}
 use Rattle.wac_types_shapes.proofs.lemmas.shapes.Names.{none_behind, same_name-sym}
 use Rattle.wac_types_shapes.specs.declared.shapes.component.InterfaceId.{InterfaceId}
 use Rattle.wac_types_shapes.specs.declared.shapes.component.ItemKind.{ItemKind}
+use Rattle.wac_types_collection.specs.collection.Collection.{Collection, interface_exports}
 use Rattle.wac_types_collection.specs.collection.Package.{PackageParts}
 use Rattle.wac_edges.specs.declared.node.NodeId.{NodeId}
 use Rattle.wac_graph_model.specs.declared.nodes.errors.AliasError.{AliasError}
 use Rattle.wac_graph_model.specs.declared.nodes.errors.AliasError.TheVariants as alias_error
 use Rattle.wac_graph_model.specs.declared.nodes.errors.ExportError.{ExportError}
 use Rattle.wac_graph_model.specs.declared.nodes.errors.ExportError.TheVariants as export_error
+use Rattle.wac_graph_model.specs.declared.nodes.errors.InstantiationArgumentError.{InstantiationArgumentError}
 use Rattle.wac_graph_model.specs.declared.nodes.packages.PackageId.{PackageId}
 use Rattle.wac_graph_model.specs.nodes.ExternName.{IsExportName, IsExportDecided}
 use Rattle.wac_graph_model.specs.nodes.Graph.{Graph, GraphNode, node_at, package_at, export_at}
 use Rattle.wac_graph_model.specs.nodes.Sound.{IsSound}
 use Rattle.wac_graph_model.specs.nodes.Steps.{Instantiates, instance_node, Aliases, AliasesOf, GivesAlias, export_named, Exports}
 use Rattle.wac_graph.specs.declared.plugs.errors.PlugError.TheVariants.{GraphError, NoPlugHappened, OutOfMemory}
+use Rattle.wac_graph.specs.declared.plugs.errors.PlugFault.{PlugFault}
 use Rattle.wac_graph.specs.declared.plugs.errors.PlugFault.TheVariants.{Alias, Argument, Export}
-use Rattle.wac_graph.specs.plugs.Matching.{Match, AreAllMatches, imports_of_package, exports_of_package}
-use Rattle.wac_graph.specs.private.plugs.Naming.{PlugsNamed, PlugsAllNamed}
-use Rattle.wac_graph.specs.plugs.Outcome.{IsRefusedExport, IsFirstRefused, IsExportRefused, IsMatchedTwice}
-use Rattle.wac_graph.specs.plugs.Plugging.{Answer, answered, InOrder, PassesOn, Ends}
+use Rattle.wac_graph.specs.plugs.Matching.{PlugMatches, exports_of_package}
+use Rattle.wac_graph.specs.plugs.Outcome.{IsRefusedExport, IsFirstRefused, IsFirstFault, IsExportRefused}
+use Rattle.wac_graph.specs.plugs.Plugging.{Answer, answered, InOrder, PassesOn, PlugsIn, Plugs, Ends}
 use Rattle.wac_graph.specs.plugs.Refusals.{of_alias, of_export}
-use Rattle.wac_graph.proofs.lemmas.plugs.Passing.{IsInstanceAt, answer-of, one-error, not-ok, passes-keep}
+use Rattle.wac_graph.proofs.lemmas.plugs.Each.{exports-of}
+use Rattle.wac_graph.proofs.lemmas.plugs.Passing.{IsInstanceAt, answer-of, one-error, not-ok, passes-keep, never-alias, are-exports}
 use Rattle.wac_graph.proofs.lemmas.plugs.Steps.{some-of, instance-keeps}
-use Rattle.wac_graph.proofs.lemmas.plugs.Nothing.{all-none-only, nothing-said}
-use Rattle.wac_graph.proofs.lemmas.plugs.Never.{alias-never}
-use Rattle.wac_graph.proofs.lemmas.plugs.Twice.{begins, plugs-say, the-node, twice-said}
-use Rattle.wac_graph.proofs.lemmas.plugs.Weaker.{weaker}
+use Rattle.wac_graph.proofs.lemmas.plugs.Nothing.{nothing-said}
+use Rattle.wac_graph.proofs.lemmas.plugs.Plugged.{ArePluggable, begins, plugs-say, the-node}
 
 -- ---- what one export answers
 -- an alias leaves the exports
@@ -147,79 +148,111 @@ module _ (s : NodeId) (i : InterfaceId) (old : Graph) (e : ExportError) where
         | inr later ↦ never-ok decided es h.0 new (passes-keep s i g h.0 x.0 w h.1).0 once.1 (alike-after old g h.0 x.0 made.2.0 es once.0 made.2.1 alike.1) later.2 h.2
       ]
 
+-- ---- no export answers a fault of an argument
+alias-argument : (e : AliasError) (f : InstantiationArgumentError) → of_alias e ≡ GraphError (Argument f) → ⊥
+alias-argument (alias_error.NodeIsNotAnInstance node kind) f h = cc
+alias-argument (alias_error.InstanceMissingExport node text) f h = cc
+alias-argument alias_error.OutOfMemory f h = cc
+
+export-argument : (e : ExportError) (f : InstantiationArgumentError) → of_export e ≡ GraphError (Argument f) → ⊥
+export-argument (export_error.ExportAlreadyExists text node) f h = cc
+export-argument (export_error.InvalidExportName text source) f h = cc
+export-argument export_error.OutOfMemory f h = cc
+
+passed-on : (socket : NodeId) (old new : Graph) (name : Name) (f : InstantiationArgumentError) → PassesOn socket old name (answer-of (GraphError (Argument f))) new → ⊥
+passed-on socket old new name f (inl h) = alias-argument h.0 f (sym (one-error (GraphError (Argument f)) (of_alias h.0) h.2))
+passed-on socket old new name f (inr h) = by h.3.0 h.3.2 where
+  by : (r : Result (Unit {0}) ExportError) → answer-of (GraphError (Argument f)) ≡ answered of_export r → ⊥
+  by (Ok a) is = cc
+  by (Err e) is = export-argument e f (sym (one-error (GraphError (Argument f)) (of_export e) is))
+
+all-passed-on : (socket : NodeId) (names : List Name) (old new : Graph) (f : InstantiationArgumentError) → InOrder (PassesOn socket) old names (answer-of (GraphError (Argument f))) new → ⊥
+all-passed-on socket [] old new f h = not-ok (GraphError (Argument f)) h.0
+all-passed-on socket (name ∷ names) old new f (inl h) = passed-on socket old new name f h.1
+all-passed-on socket (name ∷ names) old new f (inr h) = all-passed-on socket names h.0 new f h.2
+
 -- ---- the whole
+abbrev pub fault-of : PlugFault → Answer
+fault-of f = Err (GraphError f)
+
 abbrev all-done : Answer
 all-done = Ok tt
 
-export-is-no-memory : (e : ExportError) → answer-of (GraphError (Export e)) ≡ answer-of OutOfMemory → ⊥
-export-is-no-memory e h = cc
+fault-is-no-memory : (f : PlugFault) → fault-of f ≡ Err OutOfMemory → ⊥
+fault-is-no-memory f h = cc
 
-export-is-no-none : (e : ExportError) → answer-of (GraphError (Export e)) ≡ answer-of NoPlugHappened → ⊥
-export-is-no-none e h = cc
+fault-is-no-none : (f : PlugFault) → fault-of f ≡ Err NoPlugHappened → ⊥
+fault-is-no-none f h = cc
 
-module _ (old : Graph) (plugs : List PackageId) (socket : PackageId) (sound : IsSound old) (socket_there : IsSome (package_at old socket)) (there : (i : ℕ) (id : PackageId) → slice_get plugs i ≡ Some id → IsSome (package_at old id))
-    (once : NoNameTwice (exports_of_package old socket)) where
-  q : (q : PackageParts) × (package_at old socket ≡ Some q)
-  q = some-of (package_at old socket) socket_there
+fault-is-no-ok : (f : PlugFault) → fault-of f ≡ Ok tt → ⊥
+fault-is-no-ok f h = cc
 
-  -- where all plugs are plugged in the socket's node is there, and the exports are as they were
-  plugged-in : (s : NodeId) (made mid : Graph) → NoNameTwice (imports_of_package old socket) → Instantiates old socket (Ok s) made → InOrder (PlugsNamed socket s) made plugs (Ok tt) mid
-      → IsInstanceAt mid s q.0.instance_type × (mid.exports ≡ old.exports)
-  plugged-in s made mid named step order =
-      let kept = (instance-keeps old made socket s socket_there step).0 in
-      elim (plugs-say s socket q.0 old sound named plugs made mid [] (Ok tt) kept.types kept.slots there (begins old made socket q.0 s sound q.1 step) order) [
+module _ (old : Graph) (socket : PackageId) (q : PackageParts) (sound : IsSound old) (registered : package_at old socket ≡ Some q) (once : NoNameTwice (exports_of_package old socket)) where
+  there : IsSome (package_at old socket)
+  there = ap is_some registered
+
+  -- where all plugs are plugged in the socket's node is there, and the exports and types are as they were
+  plugged-in : (s : NodeId) (made mid : Graph) (ps : List PlugMatches) → ArePluggable old q [] ps → Instantiates old socket (Ok s) made → InOrder (PlugsIn s) made ps (Ok tt) mid
+      → IsInstanceAt mid s q.instance_type × (mid.exports ≡ old.exports) × (mid.types ≡ old.types)
+  plugged-in s made mid ps can step order =
+      let kept = (instance-keeps old made socket s there step).0 in
+      elim (plugs-say s socket q old ps made mid [] (Ok tt) kept.types kept.slots can (begins old made socket q s sound registered step) order) [
         | inl memory ↦ absurd (not-ok OutOfMemory (sym memory))
-        | inr said ↦ elim said [
-          | inl passed ↦ absurd passed.0
-          | inr done ↦ (
-            record { node = instance_node socket q.0; there = done.1.1.there; kind = refl },
-            done.1.3 ∙ ap (λ (k : Graph). k.exports) (the-node old made socket q.0 s q.1 step).2,
-          )
-        ]
+        | inr done ↦ (
+          record { node = instance_node socket q; there = done.1.1.there; kind = refl },
+          done.1.3 ∙ ap (λ (k : Graph). k.exports) (the-node old made socket q s registered step).2,
+          done.1.2,
+        )
       ]
 
-  pub export-said : (new : Graph) (e : ExportError) → PlugsAllNamed old plugs socket (answer-of (GraphError (Export e))) new → IsFirstRefused old (names_of (exports_of_package old socket)) e
-  export-said new e (inl h) = absurd (export-is-no-memory e h.0)
-  export-said new e (inr h) = by h.1.3 where
-    by : (IsErr (answer-of (GraphError (Export e))) × InOrder (PlugsNamed socket h.1.0) h.1.1 plugs (answer-of (GraphError (Export e))) new)
-        ⊎ ((mid : Graph) × (ms : List Match) × InOrder (PlugsNamed socket h.1.0) h.1.1 plugs (Ok tt) mid × AreAllMatches old socket plugs ms × Ends h.1.0 (names_of (exports_of_package old socket)) mid ms (answer-of (GraphError (Export e))) new)
-        → IsFirstRefused old (names_of (exports_of_package old socket)) e
+  -- what a fault says that the socket's exports answer
+  faults : (f : PlugFault) (s : NodeId) (mid new : Graph) → IsInstanceAt mid s q.instance_type → mid.exports ≡ old.exports → mid.types ≡ old.types
+      → InOrder (PassesOn s) mid (names_of (exports_of_package old socket)) (fault-of f) new → IsFirstFault old (names_of (exports_of_package old socket)) f
+  faults (Export e) s mid new at exports types end = first-refused s q.instance_type old e (exports_of_package old socket) mid new at once (all-alike old mid exports (names_of (exports_of_package old socket))) end
+  faults (Argument f) s mid new at exports types end = absurd (all-passed-on s (names_of (exports_of_package old socket)) mid new f end)
+  faults (Alias f) s mid new at exports types end =
+      let listed : interface_exports mid.types q.instance_type ≡ exports_of_package old socket = ap (λ (c : Collection). interface_exports c q.instance_type) types ∙ ((sound.packages socket q registered).2 ∙ sym (exports-of old socket q registered)) in
+      absurd (never-alias s q.instance_type f (names_of (exports_of_package old socket)) mid new at
+      (subst (λ es. AllByRecursion (λ name. named_at 0 name es ≡ None → ⊥) (names_of (exports_of_package old socket))) (sym listed) (are-exports (exports_of_package old socket))) end)
+
+  pub fault-said : (new : Graph) (ps : List PlugMatches) (f : PlugFault) → ArePluggable old q [] ps → Plugs old socket ps (fault-of f) new → IsFirstFault old (names_of (exports_of_package old socket)) f × (ps ≡ [] → ⊥)
+  fault-said new ps f can (inl h) = absurd (fault-is-no-memory f h.0)
+  fault-said new ps f can (inr h) = by h.3 where
+    by : (IsErr (fault-of f) × InOrder (PlugsIn h.0) h.1 ps (fault-of f) new)
+        ⊎ ((mid : Graph) × InOrder (PlugsIn h.0) h.1 ps (Ok tt) mid × Ends h.0 (names_of (exports_of_package old socket)) mid ps (fault-of f) new)
+        → IsFirstFault old (names_of (exports_of_package old socket)) f × (ps ≡ [] → ⊥)
     by (inl refused) =
-        let kept = (instance-keeps old h.1.1 socket h.1.0 socket_there h.1.2).0 in
-        elim (plugs-say h.1.0 socket q.0 old sound h.0 plugs h.1.1 new [] (answer-of (GraphError (Export e))) kept.types kept.slots there (begins old h.1.1 socket q.0 h.1.0 sound q.1 h.1.2) refused.1) [
-          | inl memory ↦ absurd (export-is-no-memory e memory)
-          | inr said ↦ elim said [
-            | inl passed ↦ absurd passed.0
-            | inr done ↦ absurd (not-ok (GraphError (Export e)) done.0)
-          ]
+        let kept = (instance-keeps old h.1 socket h.0 there h.2).0 in
+        elim (plugs-say h.0 socket q old ps h.1 new [] (fault-of f) kept.types kept.slots can (begins old h.1 socket q h.0 sound registered h.2) refused.1) [
+          | inl memory ↦ absurd (fault-is-no-memory f memory)
+          | inr done ↦ absurd (fault-is-no-ok f done.0)
         ]
-    by (inr w) = ended w.1 w.4 where
-      ended : (ms : List Match) → Ends h.1.0 (names_of (exports_of_package old socket)) w.0 ms (answer-of (GraphError (Export e))) new → IsFirstRefused old (names_of (exports_of_package old socket)) e
-      ended [] end = absurd (export-is-no-none e end.0)
-      ended (m ∷ ms) end =
-          let begun = plugged-in h.1.0 h.1.1 w.0 h.0 h.1.2 w.2 in
-          first-refused h.1.0 q.0.instance_type old e (exports_of_package old socket) w.0 new begun.0 once (all-alike old w.0 begun.1 (names_of (exports_of_package old socket))) end
+    by (inr w) = ended ps can w.1 w.2 where
+      ended : (ps : List PlugMatches) → ArePluggable old q [] ps → InOrder (PlugsIn h.0) h.1 ps (Ok tt) w.0 → Ends h.0 (names_of (exports_of_package old socket)) w.0 ps (fault-of f) new
+          → IsFirstFault old (names_of (exports_of_package old socket)) f × (ps ≡ [] → ⊥)
+      ended [] can order end = absurd (fault-is-no-none f end.0)
+      ended (p ∷ ps) can order end =
+          let begun = plugged-in h.0 h.1 w.0 (p ∷ ps) can h.2 order in
+          (faults f h.0 w.0 new begun.0 begun.1 begun.2 end, (λ none. cc))
 
   -- where `export` refuses a name of the socket's exports, `plug` is refused
-  refused-is-no-ok : (new : Graph) (e : ExportError) → ((text : Name) → IsExportDecided text) → IsFirstRefused old (names_of (exports_of_package old socket)) e → PlugsAllNamed old plugs socket (Ok tt) new → ⊥
-  refused-is-no-ok new e decided refused (inl h) = not-ok OutOfMemory (sym h.0)
-  refused-is-no-ok new e decided refused (inr h) = by h.1.3 where
-    by : (IsErr all-done × InOrder (PlugsNamed socket h.1.0) h.1.1 plugs (Ok tt) new)
-        ⊎ ((mid : Graph) × (ms : List Match) × InOrder (PlugsNamed socket h.1.0) h.1.1 plugs (Ok tt) mid × AreAllMatches old socket plugs ms × Ends h.1.0 (names_of (exports_of_package old socket)) mid ms (Ok tt) new)
-        → ⊥
+  refused-is-no-ok : (new : Graph) (ps : List PlugMatches) (e : ExportError) → ArePluggable old q [] ps → ((text : Name) → IsExportDecided text) → IsFirstRefused old (names_of (exports_of_package old socket)) e → Plugs old socket ps (Ok tt) new → ⊥
+  refused-is-no-ok new ps e can decided refused (inl h) = not-ok OutOfMemory (sym h.0)
+  refused-is-no-ok new ps e can decided refused (inr h) = by h.3 where
+    by : (IsErr all-done × InOrder (PlugsIn h.0) h.1 ps (Ok tt) new) ⊎ ((mid : Graph) × InOrder (PlugsIn h.0) h.1 ps (Ok tt) mid × Ends h.0 (names_of (exports_of_package old socket)) mid ps (Ok tt) new) → ⊥
     by (inl h) = false≢true h.0
-    by (inr w) = ended w.1 w.4 where
-      ended : (ms : List Match) → Ends h.1.0 (names_of (exports_of_package old socket)) w.0 ms (Ok tt) new → ⊥
-      ended [] end = not-ok NoPlugHappened (sym end.0)
-      ended (m ∷ ms) end =
-          let begun = plugged-in h.1.0 h.1.1 w.0 h.0 h.1.2 w.2 in
-          never-ok h.1.0 q.0.instance_type old e decided (exports_of_package old socket) w.0 new begun.0 once (all-alike old w.0 begun.1 (names_of (exports_of_package old socket))) refused end
+    by (inr w) = ended ps can w.1 w.2 where
+      ended : (ps : List PlugMatches) → ArePluggable old q [] ps → InOrder (PlugsIn h.0) h.1 ps (Ok tt) w.0 → Ends h.0 (names_of (exports_of_package old socket)) w.0 ps (Ok tt) new → ⊥
+      ended [] can order end = not-ok NoPlugHappened (sym end.0)
+      ended (p ∷ ps) can order end =
+          let begun = plugged-in h.0 h.1 w.0 (p ∷ ps) can h.2 order in
+          never-ok h.0 q.instance_type old e decided (exports_of_package old socket) w.0 new begun.0 once (all-alike old w.0 begun.1 (names_of (exports_of_package old socket))) refused end
 
-  pub says-refused : (new : Graph) (r : Answer) → ((text : Name) → IsExportDecided text) → PlugsAllNamed old plugs socket r new → (e : ExportError) → IsFirstRefused old (names_of (exports_of_package old socket)) e
-      → (ms : List Match) → AreAllMatches old socket plugs ms → (ms ≡ [] → ⊥) → (IsMatchedTwice ms → ⊥) → IsExportRefused r ⊎ (r ≡ Err OutOfMemory)
-  says-refused new (Ok tt) decided h e refused ms all some once = absurd (refused-is-no-ok new e decided refused h)
-  says-refused new (Err OutOfMemory) decided h e refused ms all some once = inr refl
-  says-refused new (Err NoPlugHappened) decided h e refused ms all some once = absurd (some (all-none-only old socket plugs ms (nothing-said old new plugs socket (weaker old plugs socket (Err NoPlugHappened) new h)) all))
-  says-refused new (Err (GraphError (Alias f))) decided h e refused ms all some once = absurd (alias-never old new plugs socket f sound socket_there there h)
-  says-refused new (Err (GraphError (Argument f))) decided h e refused ms all some once = absurd (once ((twice-said old new plugs socket f sound socket_there there h).1 ms all))
-  says-refused new (Err (GraphError (Export f))) decided h e refused ms all some once = inl tt
+  pub says-refused : (new : Graph) (ps : List PlugMatches) (r : Answer) → ArePluggable old q [] ps → ((text : Name) → IsExportDecided text) → Plugs old socket ps r new → (e : ExportError) → IsFirstRefused old (names_of (exports_of_package old socket)) e
+      → (ps ≡ [] → ⊥) → IsExportRefused r ⊎ (r ≡ Err OutOfMemory)
+  says-refused new ps (Ok tt) can decided h e refused some = absurd (refused-is-no-ok new ps e can decided refused h)
+  says-refused new ps (Err OutOfMemory) can decided h e refused some = inr refl
+  says-refused new ps (Err NoPlugHappened) can decided h e refused some = absurd (some (nothing-said old new socket ps h))
+  says-refused new ps (Err (GraphError (Alias f))) can decided h e refused some = absurd ((fault-said new ps (Alias f) can h).0)
+  says-refused new ps (Err (GraphError (Argument f))) can decided h e refused some = absurd ((fault-said new ps (Argument f) can h).0)
+  says-refused new ps (Err (GraphError (Export f))) can decided h e refused some = inl tt

@@ -7,8 +7,7 @@ use Rattle.wac_types_shapes.specs.primitives.Name.{Name, option_case}
 use Rattle.wac_types_shapes.specs.shapes.Named.{named_at, NoNameTwice}
 use Rattle.wac_types_shapes.specs.declared.shapes.component.InterfaceId.{InterfaceId}
 use Rattle.wac_types_shapes.specs.declared.shapes.component.ItemKind.{ItemKind}
-use Rattle.wac_types_shapes.specs.declared.shapes.component.WorldId.{WorldId}
-use Rattle.wac_types_collection.specs.collection.Collection.{Collection, interface_exports, world_imports, world_exports}
+use Rattle.wac_types_collection.specs.collection.Collection.{Collection, interface_exports, world_imports}
 use Rattle.wac_types_collection.specs.collection.Package.{PackageParts}
 use Rattle.wac_types_collection.specs.subtyping.Subtype.{IsSubtype}
 use Rattle.wac_edges.specs.Edge.{alias_edge}
@@ -20,17 +19,17 @@ use Rattle.wac_graph_model.specs.nodes.Sound.{IsSound, Joins}
 use Rattle.wac_graph_model.specs.nodes.Steps.{AddsNode, Instantiates, instance_node, Aliases, AliasesOf, GivesAlias, export_named, import_named}
 use Rattle.wac_graph_model.proofs.lemmas.nodes.JoinLemmas.{imports_of_package as listed-imports}
 use Rattle.wac_graph.specs.private.plugs.Positions.{FitsImport, HasNamed}
-use Rattle.wac_graph.specs.plugs.Matching.{Match, AreMatches, AreMatchesOf, imports_of_package, exports_of_package}
+use Rattle.wac_graph.specs.plugs.Matching.{Match, imports_of_package, exports_of_package}
 use Rattle.wac_graph.specs.plugs.Plugging.{Keeps}
 use Rattle.wac_graph.specs.private.plugs.Fitting.{Fits, FitsNodes, AllFit, IsNodeOf, IsPair, node_imports}
+use Rattle.wac_graph.specs.private.plugs.Ready.{FitAll}
 use Rattle.wac_graph.specs.private.plugs.Pairs.{match_at, matches_at, AreWithin}
 use Rattle.wac_graph.specs.declared.plugs.matching.Pair.{Pair}
 use Rattle.wac_graph.proofs.lemmas.plugs.Pairs.{entry-there, named-there, match-there}
 use Rattle.wac_graph.proofs.lemmas.plugs.Steps.{some-of, instance-keeps, keeps-trans}
-use Rattle.wac_graph.proofs.lemmas.plugs.Each.{imports-of, exports-of}
+use Rattle.wac_graph.proofs.lemmas.plugs.Each.{imports-of, exports-of, imports-kept, exports-kept}
 use Rattle.wac_graph.proofs.lemmas.plugs.Wired.{insert-same, new-edge}
 use Rattle.wac_graph.proofs.lemmas.plugs.Deciding.{IsWirable, AreWirable, named-entry}
-use Rattle.wac_graph.proofs.lemmas.plugs.Wirable.{wirable}
 
 -- what nodes list is that of nodes with the same item and package, in graphs with the same types and packages
 imports-none : (g : Graph) (n : GraphNode) → package_of g n ≡ None → imports_of g n ≡ []
@@ -62,6 +61,11 @@ imports-of-node g n socket there owned =
     let p = some-of (package_at g socket) there in
     listed-imports g n p.0 (ap (option_and_then (package_at g)) owned ∙ p.1) ∙ sym (imports-of g socket p.0 p.1)
 
+-- what is said of something that is there
+some-and : {A : Type 0} (o : Option A) (P : A → Type 0) → IsSomeAnd o P → (a : A) × (o ≡ Some a) × P a
+some-and None P h = absurd h
+some-and (Some a) P h = (a, refl, h)
+
 -- one of matches that can be wired
 wirable-at : (types : Collection) (exports imports : List (Name × ItemKind)) (ms : List Match) → AreWirable types exports imports ms → (i : ℕ) (m : Match) → slice_get ms i ≡ Some m → IsWirable types exports imports m
 wirable-at types exports imports [] can i m at = cc
@@ -73,27 +77,29 @@ fits-of types exports imports m w =
     subst (λ o. IfSome o (λ e. IfSome (named_at 0 m.import imports) (λ i. IsSubtype types e.1 types i.1))) (sym w.exported)
     (subst (λ o. IfSome o (λ i. IsSubtype types (w.given).1 types i.1)) (sym w.imported) w.fits)
 
--- the matches that were found fit the node of the socket
-all-fit : (g : Graph) (plug socket : PackageId) (node : NodeId) (ms : List Match) → IsSome (package_at g socket) → IsNodeOf g node socket → NoNameTwice (exports_of_package g plug) → NoNameTwice (imports_of_package g socket) → AreMatchesOf g socket plug ms → AllFit g plug node ms
-all-fit g plug socket node ms there of exports imports are i m at = split (node_at g node) of where
-  split : (o : Option GraphNode) → IsSomeAnd o (λ n. n.owner ≡ Some socket) → IfSome o (λ s. Fits g.types (exports_of_package g plug) (imports_of g s) m)
+-- matches that can be wired fit
+pub all-fit : (types : Collection) (exports imports : List (Name × ItemKind)) (ms : List Match) → AreWirable types exports imports ms → FitAll types exports imports ms
+all-fit types exports imports ms can i m at = fits-of types exports imports m (wirable-at types exports imports ms can i m at)
+
+-- what the node of a socket imports
+pub node-imports : (g : Graph) (socket : PackageId) (node : NodeId) → IsSome (package_at g socket) → IsNodeOf g node socket → node_imports g node ≡ imports_of_package g socket
+node-imports g socket node there of =
+    let n = some-and (node_at g node) (λ n. n.owner ≡ Some socket) of in
+    ap (λ o. option_case o [] (λ k. imports_of g k)) n.1 ∙ imports-of-node g n.0 socket there n.2
+
+-- matches that fit the packages fit the node of the socket, in a graph with the same types and packages
+pub fit-node : (old now : Graph) (plug socket : PackageId) (node : NodeId) (ms : List Match) → Keeps old now → IsSome (package_at old socket) → IsNodeOf now node socket
+    → FitAll old.types (exports_of_package old plug) (imports_of_package old socket) ms → AllFit now plug node ms
+fit-node old now plug socket node ms kept there of fit i m at = split (node_at now node) of where
+  there_now : IsSome (package_at now socket)
+  there_now = ap (λ l. is_some (package_at (record now { slots = l }) socket)) kept.slots ∙ there
+
+  split : (o : Option GraphNode) → IsSomeAnd o (λ n. n.owner ≡ Some socket) → IfSome o (λ s. Fits now.types (exports_of_package now plug) (imports_of now s) m)
   split None none = absurd none
   split (Some s) owned =
-      subst (λ l. Fits g.types (exports_of_package g plug) l m) (sym (imports-of-node g s socket there owned))
-      (fits-of g.types (exports_of_package g plug) (imports_of_package g socket) m
-      (wirable-at g.types (exports_of_package g plug) (imports_of_package g socket) ms (wirable g.types (imports_of_package g socket) (exports_of_package g plug) imports exports ms are) i m at))
-
--- as they are found in the worlds of the plug and of the socket
-pub found-fit : (g : Graph) (t : Collection) (plug socket : PackageId) (p q : PackageParts) (v w : WorldId) (node : NodeId) (ms found : List Match) → t ≡ g.types → package_at g plug ≡ Some p → v ≡ p.world → package_at g socket ≡ Some q → w ≡ q.world → IsNodeOf g node socket
-    → NoNameTwice (world_exports t v) → NoNameTwice (world_imports t w) → AreMatches t (world_imports t w) (world_exports t v) found → ms ≡ found → AllFit g plug node ms
-found-fit g t plug socket p q v w node ms found types plug_at is_v socket_at is_w of once_exports once_imports are same =
-    let exports : world_exports t v ≡ exports_of_package g plug = ap (λ (c : Collection). world_exports c v) types ∙ ap (world_exports g.types) is_v ∙ sym (exports-of g plug p plug_at) in
-    let imports : world_imports t w ≡ imports_of_package g socket = ap (λ (c : Collection). world_imports c w) types ∙ ap (world_imports g.types) is_w ∙ sym (imports-of g socket q socket_at) in
-    let matched : AreMatchesOf g socket plug ms =
-    subst (λ l. AreMatchesOf g socket plug l) (sym same)
-    (subst (λ c. AreMatches c (imports_of_package g socket) (exports_of_package g plug) found) types
-    (subst (λ l. AreMatches t l (exports_of_package g plug) found) imports (subst (λ l. AreMatches t (world_imports t w) l found) exports are))) in
-    all-fit g plug socket node ms (ap is_some socket_at) of (subst NoNameTwice exports once_exports) (subst NoNameTwice imports once_imports) matched
+      let imports : imports_of_package old socket ≡ imports_of now s = sym (imports-of-node now s socket there_now owned ∙ imports-kept old now socket kept) in
+      subst (λ l. Fits now.types l (imports_of now s) m) (sym (exports-kept old now plug kept))
+      (subst (λ l. Fits now.types (exports_of_package old plug) l m) imports (subst (λ c. Fits c (exports_of_package old plug) (imports_of_package old socket) m) (sym kept.types) (fit i m at)))
 
 -- what a plug's node lists
 module _ (old mid : Graph) (plug : PackageId) (node : NodeId) (sound : IsSound old) (there : IsSome (package_at old plug)) (made : Instantiates old plug (Ok node) mid) where
@@ -162,10 +168,6 @@ named-kept old now socket name position kind there kept has =
     let is : import_named now t.0 name ≡ Some (position, kind) = ap (named_at 0 name) (imports-same old now s.0 t.0 kept.types kept.slots (kept.same socket s.0 t.0 s.1 t.1).1) ∙ was in
     subst (λ o. IfSome o (λ k. import_named now k name ≡ Some (position, kind))) (sym t.1) is
 
-some-and : {A : Type 0} (o : Option A) (P : A → Type 0) → IsSomeAnd o P → (a : A) × (o ≡ Some a) × P a
-some-and None P h = absurd h
-some-and (Some a) P h = (a, refl, h)
-
 alias-edge : (old mid : Graph) (plug alias : NodeId) (n : GraphNode) (position : ℕ) (kind : ItemKind) → GivesAlias old plug n position kind alias mid → set.contains mid.edges (alias_edge plug alias position) ≡ true
 alias-edge old mid plug alias n position kind (inl h) = ap (λ (g : Graph). set.contains g.edges (alias_edge plug alias position)) h.1 ∙ h.0
 alias-edge old mid plug alias n position kind (inr h) = ap (λ (g : Graph). set.contains g.edges (alias_edge plug alias position)) h.3 ∙ new-edge old.edges (alias_edge plug alias position)
@@ -220,13 +222,3 @@ node-made old new id n there made =
     let step : AddsNode old n (instance_node id p.0) new = subst (λ o. IfSome o (λ p. AddsNode old n (instance_node id p) new)) p.1 made in
     let is : node_at new n ≡ Some (instance_node id p.0) = ap (λ (k : Graph). node_at k n) step.2 ∙ insert-same old.nodes n.0 (instance_node id p.0) in
     subst (λ o. IsSomeAnd o (λ n. n.owner ≡ Some id)) (sym is) refl
-
--- the lists in which matches were found are those of the plug's package and of the socket's node
-pub found-exports : (g : Graph) (t : Collection) (plug : PackageId) (p : PackageParts) (v : WorldId) → t ≡ g.types → package_at g plug ≡ Some p → v ≡ p.world → world_exports t v ≡ exports_of_package g plug
-found-exports g t plug p v types at is = ap (λ (c : Collection). world_exports c v) types ∙ ap (world_exports g.types) is ∙ sym (exports-of g plug p at)
-
-pub found-imports : (g : Graph) (t : Collection) (socket : PackageId) (q : PackageParts) (w : WorldId) (node : NodeId) → t ≡ g.types → package_at g socket ≡ Some q → w ≡ q.world → IsNodeOf g node socket → world_imports t w ≡ node_imports g node
-found-imports g t socket q w node types at is of =
-    let n = some-and (node_at g node) (λ n. n.owner ≡ Some socket) of in
-    ap (λ (c : Collection). world_imports c w) types ∙ ap (world_imports g.types) is ∙ sym (imports-of g socket q at)
-    ∙ sym (imports-of-node g n.0 socket (ap is_some at) n.2) ∙ ap (λ o. option_case o [] (λ k. imports_of g k)) (sym n.1)

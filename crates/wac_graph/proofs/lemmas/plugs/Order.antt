@@ -1,19 +1,14 @@
--- Steps in order: one more, and one that is refused; and what is plugged in by them.
-use Rattle.std.proofs.Common.{◌≡◌, ℕ, zero, suc, ◌+◌, ◌≤◌, ◌==◌, ◌||◌, false, List, [], ◌∷◌, ◌++◌, length, drop, slice_get, refl, ap, sym, subst, Some, Result, Ok, Err, inl, inr, arith}
+-- Steps in order: one more, and one that is refused.
+use Rattle.std.proofs.Common.{◌≡◌, ℕ, zero, suc, ◌+◌, ◌≤◌, List, [], ◌∷◌, length, drop, slice_get, refl, ap, sym, subst, Some, Result, Ok, Err, inl, inr, arith}
 use Rattle.std.specs.Prelude.{IsErrAnd}
-use Rattle.std.proofs.lemmas.Bool.{false≢true}
 use Rattle.std.proofs.lemmas.List.{drop_all}
 use Rattle.std.specs.Option.{option_map}
 use Rattle.wac_types_shapes.specs.primitives.Name.{Name}
 use Rattle.wac_types_shapes.specs.shapes.Named.{names_of}
 use Rattle.wac_types_shapes.proofs.lemmas.shapes.Loops.{drop_at}
-use Rattle.wac_edges.specs.declared.node.NodeId.{NodeId}
-use Rattle.wac_graph_model.specs.declared.nodes.packages.PackageId.{PackageId}
 use Rattle.wac_graph_model.specs.nodes.Graph.{Graph}
-use Rattle.wac_graph_model.specs.nodes.Steps.{Instantiates}
 use Rattle.wac_graph.specs.declared.plugs.errors.PlugError.{PlugError}
-use Rattle.wac_graph.specs.plugs.Matching.{Match}
-use Rattle.wac_graph.specs.plugs.Plugging.{Answer, InOrder, Wires, PlugsIn, has_any}
+use Rattle.wac_graph.specs.plugs.Plugging.{Answer, InOrder}
 
 module _ {A : Type 0} (Step : Graph → A → Answer → Graph → Type 0) (xs : List A) (i : ℕ) (x : A) (now : Graph) (at : slice_get xs i ≡ Some x) where
   -- a step was made
@@ -35,18 +30,8 @@ pub exit-is : {A E : Type 0} (r : Result A E) (e : E) → IsErrAnd r (λ y. y �
 exit-is (Ok a) e h = absurd h
 exit-is (Err y) e h = ap Err h
 
--- a plug with matches was plugged in, or was not
-pub plugs-in-some : (plug : PackageId) (socket node : NodeId) (old mid new : Graph) (ms : List Match) (r : Answer) → (length ms == 0) ≡ false → Instantiates old plug (Ok node) mid → InOrder (Wires node socket) mid ms r new → PlugsIn plug socket old ms r new
-plugs-in-some plug socket node old mid new [] r some made h = absurd (false≢true (sym some))
-plugs-in-some plug socket node old mid new (m ∷ ms) r some made h = inr (node, mid, made, h)
-
 -- the name at a position of a list under names
 pub name-at : {V : Type 0} (es : List (Name × V)) (i : ℕ) (n : Name) → option_map (λ e. e.0) (slice_get es i) ≡ Some n → slice_get (names_of es) i ≡ Some n
 name-at [] i n h = cc
 name-at (e ∷ es) zero n h = h
 name-at (e ∷ es) (suc i) n h = name-at es i n h
-
--- matches of two lists one after another
-pub any-append : (xs ys : List Match) → has_any (xs ++ ys) ≡ (has_any xs || has_any ys)
-any-append [] ys = refl
-any-append (x ∷ xs) ys = refl

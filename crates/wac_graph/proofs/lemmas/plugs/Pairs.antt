@@ -1,7 +1,6 @@
 -- Matches by their positions: what they name, one by one.
-use Rattle.std.proofs.Common.{◌≡◌, ℕ, zero, suc, ◌==◌, ◌≤◌, ◌+◌, true, false, List, [], ◌∷◌, ◌++◌, ◌<◌, length, slice_get, refl, ap, ◌∙◌, sym, subst, Option, Some, Ok, arith}
+use Rattle.std.proofs.Common.{◌≡◌, ℕ, zero, suc, ◌≤◌, ◌+◌, List, [], ◌∷◌, ◌++◌, ◌<◌, length, slice_get, refl, ap, ◌∙◌, sym, subst, Option, Some, arith}
 use Rattle.std.specs.Option.{option_map}
-use Rattle.std.proofs.lemmas.Bool.{false≢true}
 use Rattle.std.proofs.lemmas.List.{length-map, map-append}
 use Rattle.std.proofs.lemmas.Option.{slice_get-map}
 use Rattle.wac_types_shapes.specs.primitives.Name.{Name}
@@ -10,13 +9,9 @@ use Rattle.wac_types_shapes.proofs.lemmas.shapes.Names.{named_at-at}
 use Rattle.wac_types_shapes.specs.declared.shapes.component.ItemKind.{ItemKind}
 use Rattle.wac_types_collection.specs.collection.Collection.{Collection}
 use Rattle.wac_types_collection.specs.subtyping.Subtype.{IsSubtype}
-use Rattle.wac_edges.specs.declared.node.NodeId.{NodeId}
-use Rattle.wac_graph_model.specs.declared.nodes.packages.PackageId.{PackageId}
-use Rattle.wac_graph_model.specs.nodes.Graph.{Graph}
 use Rattle.wac_graph.specs.declared.plugs.matching.Pair.{Pair}
 use Rattle.wac_graph.specs.plugs.Matching.{IsTarget, IsMatch}
 use Rattle.wac_graph.specs.private.plugs.Pairs.{name_at, match_at, matches_at, IsWithin, AreWithin}
-use Rattle.wac_graph.specs.plugs.Plugging.{PlugsIn}
 
 -- the name of what stands at a position
 pub name-there : (es : List (Name × ItemKind)) (i : ℕ) (e : Name × ItemKind) → slice_get es i ≡ Some e → name_at es i ≡ e.0
@@ -48,17 +43,6 @@ module _ (exports imports : List (Name × ItemKind)) where
   pub past : (ps : List Pair) (i : ℕ) → length ps ≤ i → length (matches_at exports imports ps) ≤ i
   past ps i h = subst (λ n. n ≤ i) (sym (as-many ps)) h
 
-  pub not-none : (ps : List Pair) → (length ps == 0) ≡ false → (length (matches_at exports imports ps) == 0) ≡ false
-  not-none ps h = ap (λ n. n == 0) (as-many ps) ∙ h
-
-  not-zero : (n : ℕ) → (suc n == 0) ≡ false
-  not-zero n = grind arith
-
-  -- none is plugged in
-  pub plugs-none : (plug : PackageId) (socket : NodeId) (g : Graph) (ps : List Pair) → (length ps == 0) ≡ true → PlugsIn plug socket g (matches_at exports imports ps) (Ok tt) g
-  plugs-none plug socket g [] h = (refl, refl)
-  plugs-none plug socket g (p ∷ ps) h = absurd (false≢true (sym (not-zero (length ps)) ∙ h))
-
 -- the match at positions
 pub match-there : (exports imports : List (Name × ItemKind)) (ps : List Pair) (i : ℕ) (p : Pair) → slice_get ps i ≡ Some p → slice_get (matches_at exports imports ps) i ≡ Some (match_at exports imports p)
 match-there exports imports ps i p at = slice_get-map (match_at exports imports) ps i ∙ ap (option_map (match_at exports imports)) at
@@ -75,10 +59,3 @@ named-there es i e once at =
     ap (λ (n : Name). named_at 0 n es) (name-there es i e at) ∙ named_at-at es 0 i e.0 e.1 once at ∙ ap (λ (k : ℕ). some_at k) z where
       some_at : ℕ → Option (ℕ × ItemKind)
       some_at k = Some (k, e.1)
-
--- the same pairs in the same lists
-pub same-matches : (exports es imports is : List (Name × ItemKind)) (ps qs : List Pair) → ps ≡ qs → es ≡ exports → is ≡ imports → matches_at exports imports ps ≡ matches_at es is qs
-same-matches exports es imports is ps qs p e i = ap (matches_at exports imports) p ∙ ap (λ l. matches_at l imports qs) (sym e) ∙ ap (λ l. matches_at es l qs) (sym i)
-
-pub same-within : (exports es imports is : List (Name × ItemKind)) (ps qs : List Pair) → ps ≡ qs → es ≡ exports → is ≡ imports → AreWithin es is qs → AreWithin exports imports ps
-same-within exports es imports is ps qs p e i are = subst (AreWithin exports imports) (sym p) (subst (λ l. AreWithin exports l qs) i (subst (λ l. AreWithin l is qs) e are))

@@ -1,14 +1,17 @@
 -- Matches can be wired: their exports and imports are there and fit, and no export matches twice.
-use Rattle.std.proofs.Common.{◌≡◌, ◌≢◌, ℕ, suc, ◌+◌, List, [], ◌∷◌, slice_get, refl, ap, ◌∙◌, sym, subst, Option, Some, None, inl, inr}
+use Rattle.std.proofs.Common.{◌≡◌, ◌≢◌, ℕ, suc, ◌+◌, cond, List, [], ◌∷◌, slice_get, refl, ap, ◌∙◌, sym, subst, Option, Some, None, inl, inr}
 use Rattle.std.specs.Prelude.{MatchOption}
 use Rattle.std.specs.List.{AllByRecursion}
+use Rattle.std.proofs.lemmas.Bool.{cases_Bool}
 use Rattle.wac_types_shapes.specs.primitives.Name.{Name, find_name}
 use Rattle.wac_types_shapes.specs.shapes.Named.{named_at, NoNameTwice}
 use Rattle.wac_types_shapes.proofs.lemmas.shapes.Names.{find_position, named_at-at, none_behind, same_name-false}
 use Rattle.wac_types_shapes.specs.declared.shapes.component.ItemKind.{ItemKind}
 use Rattle.wac_types_collection.specs.collection.Collection.{Collection}
 use Rattle.wac_graph.specs.plugs.Matching.{Match, IsFirstOnTrack, IsTarget, AreMatches}
+use Rattle.wac_graph.specs.plugs.Precedence.{is_taken, winning}
 use Rattle.wac_graph.proofs.lemmas.plugs.Deciding.{IsWirable, AreWirable}
+use Rattle.wac_graph.proofs.lemmas.plugs.Winning.{all-winning}
 
 first-there : (imports : List (Name × ItemKind)) (name : Name) (t : Name × ItemKind) → IsFirstOnTrack imports name t → (j : ℕ) × (slice_get imports j ≡ Some t)
 first-there [] name t h = absurd h
@@ -49,3 +52,13 @@ module _ (types : Collection) (imports exports : List (Name × ItemKind)) (once 
 
   pub wirable : NoNameTwice exports → (ms : List Match) → AreMatches types imports exports ms → AreWirable types exports imports ms
   wirable once_exports ms h = wirable-from exports ms (λ k e at. (0 + k, named_at-at exports 0 k e.0 e.1 once_exports at)) once_exports h
+
+-- and so can those that win
+pub wirable-winning : (types : Collection) (imports exports : List (Name × ItemKind)) (taken : List Name) (ms : List Match) → AreWirable types exports imports ms → AreWirable types exports imports (winning taken ms)
+wirable-winning types imports exports taken [] h = tt
+wirable-winning types imports exports taken (m ∷ ms) h = elim (cases_Bool (is_taken taken m.import)) [
+  | inl t ↦ subst (AreWirable types exports imports) (sym (ap (λ b. cond b (winning taken ms) (m ∷ winning (m.import ∷ taken) ms)) t)) (wirable-winning types imports exports taken ms h.2)
+  | inr f ↦
+      subst (AreWirable types exports imports) (sym (ap (λ b. cond b (winning taken ms) (m ∷ winning (m.import ∷ taken) ms)) f))
+      (h.0, all-winning (λ o. o.export ≢ m.export) (m.import ∷ taken) ms h.1, wirable-winning types imports exports (m.import ∷ taken) ms h.2)
+]

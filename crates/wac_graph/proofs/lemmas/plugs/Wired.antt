@@ -1,11 +1,10 @@
--- What the wiring of one match answers: that is decided by whether its import is given already.
+-- What the wiring of one match answers, whose import has no argument: want of memory, or that it was made.
 use Rattle.std.proofs.Common.{◌≡◌, ◌≢◌, ℕ, cond, true, false, Bool, ◌||◌, refl, ap, ◌∙◌, sym, subst, eqb, Option, Some, None, Result, Ok, Err, IfSome, IsSome, is_some, ◌⊎◌, inl, inr, arith}
 use Rattle.std.specs.Prelude.{IsSomeAnd}
 use Rattle.std.specs.Ordering.{nat_cmp, eq_by_cmp, is_eq}
 use Rattle.std.specs.Cmp.{nat_cmp_total, tied_itself}
 use Rattle.std.specs.FinMap as map
 use Rattle.std.specs.FinSet as set
-use Rattle.std.proofs.Math.Bool.{or-true}
 use Rattle.std.proofs.lemmas.Bool.{false≢true, eqb-true}
 use Rattle.std.proofs.lemmas.Bool.Decides.{nat_tests}
 use Rattle.wac_types_shapes.specs.declared.shapes.component.ItemKind.{ItemKind}
@@ -25,7 +24,6 @@ use Rattle.wac_graph_model.specs.nodes.Steps.{Aliases, AliasesOf, GivesAlias, al
 use Rattle.wac_graph.specs.declared.plugs.errors.PlugError.TheVariants.{OutOfMemory}
 use Rattle.wac_graph.specs.plugs.Matching.{Match}
 use Rattle.wac_graph.specs.plugs.Plugging.{Answer, answered, Wires}
-use Rattle.wac_graph.specs.plugs.Outcome.{IsAlreadyPassed}
 use Rattle.wac_graph.specs.plugs.Refusals.{of_alias, of_argument}
 
 -- the edges of a graph lead from nodes that are there
@@ -47,9 +45,6 @@ added-edge s x e h = split (eq_by_cmp edge_cmp e x) refl (sym (set.contains-inse
 
 pub new-edge : (s : set.FinSet edge_cmp) (x : Edge) → set.contains (set.insert s x) x ≡ true
 new-edge s x = set.contains-insert edge_cmp_total s x x ∙ ap (λ b. b || set.contains s x) (ap is_eq (tied_itself edge_cmp_total x))
-
-pub kept-edge : (s : set.FinSet edge_cmp) (x e : Edge) → set.contains s e ≡ true → set.contains (set.insert s x) e ≡ true
-kept-edge s x e h = set.contains-insert edge_cmp_total s x e ∙ (rw h (or-true (eq_by_cmp edge_cmp e x)))
 
 pub by-eq : {P : Type 0} (m n : ℕ) → (m ≡ n → P) → (m ≢ n → P) → P
 by-eq {P} m n same other = elim (eqb m n) as (λ b. eqb m n ≡ b → P) [ true ↦ λ e. same (eqb-true m n e) | false ↦ λ e. other (grind (arith, nat_tests)) ] refl
@@ -89,10 +84,7 @@ pub record Wired (g : Graph) (n s : NodeId) (i j : ℕ) (new : Graph) : Type 0 w
   pub sources : SourcesThere new
   pub nodes : (k : NodeId) (x : GraphNode) → node_at g k ≡ Some x → node_at new k ≡ Some x
   pub aliases : (k : NodeId) (p : ℕ) (a : NodeId) → IsAliasOf new k p a → ((k.0 ≡ n.0) × (p ≡ i)) ⊎ IsAliasOf g k p a
-  pub was_free : IsUnsatisfied g s j
   pub only : (q : ℕ) → IsSatisfied new s q → (q ≡ j) ⊎ IsSatisfied g s q
-  pub now : IsSatisfied new s j
-  pub still : (q : ℕ) → IsSatisfied g s q → IsSatisfied new s q
 
 -- a refused argument, as the answer
 abbrev refused-by : InstantiationArgumentError → Answer
@@ -102,7 +94,7 @@ module _ (g : Graph) (n s : NodeId) (pn sn : GraphNode) (m : Match) (x y : ℕ �
     (sources : SourcesThere g) (plug_there : node_at g n ≡ Some pn) (socket_there : node_at g s ≡ Some sn)
     (instance : IsSome (interface_of pn.item_kind)) (instantiated : sn.kind ≡ instantiation)
     (exported : export_named g pn m.export ≡ Some x) (imported : import_named g sn m.import ≡ Some y)
-    (fits : IsSubtype g.types x.1 g.types y.1) (unaliased : (a : NodeId) → IsAliasOf g n x.0 a → ⊥) where
+    (fits : IsSubtype g.types x.1 g.types y.1) (unaliased : (a : NodeId) → IsAliasOf g n x.0 a → ⊥) (free : IsSatisfied g s y.0 → ⊥) where
   -- a refused alias is want of memory
   alias-refused : (e : AliasError) (new : Graph) → Aliases g n m.export (Err e) new → e ≡ alias_error.OutOfMemory
   alias-refused e new h = by e (subst (λ o. IfSome o (λ k. AliasesOf g n k m.export (Err e) new)) plug_there h) where
@@ -131,9 +123,6 @@ module _ (g : Graph) (n s : NodeId) (pn sn : GraphNode) (m : Match) (x y : ℕ �
     before : (e : Edge) → set.contains mid.edges e ≡ true → (e ≡ alias_edge n a x.0) ⊎ (set.contains g.edges e ≡ true)
     before e h = added-edge g.edges (alias_edge n a x.0) e (sym (ap (λ (k : Graph). set.contains k.edges e) made.1) ∙ h)
 
-    after : (e : Edge) → set.contains g.edges e ≡ true → set.contains mid.edges e ≡ true
-    after e h = ap (λ (k : Graph). set.contains k.edges e) made.1 ∙ kept-edge g.edges (alias_edge n a x.0) e h
-
     argument-before : (q : ℕ) (b : NodeId) → IsArgumentOf mid s q b → IsArgumentOf g s q b
     argument-before q b h = elim (before (argument_edge b s q) h) [ inl e ↦ absurd (labels-differ b s n a q x.0 e) | inr old ↦ old ]
 
@@ -149,18 +138,17 @@ module _ (g : Graph) (n s : NodeId) (pn sn : GraphNode) (m : Match) (x y : ℕ �
     imported-then : import_named mid sn m.import ≡ Some y
     imported-then = ap (λ (k : Graph). import_named k sn m.import) made.1 ∙ imported
 
-    -- a refused argument is given already, or there was no memory
-    argument-refused : (e : InstantiationArgumentError) (new : Graph) → SetsOn mid s sn m.import a (alias_node pn x.1) (Err e) new
-        → (refused-by e ≡ Err OutOfMemory) ⊎ (IsAlreadyPassed (refused-by e) × IsSatisfied g s y.0)
+    -- a refused argument is want of memory
+    argument-refused : (e : InstantiationArgumentError) (new : Graph) → SetsOn mid s sn m.import a (alias_node pn x.1) (Err e) new → refused-by e ≡ Err OutOfMemory
     argument-refused (argument_error.NodeIsNotAnInstantiation node) new w = absurd (w.2 instantiated)
     argument-refused (argument_error.InvalidArgumentName node text of_package) new w = absurd (none-some (import_named mid sn m.import) y w.5 imported-then)
     argument-refused (argument_error.ArgumentAlreadyPassed node text) new w =
         let given = subst (λ o. IsSomeAnd o (λ e. (IsArgumentOf mid s e.0 a → ⊥) × IsSatisfied mid s e.0)) imported-then w.4 in
-        inr (tt, (given.1.0, argument-before y.0 given.1.0 given.1.1))
+        absurd (free (given.1.0, argument-before y.0 given.1.0 given.1.1))
     argument-refused (argument_error.ArgumentTypeMismatch text source) new w =
         let misfit = subst (λ o. IsSomeAnd o (λ e. IsUnsatisfied mid s e.0 × (IsSubtype mid.types x.1 mid.types e.1 → ⊥))) imported-then w.4 in
         absurd (misfit.1 (subst (λ (c : Collection). IsSubtype c x.1 c y.1) (sym (ap (λ (k : Graph). k.types) made.1)) fits))
-    argument-refused argument_error.OutOfMemory new w = inl refl
+    argument-refused argument_error.OutOfMemory new w = refl
 
     argument-set : (new : Graph) → SetsOn mid s sn m.import a (alias_node pn x.1) (Ok tt) new → Wired g n s x.0 y.0 new
     argument-set new w = by (subst (λ o. IsSomeAnd o (λ e. GivesArgument mid s a x.1 e.0 e.1 new)) imported-then w.1) where
@@ -185,13 +173,10 @@ module _ (g : Graph) (n s : NodeId) (pn sn : GraphNode) (m : Match) (x y : ℕ �
             | inr old ↦ inr old
           ]
         ];
-        was_free = λ b h. given.0 b (after (argument_edge b s y.0) h);
         only = λ q h. elim (last (argument_edge h.0 s q) h.1) [
           | inl is ↦ inl (argument-positions h.0 s a s q y.0 is)
           | inr was ↦ inr (h.0, argument-before q h.0 was)
         ];
-        now = (a, ap (λ (k : Graph). set.contains k.edges argument) given.2 ∙ new-edge mid.edges argument);
-        still = λ q h. (h.0, ap (λ (k : Graph). set.contains k.edges (argument_edge h.0 s q)) given.2 ∙ kept-edge mid.edges argument (argument_edge h.0 s q) (after (argument_edge h.0 s q) h.1));
       }
         where
           last : (e : Edge) → set.contains new.edges e ≡ true → (e ≡ argument) ⊎ (set.contains mid.edges e ≡ true)
@@ -203,14 +188,10 @@ module _ (g : Graph) (n s : NodeId) (pn sn : GraphNode) (m : Match) (x y : ℕ �
           there : (k : ℕ) → is_some (map.get g.nodes k) ≡ true → is_some (map.get new.nodes k) ≡ true
           there k h = ap (λ ns. is_some (map.get ns k)) nodes_are ∙ insert-there g.nodes a.0 (alias_node pn x.1) k h
 
-  pub wire-answer : (answer : Answer) (new : Graph) → Wires n s g m answer new
-      → (answer ≡ Err OutOfMemory) ⊎ ((IsAlreadyPassed answer × IsSatisfied g s y.0) ⊎ ((answer ≡ Ok tt) × Wired g n s x.0 y.0 new))
+  pub wire-answer : (answer : Answer) (new : Graph) → Wires n s g m answer new → (answer ≡ Err OutOfMemory) ⊎ ((answer ≡ Ok tt) × Wired g n s x.0 y.0 new)
   wire-answer answer new (inl h) = inl (h.2 ∙ ap (λ (e : AliasError). let r : Answer = Err (of_alias e) in r) (alias-refused h.0 new h.1))
   wire-answer answer new (inr h) = by h.3.0 (sets-on h.0 h.1 (alias-made h.0 h.1 h.2) h.3.0 new h.3.1) h.3.2 where
     by : (r : Result (Unit {0}) InstantiationArgumentError) → SetsOn h.1 s sn m.import h.0 (alias_node pn x.1) r new → answer ≡ answered of_argument r
-        → (answer ≡ Err OutOfMemory) ⊎ ((IsAlreadyPassed answer × IsSatisfied g s y.0) ⊎ ((answer ≡ Ok tt) × Wired g n s x.0 y.0 new))
-    by (Ok tt) w is = inr (inr (is, argument-set h.0 h.1 (alias-made h.0 h.1 h.2) new w))
-    by (Err e) w is = elim (argument-refused h.0 h.1 (alias-made h.0 h.1 h.2) e new w) [
-      | inl memory ↦ inl (is ∙ memory)
-      | inr passed ↦ inr (inl (subst IsAlreadyPassed (sym is) passed.0, passed.1))
-    ]
+        → (answer ≡ Err OutOfMemory) ⊎ ((answer ≡ Ok tt) × Wired g n s x.0 y.0 new)
+    by (Ok tt) w is = inr (is, argument-set h.0 h.1 (alias-made h.0 h.1 h.2) new w)
+    by (Err e) w is = inl (is ∙ argument-refused h.0 h.1 (alias-made h.0 h.1 h.2) e new w)

@@ -1,19 +1,15 @@
-use Rattle.std.proofs.Common.{◌≡◌, Some, Ok, Err, slice_get, get_or, sym, ◌∙◌, subst}
+use Rattle.std.proofs.Common.{◌≡◌, Some, Ok, Err, slice_get, get_or, sym, ◌∙◌, subst, inr}
 use Rattle.std.proofs.lemmas.Option.{slice_get-get_or}
 use Rattle.wac_graph.specs.private.plugs.Fitting.{node_imports}
 use Rattle.wac_graph.specs.plugs.Matching.{exports_of_package}
 use Rattle.wac_graph.specs.declared.plugs.matching.Pair.{Pair}
 use Rattle.wac_graph.specs.private.plugs.Pairs.{match_at, matches_at}
 use Rattle.wac_graph.specs.plugs.Plugging.{Answer, Wires, PlugsIn}
-use Rattle.wac_graph.proofs.lemmas.plugs.Order.{one-more, refused-at, all-made, exit-is, plugs-in-some}
-use Rattle.wac_graph.proofs.lemmas.plugs.Pairs.{past, not-none, plugs-none, match-there}
+use Rattle.wac_graph.proofs.lemmas.plugs.Order.{one-more, refused-at, all-made, exit-is}
+use Rattle.wac_graph.proofs.lemmas.plugs.Pairs.{past, match-there}
 use Rattle.wac_graph.proofs.lemmas.plugs.Steps.{instance-keeps, keeps-trans}
 use Rattle.wac_graph.proofs.lemmas.plugs.Fitting.{pair-at}
 use Rattle.wac_graph.proofs.wiring.plug_in.Goals as goal
-
-pub returns-then-is_empty-clause-step : goal.returns-then-is_empty-clause-step
-returns-then-is_empty-clause-step c =
-    plugs-none (exports_of_package c.args.graph.now c.args.plug) (node_imports c.args.graph.now c.args.socket) c.args.plug c.args.socket c.args.graph.now c.args.pairs.now (sym c.is_empty.ensures ∙ c.if-is_empty.true)
 
 pub wire-requires-clause-plug : goal.wire-requires-clause-plug
 wire-requires-clause-plug c =
@@ -48,9 +44,13 @@ returns-in_err-wire-clause-step c =
     let stands = pair-at g c.instantiate_plug.new.graph c.args.plug c.in_ok-node.node c.law.ensures c.requires.plug c.in_ok-node.ensures c.loop-i.graph c.args.socket ps i p c.requires.socket c.loop-i.invariant.kept c.requires.named c.requires.asked c.requires.within c.requires.fit pair in
     let m = match_at exports imports p in
     let e = (c.in_err-wire.field-0).0 in
-    subst (λ (r : Answer). PlugsIn c.args.plug c.args.socket g ms r c.wire.new.graph) (sym (exit-is c.from_residual-in_err-wire.result e c.from_residual-in_err-wire.ensures.1))
-    (plugs-in-some c.args.plug c.args.socket c.in_ok-node.node g c.instantiate_plug.new.graph c.wire.new.graph ms (Err e) (not-none exports imports ps (sym c.is_empty.ensures ∙ c.if-is_empty.false)) c.in_ok-node.ensures
-    (c.loop-i.invariant.wired (Err e) c.wire.new.graph (refused-at (Wires c.in_ok-node.node c.args.socket) ms i m c.loop-i.graph (match-there exports imports ps i p pair) e c.wire.new.graph (c.in_err-wire.ensures.step m stands))))
+    subst (λ (r : Answer). PlugsIn c.args.socket g (record { plug = c.args.plug; matches = ms }) r c.wire.new.graph) (sym (exit-is c.from_residual-in_err-wire.result e c.from_residual-in_err-wire.ensures.1))
+    (inr (
+      c.in_ok-node.node,
+      c.instantiate_plug.new.graph,
+      c.in_ok-node.ensures,
+      c.loop-i.invariant.wired (Err e) c.wire.new.graph (refused-at (Wires c.in_ok-node.node c.args.socket) ms i m c.loop-i.graph (match-there exports imports ps i p pair) e c.wire.new.graph (c.in_err-wire.ensures.step m stands)),
+    ))
 
 pub loop-i-preserved : goal.loop-i-preserved
 loop-i-preserved c =
@@ -77,8 +77,12 @@ returns-clause-step c =
     let ps = c.args.pairs.now in
     let ms = matches_at exports imports ps in
     let i = c.loop-i.i in
-    plugs-in-some c.args.plug c.args.socket c.in_ok-node.node g c.instantiate_plug.new.graph c.loop-i.graph ms (Ok tt) (not-none exports imports ps (sym c.is_empty.ensures ∙ c.if-is_empty.false)) c.in_ok-node.ensures
-    (c.loop-i.invariant.wired (Ok tt) c.loop-i.graph (all-made (Wires c.in_ok-node.node c.args.socket) ms i c.loop-i.graph (past exports imports ps i c.loop-i-test.false)))
+    inr (
+      c.in_ok-node.node,
+      c.instantiate_plug.new.graph,
+      c.in_ok-node.ensures,
+      c.loop-i.invariant.wired (Ok tt) c.loop-i.graph (all-made (Wires c.in_ok-node.node c.args.socket) ms i c.loop-i.graph (past exports imports ps i c.loop-i-test.false)),
+    )
 
 pub returns-clause-kept : goal.returns-clause-kept
 returns-clause-kept c =

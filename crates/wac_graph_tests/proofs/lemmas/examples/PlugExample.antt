@@ -1,4 +1,4 @@
--- Worked examples: which exports of a plug match which imports of a socket, and what plugging by matches is.
+-- Worked examples: which exports of a plug match which imports of a socket, and which matches win.
 use Rattle.std.proofs.Common.{◌≡◌, false, ℕ, inl, inr, List, [], ◌∷◌, Option, Some, None, Ok, Err, codes, refl, ap, sym, subst}
 use Rattle.std.proofs.lemmas.Bool.{false≢true}
 use Rattle.semver.specs.Parse.{digits_from, scan}
@@ -22,9 +22,9 @@ use Rattle.wac_edges.specs.declared.node.NodeId.{NodeId}
 use Rattle.wac_graph_model.specs.declared.nodes.packages.PackageId.{PackageId}
 use Rattle.wac_graph_model.specs.nodes.Graph.{Graph}
 use Rattle.wac_graph.specs.declared.plugs.errors.PlugError.TheVariants.{NoPlugHappened}
-use Rattle.wac_graph.specs.plugs.Matching.{Match, IsMatch, HasNoMatch, AreMatches, IsTarget}
-use Rattle.wac_graph.specs.plugs.Outcome.{IsMatchedTwice}
-use Rattle.wac_graph.specs.plugs.Plugging.{Answer, PlugsIn, Ends}
+use Rattle.wac_graph.specs.plugs.Matching.{Match, PlugMatches, IsMatch, HasNoMatch, AreMatches, IsTarget}
+use Rattle.wac_graph.specs.plugs.Precedence.{PlugMatch, wired, passed_over}
+use Rattle.wac_graph.specs.plugs.Plugging.{Ends}
 
 -- ---- a function without a result, and one that gives a bool
 abbrev function_of : Option ValueType → ℕ → Held FuncType
@@ -151,26 +151,51 @@ unmatched m is = no_target m.import is.1.0 is.1.1
 pub matches_are : AreMatches types later_first ((label, plain) ∷ (c0, plain) ∷ []) (match c0 c2 ∷ [])
 matches_are = inl (unmatched, inr (match c0 c2, [], refl, first_of_the_world, refl))
 
--- ---- matches with one import
-pub one_import_twice : IsMatchedTwice (match c0 c2 ∷ match c1 c2 ∷ [])
-one_import_twice = inr (inl (inl refl))
+-- ---- the first match of an import wins, and the others are passed over in order
+abbrev plug : ℕ → PackageId
+plug slot = record { slot = slot; generation = 0 }
 
--- two imports of one export are none
-pub one_export_twice : IsMatchedTwice (match c0 c2 ∷ match c0 c1 ∷ []) → ⊥
-one_export_twice (inl h) = h
-one_export_twice (inr (inl (inl e))) = false≢true (ap (λ n. same_name c1 n) e)
-one_export_twice (inr (inl (inr h))) = h
-one_export_twice (inr (inr h)) = h
+abbrev of_plug : ℕ → List Match → PlugMatches
+of_plug slot ms = record { plug = plug slot; matches = ms }
 
--- ---- a plug without a match adds nothing
-pub nothing_added : (g : Graph) (plug : PackageId) (socket : NodeId) → PlugsIn plug socket g [] (Ok tt) g
-nothing_added g plug socket = (refl, refl)
+abbrev over : ℕ → Match → PlugMatch
+over slot m = record { plug = plug slot; match = m }
 
--- so no other graph is left
-pub nothing_else : (g h : Graph) (plug : PackageId) (socket : NodeId) (answer : Answer) → (h ≡ g → ⊥) → PlugsIn plug socket g [] answer h → ⊥
-nothing_else g h plug socket answer other plugged = other plugged.1
+-- two plugs with one export: the earlier is wired, and the later is left out
+abbrev two_plugs : List PlugMatches
+two_plugs = of_plug 0 (match label label ∷ []) ∷ of_plug 1 (match label label ∷ []) ∷ []
 
--- and where no plug has a match that is the answer, whatever the socket exports
+pub earlier_plug_wins : wired [] two_plugs ≡ of_plug 0 (match label label ∷ []) ∷ []
+earlier_plug_wins = refl
+
+pub later_plug_is_passed_over : passed_over [] two_plugs ≡ over 1 (match label label) ∷ []
+later_plug_is_passed_over = refl
+
+-- two exports of one plug on the track of one import
+abbrev one_track : List PlugMatches
+one_track = of_plug 0 (match c0 c2 ∷ match c1 c2 ∷ []) ∷ []
+
+pub earlier_export_wins : wired [] one_track ≡ of_plug 0 (match c0 c2 ∷ []) ∷ []
+earlier_export_wins = refl
+
+pub later_export_is_passed_over : passed_over [] one_track ≡ over 0 (match c1 c2) ∷ []
+later_export_is_passed_over = refl
+
+-- one plug twice in the list: the second time all is passed over
+abbrev twice : List PlugMatches
+twice = of_plug 0 (match c0 c0 ∷ match c1 c1 ∷ []) ∷ of_plug 0 (match c0 c0 ∷ match c1 c1 ∷ []) ∷ []
+
+pub first_time_wins : wired [] twice ≡ of_plug 0 (match c0 c0 ∷ match c1 c1 ∷ []) ∷ []
+first_time_wins = refl
+
+pub in_order_of_exports : passed_over [] twice ≡ over 0 (match c0 c0) ∷ over 0 (match c1 c1) ∷ []
+in_order_of_exports = refl
+
+-- two imports of one export name are both wired
+pub two_imports : wired [] (of_plug 0 (match c0 c2 ∷ []) ∷ of_plug 1 (match c0 c1 ∷ []) ∷ []) ≡ of_plug 0 (match c0 c2 ∷ []) ∷ of_plug 1 (match c0 c1 ∷ []) ∷ []
+two_imports = refl
+
+-- ---- without a plug that is plugged in the result is that nothing matches, whatever the socket exports
 pub nothing_happened : (g : Graph) (socket : NodeId) (exports : List Name) → Ends socket exports g [] (Err NoPlugHappened) g
 nothing_happened g socket exports = (refl, refl)
 
