@@ -276,7 +276,9 @@ impl CompositionGraph {
     /// - [`PackageAlreadyRegistered`](RegisterPackageError::PackageAlreadyRegistered) if its key is registered.
     pub fn register_package(&mut self, package: Package) -> Result<PackageId, RegisterPackageError>
         requires { HoldsPackage self.old.types «package» }
-        ensures { Registers self.old «package» result self.new }
+        ensures step { Registers self.old «package» result self.new }
+        ensures there { IfOk result (λ id. IsSome (package_at self.new id)) }
+        ensures valid { KeepsValid self.old self.new }
     {
         let key = package.key()?;
         if let Some(_) = self.package_map.get(&key) {
@@ -338,7 +340,9 @@ impl CompositionGraph {
     /// `AllocError` if memory runs out.
     pub fn instantiate(&mut self, id: PackageId) -> Result<NodeId, AllocError>
         requires { IsSome (package_at self.old id) }
-        ensures { Instantiates self.old id result self.new }
+        ensures step { Instantiates self.old id result self.new }
+        ensures there { IfOk result (λ node. IsSome (node_at self.new node)) }
+        ensures valid { KeepsValid self.old self.new }
     {
         let Some(package) = package_in_slots(&self.slots, id) else {
             unreachable!()
@@ -418,7 +422,7 @@ impl CompositionGraph {
 
     /// Sets the argument of an instantiation for the import with this name.
     ///
-    /// Does nothing if the argument is already set to this node.
+    /// Does nothing, and succeeds, if the argument is already set to this node.
     ///
     /// # Errors
     /// - [`NodeIsNotAnInstantiation`](InstantiationArgumentError::NodeIsNotAnInstantiation) if the node is not one.
@@ -434,7 +438,8 @@ impl CompositionGraph {
     ) -> Result<(), InstantiationArgumentError>
         requires instantiation { IsSome (node_at self.old instantiation) }
         requires argument { IsSome (node_at self.old argument) }
-        ensures { SetsArgument self.old instantiation argument_name.now argument result self.new }
+        ensures step { SetsArgument self.old instantiation argument_name.now argument result self.new }
+        ensures valid { KeepsValid self.old self.new }
     {
         let (position, kind) = self.import_of(instantiation, argument_name)?;
         if self.is_given(instantiation, position, argument) {
@@ -473,7 +478,8 @@ impl CompositionGraph {
     /// `AllocError` if memory runs out.
     pub fn set_node_name(&mut self, node: NodeId, name: &str) -> Result<(), AllocError>
         requires { IsSome (node_at self.old node) }
-        ensures { SetsName self.old node name.now result self.new }
+        ensures step { SetsName self.old node name.now result self.new }
+        ensures valid { KeepsValid self.old self.new }
     {
         set_name(self.alloc, &mut self.nodes, node.0, name)?;
         Ok(())
@@ -487,7 +493,8 @@ impl CompositionGraph {
     ///   or dependency name.
     pub fn export(&mut self, node: NodeId, name: &str) -> Result<(), ExportError>
         requires { IsSome (node_at self.old node) }
-        ensures { Exports self.old node name.now result self.new }
+        ensures step { Exports self.old node name.now result self.new }
+        ensures valid { KeepsValid self.old self.new }
     {
         self.check_export(name)?;
         let key = String::from_str(self.alloc, name)?;

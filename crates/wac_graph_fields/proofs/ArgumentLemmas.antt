@@ -127,6 +127,10 @@ module _ (a : Fields) (v : Invariant a) (id : NodeId) (n : Node) (s : BTreeSet �
       pub no_memory_unset : (argument : NodeId) → None ≡ named_at 0 name w.imports → UnsetsArgument (graph_of a) id name argument (Err OutOfMemory) (graph_of a)
       no_memory_unset argument none = unsets_at a id argument n name (Err OutOfMemory) (graph_of a) had (refl, ap kind_of is, import_is None none)
 
+      pub no_memory : (argument : NodeId) → None ≡ named_at 0 name w.imports → SetsArgument (graph_of a) id name argument (Err OutOfMemory) (graph_of a)
+      no_memory argument none = sets_at a id argument n name (Err OutOfMemory) (graph_of a) had
+          (λ g _. (refl, ap kind_of is, subst (λ x. IfSome x (λ e. IsArgumentOf (graph_of a) id e.0 argument → ⊥)) (sym (import_is None none)) tt))
+
       pub import_held : (position : ℕ) (kind : ItemKind) → Some (position, kind) ≡ named_at 0 name w.imports → IsWellFormed a.types → holds_type a.types (kind_type kind) ≡ true
       import_held position kind found law =
           let (e, j, place, at, same) = found_entry name 0 position kind w.imports found in
@@ -155,6 +159,13 @@ unset g id argument name position kind new import is = split (node_at g id) impo
   split : (o : Option GraphNode) → IsSomeAnd o (λ m. (m.kind ≡ graph.instantiation) × (import_named g m name ≡ Some (position, kind))) → IfSome o (λ n. UnsetsOn g id n name argument (Ok tt) new)
   split None h = absurd h
   split (Some m) h = (h.0, subst (λ x. IsSomeAnd x (λ e. new ≡ record g { edges = set.remove g.edges (argument_edge argument id e.0) })) (sym h.1) is)
+
+-- memory runs out for an argument that is not set
+pub out_of_memory : (g : Graph) (id argument : NodeId) (name : Name) (position : ℕ) (kind : ItemKind) → HasImport g id name position kind → (IsArgumentOf g id position argument → ⊥) → SetsArgument g id name argument (Err OutOfMemory) g
+out_of_memory g id argument name position kind import other = split (node_at g id) import where
+  split : (o : Option GraphNode) → IsSomeAnd o (λ m. (m.kind ≡ graph.instantiation) × (import_named g m name ≡ Some (position, kind))) → IfSome o (λ n. IfSome (node_at g argument) (λ given. SetsOn g id n name argument given (Err OutOfMemory) g))
+  split None h = absurd h
+  split (Some m) h = IfSome-eq (node_at g argument) (λ given. SetsOn g id m name argument given (Err OutOfMemory) g) (λ given at. (refl, h.0, subst (λ x. IfSome x (λ e. IsArgumentOf g id e.0 argument → ⊥)) (sym h.1) other))
 
 -- what a `?` hands on
 pub handed_on : (g : Graph) (id : NodeId) (name : Name) (argument : NodeId) (r : Result (Unit {0}) InstantiationArgumentError) (e : InstantiationArgumentError) → IsErrAnd r (λ y. y ≡ e) → UnsetsArgument g id name argument (Err e) g → UnsetsArgument g id name argument r g

@@ -178,6 +178,8 @@ GivesArgument old id argument given position kind new =
     ⊎ (IsUnsatisfied old id position × IsSubtype old.types given old.types kind × (new ≡ record old { edges = set.insert old.edges (argument_edge argument id position) }))
 
 -- `set_instantiation_argument` for nodes of the graph.
+--
+-- Neither an argument that is already set nor the error for a node that is no instantiation needs memory.
 abbrev pub SetsOn : Graph → NodeId → GraphNode → Name → NodeId → GraphNode → Result (Unit {0}) InstantiationArgumentError → Graph → Type 0
 SetsOn old id n name argument given (Ok _) new =
     (n.kind ≡ graph.instantiation) × IsSomeAnd (import_named old n name) (λ e. GivesArgument old id argument given.item_kind e.0 e.1 new)
@@ -192,7 +194,8 @@ SetsOn old id n name argument given (Err (argument_error.ArgumentAlreadyPassed n
 SetsOn old id n name argument given (Err (argument_error.ArgumentTypeMismatch text source)) new =
     (new ≡ old) × (string_bytes text ≡ name) × (n.kind ≡ graph.instantiation) × (source ≡ Mismatch)
     × IsSomeAnd (import_named old n name) (λ e. IsUnsatisfied old id e.0 × (IsSubtype old.types given.item_kind old.types e.1 → ⊥))
-SetsOn old id n name argument given (Err argument_error.OutOfMemory) new = new ≡ old
+SetsOn old id n name argument given (Err argument_error.OutOfMemory) new =
+    (new ≡ old) × (n.kind ≡ graph.instantiation) × IfSome (import_named old n name) (λ e. IsArgumentOf old id e.0 argument → ⊥)
 
 -- `set_instantiation_argument`: an argument must be a subtype of the import that it satisfies.
 abbrev pub SetsArgument : Graph → NodeId → Name → NodeId → Result (Unit {0}) InstantiationArgumentError → Graph → Type 0

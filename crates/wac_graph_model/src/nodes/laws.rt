@@ -22,7 +22,6 @@ ghost use Rattle.wac_graph_model.specs.declared.nodes.errors.RegisterPackageErro
 ghost use Rattle.wac_graph_model.specs.declared.nodes.errors.AliasError.{AliasError};
 ghost use Rattle.wac_graph_model.specs.declared.nodes.errors.AliasError.TheVariants as alias_error;
 ghost use Rattle.wac_graph_model.specs.declared.nodes.errors.InstantiationArgumentError.{InstantiationArgumentError};
-ghost use Rattle.wac_graph_model.specs.declared.nodes.errors.InstantiationArgumentError.TheVariants as argument_error;
 ghost use Rattle.wac_edges.specs.declared.node.NodeId.{NodeId};
 ghost use Rattle.wac_graph_model.specs.declared.nodes.packages.PackageId.{PackageId};
 ghost use Rattle.wac_graph_model.specs.nodes.Graph.{Graph, GraphNode, node_at, package_at};
@@ -58,10 +57,10 @@ pub fn stays_law()
 /// Proves what a repeated call does.
 ///
 /// - The second alias of an export is the first one.
-/// - An argument that is set again changes nothing.
+/// - An argument that is set again changes nothing, and the call succeeds.
 /// - An argument that is newly set and then unset leaves the graph as it was.
 pub fn again_law()
     ensures alias { (old mid new : Graph) (instance : NodeId) (source : GraphNode) (name : AName) (first : NodeId) (r : AResult NodeId AliasError) → IsSound mid → node_at old instance ≡ Some source → Aliases old instance name (Ok first) mid → Aliases mid instance name r new → GivesAgain mid first alias_error.OutOfMemory r new }
-    ensures argument { (old mid new : Graph) (consumer : NodeId) (node : GraphNode) (name : AName) (argument : NodeId) (given : GraphNode) (r : AResult (Unit {0}) InstantiationArgumentError) → node_at old consumer ≡ Some node → node_at old argument ≡ Some given → SetsArgument old consumer name argument (Ok tt) mid → SetsArgument mid consumer name argument r new → GivesAgain mid tt argument_error.OutOfMemory r new }
+    ensures argument { (old mid new : Graph) (consumer : NodeId) (node : GraphNode) (name : AName) (argument : NodeId) (given : GraphNode) (r : AResult (Unit {0}) InstantiationArgumentError) → node_at old consumer ≡ Some node → node_at old argument ≡ Some given → SetsArgument old consumer name argument (Ok tt) mid → SetsArgument mid consumer name argument r new → (new ≡ mid) × (r ≡ Ok tt) }
     ensures unset { (old mid new : Graph) (consumer : NodeId) (node : GraphNode) (name : AName) (argument : NodeId) (given : GraphNode) → node_at old consumer ≡ Some node → node_at old argument ≡ Some given → SetsArgument old consumer name argument (Ok tt) mid → (mid ≡ old → ⊥) → UnsetsArgument mid consumer name argument (Ok tt) new → new ≡ old }
 {}

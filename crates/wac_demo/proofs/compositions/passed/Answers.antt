@@ -13,7 +13,7 @@ export-requires c =
 pub set_node_name-requires : goal.set_node_name-requires
 set_node_name-requires c =
     export-there c.function.new.graph c.import.new.self c.in_ok-function.function c.in_ok-node.node (codes "x")
-    c.in_ok-function.ensures.plain c.in_ok-node.ensures.step c.export.new.self (codes "y") c.in_ok-export.ensures
+    c.in_ok-function.ensures.plain c.in_ok-node.ensures.step c.export.new.self (codes "y") c.in_ok-export.ensures.step
 
 pub returns : goal.returns
 returns c =
@@ -25,5 +25,5 @@ returns c =
       c.default.ensures,
       means.3,
       passes-it c.function.new.graph c.import.new.self c.in_ok-function.function c.in_ok-node.node (codes "x")
-          c.in_ok-function.ensures.plain c.in_ok-node.ensures.step c.export.new.self (codes "y") c.in_ok-export.ensures c.set_node_name.new.self (codes "n") c.in_ok-set_node_name.ensures,
+          c.in_ok-function.ensures.plain c.in_ok-node.ensures.step c.export.new.self (codes "y") c.in_ok-export.ensures.step c.set_node_name.new.self (codes "n") c.in_ok-set_node_name.ensures.step,
     )

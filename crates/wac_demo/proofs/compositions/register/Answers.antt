@@ -13,7 +13,7 @@ returns-in_err-package-clause-stays c = stays-trans _ _ _ (world-stays _ _ _ _ c
 pub returns-in_err-register_package-clause-stays :
     goal.returns-in_err-register_package-clause-stays
 returns-in_err-register_package-clause-stays c =
-    stays-trans _ _ _ (world-stays _ _ _ _ c.add_world.ensures.added) (stays-trans _ _ _ (made-stays _ _ _ _ c.new_package.ensures.added) (registered-stays _ _ _ _ c.register_package.ensures))
+    stays-trans _ _ _ (world-stays _ _ _ _ c.add_world.ensures.added) (stays-trans _ _ _ (made-stays _ _ _ _ c.new_package.ensures.added) (registered-stays _ _ _ _ c.register_package.ensures.step))
 
 pub returns-clause-registered : goal.returns-clause-registered
 returns-clause-registered c =
@@ -21,9 +21,9 @@ returns-clause-registered c =
     c.in_ok-world.ensures.added c.in_ok-new.ensures.built.2 c.in_ok-new.ensures.built.3
     (ap (λ (p : PackageParts). p.name) c.in_ok-package.ensures.built) (ap (λ (p : PackageParts). p.version) c.in_ok-package.ensures.built)
     (ap (λ (p : PackageParts). p.bytes) c.in_ok-package.ensures.built ∙ c.in_ok-bytes.ensures.items) (ap (λ (p : PackageParts). p.world) c.in_ok-package.ensures.built)
-    (stays-trans _ _ _ (made-stays _ _ _ _ c.new_package.ensures.added) (registered-stays _ _ _ _ c.register_package.ensures))
-    c.in_ok-register_package.ensures
+    (stays-trans _ _ _ (made-stays _ _ _ _ c.new_package.ensures.added) (registered-stays _ _ _ _ c.register_package.ensures.step))
+    c.in_ok-register_package.ensures.step
 
 pub returns-clause-stays : goal.returns-clause-stays
 returns-clause-stays c =
-    stays-trans _ _ _ (world-stays _ _ _ _ c.add_world.ensures.added) (stays-trans _ _ _ (made-stays _ _ _ _ c.new_package.ensures.added) (registered-stays _ _ _ _ c.register_package.ensures))
+    stays-trans _ _ _ (world-stays _ _ _ _ c.add_world.ensures.added) (stays-trans _ _ _ (made-stays _ _ _ _ c.new_package.ensures.added) (registered-stays _ _ _ _ c.register_package.ensures.step))

@@ -13,33 +13,33 @@ use Rattle.wac_graph.proofs.plugging.plug_all.Goals as goal
 
 pub plug_each-requires-clause-ready : goal.plug_each-requires-clause-ready
 plug_each-requires-clause-ready c =
-    let made = instance-keeps c.args.graph.now c.instantiate.new.self c.args.socket c.in_ok-node.node c.requires.socket c.in_ok-node.ensures in
+    let made = instance-keeps c.args.graph.now c.instantiate.new.self c.args.socket c.in_ok-node.node c.requires.socket c.in_ok-node.ensures.step in
     all-ready c.args.graph.now c.instantiate.new.self c.args.socket made.0 c.args.wired.now c.requires.ready
 
 pub plug_each-requires-clause-socket : goal.plug_each-requires-clause-socket
 plug_each-requires-clause-socket c =
-    let made = instance-keeps c.args.graph.now c.instantiate.new.self c.args.socket c.in_ok-node.node c.requires.socket c.in_ok-node.ensures in
+    let made = instance-keeps c.args.graph.now c.instantiate.new.self c.args.socket c.in_ok-node.node c.requires.socket c.in_ok-node.ensures.step in
     package-kept c.args.graph.now c.instantiate.new.self c.args.socket made.0 c.args.socket c.requires.socket
 
 pub plug_each-requires-clause-node : goal.plug_each-requires-clause-node
-plug_each-requires-clause-node c = node-made c.args.graph.now c.instantiate.new.self c.args.socket c.in_ok-node.node c.requires.socket c.in_ok-node.ensures
+plug_each-requires-clause-node c = node-made c.args.graph.now c.instantiate.new.self c.args.socket c.in_ok-node.node c.requires.socket c.in_ok-node.ensures.step
 
 pub plug_each-requires-clause-asked : goal.plug_each-requires-clause-asked
 plug_each-requires-clause-asked c =
-    let made = instance-keeps c.args.graph.now c.instantiate.new.self c.args.socket c.in_ok-node.node c.requires.socket c.in_ok-node.ensures in
+    let made = instance-keeps c.args.graph.now c.instantiate.new.self c.args.socket c.in_ok-node.node c.requires.socket c.in_ok-node.ensures.step in
     subst NoNameTwice (sym (imports-kept c.args.graph.now c.instantiate.new.self c.args.socket made.0)) c.imports_law.ensures
 
 pub returns-in_err-plug_each : goal.returns-in_err-plug_each
 returns-in_err-plug_each c =
     let old = c.args.graph.now in
     let mid = c.instantiate.new.self in
-    let made = instance-keeps old mid c.args.socket c.in_ok-node.node c.requires.socket c.in_ok-node.ensures in
+    let made = instance-keeps old mid c.args.socket c.in_ok-node.node c.requires.socket c.in_ok-node.ensures.step in
     let e = (c.in_err-plug_each.field-0).0 in
     subst (λ (r : Answer). Plugs old c.args.socket (plugs_at old c.args.socket c.args.wired.now) r c.plug_each.new.graph) (sym (exit-is c.from_residual-in_err-plug_each.result e c.from_residual-in_err-plug_each.ensures.1))
     (inr (
       c.in_ok-node.node,
       mid,
-      c.in_ok-node.ensures,
+      c.in_ok-node.ensures.step,
       inl (refl, subst (λ l. InOrder (PlugsIn c.in_ok-node.node) mid l (Err e) c.plug_each.new.graph) (plugs-kept old mid c.args.socket made.0 c.args.wired.now) c.in_err-plug_each.ensures.step),
     ))
 
@@ -47,12 +47,12 @@ pub returns-then-is_empty : goal.returns-then-is_empty
 returns-then-is_empty c =
     let old = c.args.graph.now in
     let mid = c.instantiate.new.self in
-    let made = instance-keeps old mid c.args.socket c.in_ok-node.node c.requires.socket c.in_ok-node.ensures in
+    let made = instance-keeps old mid c.args.socket c.in_ok-node.node c.requires.socket c.in_ok-node.ensures.step in
     let names : List Name = names_of (exports_of_package old c.args.socket) in
     inr (
       c.in_ok-node.node,
       mid,
-      c.in_ok-node.ensures,
+      c.in_ok-node.ensures.step,
       inr (
         c.plug_each.new.graph,
         subst (λ l. InOrder (PlugsIn c.in_ok-node.node) mid l (Ok tt) c.plug_each.new.graph) (plugs-kept old mid c.args.socket made.0 c.args.wired.now) c.in_ok-plug_each.ensures.step,
@@ -62,19 +62,19 @@ returns-then-is_empty c =
 
 pub pass_on_all-requires-clause-socket : goal.pass_on_all-requires-clause-socket
 pass_on_all-requires-clause-socket c =
-    c.in_ok-plug_each.ensures.kept.nodes c.in_ok-node.node (instance-keeps c.args.graph.now c.instantiate.new.self c.args.socket c.in_ok-node.node c.requires.socket c.in_ok-node.ensures).1
+    c.in_ok-plug_each.ensures.kept.nodes c.in_ok-node.node (instance-keeps c.args.graph.now c.instantiate.new.self c.args.socket c.in_ok-node.node c.requires.socket c.in_ok-node.ensures.step).1
 
 pub returns : goal.returns
 returns c =
     let old = c.args.graph.now in
     let mid = c.instantiate.new.self in
-    let made = instance-keeps old mid c.args.socket c.in_ok-node.node c.requires.socket c.in_ok-node.ensures in
+    let made = instance-keeps old mid c.args.socket c.in_ok-node.node c.requires.socket c.in_ok-node.ensures.step in
     let names : List Name = names_of (exports_of_package old c.args.socket) in
     let kept = keeps-trans old mid c.plug_each.new.graph made.0 c.in_ok-plug_each.ensures.kept in
     inr (
       c.in_ok-node.node,
       mid,
-      c.in_ok-node.ensures,
+      c.in_ok-node.ensures.step,
       inr (
         c.plug_each.new.graph,
         subst (λ l. InOrder (PlugsIn c.in_ok-node.node) mid l (Ok tt) c.plug_each.new.graph) (plugs-kept old mid c.args.socket made.0 c.args.wired.now) c.in_ok-plug_each.ensures.step,

@@ -65,10 +65,10 @@ second_alias old mid new instance source name first r s there step again =
 -- an argument that is set stays as it is when it is set again
 argument-again : (mid new : Graph) (consumer : NodeId) (n given : GraphNode) (e : ℕ × ItemKind) (name : Name) (argument : NodeId) (r : Result (Unit {0}) InstantiationArgumentError)
     → n.kind ≡ graph.instantiation → import_named mid n name ≡ Some e → IsArgumentOf mid consumer e.0 argument → SetsOn mid consumer n name argument given r new
-    → GivesAgain {X = Unit {0}} mid tt argument_error.OutOfMemory r new
+    → (new ≡ mid) × (r ≡ Ok tt)
 argument-again mid new consumer n given e name argument (Ok u) kind is stood step = gives (subst (λ o. IsSomeAnd o (λ e. GivesArgument mid consumer argument given.item_kind e.0 e.1 new)) is step.1) where
-  gives : GivesArgument mid consumer argument given.item_kind e.0 e.1 new → GivesAgain {X = Unit {0}} mid tt argument_error.OutOfMemory (Ok u) new
-  gives (inl h) = (h.1, inl refl)
+  gives : GivesArgument mid consumer argument given.item_kind e.0 e.1 new → (new ≡ mid) × (let again : Result (Unit {0}) InstantiationArgumentError = Ok u in again ≡ Ok tt)
+  gives (inl h) = (h.1, refl)
   gives (inr h) = absurd (h.0 argument stood)
 argument-again mid new consumer n given e name argument (Err (argument_error.NodeIsNotAnInstantiation node)) kind is stood step = absurd (step.2 kind)
 argument-again mid new consumer n given e name argument (Err (argument_error.InvalidArgumentName node text of_package)) kind is stood step = cc
@@ -76,7 +76,8 @@ argument-again mid new consumer n given e name argument (Err (argument_error.Arg
     absurd ((subst (λ o. IsSomeAnd o (λ e. (IsArgumentOf mid consumer e.0 argument → ⊥) × graph.IsSatisfied mid consumer e.0)) is step.4).0 stood)
 argument-again mid new consumer n given e name argument (Err (argument_error.ArgumentTypeMismatch text source)) kind is stood step =
     absurd ((subst (λ o. IsSomeAnd o (λ e. IsUnsatisfied mid consumer e.0 × (IsSubtype mid.types given.item_kind mid.types e.1 → ⊥))) is step.4).0 argument stood)
-argument-again mid new consumer n given e name argument (Err argument_error.OutOfMemory) kind is stood step = (step, inr refl)
+argument-again mid new consumer n given e name argument (Err argument_error.OutOfMemory) kind is stood step =
+    absurd (subst (λ o. IfSome o (λ e. IsArgumentOf mid consumer e.0 argument → ⊥)) is step.2 stood)
 
 sets : (g new : Graph) (consumer argument : NodeId) (n given : GraphNode) (name : Name) (r : Result (Unit {0}) InstantiationArgumentError) → node_at g consumer ≡ Some n → node_at g argument ≡ Some given
     → SetsArgument g consumer name argument r new → SetsOn g consumer n name argument given r new
@@ -85,7 +86,7 @@ sets g new consumer argument n given name r there given_there step =
 
 pub second_argument : (old mid new : Graph) (consumer : NodeId) (n : GraphNode) (name : Name) (argument : NodeId) (given : GraphNode) (r : Result (Unit {0}) InstantiationArgumentError)
     → node_at old consumer ≡ Some n → node_at old argument ≡ Some given → SetsArgument old consumer name argument (Ok tt) mid → SetsArgument mid consumer name argument r new
-    → GivesAgain {X = Unit {0}} mid tt argument_error.OutOfMemory r new
+    → (new ≡ mid) × (r ≡ Ok tt)
 second_argument old mid new consumer n name argument given r there given_there step again =
     let ((m, e, at, is, stood), stays) = argument-stays old mid consumer n name argument given there given_there step in
     let same : m ≡ n = some_of (node_at mid consumer) m n at (stays.nodes consumer n there) in

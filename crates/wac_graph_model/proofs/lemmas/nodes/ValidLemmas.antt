@@ -36,7 +36,7 @@ use Rattle.wac_graph_model.specs.declared.nodes.errors.InstantiationArgumentErro
 use Rattle.wac_graph_model.specs.nodes.Graph as graph
 use Rattle.wac_graph_model.specs.nodes.Graph.{Graph, GraphNode, node_at, package_at}
 use Rattle.wac_graph_model.specs.nodes.TakenOut.{without}
-use Rattle.wac_graph_model.specs.nodes.Steps.{AddsNode, Registers, Defines, Imports, import_node, Instantiates, instance_node, Aliases, AliasesOf, GivesAlias, export_named, UnsetsArgument, UnsetsOn, import_named, SetsName, Exports, Unexports, TakesSlot, freed, added}
+use Rattle.wac_graph_model.specs.nodes.Steps.{AddsNode, Registers, Defines, Imports, import_node, Instantiates, instance_node, Aliases, AliasesOf, GivesAlias, export_named, SetsArgument, SetsOn, GivesArgument, UnsetsArgument, UnsetsOn, import_named, SetsName, Exports, Unexports, TakesSlot, freed, added}
 use Rattle.wac_graph_model.specs.nodes.Stays.{Stays}
 use Rattle.wac_graph_model.specs.nodes.Valid.{KeepsValid}
 use Rattle.wac_graph_model.proofs.lemmas.nodes.Added.{by_eq, insert_same, insert_other}
@@ -158,6 +158,28 @@ pub valid_edges : (old new : Graph) → new.types ≡ old.types → new.nodes �
 valid_edges old new types nodes slots = valid_by old new types
     (λ n h. ap (λ m. is_some (map.get m n.0)) nodes ∙ h)
     (λ id h. ap (λ s. is_some (package_at (record old { slots = s }) id)) slots ∙ h)
+
+given_argument : (old new : Graph) (id argument : NodeId) (given kind : ItemKind) (position : ℕ) → GivesArgument old id argument given position kind new → KeepsValid old new
+given_argument old new id argument given kind position (inl h) = valid_same old new h.1
+given_argument old new id argument given kind position (inr h) = valid_edges old new (ap (λ g. g.types) h.2) (ap (λ g. g.nodes) h.2) (ap (λ g. g.slots) h.2)
+
+pub valid_set : (old new : Graph) (id argument : NodeId) (name : Name) (r : Result (Unit {0}) InstantiationArgumentError) → IsSome (node_at old id) → IsSome (node_at old argument) → SetsArgument old id name argument r new → KeepsValid old new
+valid_set old new id argument name r there given h =
+    let n = some_of (node_at old id) there in
+    let a = some_of (node_at old argument) given in
+    by n.0 a.0 r (subst (λ o. IfSome o (λ x. SetsOn old id n.0 name argument x r new)) a.1 (subst (λ o. IfSome o (λ n. IfSome (node_at old argument) (λ x. SetsOn old id n name argument x r new))) n.1 h))
+  where
+    gives : (n a : GraphNode) (o : Option (ℕ × ItemKind)) → IsSomeAnd o (λ e. GivesArgument old id argument a.item_kind e.0 e.1 new) → KeepsValid old new
+    gives n a None g = absurd g
+    gives n a (Some e) g = given_argument old new id argument a.item_kind e.1 e.0 g
+
+    by : (n a : GraphNode) (r : Result (Unit {0}) InstantiationArgumentError) → SetsOn old id n name argument a r new → KeepsValid old new
+    by n a (Ok u) h = gives n a (import_named old n name) h.1
+    by n a (Err (argument_error.NodeIsNotAnInstantiation node)) h = valid_same old new h.0
+    by n a (Err (argument_error.InvalidArgumentName node text of_package)) h = valid_same old new h.0
+    by n a (Err (argument_error.ArgumentAlreadyPassed node text)) h = valid_same old new h.0
+    by n a (Err (argument_error.ArgumentTypeMismatch text source)) h = valid_same old new h.0
+    by n a (Err argument_error.OutOfMemory) h = valid_same old new h.0
 
 pub valid_unset : (old new : Graph) (id argument : NodeId) (name : Name) (r : Result (Unit {0}) InstantiationArgumentError) → IsSome (node_at old id) → UnsetsArgument old id name argument r new → KeepsValid old new
 valid_unset old new id argument name r there h =

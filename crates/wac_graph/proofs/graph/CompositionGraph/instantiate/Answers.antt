@@ -1,12 +1,14 @@
-use Rattle.std.proofs.Common.{sym, ap, ◌∙◌}
+use Rattle.std.proofs.Common.{sym, ap, ◌∙◌, Ok}
 use Rattle.std.specs.List.{list_any}
 use Rattle.std.specs.BTreeMap.{is_at}
 use Rattle.std.specs.Ordering.{nat_cmp}
 use Rattle.wac_graph_model.specs.nodes.Nodes.{satisfied}
 use Rattle.wac_graph_fields.proofs.AliasLemmas.{before_reserve, vacant_before}
 use Rattle.wac_graph_fields.proofs.InvariantLemmas.{invariant_instance}
+use Rattle.wac_graph_fields.specs.private.Fields.{graph_of}
 use Rattle.wac_graph_fields.proofs.StepLemmas.{instantiated, instance_shape}
 use Rattle.wac_graph.specs.private.Inside.{fields_of}
+use Rattle.wac_graph_model.proofs.lemmas.nodes.ValidLemmas.{instance_is_there, valid_instantiated}
 use Rattle.wac_graph.proofs.graph.CompositionGraph.instantiate.Goals as goal
 
 pub invariant_of-self-2 : goal.invariant_of-self-2
@@ -17,10 +19,16 @@ invariant_of-self-2 c =
     (λ i. ap (λ k. satisfied k i) c.new-2.ensures.kind ∙ ap (λ ks. list_any (is_at (nat_cmp i)) ks) c.new.ensures.empty)
     c.args.id c.in-Some.«package».now (c.new-2.ensures.node ∙ instance_shape c.args.id c.instance_type.result c.in-Some.«package».now c.instance_type.ensures) (sym (rw c.deref.ensures.value at c.in-Some.ensures))
 
-pub returns : goal.returns
-returns c =
+pub returns-clause-step : goal.returns-clause-step
+returns-clause-step c =
     rw (← c.self.view_is)
     (instantiated (fields_of c.self.inside) c.insert_reserved.new.self c.vacant_key-number.result c.args.id c.in-Some.«package».now _ (c.new-2.ensures.node ∙ instance_shape c.args.id c.instance_type.result c.in-Some.«package».now c.instance_type.ensures) (rw c.deref.ensures.value at c.in-Some.ensures)
     (c.vacant_key-number.ensures.value ∙ ap (λ s. s.vacant_key) c.in_ok-reserve.ensures.rest_kept)
     (vacant_before (fields_of c.self.inside) c.reserve.new.self c.vacant_key-number.result c.in_ok-reserve.ensures.rest_kept c.vacant_key-number.ensures.vacant)
     (before_reserve (fields_of c.self.inside) c.reserve.new.self c.insert_reserved.new.self c.vacant_key-number.result c.insert_reserved.result _ c.in_ok-reserve.ensures.rest_kept c.vacant_key-number.ensures.value c.insert_reserved.ensures.key c.insert_reserved.ensures.updates))
+
+pub returns-clause-there : goal.returns-clause-there
+returns-clause-there c = instance_is_there c.args.self.now (graph_of (record (fields_of c.self.inside) { nodes = c.insert_reserved.new.self })) c.args.id (Ok (record { 0 = c.vacant_key-number.result })) c.requires (returns-clause-step c)
+
+pub returns-clause-valid : goal.returns-clause-valid
+returns-clause-valid c = valid_instantiated c.args.self.now _ c.args.id (Ok (record { 0 = c.vacant_key-number.result })) c.requires (returns-clause-step c)
