@@ -519,16 +519,16 @@ module _ (g2 g3 g4 : Graph) (plug second socket : PackageId) (plugs : List Packa
     second_later sound sound_new = package_new g4 g5 plug socket a run first_parts.0 taker_parts.0 sound sound_new first_there taker_parts.1 made second second_parts.0 second_there
 
     module _ (passed : List PassedOver) (are : (all : List PlugMatches) → AreAllMatches g4 socket plugs all → list_map named_by passed ≡ passed_over [] all) where
-      passed_is : list_map named_by passed ≡ record { plug = second; match = record { export = a; import = a } } ∷ []
-      passed_is = passed-second g4 g5 plug socket taker_parts.0 a run f taker_parts.1 listed.0 (exports-later g2 g4 plug one [] (a, f) [] until registered_plug) listed.1 second
+      match_is : list_map named_by passed ≡ record { plug = second; match = record { export = a; import = a } } ∷ []
+      match_is = passed-second g4 g5 plug socket taker_parts.0 a run f taker_parts.1 listed.0 (exports-later g2 g4 plug one [] (a, f) [] until registered_plug) listed.1 second
           (exports-later g3 g4 second two [] (a, f) [] behind registered_second) (list_map named_by passed) (λ all h. are all (subst (λ l. AreAllMatches g4 socket l all) (sym plugs_are) h)) stepped
 
       pub passed-there : IsSound g4 → IsSound g5 → (i : ℕ) (over : PassedOver) → slice_get passed i ≡ Some over → IsSome (package_at g5 over.plug)
       passed-there sound sound_new i over at =
-          let same : over.plug ≡ second = ap (λ (p : PlugMatch). p.plug) (only-one (list_map named_by passed) (record { plug = second; match = record { export = a; import = a } }) i (named_by over) passed_is (slice_get-map named_by passed i ∙ ap (option_map named_by) at)) in
+          let same : over.plug ≡ second = ap (λ (p : PlugMatch). p.plug) (only-one (list_map named_by passed) (record { plug = second; match = record { export = a; import = a } }) i (named_by over) match_is (slice_get-map named_by passed i ∙ ap (option_map named_by) at)) in
           subst (λ k. IsSome (package_at g5 k)) (sym same) (there-is (package_at g5 second) second_parts.0 (second_later sound sound_new))
 
       pub lines-are : IsSound g4 → IsSound g5 → lines_of g5 (list_map named_by passed) ≡ match_line two (record { export = a; import = a }) ++ []
       lines-are sound sound_new =
           let named : package_name g5 second ≡ two = ap (λ o. option_case o [] (λ (p : PackageParts). p.name)) (second_later sound sound_new) ∙ second_parts.2 in
-          ap (lines_of g5) passed_is ∙ ap (λ n. match_line n (record { export = a; import = a }) ++ []) named
+          ap (lines_of g5) match_is ∙ ap (λ n. match_line n (record { export = a; import = a }) ++ []) named
