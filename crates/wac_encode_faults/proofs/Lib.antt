@@ -3,6 +3,7 @@ pub mod Listing
 pub mod Insides
 pub mod Dependencies
 pub mod Reached
+pub mod UseWalk
 pub mod Needed
 pub mod Twice
 pub mod Mentioned

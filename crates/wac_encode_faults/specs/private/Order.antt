@@ -1,5 +1,5 @@
 -- How interfaces are put in order; private functions alone cite this.
-use Rattle.std.specs.Prelude.{ℕ, ◌≡◌, true, false, List, [], ◌∷◌, ◌++◌, map, take, Some, slice_get, Contains}
+use Rattle.std.specs.Prelude.{ℕ, ◌≡◌, true, false, List, [], ◌∷◌, ◌++◌, map, take, reverse, Some, slice_get, Contains}
 use Rattle.std.specs.List.{flat_map}
 use Rattle.wac_types_shapes.specs.primitives.Name.{Name}
 use Rattle.wac_types_shapes.specs.shapes.Kinds.{kind_type}
@@ -10,7 +10,7 @@ use Rattle.wac_types_shapes.specs.declared.shapes.component.«Type».TheVariants
 use Rattle.wac_types_collection.specs.collection.Collection.{Collection, interface_exports}
 use Rattle.wac_encode_faults.specs.declared.order.Step.{Step}
 use Rattle.wac_encode_faults.specs.declared.order.Step.TheVariants as step
-use Rattle.wac_types_collection.specs.wide.Wide.{is_among, with_each}
+use Rattle.wac_types_collection.specs.wide.Wide.{interface_uses, used_interfaces, is_among, with_each}
 
 -- The interface, if the type is one.
 abbrev pub interface_of : AnyType → List InterfaceId
@@ -48,3 +48,10 @@ Takes c (step.Enter i) done seen pending done_now seen_now pending_now =
     (done_now ≡ done) × (seen_now ≡ with_each seen (i ∷ [])) × (is_among seen i ≡ true → pending_now ≡ pending)
     × (is_among seen i ≡ false → pending_now ≡ (pending ++ step.Leave i ∷ []) ++ steps_into (children c i))
 Takes c (step.Leave i) done seen pending done_now seen_now pending_now = (done_now ≡ with_each done (i ∷ [])) × (seen_now ≡ seen) × (pending_now ≡ pending)
+
+-- What a step into or out of an interface that others use does with the interfaces that are done, and with the steps that are pending.
+abbrev pub TakesUse : Collection → Step → List InterfaceId → List Step → List InterfaceId → List Step → Type 0
+TakesUse c (step.Enter i) done pending done_now pending_now =
+    (done_now ≡ done) × (is_among done i ≡ true → pending_now ≡ pending)
+    × (is_among done i ≡ false → pending_now ≡ (pending ++ step.Leave i ∷ []) ++ reverse (steps_into (used_interfaces (interface_uses c i))))
+TakesUse c (step.Leave i) done pending done_now pending_now = (done_now ≡ with_each done (i ∷ [])) × (pending_now ≡ pending)

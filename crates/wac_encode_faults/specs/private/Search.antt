@@ -10,7 +10,6 @@ use Rattle.wac_types_shapes.specs.declared.shapes.component.«Type».{«Type» a
 use Rattle.wac_types_shapes.specs.declared.shapes.component.«Type».TheVariants as ty
 use Rattle.wac_types_collection.specs.collection.Collection.{Collection, item_at, holds_type, interface_exports, world_imports, world_exports}
 use Rattle.wac_encode_faults.specs.declared.fault.WriteFault.{WriteFault}
-use Rattle.wac_types_collection.specs.wide.Wide.{interface_uses, used_interfaces}
 use Rattle.wac_encode_faults.specs.Sides.{Sides, under_id}
 use Rattle.wac_encode_faults.specs.Faults.{fault_rank}
 
@@ -67,11 +66,6 @@ UsesOther listed uses = (n : Name) × (u : UsedType) × Contains uses (n, u) × 
 -- One of the interfaces is not among these.
 abbrev pub HasOther : List InterfaceId → List InterfaceId → Type 0
 HasOther listed is = (i : InterfaceId) × Contains is i × (Contains listed i → ⊥)
-
--- The interface is one of these, or one uses it, or one that is reached so uses it.
-pub data IsReached (c : Collection) (is : List InterfaceId) : InterfaceId → Type 0 where
-  first : (k : InterfaceId) → Contains is k → IsReached c is k
-  onward : (j k : InterfaceId) → IsReached c is j → Contains (used_interfaces (interface_uses c j)) k → IsReached c is k
 
 -- The interface under its id.
 abbrev pub named : Collection → InterfaceId → List (Name × InterfaceId)

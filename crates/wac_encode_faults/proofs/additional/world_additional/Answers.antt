@@ -1,9 +1,8 @@
-use Rattle.std.proofs.Common.{◌≡◌, ◌∙◌, ap, sym, subst, ◌++◌, Some}
+use Rattle.std.proofs.Common.{◌≡◌, ◌∙◌, sym, Some}
 use Rattle.wac_types_shapes.specs.declared.shapes.component.World.{World}
-use Rattle.wac_encode_faults.specs.Sides.{unlisted}
 use Rattle.wac_encode_faults.proofs.Dependencies.{imports_held, exports_held}
 use Rattle.wac_encode_faults.proofs.Reached.{world_uses_there}
-use Rattle.wac_encode_faults.proofs.Needed.{HaveSame, listed_one, same_then, same_both}
+use Rattle.wac_encode_faults.proofs.Needed.{listed_one, world_unlisted}
 use Rattle.wac_encode_faults.proofs.additional.world_additional.Goals as goal
 
 pub add_listed-requires : goal.add_listed-requires
@@ -23,10 +22,7 @@ add_unlisted-requires-clause-listed c = listed_one c.args.types.now c.index-worl
 
 pub returns : goal.returns
 returns c x at =
-    let same : c.index-world.result.now ≡ x = one c.index-world.result.now x (sym c.index-world.ensures ∙ at) in
-    let all = same_then c.add_unlisted.new.found.keys (c.new-found.result.keys ++ unlisted c.args.types.now c.index-world.result.now) (unlisted c.args.types.now c.index-world.result.now) c.in_ok-add_unlisted.ensures
-    (same_both (c.new-found.result.keys ++ unlisted c.args.types.now c.index-world.result.now) (unlisted c.args.types.now c.index-world.result.now) (ap (λ l. l ++ unlisted c.args.types.now c.index-world.result.now) c.new-found.ensures.empty)) in
-    subst (λ (w : World). HaveSame c.add_unlisted.new.found.keys (unlisted c.args.types.now w)) same all
+    world_unlisted c.args.types.now c.index-world.result.now x c.new-found.result.keys c.add_unlisted.new.found.keys c.new-found.ensures.empty (one c.index-world.result.now x (sym c.index-world.ensures ∙ at)) c.in_ok-add_unlisted.ensures
   where
     one : (p q : World) → Some p ≡ Some q → p ≡ q
     one p q e = cc
