@@ -1,7 +1,7 @@
 -- Worked examples of merging, each decided by computing.
 use Rattle.std.specs.Prelude.{ℕ, zero, suc, ◌≡◌, ◌≢◌, Bool, true, false, if◌then◌else◌, nat_lt, List, [], ◌∷◌, Option, Some, None, refl, slice_get}
 use Rattle.std.specs.List.{AllByRecursion}
-use Rattle.std.proofs.Common.{subst, arith}
+use Rattle.std.proofs.Common.{ap, sym, ◌∙◌, subst, arith}
 use Rattle.wac_names.specs.Track.{Track, whole, major}
 use Rattle.wac_types_shapes.specs.primitives.Name.{Name, same_name}
 use Rattle.wac_types_shapes.specs.primitives.Tree.{Tree, TypeTree, imported, exported, position, named, own, absent, fresh, function, function_item, type_equal, resource, instance, instance_item, items_in, type_in}
@@ -18,11 +18,12 @@ use Rattle.wac_types_shapes.specs.declared.shapes.component.ItemKind.TheVariants
 use Rattle.wac_types_shapes.specs.declared.shapes.component.ValueType.{ValueType}
 use Rattle.wac_types_shapes.specs.declared.shapes.component.ValueType.TheVariants as val
 use Rattle.wac_types_shapes.specs.declared.shapes.component.«Type».TheVariants as ty
+use Rattle.wac_types_collection.specs.subtyping.Called.{Called, of_class}
 use Rattle.wac_types_collection.specs.subtyping.Subtype.{Sub, same, instances, instance_items, IsSubtype, type_tree, kind_tree}
 use Rattle.wac_merge_classes.specs.entries.Classes.{Entry, NameRules, is_instance, class_names, canonical, members}
 use Rattle.wac_merge_classes.specs.entries.Binding.{binding_class, class_binds, root_bindings}
 use Rattle.wac_merge_classes.specs.terms.Union.{union, merged}
-use Rattle.wac_merge_classes.specs.entries.Agreement.{compared}
+use Rattle.wac_merge_classes.specs.entries.Agreement.{IsDisagreement, compared}
 use Rattle.wac_merge_classes.specs.terms.ClassOrder.{grouped, RestsOn, by_use, by_resource, IsWrittenOrder, done, new, leaves, none}
 use Rattle.wac_merge_classes.specs.terms.Merge.{Merged, IsMerge, IsListed, class_id, position_in, bound_resource}
 
@@ -193,21 +194,33 @@ pub item_is_fresh : merged simple one_interface item_before (root_bindings simpl
 unfolding held_tree
 item_is_fresh = refl
 
--- one name for a resource that an interface asked before binds, and for one that nothing else binds: the import is a new resource
+-- one name for a resource that an interface asked before binds, and for one that nothing else binds: they disagree
+abbrev number_of : TypeTree Called → ℕ
+number_of (type_equal (resource (of_class k path n))) = k
+number_of t = 0
+
+first_and_second : (t u : TypeTree Called) → number_of t ≡ 0 → number_of u ≡ 1 → t ≡ u → ⊥
+first_and_second t u first second is = let one : 0 ≡ 1 = sym first ∙ ap number_of is ∙ second in cc
+
 abbrev bound_and_new : List Entry
 bound_and_new = record { name = 1 ∷ 0 ∷ []; kind = of_interface 0 } ∷ record { name = r; kind = of_resource 0 } ∷ record { name = r; kind = of_resource 1 } ∷ []
 
-pub new_in_one_is_new : merged simple two_resources bound_and_new (root_bindings simple two_resources bound_and_new (λ k. k)) 1 r ≡ fresh
-unfolding held_tree
-new_in_one_is_new = refl
+pub bound_is_compared : compared simple two_resources bound_and_new r (of_resource 0) ≡ type_equal (resource (of_class 0 (named r ∷ []) r))
+bound_is_compared = refl
 
--- so it is when the new one is asked first
-abbrev new_and_bound : List Entry
-new_and_bound = record { name = 1 ∷ 0 ∷ []; kind = of_interface 0 } ∷ record { name = r; kind = of_resource 1 } ∷ record { name = r; kind = of_resource 0 } ∷ []
+pub new_is_compared : compared simple two_resources bound_and_new r (of_resource 1) ≡ type_equal (resource (of_class 1 [] r))
+new_is_compared = refl
 
-pub new_first_is_new : merged simple two_resources new_and_bound (root_bindings simple two_resources new_and_bound (λ k. k)) 1 r ≡ fresh
-unfolding held_tree
-new_first_is_new = refl
+pub bound_and_new_disagree : IsDisagreement simple two_resources bound_and_new 1 2
+bound_and_new_disagree = record {
+  earlier = record { name = r; kind = of_resource 0 };
+  later = record { name = r; kind = of_resource 1 };
+  at_first = refl;
+  at_second = refl;
+  before = omega arith;
+  one_class = refl;
+  apart = first_and_second _ _ refl refl;
+}
 
 -- both are bound by the interface of their names' track: equal to its resource
 abbrev both_bound : List Entry
@@ -217,6 +230,9 @@ pub both_are_equal : merged simple two_resources both_bound (root_bindings simpl
     ≡ type_equal (resource (record { out = 0; side = imported; path = position 0 ∷ named r ∷ [] }))
 unfolding held_tree
 both_are_equal = refl
+
+pub both_agree : compared simple two_resources both_bound r (of_resource 0) ≡ compared simple two_resources both_bound r (of_resource 1)
+both_agree = refl
 
 -- the id of an import: the canonical name on the track of a member's id, else the id of the first member, if it has one
 pub id_on_track : class_id simple two_versions two_asked (1 ∷ 0 ∷ []) ≡ Some (1 ∷ 3 ∷ [])
@@ -412,6 +428,24 @@ first_binds_its_own = refl
 
 pub second_binds_its_own : binding_class simple used_resources three_interfaces (record { 0 = 1 }) ≡ Some (1, named r ∷ [])
 second_binds_its_own = refl
+
+-- type items of one name that are the resources of the first two interfaces: neither is bound by their own class first, and they disagree
+abbrev two_owners : List Entry
+two_owners = record { name = 1 ∷ 0 ∷ []; kind = of_interface 0 } ∷ record { name = 2 ∷ 0 ∷ []; kind = of_interface 1 } ∷ record { name = r; kind = of_resource 0 } ∷ record { name = r; kind = of_resource 1 } ∷ []
+
+pub own_class_binds_both : class_binds simple used_resources two_owners r (record { 0 = 0 }) ≡ class_binds simple used_resources two_owners r (record { 0 = 1 })
+own_class_binds_both = refl
+
+pub owners_disagree : IsDisagreement simple used_resources two_owners 2 3
+owners_disagree = record {
+  earlier = record { name = r; kind = of_resource 0 };
+  later = record { name = r; kind = of_resource 1 };
+  at_first = refl;
+  at_second = refl;
+  before = omega arith;
+  one_class = refl;
+  apart = first_and_second _ _ refl refl;
+}
 
 abbrev using : Tree
 using = merged simple used_resources three_interfaces (root_bindings simple used_resources three_interfaces (λ k. k)) 2 (3 ∷ 0 ∷ [])

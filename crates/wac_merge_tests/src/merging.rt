@@ -83,6 +83,27 @@ const REFUSALS: &[Refusal] = &[
         asked: &[("x", 4), ("x", 5)],
         want: "0 and 1 differ at `i/f`",
     },
+    // Resources of one name that two other imports bind first.
+    Refusal {
+        rows: &[
+            Row::Resource("r"),
+            Instance(Some("n:p/a"), &[], &[("r", 0)]),
+            Row::Resource("r"),
+            Instance(Some("n:p/b"), &[], &[("r", 2)]),
+        ],
+        asked: &[("n:p/a", 1), ("n:p/b", 3), ("r", 0), ("r", 2)],
+        want: "2 and 3 differ at ``",
+    },
+    // A resource that an import before them binds, and one that no other binds.
+    Refusal {
+        rows: &[
+            Row::Resource("r"),
+            Instance(Some("n:p/a"), &[], &[("r", 0)]),
+            Row::Resource("r"),
+        ],
+        asked: &[("n:p/a", 1), ("r", 0), ("r", 2)],
+        want: "1 and 2 differ at ``",
+    },
     // Imports that use each other.
     Refusal {
         rows: &[

@@ -2,7 +2,7 @@
 use Rattle.std.specs.Prelude.{ℕ, ◌≡◌, ◌<◌, ◌≤◌, true, false, List, [], ◌∷◌, ◌++◌, map, Some, None, slice_get, ◌⊎◌}
 use Rattle.std.specs.List.{AllByRecursion}
 use Rattle.wac_types_shapes.specs.primitives.Name.{Name, option_case, first_some}
-use Rattle.wac_types_shapes.specs.primitives.Tree.{imported, exported, TypeTree, absent, instance, instance_item}
+use Rattle.wac_types_shapes.specs.primitives.Tree.{exported, TypeTree, absent, instance, instance_item}
 use Rattle.wac_types_collection.specs.collection.Collection.{Collection, item_at, interface_exports}
 use Rattle.wac_types_collection.specs.collection.Held.{Names, unfolded, item_tree, items_under}
 use Rattle.wac_types_collection.specs.subtyping.Called.{Called, of_class, itself, resource_name, called_at, own_leaf, by_binding}
@@ -16,13 +16,6 @@ use Rattle.wac_merge_classes.specs.entries.Binding.{class_binds, binding_class}
 -- Outside an entry a resource is named by the first class that binds it, else by itself.
 abbrev pub called_outside : NameRules → Collection → List Entry → Names Called
 called_outside rules c es r = Some (option_case (binding_class rules c es r) (itself r (resource_name c r)) (λ b. of_class b.0 b.1 (resource_name c r)))
-
--- In an entry's class a resource is named by where the class binds it, else as outside the entry.
-abbrev pub called_in_class : NameRules → Collection → List Entry → Name → Names Called
-called_in_class rules c es class r =
-    first_some
-    (option_case (class_binds rules c es class r) None (λ path. Some (called_at c r (record { out = 0; side = imported; path = path }))))
-    (called_outside rules c es r)
 
 -- Inside an instance of the class its own resources come first, then what the class binds, then what is outside.
 abbrev pub called_inside : NameRules → Collection → List Entry → Name → Interface → Names Called
@@ -38,7 +31,7 @@ abbrev pub compared : NameRules → Collection → List Entry → Name → ItemK
 compared rules c es class (kind.Instance i) =
     option_case (item_at c.interfaces i.0) absent (λ it.
     instance_item (instance (items_under (map (λ e. (e.0, item_tree (unfolded (by_binding c) c (called_inside rules c es class it)) false e.1)) it.exports))))
-compared rules c es class k = item_tree (unfolded (by_binding c) c (called_in_class rules c es class)) false k
+compared rules c es class k = item_tree (unfolded (by_binding c) c (called_outside rules c es)) false k
 
 -- Two items agree if they are equal, or if both are instances and each export that both have agrees.
 abbrev pub Agree : TypeTree Called → TypeTree Called → Type 0

@@ -14,7 +14,7 @@ use Rattle.wac_merge_classes.specs.declared.entries.scopes.Opener.{Opener}
 use Rattle.wac_merge_classes.specs.declared.entries.scopes.Opener.TheVariants as opener
 use Rattle.wac_merge_classes.specs.declared.entries.scopes.Scope.{Scope}
 use Rattle.wac_merge_classes.specs.entries.Classes.{Entry, NameRules}
-use Rattle.wac_merge_classes.specs.entries.Agreement.{called_in_class, called_inside}
+use Rattle.wac_merge_classes.specs.entries.Agreement.{called_inside, called_outside}
 
 -- The type that opens the scope.
 abbrev pub opener_type : Opener → AnyType
@@ -91,7 +91,7 @@ AreNested c known ss = (i : ℕ) (s : Scope) (o : Opener) → slice_get ss i ≡
 -- How resources are named in the outermost scopes of an entry.
 abbrev pub called_in_root : NameRules → Collection → List Entry → Name → ItemKind → Opener → Names Called
 called_in_root rules c es class (kind.Instance i) o r = option_case (item_at c.interfaces i.0) None (λ it. called_inside rules c es class it r)
-called_in_root rules c es class k o r = or_around c (binds c o r) (called_in_class rules c es class) r
+called_in_root rules c es class k o r = or_around c (binds c o r) (called_outside rules c es) r
 
 -- How resources are named in a scope that has at most k enclosing scopes. `root` names them in the outermost scopes.
 abbrev pub called_to : ℕ → Collection → (Opener → Names Called) → List Scope → ℕ → Names Called

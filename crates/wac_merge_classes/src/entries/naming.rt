@@ -2,12 +2,12 @@
 //!
 //! A resource is named by where it is bound: by an enclosing scope or the entry's own class, else by the first class
 //! that binds it. A resource that nothing binds is named by itself.
-ghost use Rattle.std.specs.Prelude.{ℕ, List, ◌≡◌, ◌+◌, ◌<◌, ◌^◌, length, Some, IfOk, slice_get, string_bytes};
+ghost use Rattle.std.specs.Prelude.{ℕ, List, ◌≡◌, ◌<◌, length, Some, IfOk, slice_get, string_bytes};
 ghost use Rattle.wac_types_collection.specs.subtyping.Called.{resource_name};
 ghost use Rattle.wac_types_collection.specs.collection.Collection.{HasResource};
 ghost use Rattle.wac_types_collection.specs.collection.Held.{resolved};
 ghost use Rattle.wac_types_shapes.specs.primitives.Name.{Name};
-ghost use Rattle.wac_merge_classes.specs.entries.Agreement.{called_in_class};
+ghost use Rattle.wac_merge_classes.specs.entries.Agreement.{called_outside};
 ghost use Rattle.wac_merge_classes.specs.entries.Bindings.{AreBindings, first_in, path_in};
 ghost use Rattle.wac_types_collection.specs.subtyping.CalledViews.{called_view, path_view};
 ghost use Rattle.wac_merge_classes.specs.entries.Classes.{by_names, class_names, is_instance};
@@ -15,7 +15,7 @@ ghost use Rattle.wac_merge_classes.specs.entries.Classes as classes;
 ghost use Rattle.wac_merge_classes.specs.entries.Opening.{IsHeldAt};
 ghost use Rattle.wac_merge_classes.specs.private.entries.Ways.{AreOutward};
 ghost use Rattle.wac_merge_classes.specs.entries.Scopes.{AreScopes, called_in, called_in_root, opened_by};
-ghost use Rattle.wac_merge_classes.specs.private.entries.Walking.{AreBound, past};
+ghost use Rattle.wac_merge_classes.specs.private.entries.Walking.{AreBound, by_first, past};
 
 use crate::entries::bindings::Bindings;
 use crate::entries::bound::Bound;
@@ -59,6 +59,23 @@ fn copied(alloc: Global, path: &[String]) -> Result<Vec<String>, AllocError>
     Ok(copy)
 }
 
+/// Names a resource by the first class that binds it, else by itself.
+fn called_first(
+    alloc: Global,
+    types: &Types,
+    bindings: &Bindings,
+    resource: ResourceId,
+) -> Result<Called, AllocError>
+    requires { HasResource types.now resource }
+    ensures { IfOk result (λ x. called_view x ≡ by_first types.now resource (first_in bindings.now resource)) }
+{
+    let name = own_name(alloc, types, resource)?;
+    match bindings.first(resource) {
+        Some((number, path)) => Ok(Called::OfClass(number, copied(alloc, path)?, name)),
+        None => Ok(Called::Itself(resource, name)),
+    }
+}
+
 /// Names a resource that no scope of the item binds. `out` is the number of scopes out to the outermost one.
 fn past_scopes(
     alloc: Global,
@@ -69,21 +86,19 @@ fn past_scopes(
     out: usize,
     resource: ResourceId,
 ) -> Result<Called, AllocError>
-    requires held { HasResource types.now resource }
-    requires near { out + 1 < 2 ^ 64 }
+    requires { HasResource types.now resource }
     ensures { IfOk result (λ x. called_view x ≡ past types.now resource (is_instance kind) out (path_in bindings.now class resource) (first_in bindings.now resource)) }
 {
-    let name = own_name(alloc, types, resource)?;
-    if let Some(path) = bindings.path(class, resource) {
-        let path = copied(alloc, path)?;
-        return Ok(match kind {
-            ItemKind::Instance(_) => Called::Bound(out, Side::Exported, path, name),
-            _ => Called::Bound(out + 1, Side::Imported, path, name),
-        });
-    }
-    match bindings.first(resource) {
-        Some((number, path)) => Ok(Called::OfClass(number, copied(alloc, path)?, name)),
-        None => Ok(Called::Itself(resource, name)),
+    let ItemKind::Instance(_) = kind else {
+        return called_first(alloc, types, bindings, resource);
+    };
+    match bindings.path(class, resource) {
+        Some(path) => {
+            let path = copied(alloc, path)?;
+            let name = own_name(alloc, types, resource)?;
+            Ok(Called::Bound(out, Side::Exported, path, name))
+        }
+        None => called_first(alloc, types, bindings, resource),
     }
 }
 
@@ -140,7 +155,7 @@ pub fn called(
     }
 }
 
-/// Names a resource as it is seen outside the scopes of an entry, where `class` is the number of the entry's class.
+/// Names a resource as it is seen outside the scopes of an entry that is no instance.
 ///
 /// # Errors
 /// - [`AllocError`] if out of memory.
@@ -148,22 +163,12 @@ pub fn called_outside(
     alloc: Global,
     types: &Types,
     bindings: &Bindings,
-    class: usize,
     resource: ResourceId,
 ) -> Result<Called, AllocError>
     requires held { HasResource types.now resource }
-    ensures { IfOk result (λ x. (es : List classes.Entry) (name : Name) → AreBindings types.now es bindings.now → slice_get (class_names by_names es) class ≡ Some name
-        → called_in_class by_names types.now es name (resolved types.now resource) ≡ Some (called_view x)) }
+    ensures { IfOk result (λ x. (es : List classes.Entry) → AreBindings types.now es bindings.now → called_outside by_names types.now es (resolved types.now resource) ≡ Some (called_view x)) }
 {
     types.law(); // proof only
     let resource = types.resolve_resource(resource);
-    let name = own_name(alloc, types, resource)?;
-    if let Some(path) = bindings.path(class, resource) {
-        let path = copied(alloc, path)?;
-        return Ok(Called::Bound(0, Side::Imported, path, name));
-    }
-    match bindings.first(resource) {
-        Some((number, path)) => Ok(Called::OfClass(number, copied(alloc, path)?, name)),
-        None => Ok(Called::Itself(resource, name)),
-    }
+    called_first(alloc, types, bindings, resource)
 }

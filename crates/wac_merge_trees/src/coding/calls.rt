@@ -66,7 +66,7 @@ impl<'a> Calls<'a> {
                 let (bindings, class) = (self.bindings, self.class);
                 called(alloc, types, &around, bindings, class, scope, resource)
             }
-            None => called_outside(alloc, types, self.bindings, self.class, resource),
+            None => called_outside(alloc, types, self.bindings, resource),
         }
     }
 

@@ -22,7 +22,8 @@ use Rattle.wac_types_collection.specs.subtyping.Called.{Called, by_binding}
 use Rattle.wac_types_collection.proofs.lemmas.subtyping.Unfolding.{func_same, defined_same, item_same}
 use Rattle.wac_merge_tables.specs.private.tables.Nodes as table
 use Rattle.wac_merge_tables.specs.private.tables.Nodes.{Node, type_of, tree_at}
-use Rattle.wac_merge_classes.specs.entries.Classes.{Entry}
+use Rattle.wac_merge_classes.specs.entries.Agreement.{called_outside}
+use Rattle.wac_merge_classes.specs.entries.Classes.{Entry, by_names}
 use Rattle.wac_merge_classes.specs.entries.Scopes.{number_of}
 use Rattle.wac_merge_classes.proofs.lemmas.entries.Lists.{push-cases, set-cases}
 use Rattle.wac_merge_trees.specs.private.coding.Coding.{tree_in, HasTree}
@@ -138,7 +139,7 @@ type_number t (table.a_value n) a e = cc
 module _ (ns : List Node) (c : Collection) (es : List Entry) (name : Name) (w : WorldId) (closed : IsClosed c w) where
   world_number : (x : table.Item) → IsItemOf ns c es name (kind.TypeItem (ty.World w)) x → (m : Names Called) → HasTree ns (tree_in c m (ty.World w)) (type_of x)
   unfolding tree_in
-  world_number x is m = record { there = is.there; is = type_number (tree_at ns) x _ is.is ∙ closed.same _ m }
+  world_number x is m = record { there = is.there; is = type_number (tree_at ns) x _ is.is ∙ closed.same (called_outside by_names c es) m }
 
   pub number_too : (old new : List (Option ℕ)) (x : table.Item) → AreKnown ns c old → IsItemOf ns c es name (kind.TypeItem (ty.World w)) x → HasNumberToo old w (type_of x) new → AreKnown ns c new
   number_too old new x known is more = λ v k at m. split v k m (more v k at) where

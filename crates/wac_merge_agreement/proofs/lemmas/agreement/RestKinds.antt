@@ -6,11 +6,11 @@ use Rattle.std.specs.declared.cmp.Ordering.{Ordering}
 use Rattle.std.specs.declared.cmp.Ordering.TheVariants.{Less, Equal, Greater}
 use Rattle.std.proofs.lemmas.Bool.{cases_Bool}
 use Rattle.std.proofs.lemmas.Cmp.{ranked}
-use Rattle.wac_types_shapes.specs.primitives.Name.{Name, option_case, first_some}
-use Rattle.wac_types_shapes.specs.primitives.Tree.{imported, Place, TypeTree, absent, resource, own, borrow, instance, type_equal, instance_item}
+use Rattle.wac_types_shapes.specs.primitives.Name.{Name, option_case}
+use Rattle.wac_types_shapes.specs.primitives.Tree.{TypeTree, absent, resource, own, borrow, instance, type_equal, instance_item}
 use Rattle.wac_types_collection.specs.collection.Collection.{Collection, item_at, size}
 use Rattle.wac_types_collection.specs.collection.Held.{Names, Naming, resolved, of_held, defined_tree, func_tree, module_tree, interface_tree, world_tree, item_tree, items_under, unfolded_to, unfolded}
-use Rattle.wac_types_collection.specs.subtyping.Called.{Called, called_at, by_binding}
+use Rattle.wac_types_collection.specs.subtyping.Called.{Called, by_binding}
 use Rattle.wac_types_collection.specs.declared.collection.collection.Held.{Held}
 use Rattle.wac_types_shapes.specs.declared.shapes.component.ResourceId.{ResourceId}
 use Rattle.wac_types_shapes.specs.declared.shapes.component.InterfaceId.{InterfaceId}
@@ -23,8 +23,7 @@ use Rattle.wac_types_shapes.specs.declared.shapes.component.«Type».TheVariants
 use Rattle.wac_types_shapes.specs.declared.shapes.component.ItemKind.{ItemKind}
 use Rattle.wac_types_shapes.specs.declared.shapes.component.ItemKind.TheVariants as kind
 use Rattle.wac_merge_classes.specs.entries.Classes.{Entry, by_names, same_class, members}
-use Rattle.wac_merge_classes.specs.entries.Binding.{class_binds}
-use Rattle.wac_merge_classes.specs.entries.Agreement.{Agree, called_in_class, called_inside, called_outside, compared}
+use Rattle.wac_merge_classes.specs.entries.Agreement.{Agree, called_inside, called_outside, compared}
 use Rattle.wac_merge_classes.specs.terms.NoDisagreement.{HasNoDisagreement}
 use Rattle.wac_merge_classes.proofs.lemmas.entries.ClassFacts.{class-sym, class-trans}
 use Rattle.wac_merge_agreement.proofs.lemmas.agreement.Resting.{BindsNothing}
@@ -108,15 +107,11 @@ module _ (c : Collection) (es : List Entry) where
     at f (Some it) = refl
 
   of_resource : (n : Name) (q : ResourceId) → shape (compared by_names c es n (kind.TypeItem (ty.Resource q))) ≡ 1
-  of_resource n q = at (class_binds by_names c es n (resolved c q)) where
-    at : (o : Option (List Place))
-        → shape (type_equal (option_case (first_some (option_case o None (λ path. Some (called_at c (resolved c q) (record { out = 0; side = imported; path = path })))) (called_outside by_names c es (resolved c q))) absent resource)) ≡ 1
-    at None = refl
-    at (Some path) = refl
+  of_resource n q = refl
 
   of_other : (n : Name) (k : ItemKind) → BindsNothing k → shape (compared by_names c es n k) ≡ 2
   of_other n (kind.Instance i) h = absurd h
-  of_other n (kind.TypeItem t) h = shape-plain (by_binding c) c (called_in_class by_names c es n) (kind.TypeItem t) h
+  of_other n (kind.TypeItem t) h = shape-plain (by_binding c) c (called_outside by_names c es) (kind.TypeItem t) h
   of_other n (kind.Func f) h = refl
   of_other n (kind.Component w) h = refl
   of_other n (kind.Module x) h = refl

@@ -3,7 +3,7 @@ use Rattle.std.proofs.Common.{◌≡◌, true, false, if◌then◌else◌, List,
 use Rattle.wac_names.specs.Track.{Track}
 use Rattle.wac_names.specs.Reading.{read_track}
 use Rattle.wac_types_shapes.specs.primitives.Name.{Name, option_case, first_some}
-use Rattle.wac_types_shapes.specs.primitives.Tree.{imported, exported, Place, named, TypeTree, absent, instance, instance_item}
+use Rattle.wac_types_shapes.specs.primitives.Tree.{exported, Place, named, TypeTree, absent, instance, instance_item}
 use Rattle.wac_types_collection.specs.collection.Collection.{Collection, item_at}
 use Rattle.wac_types_collection.specs.collection.Held.{Names, unfolded, item_tree, items_under}
 use Rattle.wac_types_collection.specs.collection.Bound.{own_name}
@@ -50,16 +50,10 @@ module _ (c : Collection) (es : List Entry) (a b : Name) (one : same_class by_na
   pub class-alike : (r : ResourceId) → class_binds by_names c es a r ≡ class_binds by_names c es b r
   class-alike r = first-alike (members by_names es a) r ∙ ap (λ l. first_binds by_names c b l r) (members-alike es a b es one)
 
-  abbrev in_class : Names (List Place) → Names Called
-  in_class f r = first_some (option_case (f r) None (λ path. Some (called_at c r (record { out = 0; side = imported; path = path })))) (called_outside by_names c es r)
-
   abbrev in_instance : Names (List Place) → Interface → Names Called
   in_instance f it r =
       first_some (option_case (own_leaf c it r) None (λ l. Some (called_at c r l)))
       (first_some (option_case (f r) None (λ path. Some (called_at c r (record { out = 0; side = exported; path = path })))) (called_outside by_names c es r))
-
-  abbrev plain : ItemKind → Names (List Place) → TypeTree Called
-  plain k f = item_tree (unfolded (by_binding c) c (in_class f)) false k
 
   abbrev of_instance : InterfaceId → Names (List Place) → TypeTree Called
   of_instance i f =
@@ -71,8 +65,8 @@ module _ (c : Collection) (es : List Entry) (a b : Name) (one : same_class by_na
   -- how an entry is compared
   pub compared-same : (k : ItemKind) → compared by_names c es a k ≡ compared by_names c es b k
   compared-same (kind.Instance i) = ap (of_instance i) same
-  compared-same (kind.TypeItem t) = ap (plain (kind.TypeItem t)) same
-  compared-same (kind.Func f) = ap (plain (kind.Func f)) same
-  compared-same (kind.Component w) = ap (plain (kind.Component w)) same
-  compared-same (kind.Module x) = ap (plain (kind.Module x)) same
-  compared-same (kind.Value v) = ap (plain (kind.Value v)) same
+  compared-same (kind.TypeItem t) = refl
+  compared-same (kind.Func f) = refl
+  compared-same (kind.Component w) = refl
+  compared-same (kind.Module x) = refl
+  compared-same (kind.Value v) = refl

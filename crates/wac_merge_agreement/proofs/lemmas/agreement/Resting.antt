@@ -27,7 +27,7 @@ use Rattle.wac_types_shapes.specs.declared.shapes.component.ItemKind.TheVariants
 use Rattle.wac_merge_classes.specs.entries.Classes.{Entry, NameRules, same_track, members}
 use Rattle.wac_merge_classes.specs.entries.Binding.{kind_binds, first_binds, class_binds, binding_class, root_bindings}
 use Rattle.wac_merge_classes.specs.terms.Union.{inside_member, member_tree}
-use Rattle.wac_merge_classes.specs.entries.Agreement.{called_outside, called_in_class, called_inside, compared}
+use Rattle.wac_merge_classes.specs.entries.Agreement.{called_outside, called_inside, compared}
 use Rattle.wac_merge_classes.specs.terms.ClassOrder.{Mentions, begins_at}
 use Rattle.wac_merge_classes.specs.terms.ClassOrder as order
 use Rattle.wac_merge_agreement.specs.private.agreement.Reach.{Reaches, IsOfClass}
@@ -707,10 +707,6 @@ module _ (b : ℕ) where
         split None = inner
         split (Some n) = both_here (own_at n) (resource_name c r) (λ h. h)
 
-      pub alike_class : (rules : NameRules) (c : Collection) (es : List Entry) (class : Name) → ((r : ResourceId) → class_binds rules c es class r ≡ None)
-          → Alike b d (root_bindings rules c es place) (called_in_class rules c es class)
-      alike_class rules c es class none r = subst (λ z. Both (root_bindings rules c es place r) (first_some (option_case z None (λ path. Some (called_at c r (record { out = 0; side = imported; path = path })))) (called_outside rules c es r))) (sym (none r)) (alike_root rules c es r)
-
       -- ---- entries
       -- an instance
       pub same_member_instance : (rules : NameRules) (c : Collection) (es : List Entry) (class : Name) (a : ℕ) (i : InterfaceId)
@@ -742,11 +738,11 @@ module _ (b : ℕ) where
           → Same (member_tree rules c es class a (root_bindings rules c es place) k) (compared rules c es class k)
       unfolding held_tree
       same_member rules c es class a k none other = split k other where
-        every : (x : AnyType) → Same (unfolded (by_place c) c (root_bindings rules c es place) x) (unfolded (by_binding c) c (called_in_class rules c es class) x)
-        every x = same_to c (suc (size c)) (root_bindings rules c es place) (called_in_class rules c es class) (alike_class rules c es class none) x
+        every : (x : AnyType) → Same (unfolded (by_place c) c (root_bindings rules c es place) x) (unfolded (by_binding c) c (called_outside rules c es) x)
+        every x = same_to c (suc (size c)) (root_bindings rules c es place) (called_outside rules c es) (alike_root rules c es) x
 
-        it : (x : ItemKind) → Same (item_tree (unfolded (by_place c) c (root_bindings rules c es place)) false x) (item_tree (unfolded (by_binding c) c (called_in_class rules c es class)) false x)
-        it x = same_kind (unfolded (by_place c) c (root_bindings rules c es place)) (unfolded (by_binding c) c (called_in_class rules c es class)) every x
+        it : (x : ItemKind) → Same (item_tree (unfolded (by_place c) c (root_bindings rules c es place)) false x) (item_tree (unfolded (by_binding c) c (called_outside rules c es)) false x)
+        it x = same_kind (unfolded (by_place c) c (root_bindings rules c es place)) (unfolded (by_binding c) c (called_outside rules c es)) every x
 
         split : (x : ItemKind) → IsNoResource x → Same (member_tree rules c es class a (root_bindings rules c es place) x) (compared rules c es class x)
         split (kind.Instance i) _ = same_member_instance rules c es class a i

@@ -23,7 +23,7 @@ use Rattle.wac_merge_trees.specs.declared.coding.memo.Memo.{Memo}
 use Rattle.wac_merge_tables.specs.declared.tables.nodes.Item.{Item as AnItem}
 use Rattle.wac_merge_classes.specs.declared.entries.scopes.Opener.{Opener}
 use Rattle.wac_merge_classes.specs.declared.entries.scopes.Opener.TheVariants as opener
-use Rattle.wac_merge_classes.specs.entries.Agreement.{called_in_class, called_inside, compared}
+use Rattle.wac_merge_classes.specs.entries.Agreement.{called_inside, called_outside, compared}
 use Rattle.wac_merge_trees.specs.private.coding.CallsView.{AreNamed, names_in, names_of}
 use Rattle.wac_merge_classes.specs.entries.Classes.{Entry, by_names, class_names, is_instance, AreClasses}
 use Rattle.wac_merge_trees.specs.private.coding.Coding.{tree_in, defined_number, func_number, HasTree, IsGrown, IsRight}
@@ -58,7 +58,7 @@ not_instance (kind.Module m) never = refl
 not_instance (kind.Value v) never = refl
 
 -- what is no instance is compared as what is called around it says
-plain_kind : (c : Collection) (es : List Entry) (class : Name) (k : ItemKind) → is_instance k ≡ false → held.item_tree (unfolded (by_binding c) c (called_in_class by_names c es class)) false k ≡ compared by_names c es class k
+plain_kind : (c : Collection) (es : List Entry) (class : Name) (k : ItemKind) → is_instance k ≡ false → held.item_tree (unfolded (by_binding c) c (called_outside by_names c es)) false k ≡ compared by_names c es class k
 plain_kind c es class (kind.Instance i) e = cc
 plain_kind c es class (kind.TypeItem t) e = refl
 plain_kind c es class (kind.Func f) e = refl
@@ -96,7 +96,7 @@ module _ (c : Collection) (s : Calls) (named : AreNamed c s) where
       subst (λ (o : Opener). AreItems ns (tree_in c (names_in c (at_scope s 0))) (listed_in c o) xs.items) w.2 (are 0 w.0 xs (omega arith) w.1 at)
 
   module _ (name : Name) (class : slice_get (class_names by_names s.entries.now) s.class ≡ Some name) where
-    outside_is : s.scope ≡ None → names_in c s ≡ called_in_class by_names c s.entries.now name
+    outside_is : s.scope ≡ None → names_in c s ≡ called_outside by_names c s.entries.now
     outside_is none = fun_ext (λ r.
         ap (λ o. option_case o None (λ n. names_of c s.entries.now n s.kind s.scopes.now s.scope r)) class ∙ ap (λ o. names_of c s.entries.now name s.kind s.scopes.now o r) none)
 

@@ -4,7 +4,7 @@ use Rattle.std.proofs.lemmas.Option.{slice_get_read, slice_get_within}
 use Rattle.std.proofs.lemmas.List.{length-append}
 use Rattle.std.specs.Option.{option_map}
 use Rattle.wac_types_shapes.specs.primitives.Name.{Name, option_case, first_some}
-use Rattle.wac_types_shapes.specs.primitives.Tree.{Side, Place, Leaf, imported, exported}
+use Rattle.wac_types_shapes.specs.primitives.Tree.{Side, Place, Leaf, exported}
 use Rattle.wac_types_collection.specs.collection.Collection.{Collection, IsWellFormed, IsSourceBelow, holds_type, item_at, item_of}
 use Rattle.wac_types_collection.specs.collection.Held.{Names, resolved, resolved_in, source_of}
 use Rattle.wac_types_collection.specs.subtyping.Called.{Called, bound_at, of_class, itself, one_out, resource_name, called_at, own_leaf, or_around}
@@ -22,10 +22,10 @@ use Rattle.wac_merge_classes.specs.declared.entries.outward.Outward.{Outward}
 use Rattle.wac_merge_classes.specs.private.entries.Ways.{LeadsOut}
 use Rattle.wac_merge_classes.specs.entries.Classes.{Entry, by_names, is_instance}
 use Rattle.wac_merge_classes.specs.entries.Binding.{class_binds, binding_class}
-use Rattle.wac_merge_classes.specs.entries.Agreement.{called_outside, called_in_class, called_inside}
+use Rattle.wac_merge_classes.specs.entries.Agreement.{called_outside, called_inside}
 use Rattle.wac_merge_classes.specs.entries.Scopes.{opener_type, opened_by, binds, ComesFrom, AreScopes, called_in, called_in_root}
 use Rattle.wac_merge_classes.specs.entries.Places.{find_resource, leaf_at}
-use Rattle.wac_merge_classes.specs.private.entries.Walking.{AreBound, out_by, IsOut, past}
+use Rattle.wac_merge_classes.specs.private.entries.Walking.{AreBound, out_by, IsOut, by_first, past}
 use Rattle.wac_types_shapes.proofs.lemmas.shapes.Names.{take_at}
 use Rattle.wac_merge_classes.proofs.lemmas.entries.Lists.{push-cases}
 use Rattle.wac_merge_classes.proofs.lemmas.entries.Opening.{there}
@@ -69,9 +69,10 @@ kept (Some x) = ap (λ y. Some y) (out-none x)
 module _ (c : Collection) (r : ResourceId) where
   out-past : (n : ℕ) (instance : Bool) (p : Option (List Place)) (f : Option (ℕ × List Place)) → out_by n (past c r instance 0 p f) ≡ past c r instance n p f
   out-past n true (Some path) f = let e : 0 + n ≡ n = omega arith in ap (λ k. bound_at (record { out = k; side = exported; path = path }) (resource_name c r)) e
-  out-past n false (Some path) f = let e : 1 + n ≡ suc n = omega arith in ap (λ k. bound_at (record { out = k; side = imported; path = path }) (resource_name c r)) e
-  out-past n b None (Some f) = refl
-  out-past n b None None = refl
+  out-past n true None (Some f) = refl
+  out-past n true None None = refl
+  out-past n false p (Some f) = refl
+  out-past n false p None = refl
 
   -- ---- in the outermost scope
 
@@ -81,11 +82,17 @@ module _ (c : Collection) (r : ResourceId) where
   instance-past None (Some b) = refl
   instance-past None None = refl
 
-  class-past : (p : Option (List Place)) (f : Option (ℕ × List Place))
-      → option_case (first_some (option_case p None (λ path. Some (called_at c r (record { out = 0; side = imported; path = path })))) (Some (option_case f (itself r (resource_name c r)) (λ b. of_class b.0 b.1 (resource_name c r))))) None (λ x. Some (one_out x)) ≡ Some (past c r false 0 p f)
-  class-past (Some path) f = refl
-  class-past None (Some b) = refl
-  class-past None None = refl
+  first-called : (f : Option (ℕ × List Place)) → option_case f (itself r (resource_name c r)) (λ b. of_class b.0 b.1 (resource_name c r)) ≡ by_first c r f
+  first-called (Some b) = refl
+  first-called None = refl
+
+  other-past : (p : Option (List Place)) (f : Option (ℕ × List Place)) → Some (one_out (option_case f (itself r (resource_name c r)) (λ b. of_class b.0 b.1 (resource_name c r)))) ≡ Some (past c r false 0 p f)
+  other-past p (Some b) = refl
+  other-past p None = refl
+
+  -- outside
+  pub outside-first : (es : List Entry) → called_outside by_names c es r ≡ Some (by_first c r (binding_class by_names c es r))
+  outside-first es = ap (λ x. Some x) (first-called (binding_class by_names c es r))
 
   module _ (es : List Entry) (name : Name) where
     instance-bound : (l : Leaf) (o : Option Interface) → option_case o None (λ x. own_leaf c x r) ≡ Some l → option_case o None (λ x. called_inside by_names c es name x r) ≡ Some (called_at c r l)
@@ -100,11 +107,11 @@ module _ (c : Collection) (r : ResourceId) where
         (first_some (option_case (class_binds by_names c es name r) None (λ path. Some (called_at c r (record { out = 0; side = exported; path = path })))) (called_outside by_names c es r))) h
         ∙ instance-past (class_binds by_names c es name r) (binding_class by_names c es r)
 
-    around-past : (here : Option Leaf) → here ≡ None → or_around c here (called_in_class by_names c es name) r ≡ Some (past c r false 0 (class_binds by_names c es name r) (binding_class by_names c es r))
-    around-past here h = ap (λ x. or_around c x (called_in_class by_names c es name) r) h ∙ class-past (class_binds by_names c es name r) (binding_class by_names c es r)
+    around-past : (here : Option Leaf) → here ≡ None → or_around c here (called_outside by_names c es) r ≡ Some (past c r false 0 (class_binds by_names c es name r) (binding_class by_names c es r))
+    around-past here h = ap (λ x. or_around c x (called_outside by_names c es) r) h ∙ other-past (class_binds by_names c es name r) (binding_class by_names c es r)
 
-    around-bound : (here : Option Leaf) (l : Leaf) → here ≡ Some l → or_around c here (called_in_class by_names c es name) r ≡ Some (called_at c r l)
-    around-bound here l h = ap (λ x. or_around c x (called_in_class by_names c es name) r) h
+    around-bound : (here : Option Leaf) (l : Leaf) → here ≡ Some l → or_around c here (called_outside by_names c es) r ≡ Some (called_at c r l)
+    around-bound here l h = ap (λ x. or_around c x (called_outside by_names c es) r) h
 
     one-opener : (x o : Opener) (j : ℕ) → slice_get (x ∷ []) j ≡ Some o → x ≡ o
     one-opener x o zero at = some-same x o at

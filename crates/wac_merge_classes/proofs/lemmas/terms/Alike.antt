@@ -4,7 +4,7 @@ use Rattle.std.proofs.Math.Path.{fun_ext}
 use Rattle.std.proofs.lemmas.Bool.{cases_Bool, false≢true, false_from_ne_true}
 use Rattle.wac_names.specs.Reading.{read_track}
 use Rattle.wac_types_shapes.specs.primitives.Name.{Name, option_case, first_some}
-use Rattle.wac_types_shapes.specs.primitives.Tree.{TypeTree, imported, exported, absent, named, instance, instance_item}
+use Rattle.wac_types_shapes.specs.primitives.Tree.{TypeTree, exported, absent, named, instance, instance_item}
 use Rattle.wac_types_collection.specs.collection.Bound.{own_name}
 use Rattle.wac_types_collection.specs.subtyping.Called.{Called, called_at, own_leaf, by_binding}
 use Rattle.wac_types_collection.specs.collection.Collection.{Collection, item_at}
@@ -14,7 +14,7 @@ use Rattle.wac_types_shapes.specs.declared.shapes.component.ResourceId.{Resource
 use Rattle.wac_types_shapes.specs.declared.shapes.component.ItemKind.{ItemKind}
 use Rattle.wac_types_shapes.specs.declared.shapes.component.ItemKind.TheVariants as kind
 use Rattle.wac_types_shapes.specs.declared.shapes.component.«Type».TheVariants as ty
-use Rattle.wac_merge_classes.specs.entries.Agreement.{Agree, called_outside, called_in_class, called_inside, compared}
+use Rattle.wac_merge_classes.specs.entries.Agreement.{Agree, called_outside, called_inside, compared}
 use Rattle.wac_merge_classes.specs.entries.Binding.{kind_binds, first_binds, class_binds}
 use Rattle.wac_merge_classes.specs.entries.Classes.{Entry, by_names, same_class, same_track, members}
 use Rattle.wac_merge_classes.proofs.lemmas.entries.ClassFacts.{class-parts, class-sym, class-trans}
@@ -55,27 +55,21 @@ module _ (c : Collection) (es : List Entry) (a b : Name) (one : same_class by_na
   pub binds_alike : (r : ResourceId) → class_binds by_names c es a r ≡ class_binds by_names c es b r
   binds_alike r = first_alike (members by_names es a) r ∙ ap (λ xs. first_binds by_names c b xs r) members_alike
 
-  called_alike : called_in_class by_names c es a ≡ called_in_class by_names c es b
-  called_alike = fun_ext (λ r. ap (λ o. first_some (option_case o None (λ path. Some (called_at c r (record { out = 0; side = imported; path = path })))) (called_outside by_names c es r)) (binds_alike r))
-
   inside_alike : (it : Interface) → called_inside by_names c es a it ≡ called_inside by_names c es b it
   inside_alike it = fun_ext (λ r. ap (λ o.
       first_some (option_case (own_leaf c it r) None (λ l. Some (called_at c r l)))
       (first_some (option_case o None (λ path. Some (called_at c r (record { out = 0; side = exported; path = path })))) (called_outside by_names c es r))) (binds_alike r))
-
-  around_alike : (k : ItemKind) → item_tree (unfolded (by_binding c) c (called_in_class by_names c es a)) false k ≡ item_tree (unfolded (by_binding c) c (called_in_class by_names c es b)) false k
-  around_alike k = ap (λ m. item_tree (unfolded (by_binding c) c m) false k) called_alike
 
   -- so entries are compared as the same under each
   pub compared_alike : (k : ItemKind) → compared by_names c es a k ≡ compared by_names c es b k
   compared_alike (kind.Instance i) =
       ap (λ (f : Interface → Names Called). option_case (item_at c.interfaces i.0) absent (λ it.
       instance_item (instance (items_under (map (λ e. (e.0, item_tree (unfolded (by_binding c) c (f it)) false e.1)) it.exports))))) (fun_ext inside_alike)
-  compared_alike (kind.TypeItem t) = around_alike (kind.TypeItem t)
-  compared_alike (kind.Func f) = around_alike (kind.Func f)
-  compared_alike (kind.Component w) = around_alike (kind.Component w)
-  compared_alike (kind.Module m) = around_alike (kind.Module m)
-  compared_alike (kind.Value v) = around_alike (kind.Value v)
+  compared_alike (kind.TypeItem t) = refl
+  compared_alike (kind.Func f) = refl
+  compared_alike (kind.Component w) = refl
+  compared_alike (kind.Module m) = refl
+  compared_alike (kind.Value v) = refl
 
 -- ---- agreement
 

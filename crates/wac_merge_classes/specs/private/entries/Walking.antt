@@ -1,7 +1,7 @@
 -- How resources are named while scopes are walked outward. Only contracts inside the merge cite this file.
-use Rattle.std.specs.Prelude.{ℕ, suc, ◌+◌, ◌≡◌, ◌≤◌, Bool, true, false, List, length, Option, Some, None, slice_get}
+use Rattle.std.specs.Prelude.{ℕ, ◌+◌, ◌≡◌, ◌≤◌, Bool, true, false, List, length, Option, Some, None, slice_get}
 use Rattle.std.specs.Option.{option_map}
-use Rattle.wac_types_shapes.specs.primitives.Tree.{imported, exported, Place, Leaf}
+use Rattle.wac_types_shapes.specs.primitives.Tree.{Leaf, Place, exported}
 use Rattle.wac_types_collection.specs.collection.Collection.{Collection}
 use Rattle.wac_types_collection.specs.collection.Held.{Names}
 use Rattle.wac_types_collection.specs.subtyping.Called.{Called, bound_at, of_class, itself, resource_name}
@@ -28,15 +28,14 @@ pub record IsOut (c : Collection) (ss : List Scope) (start out position : ℕ) (
   pub near : out + position ≤ start
   pub same : (root : Opener → Names Called) → called_in c root ss start r ≡ option_map (out_by out) (called_in c root ss position r)
 
--- Where a class binds a resource, seen from `out` scopes in: as an export of its instance, else as an import one scope
--- further.
-abbrev pub class_leaf : Bool → ℕ → List Place → Leaf
-class_leaf true out path = record { out = out; side = exported; path = path }
-class_leaf false out path = record { out = suc out; side = imported; path = path }
+-- A resource is named by the first class that binds it, else by itself.
+abbrev pub by_first : Collection → ResourceId → Option (ℕ × List Place) → Called
+by_first c r (Some b) = of_class b.0 b.1 (resource_name c r)
+by_first c r None = itself r (resource_name c r)
 
--- Past the outermost scope a resource is named by what the class binds, else by the first class that binds it, else by
--- itself.
+-- Past the outermost scope of an instance a resource is named by where the class binds it, seen from `out` scopes in. Else,
+-- and past the outermost scope of another item, by the first class that binds it, else by itself.
 abbrev pub past : Collection → ResourceId → Bool → ℕ → Option (List Place) → Option (ℕ × List Place) → Called
-past c r instance out (Some path) first = bound_at (class_leaf instance out path) (resource_name c r)
-past c r instance out None (Some b) = of_class b.0 b.1 (resource_name c r)
-past c r instance out None None = itself r (resource_name c r)
+past c r true out (Some path) first = bound_at (record { out = out; side = exported; path = path }) (resource_name c r)
+past c r true out None first = by_first c r first
+past c r false out path first = by_first c r first

@@ -1,8 +1,8 @@
 -- Entries that agree: their kinds, and the names of the resources that they are.
 use Rattle.std.proofs.Common.{◌≡◌, ℕ, Bool, true, false, cond, List, [], ◌∷◌, length, map, slice_get, Option, Some, None, refl, sym, ap, ◌∙◌, subst, inl, inr, arith}
 use Rattle.std.proofs.lemmas.Bool.{cases_Bool, cases_lt, false≢true}
-use Rattle.wac_types_shapes.specs.primitives.Name.{Name, same_name, option_case, first_some}
-use Rattle.wac_types_shapes.specs.primitives.Tree.{TypeTree, Leaf, Place, absent, imported, named, resource, type_equal, instance, instance_item}
+use Rattle.wac_types_shapes.specs.primitives.Name.{Name, same_name, option_case}
+use Rattle.wac_types_shapes.specs.primitives.Tree.{TypeTree, Place, absent, named, resource, type_equal, instance, instance_item}
 use Rattle.wac_types_collection.specs.collection.Collection.{Collection, holds_type, item_of}
 use Rattle.wac_types_shapes.specs.shapes.Kinds.{kind_type}
 use Rattle.wac_types_collection.specs.collection.Held.{items_under, item_tree, resolved, source_of, unfolded}
@@ -14,15 +14,14 @@ use Rattle.wac_types_shapes.specs.declared.shapes.component.«Type».TheVariants
 use Rattle.wac_types_shapes.specs.declared.shapes.component.ItemKind.{ItemKind}
 use Rattle.wac_types_shapes.specs.declared.shapes.component.ItemKind.TheVariants as kind
 use Rattle.wac_types_shapes.proofs.lemmas.shapes.Names.{element_at, same_name-false, same_name-true}
-use Rattle.wac_types_collection.specs.subtyping.Called.{Called, bound_at, by_binding, called_at, resource_name}
-use Rattle.wac_merge_classes.specs.entries.Agreement.{Agree, called_inside, called_outside, compared}
-use Rattle.wac_merge_classes.specs.entries.Binding.{class_binds, kind_binds}
+use Rattle.wac_types_collection.specs.subtyping.Called.{Called, bound_at, by_binding, itself, of_class, resource_name}
+use Rattle.wac_merge_classes.specs.entries.Agreement.{Agree, called_inside, compared}
+use Rattle.wac_merge_classes.specs.entries.Binding.{binding_class, class_binds, kind_binds}
 use Rattle.wac_merge_classes.specs.entries.Bindings.{AreHeld}
 use Rattle.wac_merge_classes.specs.entries.Classes.{Entry, by_names, is_instance, members, same_class}
 use Rattle.wac_merge_classes.specs.terms.NoDisagreement.{HasNoDisagreement}
 use Rattle.wac_merge_classes.specs.private.terms.MergedKinds.{AreNamedAlike, AreNoInstances}
 use Rattle.wac_merge_classes.specs.entries.Places.{resource_itself}
-use Rattle.wac_merge_classes.proofs.lemmas.terms.Alike.{binds_alike}
 use Rattle.wac_merge_imports.proofs.lemmas.fitting.BecameEnds.{no-source}
 use Rattle.wac_merge_classes.proofs.lemmas.entries.ClassFacts.{class-sym, class-trans}
 use Rattle.wac_merge_classes.proofs.lemmas.terms.Alike.{agree_at}
@@ -68,23 +67,22 @@ instance-compared c es class (kind.Value a) held t = absurd (false≢true t)
 
 abbrev name-of : TypeTree Called → Name
 name-of (type_equal (resource (bound_at l n))) = n
+name-of (type_equal (resource (of_class k path n))) = n
+name-of (type_equal (resource (itself r n))) = n
 name-of _ = []
 
-abbrev here : Leaf
-here = record { out = 0; side = imported; path = [] }
+abbrev called-first : Collection → ResourceId → Option (ℕ × List Place) → Called
+called-first c r o = option_case o (itself r (resource_name c r)) (λ b. of_class b.0 b.1 (resource_name c r))
 
-whole-compared : (c : Collection) (es : List Entry) (class : Name) (r : ResourceId) → is_alias c r ≡ false → class_binds by_names c es class r ≡ Some []
-    → compared by_names c es class (kind.TypeItem (ty.Resource r)) ≡ type_equal (resource (bound_at here (resource_name c r)))
-whole-compared c es class r plain binds =
+named-first : (c : Collection) (r : ResourceId) (o : Option (ℕ × List Place)) → name-of (type_equal (resource (called-first c r o))) ≡ resource_name c r
+named-first c r None = refl
+named-first c r (Some b) = refl
+
+whole-compared : (c : Collection) (es : List Entry) (class : Name) (r : ResourceId) → is_alias c r ≡ false
+    → compared by_names c es class (kind.TypeItem (ty.Resource r)) ≡ type_equal (resource (called-first c r (binding_class by_names c es r)))
+whole-compared c es class r plain =
     let end : resolved c r ≡ r = no-source c (length c.resources) r (no-value (source_of (slice_get c.resources r.0)) plain) in
-    ap (λ (q : ResourceId). type_equal (option_case (called q) absent resource)) end
-    ∙ ap (λ (o : Option (List Place)). type_equal (option_case (first_some (at o) (called_outside by_names c es r)) absent resource)) binds
-  where
-    at : Option (List Place) → Option Called
-    at o = option_case o None (λ path. Some (called_at c r (record { out = 0; side = imported; path = path })))
-
-    called : ResourceId → Option Called
-    called q = first_some (option_case (class_binds by_names c es class q) None (λ path. Some (called_at c q (record { out = 0; side = imported; path = path })))) (called_outside by_names c es q)
+    ap (λ (q : ResourceId). type_equal (resource (called-first c q (binding_class by_names c es q)))) end
 
 no-path : (n : Name) (path : List Place) → [] ≡ named n ∷ path → ⊥
 no-path n path e = cc
@@ -95,7 +93,7 @@ module _ (c : Collection) (es : List Entry) (agreed : HasNoDisagreement by_names
       → ((i j : ℕ) (a b : Entry) → slice_get es i ≡ Some a → slice_get es j ≡ Some b → same_class by_names es a.name b.name ≡ true
       → ((Agree (compared by_names c es a.name a.kind) (compared by_names c es a.name b.kind) → ⊥) → ⊥) → P a b)
       → (i j : ℕ) (a b : Entry) → slice_get es i ≡ Some a → slice_get es j ≡ Some b → same_class by_names es a.name b.name ≡ true → P a b
-  pair P itself turned step i j a b first last one = elim (cases_lt i j) [
+  pair P with-itself turned step i j a b first last one = elim (cases_lt i j) [
     | inl less ↦ step i j a b first last one (λ apart. agreed i j (record { earlier = a; later = b; at_first = first; at_second = last; before = less; one_class = one; apart = apart }))
     | inr ge ↦ elim (cases_lt j i) [
       | inl less ↦
@@ -103,7 +101,7 @@ module _ (c : Collection) (es : List Entry) (agreed : HasNoDisagreement by_names
           turned b a (step j i b a last first back (λ apart. agreed j i (record { earlier = b; later = a; at_first = last; at_second = first; before = less; one_class = back; apart = apart })))
       | inr le ↦
           let same : i ≡ j = omega (arith, ge, le) in
-          subst (λ (x : Entry). P a x) (some_same a b (sym first ∙ ap (slice_get es) same ∙ last)) (itself a)
+          subst (λ (x : Entry). P a x) (some_same a b (sym first ∙ ap (slice_get es) same ∙ last)) (with-itself a)
     ]
   ]
 
@@ -194,8 +192,8 @@ module _ (c : Collection) (es : List Entry) (agreed : HasNoDisagreement by_names
     wholes-named = pair (λ a b. (r q : ResourceId) → IsWhole a r → IsWhole b q → resource_name c r ≡ resource_name c q)
         (λ a r q x y. ap (resource_name c) (one-resource r q (sym x.is ∙ y.is))) (λ a b f r q x y. sym (f q r y x)) step
       where
-        compared-as : (name : Name) (e : Entry) (r : ResourceId) → IsWhole e r → same_class by_names es name class ≡ true → compared by_names c es name e.kind ≡ type_equal (resource (bound_at here (resource_name c r)))
-        compared-as name e r x one = ap (compared by_names c es name) x.is ∙ whole-compared c es name r x.plain (binds_alike c es name class one r ∙ x.binds)
+        compared-as : (name : Name) (e : Entry) (r : ResourceId) → IsWhole e r → compared by_names c es name e.kind ≡ type_equal (resource (called-first c r (binding_class by_names c es r)))
+        compared-as name e r x = ap (compared by_names c es name) x.is ∙ whole-compared c es name r x.plain
 
         step : (i j : ℕ) (a b : Entry) → slice_get es i ≡ Some a → slice_get es j ≡ Some b → same_class by_names es a.name b.name ≡ true
             → ((Agree (compared by_names c es a.name a.kind) (compared by_names c es a.name b.kind) → ⊥) → ⊥)
@@ -203,11 +201,10 @@ module _ (c : Collection) (es : List Entry) (agreed : HasNoDisagreement by_names
         step i j a b first last one never r q x y = elim (cases_Bool (same_name (resource_name c r) (resource_name c q))) [
           | inl t ↦ same_name-true (resource_name c r) (resource_name c q) t
           | inr f ↦ absurd (never (λ h.
-              let back = class-sym by_names es class a.name x.inside in
-              let t = type_equal (resource (bound_at here (resource_name c r))) in
-              let u = type_equal (resource (bound_at here (resource_name c q))) in
-              let same : t ≡ u = agree_at t u (compared by_names c es a.name a.kind) (compared by_names c es a.name b.kind) (sym (compared-as a.name a r x back)) (sym (compared-as a.name b q y back)) h in
-              same_name-false (resource_name c r) (resource_name c q) f (ap name-of same)))
+              let t = type_equal (resource (called-first c r (binding_class by_names c es r))) in
+              let u = type_equal (resource (called-first c q (binding_class by_names c es q))) in
+              let same : t ≡ u = agree_at t u (compared by_names c es a.name a.kind) (compared by_names c es a.name b.kind) (sym (compared-as a.name a r x)) (sym (compared-as a.name b q y)) h in
+              same_name-false (resource_name c r) (resource_name c q) f (sym (named-first c r (binding_class by_names c es r)) ∙ (ap name-of same ∙ named-first c q (binding_class by_names c es q)))))
         ]
 
   -- they have one name

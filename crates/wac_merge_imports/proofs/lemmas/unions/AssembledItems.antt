@@ -18,7 +18,7 @@ use Rattle.wac_types_shapes.specs.declared.shapes.component.ItemKind.{ItemKind}
 use Rattle.wac_types_shapes.specs.declared.shapes.component.ItemKind.TheVariants as kind
 use Rattle.wac_types_shapes.proofs.lemmas.shapes.Names.{same_name-refl, same_name-true}
 use Rattle.wac_types_collection.specs.subtyping.Called.{Called, by_binding}
-use Rattle.wac_merge_classes.specs.entries.Agreement.{called_in_class, compared}
+use Rattle.wac_merge_classes.specs.entries.Agreement.{called_outside, compared}
 use Rattle.wac_merge_classes.specs.terms.Became.{became, whole_in}
 use Rattle.wac_merge_classes.specs.entries.Binding.{root_bindings}
 use Rattle.wac_merge_classes.specs.entries.Bindings.{ClassBindings, path_in}
@@ -211,11 +211,11 @@ module _ (c m : Collection) (es : List Entry) (roots : List (List InterfaceId)) 
           apart : (r : ResourceId) → x.kind ≡ kind.TypeItem (ty.Resource r) → ⊥
           apart r same =
               let it = interface_there c i held in
-              let tree = called_interface c deep.bound (called_in_class by_names c es class) i it.0 it.1 in
+              let tree = called_interface c deep.bound (called_outside by_names c es) i it.0 it.1 in
               let agree : MustAgree (compared by_names c es class (kind.TypeItem (ty.Interface i))) (compared by_names c es class (kind.TypeItem (ty.Resource r))) =
               subst (λ y. MustAgree (compared by_names c es class (kind.TypeItem (ty.Interface i))) (compared by_names c es class y)) same
               (subst (λ y. MustAgree (compared by_names c es class y) (compared by_names c es class x.kind)) is (members_agree c es none-disagrees class 0 j e x first-at at)) in
-              agree (λ h. kinds-apart (unfolded (by_binding c) c (called_in_class by_names c es class) (ty.Interface i)) _ (called_in_class by_names c es class (resolved c r)) tree h)
+              agree (λ h. kinds-apart (unfolded (by_binding c) c (called_outside by_names c es) (ty.Interface i)) _ (called_outside by_names c es (resolved c r)) tree h)
 
           by : (y : ItemKind) → x.kind ≡ y → resource_itself c x.kind ≡ None
           by (kind.TypeItem (ty.Resource r)) same = absurd (apart r same)

@@ -28,7 +28,7 @@ use Rattle.wac_merge_classes.specs.declared.entries.scopes.Opener.{Opener}
 use Rattle.wac_merge_classes.specs.declared.entries.scopes.Opener.TheVariants as opener
 use Rattle.wac_merge_classes.specs.declared.entries.scopes.Scope.{Scope}
 use Rattle.wac_merge_classes.specs.entries.Classes.{by_names, class_names, is_instance}
-use Rattle.wac_merge_classes.specs.entries.Agreement.{called_in_class}
+use Rattle.wac_merge_classes.specs.entries.Agreement.{called_outside}
 use Rattle.wac_merge_trees.specs.private.coding.CallsView.{names_of, names_in, AreNamed}
 use Rattle.wac_merge_trees.specs.private.coding.Coding.{tree_in, source_tree}
 use Rattle.wac_merge_trees.specs.private.coding.ItemCoding.{AreItems, component_tree}
@@ -102,7 +102,7 @@ module _ (c : Collection) (s : Calls) (named : AreNamed c s) (around : IsAround 
   called-is p r = ap (λ o. option_case o None (λ class. names_of c s.entries.now class s.kind s.scopes.now p r)) named.class
 
   root-is : (k : ItemKind) (o : Opener) (r : ResourceId) → is_instance k ≡ false
-      → called_in_root by_names c s.entries.now named.name k o r ≡ or_around c (binds c o r) (called_in_class by_names c s.entries.now named.name) r
+      → called_in_root by_names c s.entries.now named.name k o r ≡ or_around c (binds c o r) (called_outside by_names c s.entries.now) r
   root-is (kind.Instance i) o r plain = cc
   root-is (kind.TypeItem t) o r plain = refl
   root-is (kind.Func f) o r plain = refl

@@ -3,7 +3,7 @@ use Rattle.std.proofs.Common.{◌≡◌, ℕ, true, false, List, [], map, Option
 use Rattle.std.specs.List.{Contains}
 use Rattle.std.specs.Option.{option_map}
 use Rattle.wac_types_shapes.specs.primitives.Name.{Name, first_some, option_case}
-use Rattle.wac_types_shapes.specs.primitives.Tree.{Leaf, Place, TypeTree, absent, exported, imported, instance, instance_item}
+use Rattle.wac_types_shapes.specs.primitives.Tree.{Leaf, Place, TypeTree, absent, exported, instance, instance_item}
 use Rattle.wac_types_collection.specs.collection.Collection.{Collection, HasResource, IsWellFormed, holds_type, interface_exports, item_at}
 use Rattle.wac_types_shapes.specs.shapes.Kinds.{kind_type}
 use Rattle.wac_types_collection.specs.collection.Held.{Names, item_tree, items_under, resolved, unfolded}
@@ -16,7 +16,7 @@ use Rattle.wac_types_shapes.specs.declared.shapes.component.«Type».TheVariants
 use Rattle.wac_types_collection.specs.subtyping.Called.{Called, by_binding, called_at, itself, of_class, own_leaf, resource_name}
 use Rattle.wac_types_collection.specs.subtyping.Subtype.{IsSubtype, Sub, type_tree, kind_tree, resource_names}
 use Rattle.wac_types_collection.proofs.lemmas.subtyping.Relation.{sub_refl}
-use Rattle.wac_merge_classes.specs.entries.Agreement.{Agree, called_in_class, called_inside, called_outside, compared}
+use Rattle.wac_merge_classes.specs.entries.Agreement.{Agree, called_inside, called_outside, compared}
 use Rattle.wac_merge_classes.specs.terms.Became.{IsNew}
 use Rattle.wac_merge_classes.specs.entries.Binding.{binding_class, class_binds}
 use Rattle.wac_merge_classes.specs.entries.Bindings.{ClassBindings}
@@ -40,12 +40,6 @@ module _ (rules : NameRules) (c : Collection) (es : List Entry) where
     by : (o : Option (ℕ × List Place)) → called_name (option_case o (itself r (resource_name c r)) (λ b. of_class b.0 b.1 (resource_name c r))) ≡ resource_name c r
     by None = refl
     by (Some b) = refl
-
-  pub class_keeps : (class : Name) → KeepsNames c (called_in_class rules c es class)
-  class_keeps class r held = by (class_binds rules c es class r) where
-    by : (o : Option (List Place)) → option_map called_name (first_some (option_case o None (λ path. Some (called_at c r (record { out = 0; side = imported; path = path })))) (called_outside rules c es r)) ≡ Some (resource_name c r)
-    by None = outside_keeps r held
-    by (Some path) = refl
 
   pub inside_keeps : (class : Name) (it : Interface) → KeepsNames c (called_inside rules c es class it)
   inside_keeps class it r held = by (own_leaf c it r) (class_binds rules c es class r) where
@@ -90,7 +84,7 @@ pub record IsOfMember (c : Collection) (es : List Entry) (ps : List Part) (calle
 
 module _ (rules : NameRules) (c : Collection) (wf : IsWellFormed c) (es : List Entry) (class : Name) where
   abbrev plain : ItemKind → TypeTree Called
-  plain k = item_tree (unfolded (by_binding c) c (called_in_class rules c es class)) false k
+  plain k = item_tree (unfolded (by_binding c) c (called_outside rules c es)) false k
 
   first_equal : (k : ItemKind) (t : TypeTree Called) → (IsInstance k → ⊥) → Agree (compared rules c es class k) t → plain k ≡ t
   first_equal (kind.Instance i) t never h = absurd (never tt)
@@ -125,8 +119,8 @@ module _ (rules : NameRules) (c : Collection) (wf : IsWellFormed c) (es : List E
   -- members of which the first is no instance have one tree by name
   pub members_equal : (k l : ItemKind) → (IsInstance k → ⊥) → holds_type c (kind_type k) ≡ true → holds_type c (kind_type l) ≡ true → Agree (compared rules c es class k) (compared rules c es class l) → kind_tree c k ≡ kind_tree c l
   members_equal k l never held also h =
-      let keeps = class_keeps rules c es class in
-      same_by_name c wf (called_in_class rules c es class) (called_in_class rules c es class) k l keeps keeps held also (second_equal k l never (first_equal k (compared rules c es class l) never h))
+      let keeps = outside_keeps rules c es in
+      same_by_name c wf (called_outside rules c es) (called_outside rules c es) k l keeps keeps held also (second_equal k l never (first_equal k (compared rules c es class l) never h))
 
   -- what has the tree of the first is a subtype of each
   pub class_subtype : (m : Collection) (w k l : ItemKind) → kind_tree m w ≡ kind_tree c k → (IsInstance k → ⊥) → holds_type c (kind_type k) ≡ true → holds_type c (kind_type l) ≡ true → Agree (compared rules c es class k) (compared rules c es class l) → IsSubtype m w c l

@@ -8,7 +8,7 @@ use Rattle.wac_types_shapes.specs.declared.shapes.component.ItemKind.{ItemKind}
 use Rattle.wac_merge_trees.specs.declared.coding.calls.Calls.{Calls}
 use Rattle.wac_merge_classes.specs.declared.entries.scopes.Scope.{Scope}
 use Rattle.wac_merge_classes.specs.entries.Classes.{Entry, by_names, class_names}
-use Rattle.wac_merge_classes.specs.entries.Agreement.{called_in_class}
+use Rattle.wac_merge_classes.specs.entries.Agreement.{called_outside}
 use Rattle.wac_merge_classes.specs.entries.Bindings.{AreBindings}
 use Rattle.wac_merge_classes.specs.entries.Scopes.{AreNested, AreScopes, called_in, called_in_root, opened_by}
 use Rattle.wac_merge_classes.specs.private.entries.Walking.{AreBound}
@@ -16,7 +16,7 @@ use Rattle.wac_merge_classes.specs.private.entries.Ways.{AreOutward}
 
 -- How resources are named in a scope of an entry, or outside its scopes.
 abbrev pub names_of : Collection → List Entry → Name → ItemKind → List Scope → Option ℕ → Names Called
-names_of c es class kind ss None = called_in_class by_names c es class
+names_of c es class kind ss None = called_outside by_names c es
 names_of c es class kind ss (Some i) = called_in c (called_in_root by_names c es class kind) ss i
 
 -- How a resource that is no alias is named.

@@ -30,8 +30,8 @@ returns-in-Some c = λ es name are at.
     ap (λ q. called_in t (called_in_root by_names t es name c.args.around.now.kind) ss c.args.scope q) (sym c.resolve_resource-resource.ensures.end)
     ∙ (walked ∙ (λ i. Some (bound_at (record { out = c.walk.out; side = side_view c.in-Some.place.now.side; path = sym path i }) (sym c.in_ok-name.ensures i))))
 
-pub past_scopes-requires-clause-held : goal.past_scopes-requires-clause-held
-past_scopes-requires-clause-held c =
+pub past_scopes-requires : goal.past_scopes-requires
+past_scopes-requires c =
     subst (λ x. x.0 < length c.args.types.now.resources) (sym c.resolve_resource-resource.ensures.end) (resolved-held c.args.types.now c.law.ensures c.args.resource c.requires.held)
 
 pub returns-in_default-outward : goal.returns-in_default-outward
