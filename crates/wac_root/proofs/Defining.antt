@@ -1,5 +1,5 @@
 -- Definitions are written into the root.
-use Rattle.std.specs.Prelude.{ℕ, zero, suc, ◌≡◌, ◌+◌, List, [], ◌∷◌, ◌++◌, map, Option, Some, None, slice_get, Err}
+use Rattle.std.specs.Prelude.{ℕ, zero, suc, ◌≡◌, ◌+◌, List, [], ◌∷◌, ◌++◌, map, Option, Some, None, IsSome, slice_get, Err}
 use Rattle.std.proofs.Common.{refl, ap, ◌∙◌, sym, subst, arith, inl, inr}
 use Rattle.std.proofs.lemmas.List.{append-nil}
 use Rattle.wac_types_shapes.specs.primitives.Name.{Name}
@@ -63,12 +63,12 @@ counted-root (Builder items) h = refl
 counted-root (Instance ds) h = absurd h
 counted-root (Component ds) h = absurd h
 
--- what is listed in the root is listed by an instance, so types and their aliases alone are added
-types-alone : (c : Collection) (P : AnyType → Type 0) (s : Scope) → IsRightRoot c s → (ys : List NewType) → AllByRecursion (IsListedThere P s) ys → AllByRecursion IsTypeItem (map as_item ys)
-types-alone c P s r [] h = tt
-types-alone c P s r (as_defined y ∷ ys) h = (tt, types-alone c P s r ys h.1)
-types-alone c P s r (aliased (ByInstance j n) ∷ ys) h = (tt, types-alone c P s r ys h.1)
-types-alone c P s r (aliased (Around i) ∷ ys) h = absurd (r.there (ty.Value (val.Defined h.0.0)) (Around i) h.0.2)
+-- types and their aliases alone are added
+types-alone : (P : AnyType → Type 0) (s : Scope) → (ys : List NewType) → AllByRecursion (IsListedThere P s) ys → AllByRecursion IsTypeItem (map as_item ys)
+types-alone P s [] h = tt
+types-alone P s (as_defined y ∷ ys) h = (tt, types-alone P s ys h.1)
+types-alone P s (aliased (ByInstance j n) ∷ ys) h = (tt, types-alone P s ys h.1)
+types-alone P s (aliased (Around i) ∷ ys) h = (tt, types-alone P s ys h.1)
 
 items-added : (c : Collection) (n : ℕ) (P : AnyType → Type 0) (old now : Scope) → IsRightRoot c old → (w : WritesFor c n P old now) → items_of now.content ≡ items_of old.content ++ map as_item w.types
 items-added c n P old now r w = ap items_of w.appended ∙ items-with old.content w.types r.is_root
@@ -106,13 +106,18 @@ item-at [] p y h = cc
 item-at (x ∷ ys) zero y h = let same : x ≡ y = cc in ap (λ (z : NewType). Some (as_item z)) same
 item-at (x ∷ ys) (suc p) y h = item-at ys p y h
 
+-- what is not recorded has no index
+no-index : (o : Option ℕ) → o ≡ None → IsSome o → ⊥
+no-index None is h = cc
+no-index (Some i) is h = cc
+
 -- what is written for a type stands for it, or for what lists it
-thing-as : (c : Collection) (old now : Scope) (a : AnyType) (t : Tree) → IsRightRoot c old → (o : Option Listed) → listing old a ≡ o → (y : NewType) → IsWrittenAs c now a o y → thing_of_type (root_of old) t (as_item y) ≡ thing_listed o (root_of old) t
-thing-as c old now a t r None none (as_defined y) h = refl
-thing-as c old now a t r None none (aliased l) h = absurd h
-thing-as c old now a t r (Some l) some (as_defined y) h = absurd h
-thing-as c old now a t r (Some (ByInstance j n)) some (aliased k) h = subst (λ (l : Listed). thing_of_type (root_of old) t (as_item (aliased l)) ≡ thing_listed (Some (ByInstance j n)) (root_of old) t) h refl
-thing-as c old now a t r (Some (Around i)) some (aliased k) h = absurd (r.there a (Around i) some)
+thing-as : (c : Collection) (old now : Scope) (a : AnyType) (t : Tree) → IsRightRoot c old → type_index old a ≡ None → (o : Option Listed) → listing old a ≡ o → (y : NewType) → IsWrittenAs c now a o y → thing_of_type (root_of old) t (as_item y) ≡ thing_listed o (root_of old) t
+thing-as c old now a t r new None none (as_defined y) h = refl
+thing-as c old now a t r new None none (aliased l) h = absurd h
+thing-as c old now a t r new (Some l) some (as_defined y) h = absurd h
+thing-as c old now a t r new (Some (ByInstance j n)) some (aliased k) h = subst (λ (l : Listed). thing_of_type (root_of old) t (as_item (aliased l)) ≡ thing_listed (Some (ByInstance j n)) (root_of old) t) h refl
+thing-as c old now a t r new (Some (Around i)) some (aliased k) h = absurd (no-index (type_index old a) new (r.named a i some))
 
 -- what was recorded since stands for its type, or for what lists it
 stands-new : StandsBehind → IsItsTree → (c : Collection) (m : ℕ) (P : AnyType → Type 0) (old now : Scope) (a : AnyType) (i : ℕ) (t : Tree) → IsRightRoot c old → WritesFor c m P old now → type_index old a ≡ None → type_index now a ≡ Some i → HasMeaning (items_of now.content) → IsHeld c nothing_bound a t → At ((root_of now).scope.types) i t
@@ -124,9 +129,9 @@ stands-new behind tree c m P old now a i t r w none some means held at =
     let added : items_of now.content ≡ items ++ ys = items-added c m P old now r w in
     let here : i ≡ indexes (space sort.«Type») items + p = index ∙ ap (λ (k : ℕ). k + p) (counted-root old.content r.is_root) in
     ap (λ (xs : List Item). stands_for (meaning xs) sort.«Type» i) added ∙ ap (stands_for (meaning (items ++ ys)) sort.«Type») here
-    ∙ behind.0 items ys p (as_item y) t (types-alone c P old r w.types w.aliases) (subst HasMeaning added means) (item-at w.types p y there)
+    ∙ behind.0 items ys p (as_item y) t (types-alone P old w.types w.aliases) (subst HasMeaning added means) (item-at w.types p y there)
     (subst (λ (k : ℕ). At ((meaning (items ++ ys)).scope.types) k t) here (subst (λ (xs : List Item). At ((meaning xs).scope.types) i t) added at))
-    ∙ thing-as c old now a t r (listing old a) refl y is
+    ∙ thing-as c old now a t r none (listing old a) refl y is
     ∙ ap (thing_listed (listing old a) (root_of old)) (sym (tree c nothing_bound a t held))
 
 -- what is listed stands for the same behind what is added
@@ -149,6 +154,7 @@ pub right-after : StaysRight → MeansBefore → StandsBehind → IsItsTree → 
 right-after stays before behind tree c n P old new w r = record {
   is_root = is_root;
   there = λ a l h. mid.there a l (sym (w.listed a) ∙ h);
+  named = λ a i h. still a (type_index old a) refl (r.named a i (sym (w.listed a) ∙ h));
   right = good;
   written = λ means a i h. by_old means a i h (type_index old a) refl;
 }
@@ -158,6 +164,10 @@ right-after stays before behind tree c n P old new w r = record {
 
     added : items_of new.content ≡ items_of old.content ++ map as_item w.types
     added = items-added c n P old new r w
+
+    still : (a : AnyType) (o : Option ℕ) → type_index old a ≡ o → IsSome (type_index old a) → IsSome (type_index new a)
+    still a None is h = absurd (no-index (type_index old a) is h)
+    still a (Some j) is h = subst IsSome (sym (w.kept a j is)) refl
 
     good : HasMeaning (items_of new.content) → Good c (nothing_bound ∷ []) (opened new unbound ∷ [])
     good means = (w.onward nothing_bound [] unbound [] (r.right (before (items_of old.content) (map as_item w.types) (subst HasMeaning added means)))).0
@@ -191,7 +201,7 @@ defined-so c t n m P old now new i k r w stands appended answer =
     let is_root : IsRoot now.content = still-root old.content now.content w.types w.appended r.is_root in
     record {
       types = map as_item w.types;
-      alone = types-alone c P old r w.types w.aliases;
+      alone = types-alone P old w.types w.aliases;
       mid = items_of now.content;
       added = items-added c m P old now r w;
       index = i;

@@ -1,7 +1,9 @@
 -- A root into which definitions are written beside other items.
-use Rattle.std.specs.Prelude.{ℕ, zero, suc, ◌≡◌, ◌≤◌, ◌<◌, ◌+◌, cond, Bool, true, false, T, List, [], ◌∷◌, ◌++◌, length, Option, Some, None, slice_get, if◌then◌else◌, ◌⊎◌}
+use Rattle.std.specs.Prelude.{ℕ, zero, suc, ◌≡◌, ◌≤◌, ◌<◌, ◌+◌, cond, nat_eq, Bool, true, false, T, List, [], ◌∷◌, ◌++◌, length, Option, Some, None, IsSome, slice_get, if◌then◌else◌, ◌⊎◌}
 use Rattle.std.specs.List.{AllByRecursion}
 use Rattle.std.proofs.Common.{refl, ap, ◌∙◌, sym, subst, arith, inl, inr}
+use Rattle.std.proofs.Math.Path.{fun_ext}
+use Rattle.std.proofs.lemmas.Bool.Decides.{nat_tests}
 use Rattle.std.proofs.lemmas.List.{append-nil, append_assoc}
 use Rattle.wac_types_shapes.specs.primitives.Name.{Name}
 use Rattle.wac_types_shapes.specs.declared.shapes.component.DefinedTypeId.{DefinedTypeId}
@@ -31,7 +33,7 @@ use Rattle.wac_stacks.specs.Good.{At, Good, nothing_bound, top}
 use Rattle.wac_stacks.specs.Instances.{holding}
 use Rattle.wac_stacks.specs.Inside.{RootGoesOn}
 use Rattle.wac_scopes.specs.Scoped.{type_index, listed_at, listed_too, listing, place, recorded_type, AlsoLists, IsAsBefore, HasToo, opened, root_of}
-use Rattle.wac_scopes.specs.Rooted.{unbound, thing_listed, IsListedIn, ListedStays, IsRightRoot, BeginsRight, StaysRight, MeansBefore, IsTypeItem, thing_of_type, IsWrittenThere, ExportsRight, ListsRight}
+use Rattle.wac_scopes.specs.Rooted.{unbound, thing_listed, IsListedIn, ListedStays, IsRightRoot, BeginsRight, StaysRight, MeansBefore, IsTypeItem, thing_of_type, IsWrittenThere, ExportsRight, ListsRight, NamesRight, IsNamedToo}
 use Rattle.wac_stacks.proofs.Grow.{at-last, at-type_at}
 use Rattle.wac_stacks.proofs.Moved.{ap2}
 use Rattle.wac_scopes.proofs.ScopedLaws.{recorded-at, recorded-same, recorded-too}
@@ -102,6 +104,7 @@ adds-types r (type_item d ∷ ys) all means = one-more-type r (type_item d) ys (
 adds-types r (alias_item (export_alias sort.Type j n) ∷ ys) all means =
     one-more-type r (alias_item (export_alias sort.Type j n)) ys (aliased_type (bound_at r.scope.instances j) n) (aliased_thing (bound_at r.scope.instances j) sort.Type (stands_for r sort.Instance j) n) refl refl refl
     (of-export (may_export sort.Type (bound_at r.scope.instances j).type n) (projected (stands_for r sort.Instance j) n) means.0.1) (adds-types (read r (alias_item (export_alias sort.Type j n))) ys all.1 means.1)
+adds-types r (alias_item (outer_alias sort.Type (suc k) j) ∷ ys) all means = absurd means.0
 adds-types r (y ∷ ys) all means = absurd all.0
 
 thing-behind : (xs ys : List Thing) (p : ℕ) → thing_at (xs ++ ys) (length xs + p) ≡ thing_at ys p
@@ -141,7 +144,7 @@ at-below (x ∷ xs) (suc i) t h = let rest : i < length xs = at-below xs i t h i
 pub listed-thing-stays : Earlier → ListedStays
 listed-thing-stays earlier items more None t there = refl
 listed-thing-stays earlier items more (Some (ByInstance j n)) t there = ap (λ (x : Thing). projected x n) (earlier items more sort.Instance j (there (ByInstance j n) refl))
-listed-thing-stays earlier items more (Some (Around i)) t there = refl
+listed-thing-stays earlier items more (Some (Around i)) t there = earlier items more sort.Type i (there (Around i) refl)
 
 -- what is listed among items is listed among these and more
 no-fewer : (k : ℕ) (items more : List Item) → indexes k items ≤ indexes k (items ++ more)
@@ -150,7 +153,7 @@ no-fewer k (x ∷ items) more = let rest : indexes k items ≤ indexes k (items 
 
 still-listed : (items more : List Item) (l : Listed) → IsListedIn items l → IsListedIn (items ++ more) l
 still-listed items more (ByInstance j n) h = let more_indexes : indexes (space sort.Instance) items ≤ indexes (space sort.Instance) (items ++ more) = no-fewer (space sort.Instance) items more in omega (arith, h, more_indexes)
-still-listed items more (Around i) h = h
+still-listed items more (Around i) h = let more_indexes : indexes (space sort.Type) items ≤ indexes (space sort.Type) (items ++ more) = no-fewer (space sort.Type) items more in omega (arith, h, more_indexes)
 
 -- what is written in a root
 
@@ -163,6 +166,7 @@ pub begins-right : BeginsRight
 begins-right c s is_root none unlisted = record {
   is_root = is_root;
   there = λ a l h. let no_some : None ≡ Some l = sym (unlisted a) ∙ h in cc;
+  named = λ a i h. let no_some : None ≡ Some (Around i) = sym (unlisted a) ∙ h in cc;
   right = λ means. (
     record {
       meaning = subst (λ (x : Content). ContentHasMeaning x []) (sym (content-of-root s.content is_root)) means;
@@ -201,6 +205,7 @@ pub stays-right : RootGoesOn → TypesCounted → Earlier → StaysRight
 stays-right goes_on types_counted earlier c old new more r is_root added same listed = record {
   is_root = is_root;
   there = λ a l h. subst (λ (xs : List Item). IsListedIn xs l) (sym added) (still-listed (items_of old.content) more l (r.there a l (sym (listed a) ∙ h)));
+  named = λ a i h. subst IsSome (sym (same a)) (r.named a i (sym (listed a) ∙ h));
   right = λ means.
       let all : HasMeaning (items_of old.content ++ more) = subst HasMeaning added means in
       let good : Good c (nothing_bound ∷ []) (opened old unbound ∷ []) = r.right (means-before (items_of old.content) more all) in
@@ -284,10 +289,15 @@ exports-right stays earlier one_more types_counted new_export old new n d i k in
         ap (λ (m : ℕ). stands_for (meaning more) sort.Type m) (sym is ∙ index_is) ∙ new_export items n i ∙ r.written (means-before items (export_item n sort.Type i ∷ []) means) (ty.Value (val.Defined d)) i at
         ∙ ap (λ (u : AnyType). thing_listed (listing old u) (meaning items) (held_tree c nothing_bound u)) (sym (same_type-true e (ty.Value (val.Defined d)) same)) ∙ sym (thing_is e)
 
+    named_now : (e : AnyType) (j : ℕ) → listing new e ≡ Some (Around j) → (b : Bool) → same_type e (ty.Value (val.Defined d)) ≡ b → IsSome (type_index new e)
+    named_now e j h true same = subst IsSome (sym (too.types e ∙ ap (λ (b : Bool). cond b (Some k) (type_index old e)) same)) refl
+    named_now e j h false other = subst IsSome (sym (too.types e ∙ ap (λ (b : Bool). cond b (Some k) (type_index old e)) other)) (r.named e j (sym (too.listed e) ∙ h))
+
     there : IsRightRoot c (exported old new n i)
     there = record {
       is_root = tt;
       there = λ e l h. mid_right.there e l (sym (too.listed e) ∙ h);
+      named = λ e j h. named_now e j h (same_type e (ty.Value (val.Defined d))) refl;
       right = λ means. subst (λ (o : Open). Good c (nothing_bound ∷ []) (o ∷ [])) (sym new_is) (good means);
       written = λ means e j h. written_now means e j h (same_type e (ty.Value (val.Defined d))) refl;
     }
@@ -306,6 +316,7 @@ pub lists-right : (old new : Scope) (k : ℕ) (es : List (DefinedTypeId × Name)
 lists-right old new k es kept lists c r none has = record {
   is_root = subst IsRoot (sym kept) r.is_root;
   there = λ a l h. subst (λ (x : Encodable). IsListedIn (items_of x) l) (sym kept) (listed-in a l h);
+  named = named-in;
   right = λ means.
       let was : HasMeaning (items_of old.content) = subst (λ (x : Encodable). HasMeaning (items_of x)) kept means in
       let good : Good c (nothing_bound ∷ []) (opened old unbound ∷ []) = r.right was in
@@ -333,8 +344,100 @@ lists-right old new k es kept lists c r none has = record {
     listed-in (ty.World i) l h = let no_some : None ≡ Some l = h in cc
     listed-in (ty.Module i) l h = let no_some : None ≡ Some l = h in cc
 
+    named-in : (a : AnyType) (i : ℕ) → listing new a ≡ Some (Around i) → IsSome (type_index new a)
+    named-in (ty.Value (val.Defined d)) i h = by (listed-from k es (listed_at old) d (Around i) (sym (lists.listed d) ∙ h))
+      where
+        by : (listed_at old d ≡ Some (Around i)) ⊎ ((n : Name) × (Around i ≡ ByInstance k n)) → IsSome (type_index new (ty.Value (val.Defined d)))
+        by (inl was) = subst IsSome (sym (lists.types (ty.Value (val.Defined d)))) (r.named (ty.Value (val.Defined d)) i was)
+        by (inr (n, same)) = cc
+    named-in (ty.Value (val.Primitive p)) i h = let no_some : None ≡ Some (Around i) = h in cc
+    named-in (ty.Value (val.Own q)) i h = let no_some : None ≡ Some (Around i) = h in cc
+    named-in (ty.Value (val.Borrow q)) i h = let no_some : None ≡ Some (Around i) = h in cc
+    named-in (ty.Func f) i h = let no_some : None ≡ Some (Around i) = h in cc
+    named-in (ty.Interface j) i h = let no_some : None ≡ Some (Around i) = h in cc
+    named-in (ty.Resource q) i h = let no_some : None ≡ Some (Around i) = h in cc
+    named-in (ty.World j) i h = let no_some : None ≡ Some (Around i) = h in cc
+    named-in (ty.Module j) i h = let no_some : None ≡ Some (Around i) = h in cc
+
 -- after room was made
 pub lists-right-since : (old roomy new : Scope) (k : ℕ) (es : List (DefinedTypeId × Name)) → IsAsBefore old roomy → new.content ≡ roomy.content → AlsoLists roomy k es new → ListsRight old k es new × AlsoLists old k es new
 lists-right-since old roomy new k es same kept lists =
     let since : AlsoLists old k es new = lists-since old roomy roomy new k es same (λ a. refl) (λ d. refl) (λ d. refl) lists in
     (lists-right old new k es (kept ∙ same.content) since, since)
+
+-- what an import names
+
+-- another definition is listed where it was
+other-id : (d e : DefinedTypeId) → same_type (ty.Value (val.Defined e)) (ty.Value (val.Defined d)) ≡ false → nat_eq d.0 e.0 ≡ false
+other-id d e h = grind (arith, nat_tests, h)
+
+other-listed : (old new : Scope) (d : DefinedTypeId) (i : ℕ) → IsNamedToo old d i new → (a : AnyType) → same_type a (ty.Value (val.Defined d)) ≡ false → listing new a ≡ listing old a
+other-listed old new d i too (ty.Value (val.Defined e)) other = too.listed e ∙ ap (λ (b : Bool). cond b (Some (Around i)) (listed_at old e)) (other-id d e other)
+other-listed old new d i too (ty.Value (val.Primitive p)) other = refl
+other-listed old new d i too (ty.Value (val.Own q)) other = refl
+other-listed old new d i too (ty.Value (val.Borrow q)) other = refl
+other-listed old new d i too (ty.Func f) other = refl
+other-listed old new d i too (ty.Interface j) other = refl
+other-listed old new d i too (ty.Resource q) other = refl
+other-listed old new d i too (ty.World j) other = refl
+other-listed old new d i too (ty.Module j) other = refl
+
+-- this one is listed at the index
+same-id : (d : DefinedTypeId) → nat_eq d.0 d.0 ≡ true
+same-id d = grind (arith, nat_tests)
+
+this-listed : (old new : Scope) (d : DefinedTypeId) (i : ℕ) → IsNamedToo old d i new → listing new (ty.Value (val.Defined d)) ≡ Some (Around i)
+this-listed old new d i too = too.listed d ∙ ap (λ (b : Bool). cond b (Some (Around i)) (listed_at old d)) (same-id d)
+
+pub names-right : (old new : Scope) (d : DefinedTypeId) (i : ℕ) → new.content ≡ old.content → IsNamedToo old d i new → NamesRight old d i new
+names-right old new d i kept too c r none has = record {
+  is_root = subst IsRoot (sym kept) r.is_root;
+  there = λ a l h. subst (λ (x : Encodable). IsListedIn (items_of x) l) (sym kept) (listed-now a l h (same_type a this) refl);
+  named = λ a j h. named-now a j h (same_type a this) refl;
+  right = λ means.
+      let was : HasMeaning (items_of old.content) = subst (λ (x : Encodable). HasMeaning (items_of x)) kept means in
+      let good : Good c (nothing_bound ∷ []) (opened old unbound ∷ []) = r.right was in
+      let (t, held, of, at) = has.1 was in
+      let here : At ((env (opened old unbound) []).types) i t = subst (λ (x : Content). At ((scope_of x []).types) i t) (sym (content-of-root old.content r.is_root)) at in
+      let new_is : opened new unbound ≡ remember_at this (at_type i) (opened old unbound) = (λ j. record unbound { content = content_of (kept j); memo = memo-is j }) in
+      subst (λ (o : Open). Good c (nothing_bound ∷ []) (o ∷ [])) (sym new_is) (good-remember_at c nothing_bound (top []) (opened old unbound) [] this (at_type i) t good.0 held of here, tt);
+  written = λ means a j h. written-now (subst (λ (x : Encodable). HasMeaning (items_of x)) kept means) a j h (same_type a this) refl;
+}
+  where
+    this : AnyType
+    this = ty.Value (val.Defined d)
+
+    -- what is recorded of a type
+    recorded-here : (a : AnyType) (b : Bool) → same_type a this ≡ b → type_index new a ≡ cond b (Some i) (type_index old a)
+    recorded-here a b is = too.types a ∙ ap (λ (e : Bool). cond e (Some i) (type_index old a)) is
+
+    memo-at : (a : AnyType) (b : Bool) → same_type a this ≡ b → place (type_index new a) (listing new a) ≡ cond b (Some (at_type i)) (place (type_index old a) (listing old a))
+    memo-at a true is = ap (λ (o : Option ℕ). place o (listing new a)) (recorded-here a true is)
+    memo-at a false is = ap2 place (recorded-here a false is) (other-listed old new d i too a is)
+
+    memo-is : recorded_type new ≡ (λ a. if same_type a this then Some (at_type i) else recorded_type old a)
+    memo-is = fun_ext (λ a. memo-at a (same_type a this) refl)
+
+    listed-now : (a : AnyType) (l : Listed) → listing new a ≡ Some l → (b : Bool) → same_type a this ≡ b → IsListedIn (items_of old.content) l
+    listed-now a l h false is = r.there a l (sym (other-listed old new d i too a is) ∙ h)
+    listed-now a l h true is =
+        let some : Some (Around i) ≡ Some l = sym (this-listed old new d i too) ∙ ap (listing new) (sym (same_type-true a this is)) ∙ h in
+        let l_is : Around i ≡ l = cc in
+        subst (IsListedIn (items_of old.content)) l_is has.0
+
+    named-now : (a : AnyType) (j : ℕ) → listing new a ≡ Some (Around j) → (b : Bool) → same_type a this ≡ b → IsSome (type_index new a)
+    named-now a j h true is = subst IsSome (sym (recorded-here a true is)) refl
+    named-now a j h false is = subst IsSome (sym (recorded-here a false is)) (r.named a j (sym (other-listed old new d i too a is) ∙ h))
+
+    same_root : (o : Option Listed) (j : ℕ) (t : Tree) → stands_for (root_of old) sort.Type j ≡ thing_listed o (root_of old) t → stands_for (root_of new) sort.Type j ≡ thing_listed o (root_of new) t
+    same_root o j t = subst (λ (x : Encodable). stands_for (meaning (items_of x)) sort.Type j ≡ thing_listed o (meaning (items_of x)) t) (sym kept)
+
+    written-now : HasMeaning (items_of old.content) → (a : AnyType) (j : ℕ) → type_index new a ≡ Some j → (b : Bool) → same_type a this ≡ b → stands_for (root_of new) sort.Type j ≡ thing_listed (listing new a) (root_of new) (held_tree c nothing_bound a)
+    written-now means a j h false is =
+        same_root (listing old a) j (held_tree c nothing_bound a) (r.written means a j (sym (recorded-here a false is) ∙ h))
+        ∙ ap (λ (o : Option Listed). thing_listed o (root_of new) (held_tree c nothing_bound a)) (sym (other-listed old new d i too a is))
+    written-now means a j h true is =
+        let some : Some i ≡ Some j = sym (recorded-here a true is) ∙ h in
+        let j_is : i ≡ j = cc in
+        ap (stands_for (root_of new) sort.Type) (sym j_is)
+        ∙ ap (λ (o : Option Listed). thing_listed o (root_of new) (held_tree c nothing_bound a)) (sym (ap (listing new) (same_type-true a this is) ∙ this-listed old new d i too))

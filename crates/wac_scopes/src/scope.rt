@@ -18,7 +18,7 @@ ghost use Rattle.wac_scopes.specs.declared.encodable.Encodable.TheVariants.{Buil
 ghost use Rattle.wac_scopes.specs.Contents.{IsRoot, IsOpenType, and_type, and_core_module, and_export, and_import, count, items_of, ContentFits};
 ghost use Rattle.wac_scopes.specs.Scoped.{IfThere, IsThere, AddsValue, AddsFunc, AddsPrimitive, AddsInstance, AddsWorld, AddsComponent, AddsModule, ListsType, ListsValue, ListsFunction, ListsInstanceOf, ListsComponentOf, RootImportsType, RootImportsValue, RootImportsFunction, RootImportsInstance, RootImportsModule, RootImportsComponent, RootImportsListing, HasToo, IsAsBefore, AlsoLists, ListsAround, AliasesValue, IsAliased, AliasFits, IsAt, type_index, value_index, named_at, listed_at, listing, in_use, WritesUnlessTooLarge, FitsUnlessTooLarge, RecordsUnlessTooLarge};
 ghost use Rattle.wac_scopes.specs.Binding.{BindsListing};
-ghost use Rattle.wac_scopes.specs.Rooted.{ExportsRight, ListsRight};
+ghost use Rattle.wac_scopes.specs.Rooted.{ExportsRight, ListsRight, NamesRight, IsNamedToo};
 ghost use Rattle.wac_scopes.specs.Sides.{side_of, IsOpenComponent, and_declared, DeclaresType, DeclaresValue, DeclaresFunction, DeclaresInstance, DeclaresListing};
 
 use crate::encodable::Encodable;
@@ -708,6 +708,21 @@ impl Scope {
             Ok(_) => Ok(()),
             Err(_) => unreachable!(),
         }
+    }
+
+    /// Records that an import of the root, with this type index, is a type item of a definition that is not recorded yet: from now on the
+    /// definition is written by that index.
+    ///
+    /// Answers `AllocError` where memory was refused; then the scope may not be used any more.
+    pub fn name_import(&mut self, id: DefinedTypeId, index: u32) -> Result<(), AllocError>
+        ensures right { OnOk result (NamesRight self.old id index self.new) }
+        ensures named { OnOk result (IsNamedToo self.old id index self.new) }
+        ensures kept { self.new.content ≡ self.old.content }
+    {
+        self.list_around(id, index)?;
+        self.make_room()?;
+        self.record_value(id, index, true);
+        Ok(())
     }
 
     /// Imports a core module of the core module type at an index, into the root. Answers the module's index.
