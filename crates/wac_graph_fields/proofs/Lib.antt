@@ -19,8 +19,6 @@ pub mod StoredLemmas
 pub mod ReachedLemmas
 pub mod DependencyLemmas
 pub mod GraphLemmas
-pub mod SatisfyLemmas
-pub mod SingleLemmas
 pub mod WayLemmas
 pub mod TiedLemmas
 pub mod SlotLemmas

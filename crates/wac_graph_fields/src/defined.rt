@@ -38,10 +38,10 @@ pub(crate) fn defined_at(nodes: &Slab<Node>, number: usize) -> Option<Type>
     let Some(node) = nodes.get(number) else {
         return None;
     };
-    let NodeKind::Definition = node.kind else {
+    let NodeKind::Definition = node.kind() else {
         return None;
     };
-    let ItemKind::TypeItem(ty) = node.item_kind else {
+    let ItemKind::TypeItem(ty) = node.item_kind() else {
         return None;
     };
     Some(ty)

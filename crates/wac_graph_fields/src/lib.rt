@@ -19,4 +19,4 @@ pub use dependencies::add_dependencies;
 pub use lost::{Lost, take_lost};
 pub use owned::{take_owned, take_owned_exports};
 pub use slots::{next_id, put_package, take_package};
-pub use taking::{take_nodes, unsatisfy};
+pub use taking::take_nodes;

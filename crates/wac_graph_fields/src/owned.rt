@@ -86,8 +86,8 @@ fn is_owned(nodes: &Slab<Node>, number: usize, id: PackageId) -> bool
     let Some(node) = nodes.get(number) else {
         return false;
     };
-    match node.kind {
-        NodeKind::Instantiation(_) | NodeKind::Alias => is_package(node.package, id),
+    match node.kind() {
+        NodeKind::Instantiation(_) | NodeKind::Alias => is_package(node.package(), id),
         NodeKind::Definition | NodeKind::Import(_) => false,
     }
 }

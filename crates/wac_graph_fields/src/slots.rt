@@ -9,6 +9,7 @@ ghost use Rattle.wac_graph_fields.specs.Unregistering.{FreesSlot};
 
 use indexmap::IndexMap;
 use std::alloc::AllocError;
+use wac_graph_model::inner::{generation_of, new_package_id, slot_of};
 use wac_graph_model::{BorrowedPackageKey, PackageId, Slot};
 use wac_types::{Package, PackageKey};
 
@@ -26,17 +27,11 @@ pub fn next_id(slots: &mut Vec<Slot>, vacant: &mut Vec<usize>) -> Result<Package
 {
     if let Some(number) = vacant.last() {
         let slot = *number;
-        return Ok(PackageId {
-            slot,
-            generation: slots[slot].generation,
-        });
+        return Ok(new_package_id(slot, slots[slot].generation));
     }
     slots.reserve(1)?;
     vacant.reserve(slots.len() + 1)?;
-    Ok(PackageId {
-        slot: slots.len(),
-        generation: 0,
-    })
+    Ok(new_package_id(slots.len(), 0))
 }
 
 /// Puts a package into the slot of `next_id`, for which memory is reserved.
@@ -52,7 +47,7 @@ pub fn put_package(slots: &mut Vec<Slot>, vacant: &mut Vec<usize>, id: PackageId
     }
     slots
         .push(Slot {
-            generation: id.generation,
+            generation: generation_of(id),
             package: Some(package),
         })
         .unwrap();
@@ -83,7 +78,7 @@ fn take_key(names: &mut IndexMap<PackageKey, PackageId>, slots: &[Slot], id: Pac
     requires there { IsSome (package_in (slice_get slots.now id.slot) id) }
     ensures taken { IfSome (package_in (slice_get slots.now id.slot) id) (λ p. (k : Key) → lookup (same_key k) names.new.entries ≡ (if same_key (key_of p) k then None else lookup (same_key k) names.old.entries)) }
 {
-    let Some(package) = &slots[id.slot].package else {
+    let Some(package) = &slots[slot_of(id)].package else {
         unreachable!()
     };
     names.swap_remove(BorrowedPackageKey::from_name_and_version(package.name(), package.version()));
@@ -96,10 +91,11 @@ fn free(slots: &mut Vec<Slot>, vacant: &mut Vec<usize>, id: PackageId)
     ensures freed { FreesSlot slots.old.items (vacant_of vacant.old) id slots.new.items (vacant_of vacant.new) }
     ensures capacity { vec_capacity vacant.old ≤ vec_capacity vacant.new }
 {
-    let slot = &mut slots[id.slot];
+    let number = slot_of(id);
+    let slot = &mut slots[number];
     slot.package = None;
     if let Some(generation) = slot.generation.checked_add(1) {
         slot.generation = generation;
-        vacant.push(id.slot).unwrap();
+        vacant.push(number).unwrap();
     }
 }

@@ -1,11 +1,11 @@
 //! Removing nodes with everything that depends on them.
-ghost use Rattle.std.specs.Prelude.{◌≡◌, ◌≢◌, ◌↔◌, ◌≤◌, ◌&&◌, ◌==◌, not, ℕ, true, Some, None, IfSome, IfNone, IsTrue, IsSome};
+ghost use Rattle.std.specs.Prelude.{◌≡◌, ◌≢◌, ◌↔◌, ◌≤◌, ℕ, true, Some, None, IfSome, IfNone, IsTrue, IsSome};
 ghost use Rattle.std.specs.Option.{option_map};
 ghost use Rattle.std.specs.FinSet as set;
 ghost use Rattle.slab.specs.Slab.{get};
 ghost use Rattle.wac_edges.specs.declared.edges.Edge.{Edge as AnEdge};
 ghost use Rattle.wac_edges.specs.private.Ends.{at_end};
-ghost use Rattle.wac_graph_model.specs.nodes.Nodes.{node_of, satisfied_at, IsInstantiationAt};
+ghost use Rattle.wac_graph_model.specs.nodes.Nodes.{node_of};
 ghost use Rattle.wac_graph_fields.specs.private.Lost.{AreNoted};
 ghost use Rattle.wac_graph_fields.specs.Removal.{GoesWith};
 ghost use Rattle.wac_graph_fields.specs.private.Removing.{AreTied, AreTaken};
@@ -14,7 +14,8 @@ use crate::lost::{Lost, take_node};
 use indexmap::IndexMap;
 use slab::Slab;
 use wac_edges::edges::{Edge, Edges, End, Label};
-use wac_graph_model::{Node, NodeId, NodeKind};
+use wac_graph_model::inner::unsatisfy;
+use wac_graph_model::{Node, NodeId};
 
 /// Removes a node and all that goes with it, with their edges. Returns the node.
 ///
@@ -145,24 +146,5 @@ fn is_kept(kept: Option<Edge>, edge: Edge) -> bool
     match kept {
         Some(kept) => kept == edge,
         None => false,
-    }
-}
-
-/// Marks the instantiation's import at this position as unsatisfied.
-pub fn unsatisfy(nodes: &mut Slab<Node>, number: usize, position: usize)
-    requires { IsInstantiationAt (get nodes.old number) }
-    ensures same { (q : ℕ) → option_map node_of (get nodes.new q) ≡ option_map node_of (get nodes.old q) }
-    ensures next { nodes.new.vacant_key ≡ nodes.old.vacant_key }
-    ensures marks { (q i : ℕ) → satisfied_at (get nodes.new q) i ≡ (satisfied_at (get nodes.old q) i && not (q == number && i == position)) }
-{
-    let node = &mut nodes[number];
-    let NodeKind::Instantiation(positions) = &mut node.kind else {
-        unreachable!()
-    };
-    // Clearing a set of one element needs no search.
-    if positions.len() == 1 && positions.contains(&position) {
-        positions.clear();
-    } else {
-        positions.remove(&position);
     }
 }

@@ -1,5 +1,5 @@
 pub mod Definition
-pub mod Listing
+pub mod Defined
 pub mod Means
 pub mod Importable
 pub mod Once

@@ -13,5 +13,5 @@ pub use causes::EncodeError;
 pub use nodes::{
     AliasError, BorrowedPackageKey, DefineTypeError, EncodeOptions, ExportError, ImportError,
     InstantiationArgumentError, Node, NodeId, NodeKind, PackageId, Processor, RegisterPackageError,
-    Slot, UnexportError, export_fault, first_gap, import_fault, one_export_answer,
+    Slot, UnexportError, export_fault, first_gap, import_fault, inner, one_export_answer,
 };

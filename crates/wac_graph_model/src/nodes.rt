@@ -4,7 +4,9 @@
 //! They also say what always holds of a graph (`Sound`) and which imports it has (`Asked`, `Entries`).
 
 mod errors;
+pub mod inner;
 pub mod laws;
+mod marks;
 mod names;
 mod node;
 mod options;

@@ -7,6 +7,7 @@ pub mod DefinedLemmas
 pub mod ThingLemmas
 pub mod AskedLemmas
 pub mod WrittenLemmas
+pub mod ShownLemmas
 pub mod FurtherLemmas
 pub mod EncodeLemmas
 pub mod OuterOrder

@@ -12,3 +12,5 @@ pub mod AgainLemmas
 pub mod HeldLemmas
 pub mod ExternNameLemmas
 pub mod PositionLemmas
+pub mod SatisfyLemmas
+pub mod SingleLemmas

@@ -1,7 +1,7 @@
 -- The trees of type definitions.
 --
 -- An interface that a definition uses, but neither imports nor exports, becomes an import with its types only.
-use Rattle.std.specs.Prelude.{ℕ, zero, suc, Bool, not, ◌==◌, if◌then◌else◌, List, [], ◌∷◌, ◌++◌, length, map, filter, None}
+use Rattle.std.specs.Prelude.{ℕ, zero, suc, Bool, not, ◌==◌, if◌then◌else◌, List, [], ◌∷◌, ◌++◌, length, map, filter}
 use Rattle.std.specs.List.{list_any, flat_map}
 use Rattle.wac_types_shapes.specs.primitives.Name.{Name, same_name, option_case, first_some}
 use Rattle.wac_types_shapes.specs.primitives.Tree.{Side, imported, exported, Tree, absent, fresh, type_equal, instance, instance_item, component, component_item, named}
@@ -113,8 +113,8 @@ completed_world c w = component (items_under (listed c by_imports imported w.imp
 abbrev pub world_definition : Collection → World → Tree
 world_definition c w = component (λ _. absent) (items_under (option_case w.id [] (λ id. (id, component_item (completed_world c w)) ∷ [])))
 
--- The tree of a defined type; only interfaces and worlds differ from their own trees.
-unfoldable pub definition_tree : Collection → AnyType → Tree
-definition_tree c (ty.Interface i) = interface_definition c i
-definition_tree c (ty.World w) = option_case (item_at c.worlds w.0) absent (world_definition c)
-definition_tree c t = held_tree c (λ _. None) t
+-- The tree of a defined type under the bindings of the root. Interfaces and worlds bind their resources themselves.
+unfoldable pub definition_tree : Collection → Bindings → AnyType → Tree
+definition_tree c m (ty.Interface i) = interface_definition c i
+definition_tree c m (ty.World w) = option_case (item_at c.worlds w.0) absent (world_definition c)
+definition_tree c m t = held_tree c m t

@@ -7,7 +7,7 @@ use Rattle.std.specs.List.{list_any, flat_map}
 use Rattle.semver.specs.Identifiers.{parts_text}
 use Rattle.wac_types_shapes.specs.primitives.Name.{Name, same_name, option_case}
 use Rattle.wac_types_shapes.specs.primitives.Tree.{Tree, component_item}
-use Rattle.wac_types_collection.specs.collection.Bound.{held_tree}
+use Rattle.wac_types_collection.specs.collection.Bound.{Bindings, held_tree}
 use Rattle.wac_types_shapes.specs.keys.Key.{Key}
 use Rattle.wac_types_shapes.specs.declared.shapes.component.«Type».{«Type» as AnyType}
 use Rattle.wac_types_shapes.specs.declared.shapes.component.«Type».TheVariants.{World}
@@ -26,8 +26,9 @@ use Rattle.wac_edges.specs.declared.node.NodeId.{NodeId}
 use Rattle.wac_graph_model.specs.declared.nodes.packages.PackageId.{PackageId}
 use Rattle.wac_graph_model.specs.nodes.Graph.{Graph, GraphNode, Kind, import, instantiation, alias, node_at, package_at, imports_of, exports_of, IsAliasOf, IsArgumentOf, IsUnsatisfied, definition}
 use Rattle.wac_edges.specs.Order.{Writes}
-use Rattle.wac_graph_model.specs.nodes.OuterImports.{AreOuterImports, IsImportPlace}
-use Rattle.wac_graph_model.specs.meaning.Listing.{listing_of, IsDefined}
+use Rattle.wac_graph_model.specs.nodes.OuterImports.{AreOuterImports, IsImportPlace, outer_bindings}
+use Rattle.wac_graph_model.specs.meaning.Defined.{IsDefined}
+use Rattle.wac_graph_model.specs.meaning.Definition.{definition_tree}
 use Rattle.wac_graph_model.specs.declared.nodes.options.EncodeOptions.{EncodeOptions}
 use Rattle.wac_graph_model.specs.declared.nodes.options.Processor.{Processor}
 
@@ -141,13 +142,13 @@ AreInstantiations g o imports at order _ _ = ⊥
 --
 -- - An import node: the import of its name's class.
 -- - An instantiation: the instance at the node's position among the instantiations.
--- - A definition: its type, or the same type as an import exports it.
+-- - A definition: a new type, or the same type as an import has it.
 -- - An alias: the export of the instance's item with the alias's name.
-pub data IsThing (g : Graph) (at : NodeId → Thing) (order : List NodeId) (n : NodeId) (node : GraphNode) : Type 0 where
-  as_import : (name : Name) (p : ℕ) → node.kind ≡ import name → IsImportPlace g name p → at n ≡ import_at p → IsThing g at order n node
-  as_instantiation : (k : ℕ) → node.kind ≡ instantiation → slice_get (instantiations g order) k ≡ Some n → at n ≡ instance_at k → IsThing g at order n node
-  as_definition : (t : AnyType) → node.kind ≡ definition → node.item_kind ≡ TypeItem t → IsDefined g t (listing_of g t) (at n) → IsThing g at order n node
-  as_alias : (instance : NodeId) (source : GraphNode) (i : ℕ) (name : Name) → node.kind ≡ alias → IsAliasOf g instance i n → node_at g instance ≡ Some source → slice_get (exports_of g source) i ≡ Some (name, node.item_kind) → at n ≡ projection (at instance) name → IsThing g at order n node
+pub data IsThing (g : Graph) (imports : List (Name × Tree)) (bindings : Bindings) (at : NodeId → Thing) (order : List NodeId) (n : NodeId) (node : GraphNode) : Type 0 where
+  as_import : (name : Name) (p : ℕ) → node.kind ≡ import name → IsImportPlace g name p → at n ≡ import_at p → IsThing g imports bindings at order n node
+  as_instantiation : (k : ℕ) → node.kind ≡ instantiation → slice_get (instantiations g order) k ≡ Some n → at n ≡ instance_at k → IsThing g imports bindings at order n node
+  as_definition : (t : AnyType) → node.kind ≡ definition → node.item_kind ≡ TypeItem t → IsDefined imports (definition_tree g.types bindings t) (at n) → IsThing g imports bindings at order n node
+  as_alias : (instance : NodeId) (source : GraphNode) (i : ℕ) (name : Name) → node.kind ≡ alias → IsAliasOf g instance i n → node_at g instance ≡ Some source → slice_get (exports_of g source) i ≡ Some (name, node.item_kind) → at n ≡ projection (at instance) name → IsThing g imports bindings at order n node
 
 -- The name is the first export name of a definition.
 abbrev pub is_first : GraphNode → Name → Bool
@@ -243,7 +244,7 @@ pub record Means (items : List Item) (g : Graph) (o : EncodeOptions) : Type 0 wh
   -- Each instantiation node is instantiated once, in order, with exactly its arguments.
   pub instances : AreInstantiations g o (length classes) at order (instantiations g order) (meaning items).instantiations
   -- Each node's index refers to what the node is.
-  pub things : (n : NodeId) (node : GraphNode) → node_at g n ≡ Some node → IsThing g at order n node
+  pub things : (n : NodeId) (node : GraphNode) → node_at g n ≡ Some node → IsThing g classes (outer_bindings g outer.order) at order n node
   pub stand : (n : NodeId) (node : GraphNode) → node_at g n ≡ Some node → stands_for (meaning items) (sort_of_kind node.item_kind) (index n) ≡ at n
   -- The exports are exactly the graph's: definitions' first names in written order, then the rest in the graph's order.
   pub exports : map shown (meaning items).exports ≡ flat_map (first_export g at) order ++ flat_map (export_of g at) (further_exports g)

@@ -2,6 +2,7 @@
 use Rattle.std.specs.Prelude.{ℕ, ◌≡◌, List, length, Some, slice_get}
 use Rattle.wac_types_shapes.specs.primitives.Name.{Name}
 use Rattle.wac_types_shapes.specs.primitives.Tree.{Tree}
+use Rattle.wac_types_collection.specs.collection.Bound.{Bindings}
 use Rattle.wac_merge_classes.specs.entries.Binding.{root_bindings}
 use Rattle.wac_merge_classes.specs.entries.Classes.{Entry, by_names, class_names, canonical, IsClassOf}
 use Rattle.wac_merge_classes.specs.terms.ClassOrder.{IsWrittenOrder}
@@ -18,11 +19,15 @@ outer_entries g = to_merge (asked_entries g)
 abbrev pub IsOuterOrder : Graph → List ℕ → Type 0
 IsOuterOrder g order = IsWrittenOrder by_names g.types (outer_entries g) order
 
+-- The resources that the root binds, if the classes are imported in this order.
+abbrev pub outer_bindings : Graph → List ℕ → Bindings
+outer_bindings g order = root_bindings by_names g.types (outer_entries g) (position_in order)
+
 -- The name and type of the class that is imported at a position of the order.
 abbrev pub outer_import : Graph → List ℕ → ℕ → Name → Name × Tree
 outer_import g order p class = (
   canonical by_names (outer_entries g) class,
-  merged by_names g.types (outer_entries g) (root_bindings by_names g.types (outer_entries g) (position_in order)) p class,
+  merged by_names g.types (outer_entries g) (outer_bindings g order) p class,
 )
 
 -- The imports are the classes in written order, each under its canonical name with its merged type.

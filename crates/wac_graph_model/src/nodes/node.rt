@@ -45,12 +45,10 @@ impl NodeKind {
 /// A node of a graph.
 #[derive(Debug)]
 pub struct Node {
-    /// The kind of the node.
-    pub kind: NodeKind,
-    /// The instantiated package. An alias has the package of its source.
-    pub package: Option<PackageId>,
-    /// The item that the node provides.
-    pub item_kind: ItemKind,
+    pub(crate) kind: NodeKind,
+    // The instantiated package. An alias has the package of its source.
+    package: Option<PackageId>,
+    item_kind: ItemKind,
     // Boxed, because most nodes have no name.
     names: Option<Box<NodeNames>>,
 }
@@ -144,38 +142,6 @@ impl Node {
         })
     }
 
-    /// Creates a node without names.
-    pub fn new(kind: NodeKind, package: Option<PackageId>, item_kind: ItemKind) -> Node
-        ensures kind { result.kind ≡ kind }
-        ensures node { node_of result ≡ unnamed (kind_of kind) «package» item_kind }
-    {
-        Node {
-            kind,
-            package,
-            item_kind,
-            names: None,
-        }
-    }
-
-    /// Creates a definition of the type that is exported under the name. Fails with `AllocError` if memory runs out.
-    pub fn definition(alloc: Global, name: &str, ty: Type) -> Result<Node, AllocError>
-        ensures { IfOk result (λ n. node_of n ≡ definition_node name.now ty) }
-    {
-        let export_name = String::from_str(alloc, name)?;
-        let first_name = String::from_str(alloc, name)?;
-        let names = NodeNames {
-            name: None,
-            export_name: Some(export_name),
-            first_name: Some(first_name),
-        };
-        Ok(Node {
-            kind: NodeKind::Definition,
-            package: None,
-            item_kind: ItemKind::TypeItem(ty),
-            names: Some(Box::new(alloc, names)?),
-        })
-    }
-
     /// The kind of the node.
     pub fn kind(&self) -> &NodeKind
         ensures { result.now ≡ self.now.kind }
@@ -226,66 +192,98 @@ impl Node {
             None => None,
         }
     }
+}
 
-    /// The first export name of a definition. `None` for other nodes.
-    pub fn first_name(&self) -> Option<&str>
-        ensures { option_map (λ s. s.now) result ≡ (node_of self.now).first_name }
-    {
-        match &self.names {
-            Some(names) => as_text(&names.first_name),
-            None => None,
+/// Creates a node without names.
+pub fn new_node(kind: NodeKind, package: Option<PackageId>, item_kind: ItemKind) -> Node
+    ensures kind { result.kind ≡ kind }
+    ensures node { node_of result ≡ unnamed (kind_of kind) «package» item_kind }
+{
+    Node {
+        kind,
+        package,
+        item_kind,
+        names: None,
+    }
+}
+
+/// Creates a definition of the type that is exported under the name. Fails with `AllocError` if memory runs out.
+pub fn new_definition(alloc: Global, name: &str, ty: Type) -> Result<Node, AllocError>
+    ensures { IfOk result (λ n. node_of n ≡ definition_node name.now ty) }
+{
+    let export_name = String::from_str(alloc, name)?;
+    let first_name = String::from_str(alloc, name)?;
+    let names = NodeNames {
+        name: None,
+        export_name: Some(export_name),
+        first_name: Some(first_name),
+    };
+    Ok(Node {
+        kind: NodeKind::Definition,
+        package: None,
+        item_kind: ItemKind::TypeItem(ty),
+        names: Some(Box::new(alloc, names)?),
+    })
+}
+
+/// The first export name of a definition. `None` for other nodes.
+pub fn first_name(node: &Node) -> Option<&str>
+    ensures { option_map (λ s. s.now) result ≡ (node_of node.now).first_name }
+{
+    match &node.names {
+        Some(names) => as_text(&names.first_name),
+        None => None,
+    }
+}
+
+/// Sets the node's name. On `AllocError` the node is unchanged.
+pub fn set_name(node: &mut Node, alloc: Global, name: &str) -> Result<(), AllocError>
+    ensures kind { node.new.kind ≡ node.old.kind }
+    ensures named { OnOk result (node_of node.new ≡ record (node_of node.old) { name = Some name.now }) }
+    ensures kept { OnErr result (node.new ≡ node.old) }
+{
+    let text = String::from_str(alloc, name)?;
+    match &mut node.names {
+        Some(names) => names.name = Some(text),
+        None => {
+            let names = NodeNames {
+                name: Some(text),
+                export_name: None,
+                first_name: None,
+            };
+            node.names = Some(Box::new(alloc, names)?);
         }
     }
+    Ok(())
+}
 
-    /// Sets the node's name. On `AllocError` the node is unchanged.
-    pub fn set_name(&mut self, alloc: Global, name: &str) -> Result<(), AllocError>
-        ensures kind { self.new.kind ≡ self.old.kind }
-        ensures named { OnOk result (node_of self.new ≡ record (node_of self.old) { name = Some name.now }) }
-        ensures kept { OnErr result (self.new ≡ self.old) }
-    {
-        let text = String::from_str(alloc, name)?;
-        match &mut self.names {
-            Some(names) => names.name = Some(text),
-            None => {
-                let names = NodeNames {
-                    name: Some(text),
-                    export_name: None,
-                    first_name: None,
-                };
-                self.names = Some(Box::new(alloc, names)?);
-            }
+/// Sets the latest export name. On `AllocError` the node is unchanged.
+pub fn set_export_name(node: &mut Node, alloc: Global, name: &str) -> Result<(), AllocError>
+    ensures kind { node.new.kind ≡ node.old.kind }
+    ensures named { OnOk result (node_of node.new ≡ record (node_of node.old) { export_name = Some name.now }) }
+    ensures kept { OnErr result (node.new ≡ node.old) }
+{
+    let text = String::from_str(alloc, name)?;
+    match &mut node.names {
+        Some(names) => names.export_name = Some(text),
+        None => {
+            let names = NodeNames {
+                name: None,
+                export_name: Some(text),
+                first_name: None,
+            };
+            node.names = Some(Box::new(alloc, names)?);
         }
-        Ok(())
     }
+    Ok(())
+}
 
-    /// Sets the latest export name. On `AllocError` the node is unchanged.
-    pub fn set_export_name(&mut self, alloc: Global, name: &str) -> Result<(), AllocError>
-        ensures kind { self.new.kind ≡ self.old.kind }
-        ensures named { OnOk result (node_of self.new ≡ record (node_of self.old) { export_name = Some name.now }) }
-        ensures kept { OnErr result (self.new ≡ self.old) }
-    {
-        let text = String::from_str(alloc, name)?;
-        match &mut self.names {
-            Some(names) => names.export_name = Some(text),
-            None => {
-                let names = NodeNames {
-                    name: None,
-                    export_name: Some(text),
-                    first_name: None,
-                };
-                self.names = Some(Box::new(alloc, names)?);
-            }
-        }
-        Ok(())
-    }
-
-    /// Clears the latest export name.
-    pub fn clear_export_name(&mut self)
-        ensures kind { self.new.kind ≡ self.old.kind }
-        ensures cleared { node_of self.new ≡ record (node_of self.old) { export_name = None } }
-    {
-        if let Some(names) = &mut self.names {
-            names.export_name = None;
-        }
+/// Clears the latest export name.
+pub fn clear_export_name(node: &mut Node)
+    ensures kind { node.new.kind ≡ node.old.kind }
+    ensures cleared { node_of node.new ≡ record (node_of node.old) { export_name = None } }
+{
+    if let Some(names) = &mut node.names {
+        names.export_name = None;
     }
 }

@@ -18,10 +18,29 @@ use wac_types::{Package, PackageKey};
 /// The id of a registered package: a slot and the slot's generation, compared in this order.
 #[derive(Clone, Copy, Debug, PartialEq, Eq, PartialOrd, Ord, Hash)]
 pub struct PackageId {
-    /// The number of the slot.
-    pub slot: usize,
-    /// The generation of the slot.
-    pub generation: usize,
+    slot: usize,
+    generation: usize,
+}
+
+/// The id of the package that is in the slot at this generation.
+pub fn new_package_id(slot: usize, generation: usize) -> PackageId
+    ensures { result ≡ record { slot = slot; generation = generation } }
+{
+    PackageId { slot, generation }
+}
+
+/// The number of the id's slot.
+pub fn slot_of(id: PackageId) -> usize
+    ensures { result ≡ id.slot }
+{
+    id.slot
+}
+
+/// The generation of the id's slot.
+pub fn generation_of(id: PackageId) -> usize
+    ensures { result ≡ id.generation }
+{
+    id.generation
 }
 
 /// A slot for a package. Its generation is the number of packages that it held before.

@@ -7,6 +7,7 @@ ghost use Rattle.wac_graph_model.specs.meaning.Means.{same_package};
 use std::alloc::{AllocError, Global};
 use std::marker::Model;
 use wac_graph_model::PackageId;
+use wac_graph_model::inner::slot_of;
 
 /// The component indexes of the packages that are written, in order of writing. A package is found by its slot.
 #[derive(Drop)]
@@ -46,7 +47,7 @@ impl Components {
         ensures there { IfSome result (λ c. (k : ℕ) × (slice_get self.now k ≡ Some (id, c))) }
         ensures absent { IfNone result (list_any (λ e. same_package id e.0) self.now ≡ false) }
     {
-        let next = next_of(&self.places, id.slot);
+        let next = next_of(&self.places, slot_of(id));
         if next == 0 {
             return None;
         }
@@ -62,9 +63,10 @@ impl Components {
         ensures pushed { OnOk result (self.new ≡ self.old ++ (id, index) ∷ []) }
         ensures refused { OnErr result (self.new ≡ self.old) }
     {
-        make_room(&mut self.places, id.slot)?;
+        let slot = slot_of(id);
+        make_room(&mut self.places, slot)?;
         self.entries.push((id, index))?;
-        note_place(&mut self.places, id.slot, self.entries.len());
+        note_place(&mut self.places, slot, self.entries.len());
         Ok(())
     }
 }

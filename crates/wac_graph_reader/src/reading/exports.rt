@@ -9,6 +9,7 @@ ghost use Rattle.wac_graph_reader.specs.private.writing.Further.{further_at};
 
 use crate::reading::reader::GraphReader;
 use std::alloc::AllocError;
+use wac_graph_model::inner::first_name;
 use wac_graph_model::{Node, NodeId};
 
 impl<'a> GraphReader<'a> {
@@ -43,7 +44,7 @@ impl<'a> GraphReader<'a> {
         ensures { MatchOption result (first_name_of self.now n ≡ []) (λ name. first_name_of self.now n ≡ name.now ∷ []) }
     {
         match self.nodes.get(n.0) {
-            Some(node) => node.first_name(),
+            Some(node) => first_name(node),
             None => None,
         }
     }
@@ -64,7 +65,7 @@ impl<'a> GraphReader<'a> {
 fn is_first_name(node: &Node, name: &str) -> bool
     ensures { result ≡ is_first (node_of node.now) name.now }
 {
-    match node.first_name() {
+    match first_name(node) {
         Some(first) => name == first,
         None => false,
     }

@@ -16,6 +16,7 @@ ghost use Rattle.wac_types_shapes.specs.declared.shapes.component.ItemKind.TheVa
 use crate::reading::reader::GraphReader;
 use std::alloc::Global;
 use std::collections::BTreeSet;
+use wac_graph_model::inner::{first_name, generation_of, slot_of};
 use wac_graph_model::{NodeId, NodeKind, PackageId, Slot, first_gap};
 use wac_types::{ItemKind, Named, Package, Type, Types};
 
@@ -37,7 +38,7 @@ impl<'a> GraphReader<'a> {
         requires { IsSome (node_at self.now n) }
         ensures { IfSome (node_at self.now n) (λ node. node.kind ≡ kind_of result.now) }
     {
-        &self.nodes[n.0].kind
+        self.nodes[n.0].kind()
     }
 
     /// The item that a node provides.
@@ -45,7 +46,7 @@ impl<'a> GraphReader<'a> {
         requires { IsSome (node_at self.now n) }
         ensures { IfSome (node_at self.now n) (λ node. node.item_kind ≡ result) }
     {
-        self.nodes[n.0].item_kind
+        self.nodes[n.0].item_kind()
     }
 
     /// The package of an instantiation, with its id.
@@ -54,7 +55,7 @@ impl<'a> GraphReader<'a> {
         ensures owner { IfSome (node_at self.now (node_number n)) (λ node. node.owner ≡ Some result.0) }
         ensures registered { package_at self.now result.0 ≡ Some result.1.now }
     {
-        let Some(id) = self.nodes[n].package else {
+        let Some(id) = self.nodes[n].package() else {
             unreachable!()
         };
         match package_in_slots(self.slots, id) {
@@ -92,7 +93,7 @@ impl<'a> GraphReader<'a> {
     {
         let node = self.nodes.get(n)?;
         let name = node.import_name()?;
-        Some((name, node.item_kind))
+        Some((name, node.item_kind()))
     }
 
     /// The first export name of a definition, and the type that it defines.
@@ -102,10 +103,10 @@ impl<'a> GraphReader<'a> {
         ensures defined { IfSome (node_at self.now n) (λ node. (node.item_kind ≡ TypeItem result.1) × (node.first_name ≡ Some result.0.now)) }
     {
         let node = &self.nodes[n.0];
-        let ItemKind::TypeItem(ty) = node.item_kind else {
+        let ItemKind::TypeItem(ty) = node.item_kind() else {
             unreachable!()
         };
-        let Some(name) = node.first_name() else {
+        let Some(name) = first_name(node) else {
             unreachable!()
         };
         (name, ty)
@@ -116,7 +117,7 @@ impl<'a> GraphReader<'a> {
         ensures { MatchOption result (node_left self.now n from (node_at self.now (node_number n)) ≡ []) (λ r. node_left self.now n from (node_at self.now (node_number n)) ≡ (r.1.now, r.2, None) ∷ node_left self.now n r.0 (node_at self.now (node_number n))) }
     {
         let node = self.nodes.get(n)?;
-        let NodeKind::Instantiation(satisfied) = &node.kind else {
+        let NodeKind::Instantiation(satisfied) = node.kind() else {
             return None;
         };
         first_unset(satisfied, self.imports_at(n), from)
@@ -139,9 +140,9 @@ fn first_unset<'a>(
 pub fn package_in_slots(slots: &[Slot], id: PackageId) -> Option<&Package>
     ensures { option_copied result ≡ package_in (slice_get slots.now id.slot) id }
 {
-    match slots.get(id.slot) {
+    match slots.get(slot_of(id)) {
         Some(slot) => {
-            if slot.generation == id.generation {
+            if slot.generation == generation_of(id) {
                 slot.package.as_ref()
             } else {
                 None

@@ -131,7 +131,7 @@ impl<'a> GraphReader<'a> {
         let Some(node) = self.nodes.get(n.0) else {
             return false;
         };
-        node.name().is_some() && sort_of(node.item_kind) == sort
+        node.name().is_some() && sort_of(node.item_kind()) == sort
     }
 
     /// The name of a node that has one.

@@ -109,7 +109,7 @@ impl<'a> GraphReader<'a> {
         ensures { result ≡ is_written self.now (node_number n) }
     {
         match self.nodes.get(n) {
-            Some(node) => !is_import(&node.kind),
+            Some(node) => !is_import(node.kind()),
             None => false,
         }
     }
@@ -119,7 +119,7 @@ impl<'a> GraphReader<'a> {
         ensures { IsSomeAnd (node_at self.now (node_number n)) (λ node. node.kind ≡ definition) → IsTrue result }
     {
         match self.nodes.get(n) {
-            Some(node) => is_definition(&node.kind),
+            Some(node) => is_definition(node.kind()),
             None => false,
         }
     }

@@ -41,11 +41,11 @@ impl<'a> GraphReader<'a> {
         let Some((source, position)) = self.edges.alias_source(n) else {
             unreachable!()
         };
-        let ItemKind::Instance(interface) = self.nodes[source.0].item_kind else {
+        let ItemKind::Instance(interface) = self.nodes[source.0].item_kind() else {
             unreachable!()
         };
         let name = self.types[interface].exports.name_at(position);
-        let sort = sort_of(self.nodes[n.0].item_kind);
+        let sort = sort_of(self.nodes[n.0].item_kind());
         let instance = encoder.indexes[source.0];
         Ok(encoder.root.alias_export(sort, instance, name)?)
     }
@@ -80,7 +80,7 @@ impl<'a> GraphReader<'a> {
         let Some((name, id)) = self.further_export(i) else {
             return Ok(());
         };
-        let sort = sort_of(self.nodes[id.0].item_kind);
+        let sort = sort_of(self.nodes[id.0].item_kind());
         let index = indexes[id.0];
         component.export(name, sort, index)?;
         Ok(())

@@ -4,5 +4,6 @@ use Rattle.wac_graph_fields.proofs.slots.free.Goals as goal
 
 pub returns-in_default-clause-freed : goal.returns-in_default-clause-freed
 returns-in_default-clause-freed c =
-    frees_last c.args.slots.now.items (vacant_of c.args.vacant.now) c.args.id c.index_mut-slot.result.now.generation
-    (held_generation c.args.slots.now.items c.args.id c.index_mut-slot.result.now c.requires.there c.index_mut-slot.ensures.value) c.in_default.ensures
+    rw c.slot_of-number.ensures
+    (frees_last c.args.slots.now.items (vacant_of c.args.vacant.now) c.args.id c.index_mut-slot.result.now.generation
+    (held_generation c.args.slots.now.items c.args.id c.index_mut-slot.result.now c.requires.there (rw c.slot_of-number.ensures at c.index_mut-slot.ensures.value)) c.in_default.ensures)

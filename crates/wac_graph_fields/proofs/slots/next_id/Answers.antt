@@ -10,4 +10,4 @@ index-requires c =
 
 pub returns-in-Some-clause-id : goal.returns-in-Some-clause-id
 returns-in-Some-clause-id c =
-    next_freed c.args.slots.now.items c.args.vacant.now.items c.in-Some.number.now c.index.result.now c.requires (c.in-Some.ensures.value ∙ ap (λ xs. slice_get xs (length xs - 1)) c.deref.ensures.value) c.index.ensures
+    rw c.new_package_id.ensures (next_freed c.args.slots.now.items c.args.vacant.now.items c.in-Some.number.now c.index.result.now c.requires (c.in-Some.ensures.value ∙ ap (λ xs. slice_get xs (length xs - 1)) c.deref.ensures.value) c.index.ensures)

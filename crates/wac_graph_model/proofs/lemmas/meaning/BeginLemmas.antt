@@ -5,7 +5,7 @@ use Rattle.std.specs.List.{AllByRecursion}
 use Rattle.std.proofs.lemmas.List.{append-nil, length-append}
 use Rattle.std.proofs.lemmas.Option.{slice_get_within}
 use Rattle.wac_types_shapes.specs.primitives.Name.{Name}
-use Rattle.wac_types_shapes.specs.primitives.Tree.{imported, position, Tree, instance_item}
+use Rattle.wac_types_shapes.specs.primitives.Tree.{imported, position, Tree, type_equal, instance_item, type_in}
 use Rattle.wac_binary.specs.declared.sorts.Sort.{Sort}
 use Rattle.wac_binary.specs.declared.sorts.Sort.TheVariants as sort
 use Rattle.wac_binary.specs.declared.sorts.Description.{Description}
@@ -34,6 +34,7 @@ nothing_begins = record {
   stand = λ p t i wrong. no_such (t, i) wrong;
   own = λ p t i wrong. no_such (t, i) wrong;
   typed = λ p i x wrong _. no_such (_, i) wrong;
+  equal = λ p i x t wrong _ _. no_such (_, i) wrong;
 } where
   no_such : {A : Type 0} {P : Type 0} (x : A) → None ≡ Some x → P
   no_such x h = cc
@@ -53,6 +54,18 @@ import_bound laws items n j =
     let b : Bound = record { type = type_at (meaning items).scope.types j; side = imported; path = position (length (meaning items).imports) ∷ [] } in
     ap (λ r. bound_at r.scope.instances (indexes (space sort.Instance) items)) (meaning-push items (import_item n (e.Instance j)))
     ∙ bound_at-last (meaning items).scope.instances b (indexes (space sort.Instance) items) (sym (laws.bounds_counted items))
+
+-- a type item that is imported has its type
+type_at-last : (ts : List Tree) (t : Tree) (i : ℕ) → i ≡ length ts → type_at (ts ++ t ∷ []) i ≡ t
+type_at-last ts t i is = ap (type_at (ts ++ t ∷ [])) is ∙ last ts where
+  last : (us : List Tree) → type_at (us ++ t ∷ []) (length us) ≡ t
+  last [] = refl
+  last (u ∷ us) = last us
+
+import_type : Laws → (items : List Item) (n : Name) (j : ℕ) → type_at (meaning (items ++ import_item n (e.Equal j) ∷ [])).scope.types (indexes (space sort.«Type») items) ≡ type_at (meaning items).scope.types j
+import_type laws items n j =
+    ap (λ r. type_at r.scope.types (indexes (space sort.«Type») items)) (meaning-push items (import_item n (e.Equal j)))
+    ∙ type_at-last (meaning items).scope.types (type_at (meaning items).scope.types j) (indexes (space sort.«Type») items) (sym (laws.types_counted items))
 
 -- the index that an import adds stands for it
 import_stands : Laws → (items : List Item) (n : Name) (d : Description) → stands_for (meaning (items ++ import_item n d ∷ [])) (described_sort d) (indexes (space (described_sort d)) items) ≡ import_at (length (meaning items).imports)
@@ -90,6 +103,9 @@ module _ (laws : Laws) (imports : List (Name × Tree)) (places : Places) (items 
   still_typed : (x : Item) (p i : ℕ) (y : Name × Tree) → slice_get places p ≡ Some (sort.Instance, i) → slice_get imports p ≡ Some y → y.1 ≡ instance_item (bound_at (meaning (items ++ x ∷ [])).scope.instances i).type
   still_typed x p i y placed there = b.typed p i y placed there ∙ ap (λ (z : Bound). instance_item z.type) (sym (laws.bounds_earlier items (x ∷ []) i (b.stand p sort.Instance i placed).0))
 
+  still_equal : (x : Item) (p i : ℕ) (y : Name × Tree) (t : Tree) → slice_get places p ≡ Some (sort.«Type», i) → slice_get imports p ≡ Some y → y.1 ≡ type_equal t → type_at (meaning (items ++ x ∷ [])).scope.types i ≡ t
+  still_equal x p i y t placed there is = laws.types_earlier items (x ∷ []) i (b.stand p sort.«Type» i placed).0 ∙ b.equal p i y t placed there is
+
   -- one type or alias more
   pub begins_quiet : (x : Item) → IsQuiet x → ItemHasMeaning (meaning items) x → Begins imports places (items ++ x ∷ [])
   begins_quiet x quiet meant =
@@ -105,6 +121,7 @@ module _ (laws : Laws) (imports : List (Name × Tree)) (places : Places) (items 
         stand = stays x;
         own = still_own x;
         typed = still_typed x;
+        equal = still_equal x;
       }
 
   -- one import more
@@ -125,6 +142,7 @@ module _ (laws : Laws) (imports : List (Name × Tree)) (places : Places) (items 
         stand = λ p t i placed. stand p t i (slice_get-push places (described_sort d, indexes (space (described_sort d)) items) p (t, i) placed);
         own = λ p t i placed. own p t i (slice_get-push places (described_sort d, indexes (space (described_sort d)) items) p (t, i) placed);
         typed = λ p i y placed there. typed p i y (slice_get-push places (described_sort d, indexes (space (described_sort d)) items) p (sort.Instance, i) placed) (slice_get-push imports (n, described_item (meaning items).scope d) p y there);
+        equal = λ p i y t placed there is. equal p i y t (slice_get-push places (described_sort d, indexes (space (described_sort d)) items) p (sort.«Type», i) placed) (slice_get-push imports (n, described_item (meaning items).scope d) p y there) is;
       } where
         stand : (p : ℕ) (t : Sort) (i : ℕ) → (slice_get places p ≡ Some (t, i)) ⊎ ((p ≡ length places) × (◌≡◌ {A = Sort × ℕ} (t, i) (described_sort d, indexes (space (described_sort d)) items)))
             → (i < indexes (space t) (items ++ import_item n d ∷ [])) × (stands_for (meaning (items ++ import_item n d ∷ [])) t i ≡ import_at p)
@@ -149,6 +167,17 @@ module _ (laws : Laws) (imports : List (Name × Tree)) (places : Places) (items 
               ap (λ (x : Name × Tree). x.1) is
               ∙ ap (λ (z : Bound). instance_item z.type) (sym (ap (bound_at (meaning (items ++ import_item n (e.Instance j) ∷ [])).scope.instances) (ap (λ (x : Sort × ℕ). x.1) placed) ∙ import_bound laws items n j))
           of_instance d' placed is = let no : sort.Instance ≡ described_sort d' = ap (λ (x : Sort × ℕ). x.0) placed in cc
+
+        equal : (p i : ℕ) (y : Name × Tree) (t : Tree) → (slice_get places p ≡ Some (sort.«Type», i)) ⊎ ((p ≡ length places) × (◌≡◌ {A = Sort × ℕ} (sort.«Type», i) (described_sort d, indexes (space (described_sort d)) items)))
+            → (slice_get imports p ≡ Some y) ⊎ ((p ≡ length imports) × (y ≡ (n, described_item (meaning items).scope d))) → y.1 ≡ type_equal t → type_at (meaning (items ++ import_item n d ∷ [])).scope.types i ≡ t
+        equal p i y t (inl placed) (inl there) is_type = still_equal (import_item n d) p i y t placed there is_type
+        equal p i y t (inl placed) (inr (last, _)) is_type = let within = slice_get_within places p (sort.«Type», i) placed in absurd (omega (arith, within, last, b.count))
+        equal p i y t (inr (last, _)) (inl there) is_type = let within = slice_get_within imports p y there in absurd (omega (arith, within, last, b.count))
+        equal p i y t (inr (_, placed)) (inr (_, is)) is_type = of_type d placed (sym (ap (λ (x : Name × Tree). x.1) is) ∙ is_type) where
+          of_type : (d' : Description) → ◌≡◌ {A = Sort × ℕ} (sort.«Type», i) (described_sort d', indexes (space (described_sort d')) items) → described_item (meaning items).scope d' ≡ type_equal t → type_at (meaning (items ++ import_item n d' ∷ [])).scope.types i ≡ t
+          of_type (e.Equal j) placed is = ap (type_at (meaning (items ++ import_item n (e.Equal j) ∷ [])).scope.types) (ap (λ (x : Sort × ℕ). x.1) placed) ∙ import_type laws items n j ∙ ap type_in is
+          of_type e.Fresh placed is = cc
+          of_type d' placed is = let no : sort.«Type» ≡ described_sort d' = ap (λ (x : Sort × ℕ). x.0) placed in cc
 
 module _ (laws : Laws) (imports : List (Name × Tree)) (places : Places) where
   quiet_all : (more items : List Item) → AllByRecursion IsQuiet more → AllHaveMeaning (meaning items) more → Begins imports places items → Begins imports places (items ++ more)

@@ -25,14 +25,14 @@ use Rattle.wac_graph_model.specs.declared.nodes.packages.PackageId.{PackageId}
 use Rattle.wac_graph_model.specs.declared.nodes.options.EncodeOptions.{EncodeOptions}
 use Rattle.wac_graph_model.specs.nodes.Graph as graph
 use Rattle.wac_graph_model.specs.nodes.Graph.{Graph, GraphNode, Kind, node_at}
-use Rattle.wac_graph_model.specs.nodes.OuterImports.{AreOuterImports, IsImportPlace}
+use Rattle.wac_graph_model.specs.nodes.OuterImports.{AreOuterImports, IsImportPlace, outer_bindings}
 use Rattle.wac_graph_model.specs.nodes.Sound.{IsSound}
 use Rattle.wac_edges.specs.Order.{Writes, IsLowestReady}
-use Rattle.wac_graph_model.specs.meaning.Listing.{listing_of, IsDefined}
-use Rattle.wac_graph_model.specs.meaning.Means.{node_is, is_import, is_instantiation, is_written, instantiations, IsThing, sort_of_kind, with_package, used_after, used_packages, package_bytes, HasItem, is_own_item, shown, first_export, export_of, export_item_of, AreNames, Means, further_exports, name_customs, processor_customs, custom_item}
+use Rattle.wac_graph_model.specs.meaning.Means.{node_is, is_import, is_instantiation, is_written, instantiations, sort_of_kind, with_package, used_after, used_packages, package_bytes, HasItem, is_own_item, shown, first_export, export_of, export_item_of, AreNames, Means, further_exports, name_customs, processor_customs, custom_item}
 use Rattle.wac_graph_model.specs.private.meaning.Beginning.{Places, HasImport, Begins, Covers, IsPlacedNode}
 use Rattle.wac_graph_model.specs.private.meaning.Encoding.{Progress, index_in, HasRoom}
 use Rattle.wac_graph_model.specs.private.meaning.Writing.{WritesNode, writes_instantiation, writes_alias, IsDefinedBehind, writes_definition, Wrote, WroteAll}
+use Rattle.wac_graph_model.specs.private.meaning.Listing.{Listing, by_item, by_export, listing_of, IsListedAs, IsListedThing, ShowsDefinitions}
 use Rattle.wac_edges.proofs.WrittenOrder.{has, minus, minus-push, minus-true, same, same-true, all_in, slice_get-middle}
 use Rattle.wac_graph_model.proofs.lemmas.meaning.ThingLemmas.{DefinesTypes, Stands, written_node, node_of_written, AreImported, all_things}
 use Rattle.wac_graph_model.proofs.lemmas.meaning.OuterOrder.{OneImportPlace}
@@ -41,6 +41,7 @@ use Rattle.wac_graph_model.proofs.lemmas.meaning.MeantLemmas.{meant-push, someth
 use Rattle.wac_graph_model.proofs.lemmas.meaning.FurtherLemmas.{further_there, further_new, further_no_first}
 use Rattle.wac_graph_model.proofs.lemmas.meaning.MeaningLemmas.{Laws, export_shown, export_others, custom_rest, indexes-push}
 use Rattle.wac_graph_model.proofs.lemmas.meaning.WrittenLemmas.{Written, with_type, with_component, instance_more, alias_more, definition_more, used-append, HasItem-push, used_prefix}
+use Rattle.wac_graph_model.proofs.lemmas.meaning.ShownLemmas.{shown_thing}
 use Rattle.wac_graph_model.proofs.lemmas.meaning.DefinedLemmas.{AreMade, defined_components, no_package_imports, made_instantiations}
 
 clash : (b : Bool) → b ≡ true → b ≡ false → ⊥
@@ -69,16 +70,18 @@ own_import items node name i k kind h = record {
 
 -- what a definition stands for behind items where the imports stand
 defined_behind : (g : Graph) (places : Places) (items : List Item) → ((p : ℕ) (t : Sort) (i : ℕ) → slice_get places p ≡ Some (t, i) → (i < indexes (space t) items) × (stands_for (meaning items) t i ≡ import_at p))
-    → (t : AnyType) (o : Option (Name × Name)) (x : Thing) → IsDefinedBehind g places items t o x → IsDefined g t o x
+    → (t : AnyType) (o : Option Listing) (x : Thing) → IsDefinedBehind g places items t o x → IsListedAs g t o x
 defined_behind g places items stand t None x is = is
-defined_behind g places items stand t (Some (entry, name)) x (i, at, is) = (at.p, at.fell, is ∙ ap (λ y. projected y name) (stand at.p sort.Instance i at.placed).1)
+defined_behind g places items stand t (Some (by_item entry)) x (i, at, is) = (at.p, at.fell, is ∙ (stand at.p sort.«Type» i at.placed).1)
+defined_behind g places items stand t (Some (by_export entry name)) x (i, at, is) = (at.p, at.fell, is ∙ ap (λ y. projected y name) (stand at.p sort.Instance i at.placed).1)
 
 -- there is such a thing
-a_definition : (g : Graph) (places : Places) (items : List Item) (t : AnyType) (o : Option (Name × Name)) (x : Thing) → IsDefinedBehind g places items t o x → (y : Thing) × IsDefined g t o y
+a_definition : (g : Graph) (places : Places) (items : List Item) (t : AnyType) (o : Option Listing) (x : Thing) → IsDefinedBehind g places items t o x → (y : Thing) × IsListedAs g t o y
 a_definition g places items t None x is = (x, is)
-a_definition g places items t (Some (entry, name)) x (i, at, is) = (projection (import_at at.p) name, (at.p, at.fell, refl))
+a_definition g places items t (Some (by_item entry)) x (i, at, is) = (import_at at.p, (at.p, at.fell, refl))
+a_definition g places items t (Some (by_export entry name)) x (i, at, is) = (projection (import_at at.p) name, (at.p, at.fell, refl))
 
-module _ (laws : Laws) (g : Graph) (sound : IsSound g) (one_place : OneImportPlace g) (order : List NodeId) (at : NodeId → Thing) (is_thing : (n : NodeId) (node : GraphNode) → node_at g n ≡ Some node → IsThing g at order n node) (imported : List (Name × Tree)) (places : Places) where
+module _ (laws : Laws) (g : Graph) (sound : IsSound g) (one_place : OneImportPlace g) (order : List NodeId) (at : NodeId → Thing) (is_thing : (n : NodeId) (node : GraphNode) → node_at g n ≡ Some node → IsListedThing g at order n node) (imported : List (Name × Tree)) (places : Places) where
   abbrev pub Done : List NodeId → List Item → List (PackageId × ℕ) → (NodeId → ℕ) → Type 0
   Done done items components index = Written laws g sound order at is_thing imported places done (used_packages g done) items components index
 
@@ -316,10 +319,10 @@ module _ (laws : Laws) (g : Graph) (sound : IsSound g) (one_place : OneImportPla
   closed base items index place customs e = customs_more base customs [] items index place (no_customs base items index place e)
 
   -- the items mean the graph
-  means : (o : EncodeOptions) → o.define_components ≡ true → AreOuterImports g imported → (names : List (Sort × ℕ × Name))
+  means : (o : EncodeOptions) → o.define_components ≡ true → (outer : AreOuterImports g imported) → ShowsDefinitions g imported (outer_bindings g outer.order) → (names : List (Sort × ℕ × Name))
       → (base items : List Item) (index place : NodeId → ℕ) → AreNames g index names → Writes g.edges (is_written g) order → Closed base (name_customs names ++ processor_customs o.processor) items index place
       → ((i j : ℕ) (n m : NodeId) → i < j → slice_get order i ≡ Some n → slice_get order j ≡ Some m → place n < place m) → Means items g o
-  means o define outer names base items index place named writes e in_place = record {
+  means o define outer shows names base items index place named writes e in_place = record {
     order = order;
     in_order = writes;
     at = at;
@@ -330,7 +333,7 @@ module _ (laws : Laws) (g : Graph) (sound : IsSound g) (one_place : OneImportPla
     imports = e.imports ∙ sym (append-nil imported) ∙ ap (λ xs. imported ++ xs) (sym (no_package_imports g o define order));
     components = e.bytes ∙ sym (defined_components g o define order);
     instances = made_instantiations g o define (length imported) at order (instantiations g order) (meaning items).instantiations e.made;
-    things = is_thing;
+    things = λ n node there. shown_thing g imported (outer_bindings g outer.order) shows at order n node there (is_thing n node there);
     stand = λ n node there. (e.stand n node there).1;
     exports = e.exports;
     place = place;
@@ -372,17 +375,17 @@ module _ (laws : Laws) (g : Graph) (sound : IsSound g) (one_place : OneImportPla
       (append_assoc items (export_item x.0 (sort_of_kind node.item_kind) (index x.1) ∷ []) (flat_map (export_item_of g index) rest) ∙ ap (λ ys. items ++ (ys ++ flat_map (export_item_of g index) rest)) (sym one))
       (all_exported base index place rest (es ++ x ∷ []) (items ++ export_item x.0 (sort_of_kind node.item_kind) (index x.1) ∷ []) (here ∙ sym (append_assoc es (x ∷ []) rest)) next)
 
-  pub all_written : (o : EncodeOptions) → o.define_components ≡ true → AreOuterImports g imported → Writes g.edges (is_written g) order
+  pub all_written : (o : EncodeOptions) → o.define_components ≡ true → (outer : AreOuterImports g imported) → ShowsDefinitions g imported (outer_bindings g outer.order) → Writes g.edges (is_written g) order
       → (begin : List Item) (indexes : List ℕ) → Begins imported places begin → AreImported g (IsPlaced (index_in indexes)) at → HasRoom g indexes
       → (q : Progress) → WroteAll g places order (record { items = begin; components = []; indexes = indexes }) q → (names : List (Sort × ℕ × Name)) → AreNames g (index_in q.indexes) names
       → Means ((q.items ++ flat_map (export_item_of g (index_in q.indexes)) (further_exports g)) ++ map custom_item (name_customs names ++ processor_customs o.processor)) g o
-  all_written o define outer writes begin from begins placed room q wrote names named =
+  all_written o define outer shows writes begin from begins placed room q wrote names named =
       let d = all_done order [] (record { items = begin; components = []; indexes = from }) q refl writes room wrote (nothing_done begin (index_in from) begins placed) in
       let e = all_exported q.items (index_in q.indexes) d.place (further_exports g) [] q.items refl (no_exports q.items q.components (index_in q.indexes) writes d) in
       let customs = name_customs names ++ processor_customs o.processor in
       let exported : List Item = q.items ++ flat_map (export_item_of g (index_in q.indexes)) (further_exports g) in
       let c = closed q.items exported (index_in q.indexes) d.place customs e in
-      means o define outer names q.items (exported ++ map custom_item customs) (index_in q.indexes) d.place named writes c d.in_place
+      means o define outer shows names q.items (exported ++ map custom_item customs) (index_in q.indexes) d.place named writes c d.in_place
 
 -- a node of these is written some time
 wrote_one : (g : Graph) (places : Places) (ns : List NodeId) (p q : Progress) → WroteAll g places ns p q → (n : NodeId) → has ns n ≡ true → (before : Progress) × (after : Progress) × Wrote g places n before after
@@ -398,7 +401,7 @@ defines_types g places order p q writes wrote n node there kind =
     let (before, after, one) = wrote_one g places order p q wrote n (all_in g.edges (is_written g) order [] writes n (written_node g n node there (ap is_import kind))) in
     let (i, adds, _) = subst (λ o. IfSome o (λ x. (i : ℕ) × WritesNode g places n x (index_in before.indexes) before.components after.components before.items after.items i × (after.indexes ≡ slice_set before.indexes n.0 i))) there one in
     of (index_in before.indexes) before.components after.components before.items after.items i adds where
-      of : (index : NodeId → ℕ) (components components' : List (PackageId × ℕ)) (items items' : List Item) (i : ℕ) → WritesNode g places n node index components components' items items' i → (t : AnyType) × (node.item_kind ≡ TypeItem t) × (x : Thing) × IsDefined g t (listing_of g t) x
+      of : (index : NodeId → ℕ) (components components' : List (PackageId × ℕ)) (items items' : List Item) (i : ℕ) → WritesNode g places n node index components components' items items' i → (t : AnyType) × (node.item_kind ≡ TypeItem t) × (x : Thing) × IsListedAs g t (listing_of g t) x
       of index components components' items items' i (writes_instantiation id c mid arguments other _ _ _ _ _) = absurd (two_kinds kind other) where
         two_kinds : {k : Kind} → k ≡ graph.definition → k ≡ graph.instantiation → ⊥
         two_kinds a b = cc
@@ -410,14 +413,14 @@ defines_types g places order p q writes wrote n node there kind =
 -- Where items begin a component with what the graph asks for, then its nodes are written in order, its exports behind them, then the names, and the processor
 -- last, they mean the graph.
 pub means_all : Laws → (g : Graph) → IsSound g → OneImportPlace g → (order : List NodeId) → Writes g.edges (is_written g) order
-    → (o : EncodeOptions) → o.define_components ≡ true → (imported : List (Name × Tree)) (places : Places) → AreOuterImports g imported
+    → (o : EncodeOptions) → o.define_components ≡ true → (imported : List (Name × Tree)) (places : Places) → (outer : AreOuterImports g imported) → ShowsDefinitions g imported (outer_bindings g outer.order)
     → (begin : List Item) (indexes : List ℕ) → Begins imported places begin
     → ((n : NodeId) (node : GraphNode) (name : Name) → node_at g n ≡ Some node → node.kind ≡ graph.import name → (p : ℕ) × IsImportPlace g name p × IsPlacedNode g imported places (index_in indexes) n node p)
     → HasRoom g indexes → (p q : Progress) → p ≡ record { items = begin; components = []; indexes = indexes } → WroteAll g places order p q
     → (names : List (Sort × ℕ × Name)) → AreNames g (index_in q.indexes) names
     → (items with_names written : List Item) → items ≡ q.items ++ flat_map (export_item_of g (index_in q.indexes)) (further_exports g)
     → with_names ≡ items ++ map custom_item (name_customs names) → written ≡ with_names ++ map custom_item (processor_customs o.processor) → Means written g o
-means_all laws g sound one_place order writes o define imported places outer begin indexes begins placed room p q start wrote names named items with_names written end next last =
+means_all laws g sound one_place order writes o define imported places outer shows begin indexes begins placed room p q start wrote names named items with_names written end next last =
     let (at, imports, is_thing) = all_things g sound (defines_types g places order p q writes wrote) (IsPlacedNode g imported places (index_in indexes)) order placed writes in
     let exported : List Item = q.items ++ flat_map (export_item_of g (index_in q.indexes)) (further_exports g) in
     let whole : written ≡ exported ++ map custom_item (name_customs names ++ processor_customs o.processor) =
@@ -425,4 +428,4 @@ means_all laws g sound one_place order writes o define imported places outer beg
     ∙ append_assoc exported (map custom_item (name_customs names)) (map custom_item (processor_customs o.processor))
     ∙ ap (λ its. exported ++ its) (sym (map-append custom_item (name_customs names) (processor_customs o.processor))) in
     subst (λ its. Means its g o) (sym whole)
-    (all_written laws g sound one_place order at is_thing imported places o define outer writes begin indexes begins imports room q (subst (λ x. WroteAll g places order x q) start wrote) names named)
+    (all_written laws g sound one_place order at is_thing imported places o define outer shows writes begin indexes begins imports room q (subst (λ x. WroteAll g places order x q) start wrote) names named)

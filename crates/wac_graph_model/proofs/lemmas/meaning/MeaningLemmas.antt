@@ -6,7 +6,7 @@ use Rattle.wac_binary.specs.declared.sorts.Sort.{Sort}
 use Rattle.wac_binary.specs.declared.sorts.Sort.TheVariants as sort
 use Rattle.wac_binary.specs.Items.{Item, custom, nested, instantiate, alias_item, export_alias, export_item}
 use Rattle.wac_binary.specs.Indexes.{space, indexes, is_in, adds}
-use Rattle.wac_binary.specs.Unfold.{Scope, Bound, unbound, aliased_instance, with_alias, bound_at}
+use Rattle.wac_binary.specs.Unfold.{Scope, Bound, unbound, aliased_instance, with_alias, bound_at, type_at}
 use Rattle.wac_binary.specs.Meaning.{Thing, nothing, instance_at, component_at, projected, may_export, aliased_thing, Root, Instantiation, Export, start, things, thing_at, stands_for, with_thing, read, read_all, meaning}
 use Rattle.wac_binary.specs.HasMeaning.{HasExport}
 use Rattle.std.proofs.lemmas.List.{map-append}
@@ -22,6 +22,8 @@ pub record Laws : Type 0 where
   pub earlier : (items more : List Item) (t : Sort) (i : ℕ) → i < indexes (space t) items → stands_for (meaning (items ++ more)) t i ≡ stands_for (meaning items) t i
   pub bounds_counted : (items : List Item) → length (meaning items).scope.instances ≡ indexes (space sort.Instance) items
   pub bounds_earlier : (items more : List Item) (i : ℕ) → i < indexes (space sort.Instance) items → bound_at (meaning (items ++ more)).scope.instances i ≡ bound_at (meaning items).scope.instances i
+  pub types_counted : (items : List Item) → length (meaning items).scope.types ≡ indexes (space sort.«Type») items
+  pub types_earlier : (items more : List Item) (i : ℕ) → i < indexes (space sort.«Type») items → type_at (meaning (items ++ more)).scope.types i ≡ type_at (meaning items).scope.types i
 
 -- one more item
 pub meaning-push : (items : List Item) (x : Item) → meaning (items ++ x ∷ []) ≡ read (meaning items) x

@@ -15,8 +15,8 @@ use Rattle.wac_binary.specs.HasMeaning.{ItemHasMeaning, AllHaveMeaning, HasMeani
 use Rattle.wac_edges.specs.declared.node.NodeId.{NodeId}
 use Rattle.wac_graph_model.specs.nodes.Graph.{Graph, GraphNode, node_at}
 use Rattle.wac_types_shapes.specs.declared.shapes.component.«Type».{«Type» as AnyType}
-use Rattle.wac_graph_model.specs.meaning.Listing.{listing_of, IsDefined}
-use Rattle.wac_graph_model.specs.meaning.Means.{IsThing, as_import, as_instantiation, as_alias, sort_of_kind, shown, first_export, export_of, as_definition}
+use Rattle.wac_graph_model.specs.meaning.Means.{sort_of_kind, shown, first_export, export_of}
+use Rattle.wac_graph_model.specs.private.meaning.Listing.{Listing, by_item, by_export, listing_of, IsListedAs, IsListedThing, as_import, as_instantiation, as_alias, as_definition}
 use Rattle.wac_edges.proofs.WrittenOrder.{has, same, same_itself}
 
 -- one more item that has a meaning
@@ -33,12 +33,13 @@ pub alias_meant : (items : List Item) (t : Sort) (i : ℕ) (n : Name) → IsSome
 alias_meant items t i n there has = (there, has)
 
 -- what a definition is is something
-pub defined_something : (g : Graph) (t : AnyType) (o : Option (Name × Name)) (x : Thing) → IsDefined g t o x → IsSomething x
+pub defined_something : (g : Graph) (t : AnyType) (o : Option Listing) (x : Thing) → IsListedAs g t o x → IsSomething x
 defined_something g t None x is = subst IsSomething (sym is) tt
-defined_something g t (Some (entry, name)) x (p, place, is) = subst IsSomething (sym is) tt
+defined_something g t (Some (by_item entry)) x (p, place, is) = subst IsSomething (sym is) tt
+defined_something g t (Some (by_export entry name)) x (p, place, is) = subst IsSomething (sym is) tt
 
 -- what a node stands for is something
-pub something : (g : Graph) (at : NodeId → Thing) (order : List NodeId) (n : NodeId) (node : GraphNode) → IsThing g at order n node → IsSomething (at n)
+pub something : (g : Graph) (at : NodeId → Thing) (order : List NodeId) (n : NodeId) (node : GraphNode) → IsListedThing g at order n node → IsSomething (at n)
 something g at order n node (as_import name p kind place is) = subst IsSomething (sym is) tt
 something g at order n node (as_instantiation k kind place is) = subst IsSomething (sym is) tt
 something g at order n node (as_definition t kind item is) = defined_something g t (listing_of g t) (at n) is

@@ -2,7 +2,9 @@
 use Rattle.std.proofs.Common.{◌≡◌, ℕ, zero, suc, Bool, true, false, cond, List, [], ◌∷◌, ◌++◌, length, ap, ◌∙◌, sym, subst, refl, Option, Some, None, ◌⊎◌, inl, inr}
 use Rattle.std.specs.List.{list_any}
 use Rattle.std.specs.Prelude.{slice_get, IsSomeAnd}
-use Rattle.wac_types_shapes.specs.primitives.Name.{option_case}
+use Rattle.wac_types_shapes.specs.primitives.Name.{Name, option_case}
+use Rattle.wac_types_shapes.specs.primitives.Tree.{Tree}
+use Rattle.wac_types_collection.specs.collection.Bound.{Bindings}
 use Rattle.wac_binary.specs.Items.{Item}
 use Rattle.wac_binary.specs.Meaning.{Thing, Instantiation, meaning}
 use Rattle.wac_edges.specs.declared.node.NodeId.{NodeId}
@@ -10,6 +12,7 @@ use Rattle.wac_graph_model.specs.declared.nodes.options.EncodeOptions.{EncodeOpt
 use Rattle.wac_graph_model.specs.declared.nodes.packages.PackageId.{PackageId}
 use Rattle.wac_graph_model.specs.nodes.Graph as graph
 use Rattle.wac_graph_model.specs.nodes.Graph.{Graph, GraphNode, Kind, node_at}
+use Rattle.wac_graph_model.specs.nodes.OuterImports.{outer_bindings}
 use Rattle.wac_graph_model.specs.meaning.Means.{instantiations, same_package, with_package, used_after, IsInstantiationOf, AreInstantiations, IsThing, as_import, as_instantiation, as_definition, as_alias, Means}
 use Rattle.wac_graph_model.specs.meaning.Once.{IsUsedOnce}
 use Rattle.wac_graph_model.proofs.lemmas.meaning.WrittenLemmas.{any_package, slice_get-push}
@@ -50,15 +53,15 @@ instantiation_at g o imports at order (m ∷ ns) [] k n all here = absurd all
 instantiation_at g o imports at order (m ∷ ns) (it ∷ its) zero n all here = let same : m ≡ n = cc in (it, subst (λ x. IsInstantiationOf g o imports at order x it) same all.0)
 instantiation_at g o imports at order (m ∷ ns) (it ∷ its) (suc k) n all here = instantiation_at g o imports at order ns its k n all.1 here
 
-place_of : (g : Graph) (at : NodeId → Thing) (order : List NodeId) (n : NodeId) (node : GraphNode) → node.kind ≡ graph.instantiation → IsThing g at order n node → (k : ℕ) × (slice_get (instantiations g order) k ≡ Some n)
-place_of g at order n node kind (as_instantiation k _ here _) = (k, here)
-place_of g at order n node kind (as_import name p other _ _) = absurd (two_kinds kind other) where
+place_of : (g : Graph) (imports : List (Name × Tree)) (m : Bindings) (at : NodeId → Thing) (order : List NodeId) (n : NodeId) (node : GraphNode) → node.kind ≡ graph.instantiation → IsThing g imports m at order n node → (k : ℕ) × (slice_get (instantiations g order) k ≡ Some n)
+place_of g imports m at order n node kind (as_instantiation k _ here _) = (k, here)
+place_of g imports m at order n node kind (as_import name p other _ _) = absurd (two_kinds kind other) where
   two_kinds : {k : Kind} → k ≡ graph.instantiation → k ≡ graph.import name → ⊥
   two_kinds a b = cc
-place_of g at order n node kind (as_definition t other _ _) = absurd (two_kinds kind other) where
+place_of g imports m at order n node kind (as_definition t other _ _) = absurd (two_kinds kind other) where
   two_kinds : {k : Kind} → k ≡ graph.instantiation → k ≡ graph.definition → ⊥
   two_kinds a b = cc
-place_of g at order n node kind (as_alias instance source i name other _ _ _ _) = absurd (two_kinds kind other) where
+place_of g imports m at order n node kind (as_alias instance source i name other _ _ _ _) = absurd (two_kinds kind other) where
   two_kinds : {k : Kind} → k ≡ graph.instantiation → k ≡ graph.alias → ⊥
   two_kinds a b = cc
 
@@ -73,7 +76,7 @@ packages_once items g o means n id is = of (node_at g n) refl is where
   of : (x : Option GraphNode) → node_at g n ≡ x → IsSomeAnd x (λ node. (node.kind ≡ graph.instantiation) × (node.owner ≡ Some id)) → IsUsedOnce g means.order id
   of None there h = absurd h
   of (Some node) there (kind, owned) =
-      let (k, here) = place_of g means.at means.order n node kind (means.things n node there) in
+      let (k, here) = place_of g means.classes (outer_bindings g means.outer.order) means.at means.order n node kind (means.things n node there) in
       let (it, i) = instantiation_at g o (length means.classes) means.at means.order (instantiations g means.order) (meaning items).instantiations k n means.instances here in
       let same : id ≡ i.owner = one_package id i.owner (sym owned ∙ ap (λ (y : GraphNode). y.owner) (one_node node i.node (sym there ∙ i.there)) ∙ i.owned) in
       let used : slice_get (used_after g [] (instantiations g means.order)) i.place ≡ Some id = i.used ∙ ap Some (sym same) in

@@ -6,7 +6,7 @@ use Rattle.wac_merge_classes.proofs.lemmas.entries.ClassFacts.{one-position}
 use Rattle.wac_merge_classes.specs.terms.ClassOrder.{RestsOn, Selects, none, takes, leaves, Arranges, done, there, new, grouped}
 use Rattle.wac_graph_model.specs.nodes.Graph.{Graph}
 use Rattle.wac_graph_model.specs.nodes.OuterImports.{outer_entries, IsOuterOrder, IsImportPlace}
-use Rattle.wac_graph_model.specs.meaning.Listing.{IsDefined}
+use Rattle.wac_graph_model.specs.private.meaning.Listing.{Listing, by_item, by_export, IsListedAs}
 use Rattle.wac_binary.specs.Meaning.{Thing, import_at, projection}
 use Rattle.wac_types_shapes.specs.primitives.Name.{Name}
 use Rattle.wac_types_shapes.specs.declared.shapes.component.«Type».{«Type» as AnyType}
@@ -51,6 +51,7 @@ one_place laws g once name p q a b =
     once a.order a.written p q a.number a.placed (ap (λ xs. slice_get xs q) (one_order g a.order b.order a.written b.written) ∙ b.placed ∙ ap Some (sym one_number))
 
 -- so a definition is one thing
-pub defined_once : (g : Graph) → OneImportPlace g → (t : AnyType) (o : Option (Name × Name)) (x y : Thing) → IsDefined g t o x → IsDefined g t o y → x ≡ y
+pub defined_once : (g : Graph) → OneImportPlace g → (t : AnyType) (o : Option Listing) (x y : Thing) → IsListedAs g t o x → IsListedAs g t o y → x ≡ y
 defined_once g one t None x y a b = a ∙ sym b
-defined_once g one t (Some (entry, name)) x y (p, place, is) (q, other, same) = is ∙ ap (λ k. projection (import_at k) name) (one entry p q place other) ∙ sym same
+defined_once g one t (Some (by_item entry)) x y (p, place, is) (q, other, same) = is ∙ ap import_at (one entry p q place other) ∙ sym same
+defined_once g one t (Some (by_export entry name)) x y (p, place, is) (q, other, same) = is ∙ ap (λ k. projection (import_at k) name) (one entry p q place other) ∙ sym same

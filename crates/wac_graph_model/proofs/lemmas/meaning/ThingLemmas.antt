@@ -17,8 +17,8 @@ use Rattle.wac_graph_model.specs.nodes.Graph.{Graph, GraphNode, Kind, node_at}
 use Rattle.wac_graph_model.specs.nodes.OuterImports.{IsImportPlace}
 use Rattle.wac_graph_model.specs.nodes.Sound.{IsSound}
 use Rattle.wac_edges.specs.Order.{Writes, IsLowestReady}
-use Rattle.wac_graph_model.specs.meaning.Listing.{listing_of, IsDefined}
-use Rattle.wac_graph_model.specs.meaning.Means.{node_is, is_import, is_instantiation, is_written, instantiations, IsThing, as_import, as_instantiation, as_alias, as_definition}
+use Rattle.wac_graph_model.specs.meaning.Means.{node_is, is_import, is_instantiation, is_written, instantiations}
+use Rattle.wac_graph_model.specs.private.meaning.Listing.{listing_of, IsListedAs, IsListedThing, as_import, as_instantiation, as_alias, as_definition}
 use Rattle.wac_edges.proofs.WrittenOrder.{has, minus, minus-push, minus-false, minus-true, same, same-true, same_itself, apart, in_push, still_in, all_in, slice_get-middle}
 
 -- every node is an instantiation or an alias
@@ -31,7 +31,7 @@ the_node (Some node) h = (node, refl)
 
 -- what a definition stands for is a type, or what lists it
 abbrev pub DefinesTypes : Graph → Type 0
-DefinesTypes g = (n : NodeId) (node : GraphNode) → node_at g n ≡ Some node → node.kind ≡ graph.definition → (t : AnyType) × (node.item_kind ≡ TypeItem t) × (x : Thing) × IsDefined g t (listing_of g t) x
+DefinesTypes g = (n : NodeId) (node : GraphNode) → node_at g n ≡ Some node → node.kind ≡ graph.definition → (t : AnyType) × (node.item_kind ≡ TypeItem t) × (x : Thing) × IsListedAs g t (listing_of g t) x
 
 -- a node stands for something already: it is an import, or it is written
 abbrev pub Stands : List NodeId → NodeId → GraphNode → Type 0
@@ -129,7 +129,7 @@ module _ (g : Graph) (sound : IsSound g) (types : DefinesTypes g) (P : NodeId �
   -- what stands for something so far, and that the sources of what is written stand
   pub record Good (done : List NodeId) (at : NodeId → Thing) : Type 0 where
     pub imports : AreImported g P at
-    pub things : (n : NodeId) (node : GraphNode) → has done n ≡ true → node_at g n ≡ Some node → IsThing g at order n node
+    pub things : (n : NodeId) (node : GraphNode) → has done n ≡ true → node_at g n ≡ Some node → IsListedThing g at order n node
     pub closed : (e : Edge) → set.contains g.edges e ≡ true → has done e.target ≡ true → (node : GraphNode) → node_at g e.source ≡ Some node → Stands done e.source node
 
   put_at : (NodeId → Thing) → NodeId → Thing → NodeId → Thing
@@ -144,10 +144,10 @@ module _ (g : Graph) (sound : IsSound g) (types : DefinesTypes g) (P : NodeId �
   put_other at n t m h = rw h refl
 
   -- what a node that is written stands for stays
-  kept : (done : List NodeId) (at : NodeId → Thing) (n : NodeId) (t : Thing) → Good done at → minus (is_written g) done n ≡ true → (m : NodeId) (node : GraphNode) → has done m ≡ true → IsThing g at order m node → IsThing g (put_at at n t) order m node
+  kept : (done : List NodeId) (at : NodeId → Thing) (n : NodeId) (t : Thing) → Good done at → minus (is_written g) done n ≡ true → (m : NodeId) (node : GraphNode) → has done m ≡ true → IsListedThing g at order m node → IsListedThing g (put_at at n t) order m node
   kept done at n t good left m node here (as_import name p k place is) = as_import name p k place (put_other at n t m (apart done m n here (minus-true (is_written g) done n left).1) ∙ is)
   kept done at n t good left m node here (as_instantiation j k place is) = as_instantiation j k place (put_other at n t m (apart done m n here (minus-true (is_written g) done n left).1) ∙ is)
-  kept done at n t good left m node here (as_definition d k item is) = as_definition d k item (subst (IsDefined g d (listing_of g d)) (sym (put_other at n t m (apart done m n here (minus-true (is_written g) done n left).1))) is)
+  kept done at n t good left m node here (as_definition d k item is) = as_definition d k item (subst (IsListedAs g d (listing_of g d)) (sym (put_other at n t m (apart done m n here (minus-true (is_written g) done n left).1))) is)
   kept done at n t good left m node here (as_alias instance source i name k aliased there exported is) =
       let before : Stands done instance source = good.closed (alias_edge instance m i) aliased here source there in
       as_alias instance source i name k aliased there exported
@@ -164,13 +164,13 @@ module _ (g : Graph) (sound : IsSound g) (types : DefinesTypes g) (P : NodeId �
 
   -- what the next node stands for
   next_thing : (done rest : List NodeId) (n : NodeId) (node : GraphNode) (at : NodeId → Thing) → order ≡ done ++ n ∷ rest → IsLowestReady g.edges (minus (is_written g) done) n → node_at g n ≡ Some node → is_import node.kind ≡ false
-      → (t : Thing) × IsThing g (put_at at n t) order n node
+      → (t : Thing) × IsListedThing g (put_at at n t) order n node
   next_thing done rest n node at e ready there no_import = split node.kind refl where
-    split : (k : Kind) → node.kind ≡ k → (t : Thing) × IsThing g (put_at at n t) order n node
+    split : (k : Kind) → node.kind ≡ k → (t : Thing) × IsListedThing g (put_at at n t) order n node
     split (graph.import name) is = absurd (clash (is_import node.kind) (ap is_import is) no_import)
     split graph.definition is =
         let (d, is_type, t, defined) = types n node there is in
-        (t, as_definition d is is_type (subst (IsDefined g d (listing_of g d)) (sym (put_here at n t)) defined))
+        (t, as_definition d is is_type (subst (IsListedAs g d (listing_of g d)) (sym (put_here at n t)) defined))
     split graph.instantiation is =
         let t : Thing = instance_at (length (instantiations g done)) in
         (t, as_instantiation (length (instantiations g done)) is (place_of done rest n node e there is) (put_here at n t))
@@ -196,10 +196,10 @@ module _ (g : Graph) (sound : IsSound g) (types : DefinesTypes g) (P : NodeId �
             let apart_ : same m n ≡ false = stands_apart g done m n other ready.here other_there (inl (ap is_import kind)) in
             record { p = i.p; fell = i.fell; known = i.known; is = put_other at n t m apart_ ∙ i.is }
 
-        things : (t : Thing) (node : GraphNode) → node_at g n ≡ Some node → IsThing g (put_at at n t) order n node → (m : NodeId) (other : GraphNode) → node_at g m ≡ Some other → (m ≡ n) ⊎ (has done m ≡ true) → IsThing g (put_at at n t) order m other
+        things : (t : Thing) (node : GraphNode) → node_at g n ≡ Some node → IsListedThing g (put_at at n t) order n node → (m : NodeId) (other : GraphNode) → node_at g m ≡ Some other → (m ≡ n) ⊎ (has done m ≡ true) → IsListedThing g (put_at at n t) order m other
         things t node there is m other other_there (inl same) =
             let e : node ≡ other = same_node g n node other there (ap (λ k. node_at g k) (sym same) ∙ other_there) in
-            subst (λ k. IsThing g (put_at at n t) order k other) (sym same) (subst (λ x. IsThing g (put_at at n t) order n x) e is)
+            subst (λ k. IsListedThing g (put_at at n t) order k other) (sym same) (subst (λ x. IsListedThing g (put_at at n t) order n x) e is)
         things t node there is m other other_there (inr before) = kept done at n t good ready.here m other before (good.things m other before other_there)
 
         still : (edge : Edge) (source : GraphNode) → Stands done edge.source source → Stands (done ++ n ∷ []) edge.source source
@@ -217,11 +217,11 @@ module _ (g : Graph) (sound : IsSound g) (types : DefinesTypes g) (P : NodeId �
       all_more rest (done ++ n ∷ []) mid (e ∙ sym (append_assoc done (n ∷ []) rest)) (subst (λ l. Writes g.edges l rest) (sym (minus-push (is_written g) done n)) later) good'
 
   -- every node stands for a thing, and the imports for those that are known of
-  pub all_things : Writes g.edges (is_written g) order → (at : NodeId → Thing) × AreImported g P at × ((n : NodeId) (node : GraphNode) → node_at g n ≡ Some node → IsThing g at order n node)
+  pub all_things : Writes g.edges (is_written g) order → (at : NodeId → Thing) × AreImported g P at × ((n : NodeId) (node : GraphNode) → node_at g n ≡ Some node → IsListedThing g at order n node)
   all_things writes =
       let (at, good) = all_more order [] import_thing refl writes (record { imports = imported_first; things = λ n node wrong _. cc; closed = λ e stands wrong. cc }) in
       (at, good.imports, λ n node there. thing at good n node there node.kind refl) where
-        thing : (at : NodeId → Thing) → Good order at → (n : NodeId) (node : GraphNode) → node_at g n ≡ Some node → (k : Kind) → node.kind ≡ k → IsThing g at order n node
+        thing : (at : NodeId → Thing) → Good order at → (n : NodeId) (node : GraphNode) → node_at g n ≡ Some node → (k : Kind) → node.kind ≡ k → IsListedThing g at order n node
         thing at good n node there (graph.import name) is = let i = good.imports n node name there is in as_import name i.p is i.fell i.is
         thing at good n node there graph.definition is = good.things n node (all_in g.edges (is_written g) order [] writes n (written_node g n node there (ap is_import is))) there
         thing at good n node there graph.instantiation is = good.things n node (all_in g.edges (is_written g) order [] writes n (written_node g n node there (ap is_import is))) there

@@ -30,11 +30,11 @@ use Rattle.wac_graph_model.specs.nodes.Graph as graph
 use Rattle.wac_graph_model.specs.nodes.Graph.{Graph, GraphNode, Kind, node_at, export_at, imports_of, exports_of, IsAliasOf, IsArgumentOf}
 use Rattle.wac_graph_model.specs.nodes.Sound.{IsSound}
 use Rattle.wac_edges.specs.Order.{Writes, IsLowestReady}
-use Rattle.wac_graph_model.specs.meaning.Means.{node_is, is_instantiation, is_written, instantiations, IsThing, as_import, as_instantiation, as_alias, sort_of_kind, same_package, with_package, used_after, used_packages, package_bytes, IsArgument, given, AreArguments, HasItem, is_first, is_own_item, as_definition, asked, shown, first_export}
-use Rattle.wac_graph_model.specs.meaning.Listing.{listing_of, IsDefined}
+use Rattle.wac_graph_model.specs.meaning.Means.{node_is, is_instantiation, is_written, instantiations, sort_of_kind, same_package, with_package, used_after, used_packages, package_bytes, IsArgument, given, AreArguments, HasItem, is_first, is_own_item, asked, shown, first_export}
 use Rattle.wac_graph_model.specs.private.meaning.Beginning.{Places}
 use Rattle.wac_graph_model.specs.private.meaning.Encoding.{HasComponent}
 use Rattle.wac_graph_model.specs.private.meaning.Writing.{IsArgumentItem, of_node, of_import, AreArgumentItems, WritesType}
+use Rattle.wac_graph_model.specs.private.meaning.Listing.{listing_of, IsListedAs, IsListedThing, as_import, as_instantiation, as_alias, as_definition}
 use Rattle.wac_edges.proofs.WrittenOrder.{has, minus, minus-true, same, same_itself, eqb_same, apart, in_list, in_push, now_in, slice_get-middle, written_left, only_place, has-filter}
 use Rattle.wac_graph_model.proofs.lemmas.meaning.ThingLemmas.{Stands, node_of_written, stands_apart, stood, ready_sources}
 use Rattle.wac_graph_model.proofs.lemmas.meaning.OuterOrder.{OneImportPlace, defined_once}
@@ -129,7 +129,7 @@ counted_up t items x is =
     let one : is_in (space t) (adds x) ≡ 1 = ap (is_in (space t)) is ∙ ap (λ b. cond b 1 0) (eqb_same (space t)) in
     omega (arith, indexes-push (space t) items x)
 
-module _ (laws : Laws) (g : Graph) (sound : IsSound g) (order : List NodeId) (at : NodeId → Thing) (is_thing : (n : NodeId) (node : GraphNode) → node_at g n ≡ Some node → IsThing g at order n node) (imported : List (Name × Tree)) (places : Places) where
+module _ (laws : Laws) (g : Graph) (sound : IsSound g) (order : List NodeId) (at : NodeId → Thing) (is_thing : (n : NodeId) (node : GraphNode) → node_at g n ≡ Some node → IsListedThing g at order n node) (imported : List (Name × Tree)) (places : Places) where
   -- these items and indexes say what the nodes written so far stand for; `used` are the packages whose components are written
   pub record Written (done : List NodeId) (used : List PackageId) (items : List Item) (components : List (PackageId × ℕ)) (index : NodeId → ℕ) : Type 0 where
     pub nodes : (n : NodeId) → has done n ≡ true → is_written g n ≡ true
@@ -274,7 +274,7 @@ module _ (laws : Laws) (g : Graph) (sound : IsSound g) (order : List NodeId) (at
       )
 
   -- what a node stands for is something
-  projected_thing : (m : NodeId) (node : GraphNode) (name : Name) → IsThing g at order m node → projected (at m) name ≡ projection (at m) name
+  projected_thing : (m : NodeId) (node : GraphNode) (name : Name) → IsListedThing g at order m node → projected (at m) name ≡ projection (at m) name
   projected_thing m node name (as_import n p k place is) = rw is refl
   projected_thing m node name (as_instantiation j k place is) = rw is refl
   projected_thing m node name (as_definition t k item is) = projected_some (at m) name (defined_something g t (listing_of g t) (at m) is)
@@ -450,7 +450,7 @@ module _ (laws : Laws) (g : Graph) (sound : IsSound g) (order : List NodeId) (at
           instance_of (item.Value v) z is found = absurd (no_exports z (rw is refl) found)
 
           -- what the alias is
-          is_projection : IsThing g at order n node → at n ≡ projection (at instance) name
+          is_projection : IsListedThing g at order n node → at n ≡ projection (at instance) name
           is_projection (as_import other p other_kind at_p is) = absurd (two_kinds kind other_kind) where
             two_kinds : {q : Kind} {m : Name} → q ≡ graph.alias → q ≡ graph.import m → ⊥
             two_kinds a b = cc
@@ -587,7 +587,7 @@ module _ (laws : Laws) (g : Graph) (sound : IsSound g) (order : List NodeId) (at
           this : IsMadeOf g at order n (made_of (meaning items) c arguments)
           this = record { node = node; there = there; owner = id; owned = owned; place = k; used = first; component = stands; arguments = are_arguments 0 (imports_of g node) arguments given_items }
 
-          is_instance : IsThing g at order n node → at n ≡ instance_at (length (instantiations g done))
+          is_instance : IsListedThing g at order n node → at n ≡ instance_at (length (instantiations g done))
           is_instance (as_import other p other_kind at_p is) = absurd (two_kinds kind other_kind) where
             two_kinds : {q : Kind} {m : Name} → q ≡ graph.instantiation → q ≡ graph.import m → ⊥
             two_kinds a b = cc
@@ -608,7 +608,7 @@ module _ (laws : Laws) (g : Graph) (sound : IsSound g) (order : List NodeId) (at
 
     -- a definition is exported by its first name
     pub definition_more : OneImportPlace g → (used : List PackageId) (items : List Item) (components : List (PackageId × ℕ)) (t : AnyType) (name : Name) (k : ℕ) (thing : Thing) → Written done used items components index
-        → node.kind ≡ graph.definition → node.item_kind ≡ item.TypeItem t → node.first_name ≡ Some name → IsDefined g t (listing_of g t) thing → stands_for (meaning items) sort.«Type» k ≡ thing
+        → node.kind ≡ graph.definition → node.item_kind ≡ item.TypeItem t → node.first_name ≡ Some name → IsListedAs g t (listing_of g t) thing → stands_for (meaning items) sort.«Type» k ≡ thing
         → i ≡ indexes (space sort.«Type») items
         → Written (done ++ n ∷ []) used (items ++ export_item name sort.«Type» k ∷ []) components index'
     definition_more one_place used items components t name k thing w kind is_type first defined stands counts =
@@ -655,14 +655,14 @@ module _ (laws : Laws) (g : Graph) (sound : IsSound g) (order : List NodeId) (at
                 one_node : (o : Option NodeId) → o ≡ Some m → o ≡ Some n → m ≡ n
                 one_node o a b = cc
 
-          is_type_defined : IsThing g at order n node → at n ≡ thing
+          is_type_defined : IsListedThing g at order n node → at n ≡ thing
           is_type_defined (as_import other p other_kind at_p is) = absurd (no_import kind other_kind) where
             no_import : {q : Kind} {m : Name} → q ≡ graph.definition → q ≡ graph.import m → ⊥
             no_import a b = cc
           is_type_defined (as_instantiation j other_kind at_j is) = absurd (no_kind kind other_kind) where
             no_kind : {q : Kind} → q ≡ graph.definition → q ≡ graph.instantiation → ⊥
             no_kind a b = cc
-          is_type_defined (as_definition other other_kind other_type is) = defined_once g one_place t (listing_of g t) (at n) thing (subst (λ z. IsDefined g z (listing_of g z) (at n)) (one_type node.item_kind other_type is_type) is) defined where
+          is_type_defined (as_definition other other_kind other_type is) = defined_once g one_place t (listing_of g t) (at n) thing (subst (λ z. IsListedAs g z (listing_of g z) (at n)) (one_type node.item_kind other_type is_type) is) defined where
             one_type : (q : ItemKind) → q ≡ item.TypeItem other → q ≡ item.TypeItem t → other ≡ t
             one_type q a b = cc
           is_type_defined (as_alias other other_source j other_name other_kind _ _ _ _) = absurd (no_kind kind other_kind) where

@@ -4,14 +4,14 @@ use Rattle.wac_types_shapes.specs.primitives.Name.{Name}
 use Rattle.wac_types_shapes.specs.declared.shapes.component.InterfaceId.{InterfaceId}
 use Rattle.wac_types_shapes.specs.declared.shapes.component.ItemKind.{ItemKind}
 use Rattle.wac_types_shapes.specs.declared.shapes.component.ItemKind.TheVariants.{Instance}
-use Rattle.wac_types_shapes.specs.primitives.Tree.{Tree, instance_item, items_in}
+use Rattle.wac_types_shapes.specs.primitives.Tree.{Tree, type_equal, instance_item, items_in}
 use Rattle.wac_types_collection.specs.collection.Collection.{Collection, interface_exports}
 use Rattle.wac_binary.specs.declared.sorts.Sort.{Sort}
 use Rattle.wac_binary.specs.declared.sorts.Sort.TheVariants as sort
 use Rattle.wac_binary.specs.declared.sorts.Description.{Description}
 use Rattle.wac_binary.specs.Items.{Item, import_item}
 use Rattle.wac_binary.specs.Indexes.{space, described_sort, indexes}
-use Rattle.wac_binary.specs.Unfold.{bound_at, bound_instance}
+use Rattle.wac_binary.specs.Unfold.{bound_at, type_at, bound_instance}
 use Rattle.wac_binary.specs.Meaning.{import_at, meaning, stands_for}
 use Rattle.wac_binary.specs.HasMeaning.{HasMeaning, IsOfSort}
 use Rattle.wac_edges.specs.declared.node.NodeId.{NodeId}
@@ -54,6 +54,8 @@ pub record Begins (imports : List (Name × Tree)) (places : Places) (items : Lis
   pub own : (p : ℕ) (t : Sort) (i : ℕ) → slice_get places p ≡ Some (t, i) → (k : ℕ) × HasImport items t i k
   -- The type of an imported instance is the imported one.
   pub typed : (p i : ℕ) (e : Name × Tree) → slice_get places p ≡ Some (sort.Instance, i) → slice_get imports p ≡ Some e → e.1 ≡ instance_item (bound_at (meaning items).scope.instances i).type
+  -- The type at the index of an imported type item is the imported one.
+  pub equal : (p i : ℕ) (e : Name × Tree) (t : Tree) → slice_get places p ≡ Some (sort.«Type», i) → slice_get imports p ≡ Some e → e.1 ≡ type_equal t → type_at (meaning items).scope.types i ≡ t
 
 -- An item has an item of another type inside: the names lead to it, through exports of instances.
 pub data HasInside (c : Collection) : ItemKind → List Name → ItemKind → Type 0 where

@@ -16,10 +16,10 @@ use Rattle.wac_graph_model.specs.declared.nodes.packages.PackageId.{PackageId}
 use Rattle.wac_graph_model.specs.nodes.Graph as graph
 use Rattle.wac_graph_model.specs.nodes.Graph.{Graph, GraphNode, node_at, imports_of, exports_of, IsAliasOf, IsArgumentOf, IsUnsatisfied}
 use Rattle.wac_graph_model.specs.meaning.Definition.{definition_tree}
-use Rattle.wac_graph_model.specs.meaning.Listing.{listing_of}
 use Rattle.wac_graph_model.specs.meaning.Means.{package_bytes, sort_of_kind}
 use Rattle.wac_graph_model.specs.private.meaning.Beginning.{Places, IsPlacedAt}
 use Rattle.wac_graph_model.specs.private.meaning.Encoding.{HasComponent, Progress, index_in}
+use Rattle.wac_graph_model.specs.private.meaning.Listing.{Listing, by_item, by_export, listing_of}
 
 -- An argument item: the index of the node that was set, or, if there is none, of the import of its name's class.
 pub data IsArgumentItem (g : Graph) (places : Places) (index : NodeId → ℕ) (n : NodeId) (i : ℕ) (name : Name) (a : Name × Sort × ℕ) : Type 0 where
@@ -47,10 +47,11 @@ pub record WritesType (thing : Thing) (items items' : List Item) (k : ℕ) : Typ
   pub added : items' ≡ items ++ types
   pub meant : HasMeaning items → HasMeaning items' × (stands_for (meaning items') sort.«Type» k ≡ thing)
 
--- What a definition's type index refers to: a new type, or the type that an import's instance exports.
-abbrev pub IsDefinedBehind : Graph → Places → List Item → AnyType → Option (Name × Name) → Thing → Type 0
-IsDefinedBehind g places items t None x = x ≡ written (definition_tree g.types t)
-IsDefinedBehind g places items t (Some (entry, name)) x = (i : ℕ) × IsPlacedAt g places entry sort.Instance i × (x ≡ projected (stands_for (meaning items) sort.Instance i) name)
+-- What a definition's type index refers to: a new type, the import that is the type, or the type that an import's instance exports.
+abbrev pub IsDefinedBehind : Graph → Places → List Item → AnyType → Option Listing → Thing → Type 0
+IsDefinedBehind g places items t None x = x ≡ written (definition_tree g.types (λ _. None) t)
+IsDefinedBehind g places items t (Some (by_item entry)) x = (i : ℕ) × IsPlacedAt g places entry sort.«Type» i × (x ≡ stands_for (meaning items) sort.«Type» i)
+IsDefinedBehind g places items t (Some (by_export entry name)) x = (i : ℕ) × IsPlacedAt g places entry sort.Instance i × (x ≡ projected (stands_for (meaning items) sort.Instance i) name)
 
 -- Node n is written after these items and gets index i.
 pub data WritesNode (g : Graph) (places : Places) (n : NodeId) (node : GraphNode) (index : NodeId → ℕ) (components components' : List (PackageId × ℕ)) (items items' : List Item) (i : ℕ) : Type 0 where

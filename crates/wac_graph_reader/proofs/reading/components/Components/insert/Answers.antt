@@ -12,4 +12,4 @@ invariant_of-self-2 c =
     let slot = c.args.id.slot in
     let next : c.len.result ≡ length es + 1 = omega (arith, c.len.ensures, c.in_ok-push.ensures.len, c.self.inside.entries.ok.0) in
     rw c.in_ok-push.ensures.items (placed_more es c.make_room.new.places.items (placed_still es c.self.inside.places.items c.self.invariant c.make_room.new.places.items same) c.note_place.new.places.items c.args.id c.args.index
-    (λ none. c.note_place.ensures.noted none ∙ next) c.note_place.ensures.kept c.note_place.ensures.others)
+    (λ none. (rw c.slot_of-slot.ensures at c.note_place.ensures.noted) none ∙ next) (rw c.slot_of-slot.ensures at c.note_place.ensures.kept) (rw c.slot_of-slot.ensures at c.note_place.ensures.others))

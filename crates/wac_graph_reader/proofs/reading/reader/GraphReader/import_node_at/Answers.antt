@@ -10,4 +10,4 @@ pub returns-in_err-name : goal.returns-in_err-name
 returns-in_err-name c = rw (c.from_residual-in_err-name.ensures, ← c.self.view_is) (no_name (fields_of c.self.inside) c.args.n c.in_ok-node.node.now (sym c.in_ok-node.ensures) c.in_err-name.ensures)
 
 pub returns : goal.returns
-returns c = rw (← c.self.view_is) (named_row (fields_of c.self.inside) c.args.n c.in_ok-node.node.now (sym c.in_ok-node.ensures) c.in_ok-name.name.now c.in_ok-name.ensures)
+returns c = rw (c.item_kind.ensures, ← c.self.view_is) (named_row (fields_of c.self.inside) c.args.n c.in_ok-node.node.now (sym c.in_ok-node.ensures) c.in_ok-name.name.now c.in_ok-name.ensures)

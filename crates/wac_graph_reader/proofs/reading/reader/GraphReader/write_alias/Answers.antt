@@ -4,6 +4,7 @@ use Rattle.std.proofs.Common.{◌<◌, ◌∙◌, refl, ap, sym, subst, IfSome}
 use Rattle.wac_binary.specs.Indexes.{space}
 use Rattle.wac_scopes.specs.Contents.{items_of}
 use Rattle.wac_graph_reader.proofs.lemmas.reading.RootLemmas.{root_count, grown, stays_right}
+use Rattle.wac_graph_model.specs.meaning.Means.{sort_of_kind}
 use Rattle.wac_graph_model.specs.private.meaning.Encoding.{index_in}
 use Rattle.wac_graph_model.specs.private.meaning.Writing.{WritesNode}
 use Rattle.wac_graph_model.specs.nodes.Graph.{node_at}
@@ -22,24 +23,24 @@ index-requires c = source_there (fields_of c.self.inside) c.self.invariant c.arg
 
 pub unreachable-requires-in_default-item_kind : goal.unreachable-requires-in_default-item_kind
 unreachable-requires-in_default-item_kind c =
-    source_is_instance (fields_of c.self.inside) c.self.invariant c.args.n.0 (rw (← c.self.view_is) at c.requires.alias) c.in-Some.source.0 c.in-Some.position c.in-Some.ensures.some c.index.result.now c.index.ensures c.in_default-item_kind.not-Instance
+    source_is_instance (fields_of c.self.inside) c.self.invariant c.args.n.0 (rw (← c.self.view_is) at c.requires.alias) c.in-Some.source.0 c.in-Some.position c.in-Some.ensures.some c.index.result.now c.index.ensures (λ i is. c.in_default-item_kind.not-Instance i (c.item_kind.ensures ∙ is))
 
 pub index-requires-2 : goal.index-requires-2
-index-requires-2 c = interface_there (fields_of c.self.inside) c.self.invariant c.in-Some.source c.index.result.now c.in-Instance.interface c.index.ensures c.in-Instance.is
+index-requires-2 c = interface_there (fields_of c.self.inside) c.self.invariant c.in-Some.source c.index.result.now c.in-Instance.interface c.index.ensures (sym c.item_kind.ensures ∙ c.in-Instance.is)
 
 pub name_at-name-requires : goal.name_at-name-requires
 name_at-name-requires c =
-    position_there (fields_of c.self.inside) c.self.invariant c.args.n.0 (rw (← c.self.view_is) at c.requires.alias) c.in-Some.source.0 c.in-Some.position c.in-Some.ensures.some c.index.result.now c.in-Instance.interface c.index-2.result.now c.index.ensures c.in-Instance.is c.index-2.ensures
+    position_there (fields_of c.self.inside) c.self.invariant c.args.n.0 (rw (← c.self.view_is) at c.requires.alias) c.in-Some.source.0 c.in-Some.position c.in-Some.ensures.some c.index.result.now c.in-Instance.interface c.index-2.result.now c.index.ensures (sym c.item_kind.ensures ∙ c.in-Instance.is) c.index-2.ensures
 
 pub index-requires-3 : goal.index-requires-3
 index-requires-3 c =
-    alias_there (fields_of c.self.inside) c.self.invariant c.args.n.0 (rw (← c.self.view_is) at c.requires.alias) c.in-Some.source.0 c.in-Some.position c.in-Some.ensures.some c.index.result.now c.in-Instance.interface c.index-2.result.now c.index.ensures c.in-Instance.is c.index-2.ensures
+    alias_there (fields_of c.self.inside) c.self.invariant c.args.n.0 (rw (← c.self.view_is) at c.requires.alias) c.in-Some.source.0 c.in-Some.position c.in-Some.ensures.some c.index.result.now c.in-Instance.interface c.index-2.result.now c.index.ensures (sym c.item_kind.ensures ∙ c.in-Instance.is) c.index-2.ensures
 
 pub returns-clause-written : goal.returns-clause-written
 returns-clause-written c places =
     subst (λ g. IfSome (node_at g c.args.n) (λ node. WritesNode g places c.args.n node (index_in c.args.encoder.now.indexes.items) c.args.encoder.now.components c.args.encoder.now.components (items_of c.args.encoder.now.root.content) (items_of c.alias_export.new.self.content) c.in_ok-alias_export.field-0)) c.self.view_is
-    (alias_added (fields_of c.self.inside) c.self.invariant c.args.n.0 (rw (← c.self.view_is) at c.requires.alias) c.in-Some.source.0 c.in-Some.position c.in-Some.ensures.some c.index.result.now c.in-Instance.interface c.index-2.result.now c.index.ensures c.in-Instance.is c.index-2.ensures
-    places c.index-3.result.now c.index-3.ensures c.name_at-name.result.now c.name_at-name.ensures c.sort_of-sort.result c.sort_of-sort.ensures
+    (alias_added (fields_of c.self.inside) c.self.invariant c.args.n.0 (rw (← c.self.view_is) at c.requires.alias) c.in-Some.source.0 c.in-Some.position c.in-Some.ensures.some c.index.result.now c.in-Instance.interface c.index-2.result.now c.index.ensures (sym c.item_kind.ensures ∙ c.in-Instance.is) c.index-2.ensures
+    places c.index-3.result.now c.index-3.ensures c.name_at-name.result.now c.name_at-name.ensures c.sort_of-sort.result (c.sort_of-sort.ensures ∙ ap sort_of_kind c.item_kind-2.ensures)
     (index_in c.args.encoder.now.indexes.items) c.index-instance.result.now (index_is c.args.encoder.now.indexes.items c.in-Some.source.0 c.index-instance.result.now (source_noted (fields_of c.self.inside) c.self.invariant c.args.self.now c.self.view_is c.args.encoder.now.indexes.items c.requires.room (alias_edge c.in-Some.source c.args.n c.in-Some.position) c.in-Some.ensures.some) c.index-instance.ensures)
     c.args.encoder.now.components c.args.encoder.now.components refl
     (items_of c.args.encoder.now.root.content) (items_of c.alias_export.new.self.content) (grown c.args.encoder.now.root c.alias_export.new.self _ c.in_ok-alias_export.ensures.appended) c.in_ok-alias_export.field-0 (c.in_ok-alias_export.ensures.index ∙ root_count (space c.sort_of-sort.result) c.args.encoder.now.root.content c.requires.right.is_root))

@@ -2,7 +2,7 @@ use Rattle.std.proofs.Common.{◌++◌, refl, ◌∙◌, ap, sym}
 use Rattle.std.specs.List.{flat_map}
 use Rattle.std.proofs.lemmas.List.{append-nil}
 use Rattle.wac_graph_model.specs.private.meaning.Encoding.{index_in}
-use Rattle.wac_graph_model.specs.meaning.Means.{export_item_of}
+use Rattle.wac_graph_model.specs.meaning.Means.{export_item_of, sort_of_kind}
 use Rattle.wac_graph_reader.proofs.lemmas.writing.FurtherRows.{further_number, further_written}
 use Rattle.wac_graph_reader.specs.private.reading.Inside.{fields_of}
 use Rattle.wac_graph_reader.proofs.reading.reader.GraphReader.write_export.Goals as goal
@@ -16,6 +16,6 @@ index-requires c = further_number (fields_of c.self.inside) c.self.invariant c.a
 pub returns-clause-written : goal.returns-clause-written
 returns-clause-written c =
     further_written (fields_of c.self.inside) c.self.invariant c.args.self.now c.self.view_is (index_in c.args.indexes.now) c.args.i (c.in-Some.name.now, c.in-Some.id) c.index.result.now c.sort_of-sort.result _ c.args.component.now c.export.new.self
-    c.in-Some.ensures c.index.ensures c.sort_of-sort.ensures
+    c.in-Some.ensures c.index.ensures (c.sort_of-sort.ensures ∙ ap sort_of_kind c.item_kind.ensures)
     refl
     c.in_ok-export.ensures.appended

@@ -3,9 +3,9 @@ use Rattle.std.specs.Option.{option_map}
 use Rattle.wac_graph_model.specs.declared.nodes.node.Node.{Node}
 use Rattle.wac_graph_model.specs.declared.nodes.node.NodeKind.{NodeKind}
 use Rattle.wac_graph_model.specs.nodes.Nodes.{node_of}
-use Rattle.wac_graph_fields.proofs.SatisfyLemmas.{kept_at}
-use Rattle.wac_graph_fields.proofs.SingleLemmas.{marks_left}
-use Rattle.wac_graph_fields.proofs.taking.unsatisfy.Goals as goal
+use Rattle.wac_graph_model.proofs.lemmas.nodes.SatisfyLemmas.{kept_at}
+use Rattle.wac_graph_model.proofs.lemmas.nodes.SingleLemmas.{marks_left}
+use Rattle.wac_graph_model.proofs.nodes.marks.unsatisfy.Goals as goal
 
 pub returns-then-contains-clause-marks : goal.returns-then-contains-clause-marks
 returns-then-contains-clause-marks c =
