@@ -1,24 +1,20 @@
 //! Look-ups, checks and changes of instantiation arguments.
-ghost use Rattle.std.specs.Prelude.{◌≡◌, true, IsSome, IsTrue, OnOk, OnErr, IfOk, IfErr, Err, ◌||◌, ◌&&◌, ◌==◌, ℕ};
+ghost use Rattle.std.specs.Prelude.{◌≡◌, true, IsSome, IsTrue, OnOk, OnErr, IfOk, IfErr, Err};
 ghost use Rattle.std.specs.FinSet as set;
-ghost use Rattle.std.specs.Option.{option_map};
-ghost use Rattle.slab.specs.Slab.{get};
 ghost use Rattle.wac_types_collection.specs.collection.Collection.{holds_type};
 ghost use Rattle.wac_types_shapes.specs.shapes.Kinds.{kind_type};
 ghost use Rattle.wac_types_shapes.specs.declared.shapes.component.ItemKind.{ItemKind as AnItem};
 ghost use Rattle.wac_graph_fields.specs.private.Arguments.{HasImport, Fits, CanBeGiven, IsInstantiation};
 ghost use Rattle.wac_edges.specs.Edge.{argument_edge as labelled};
 ghost use Rattle.wac_graph_model.specs.nodes.Graph.{node_at, IsArgumentOf, IsUnsatisfied};
-ghost use Rattle.wac_graph_model.specs.nodes.Nodes.{IsInstantiationAt, satisfied_at, node_of};
 ghost use Rattle.wac_graph_model.specs.nodes.Steps.{SetsArgument, UnsetsArgument};
 ghost use Rattle.wac_edges.specs.declared.node.NodeId.{NodeId as AnId};
 
 use crate::graph::CompositionGraph;
-use slab::Slab;
 use std::alloc::AllocError;
 use wac_edges::edges::{Edge, Label};
-use wac_graph_fields::unsatisfy;
-use wac_graph_model::{InstantiationArgumentError, Node, NodeId, NodeKind};
+use wac_graph_model::inner::{satisfy, unsatisfy};
+use wac_graph_model::{InstantiationArgumentError, NodeId, NodeKind};
 use wac_types::laws::subtyping_is_reflexive;
 use wac_types::{ItemKind, SubtypeChecker, TypeFault};
 
@@ -52,7 +48,7 @@ impl CompositionGraph {
     {
         self.types.law(); // proof only
         let node = &self.nodes[instantiation.0];
-        let NodeKind::Instantiation(_) = &node.kind else {
+        let NodeKind::Instantiation(_) = node.kind() else {
             return Err(InstantiationArgumentError::NodeIsNotAnInstantiation {
                 node: instantiation,
             });
@@ -82,7 +78,7 @@ impl CompositionGraph {
         ensures unset { OnOk result (IsUnsatisfied self.now instantiation position) }
         ensures refused { IfErr result (λ e. (argument : AnId) → (IsArgumentOf self.now instantiation position argument → ⊥) → SetsArgument self.now instantiation name.now argument (Err e) self.now) }
     {
-        let NodeKind::Instantiation(satisfied) = &self.nodes[instantiation.0].kind else {
+        let NodeKind::Instantiation(satisfied) = self.nodes[instantiation.0].kind() else {
             unreachable!()
         };
         if satisfied.contains(&position) {
@@ -116,7 +112,7 @@ impl CompositionGraph {
         ensures refused { IfErr result (λ e. SetsArgument self.now instantiation name.now argument (Err e) self.now) }
     {
         self.check_unset(instantiation, name, position)?;
-        let given = self.nodes[argument.0].item_kind;
+        let given = self.nodes[argument.0].item_kind();
         if is_same(given, kind) {
             subtyping_is_reflexive(&self.types, kind); // proof only
             return Ok(());
@@ -137,7 +133,7 @@ impl CompositionGraph {
         requires { IsInstantiation self.now instantiation }
         ensures { result ≡ set.contains self.now.edges (labelled argument instantiation position) }
     {
-        let NodeKind::Instantiation(satisfied) = &self.nodes[instantiation.0].kind else {
+        let NodeKind::Instantiation(satisfied) = self.nodes[instantiation.0].kind() else {
             unreachable!()
         };
         if !satisfied.contains(&position) {
@@ -190,20 +186,4 @@ fn is_same(a: ItemKind, b: ItemKind) -> bool
         (ItemKind::Instance(a), ItemKind::Instance(b)) => a == b,
         _ => false,
     }
-}
-
-/// Marks the instantiation's import at this position as satisfied.
-fn satisfy(nodes: &mut Slab<Node>, number: usize, position: usize) -> Result<(), AllocError>
-    requires { IsInstantiationAt (get nodes.old number) }
-    ensures same { (q : ℕ) → option_map node_of (get nodes.new q) ≡ option_map node_of (get nodes.old q) }
-    ensures next { nodes.new.vacant_key ≡ nodes.old.vacant_key }
-    ensures ok { OnOk result ((q i : ℕ) → satisfied_at (get nodes.new q) i ≡ (satisfied_at (get nodes.old q) i || (q == number && i == position))) }
-    ensures err { OnErr result ((q i : ℕ) → satisfied_at (get nodes.new q) i ≡ satisfied_at (get nodes.old q) i) }
-{
-    let node = &mut nodes[number];
-    let NodeKind::Instantiation(positions) = &mut node.kind else {
-        unreachable!()
-    };
-    positions.insert(position)?;
-    Ok(())
 }

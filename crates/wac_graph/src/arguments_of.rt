@@ -77,7 +77,7 @@ impl CompositionGraph {
         ensures { listed_in result ≡ instance_imports self.now id }
     {
         let node = self.nodes.get(id.0)?;
-        let NodeKind::Instantiation(_) = &node.kind else {
+        let NodeKind::Instantiation(_) = node.kind() else {
             return None;
         };
         Some(self.imports_at(id.0))

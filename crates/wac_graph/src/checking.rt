@@ -61,7 +61,7 @@ impl CompositionGraph {
         ensures found { IfOk result (λ e. IfSome (node_at self.now instance) (λ node. IsSome (interface_of node.item_kind) × (export_named self.now node export.now ≡ Some e))) }
         ensures refused { IfErr result (λ e. Aliases self.now instance export.now (Err e) self.now) }
     {
-        let item_kind = self.nodes[instance.0].item_kind;
+        let item_kind = self.nodes[instance.0].item_kind();
         let ItemKind::Instance(interface) = item_kind else {
             let kind = item_kind.desc(&self.types);
             return Err(AliasError::NodeIsNotAnInstance {

@@ -43,7 +43,7 @@ impl CompositionGraph {
         ensures none { IfNone result ((import : AnId) (i : ℕ) (name : AName) → IsConflict self.now import (node_number n) i name → ⊥) }
     {
         let node = self.nodes.get(n)?;
-        let NodeKind::Instantiation(satisfied) = &node.kind else {
+        let NodeKind::Instantiation(satisfied) = node.kind() else {
             return None;
         };
         first_clash(satisfied, self.imports_at(n), &self.imports)

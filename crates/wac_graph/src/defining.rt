@@ -11,6 +11,7 @@ ghost use Rattle.wac_graph_model.specs.nodes.Valid.{KeepsValid};
 use crate::graph::CompositionGraph;
 use std::alloc::AllocError;
 use wac_graph_fields::{add_dependencies, is_defined};
+use wac_graph_model::inner::new_definition;
 use wac_graph_model::{DefineTypeError, Node, NodeId, import_fault};
 use wac_types::Type;
 
@@ -32,7 +33,7 @@ impl CompositionGraph {
         ensures valid { KeepsValid self.old self.new }
     {
         self.check_definition(name, ty)?;
-        let node = Node::definition(self.alloc, name, ty)?;
+        let node = new_definition(self.alloc, name, ty)?;
         let key = String::from_str(self.alloc, name)?;
         Ok(self.add_definition(key, ty, node)?)
     }

@@ -60,8 +60,8 @@ fn is_written_type(types: &Types, looked: &mut Reached, node: &Node) -> Result<b
     ensures not { result ≡ Answers false → (kind_of node.now.kind ≡ definition) × (IsDefinableKind types.now node.now.item_kind → ⊥) }
     ensures free { result ≡ Answers true → AreFree types.now looked.new }
 {
-    match &node.kind {
-        NodeKind::Definition => is_definable(types, looked, node.item_kind),
+    match node.kind() {
+        NodeKind::Definition => is_definable(types, looked, node.item_kind()),
         _ => Ok(true),
     }
 }

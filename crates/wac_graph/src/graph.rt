@@ -31,9 +31,10 @@ use std::ops::Index;
 use wac_edges::edges::{Edge, Edges, Label};
 use wac_graph_encode::package_in_slots;
 use wac_graph_fields::{Lost, next_id, put_package};
+use wac_graph_model::inner::{generation_of, new_node, slot_of};
 use wac_graph_model::{
     AliasError, BorrowedPackageKey, ExportError, ImportError, InstantiationArgumentError, Node,
-    NodeId, NodeKind, PackageId, RegisterPackageError, Slot, UnexportError,
+    NodeId, NodeKind, PackageId, RegisterPackageError, Slot, UnexportError, inner,
 };
 use wac_types::laws::growth_keeps_trees;
 use wac_types::{
@@ -171,8 +172,8 @@ impl CompositionGraph {
     pub fn has_package(&self, id: PackageId) -> bool
         ensures { IsTrue result ↔ IsSome (package_at self.now id) }
     {
-        match self.slots.get(id.slot) {
-            Some(slot) => slot.generation == id.generation && slot.package.is_some(),
+        match self.slots.get(slot_of(id)) {
+            Some(slot) => slot.generation == generation_of(id) && slot.package.is_some(),
             None => false,
         }
     }
@@ -322,7 +323,7 @@ impl CompositionGraph {
         let number = self.nodes.vacant_key();
         self.imports.insert(key, NodeId(number))?;
         self.nodes
-            .insert_reserved(Node::new(NodeKind::Import(own), None, kind));
+            .insert_reserved(new_node(NodeKind::Import(own), None, kind));
         Ok(NodeId(number))
     }
 
@@ -352,7 +353,7 @@ impl CompositionGraph {
         let number = self.nodes.vacant_key();
         let kind = NodeKind::Instantiation(BTreeSet::new(self.alloc));
         self.nodes
-            .insert_reserved(Node::new(kind, Some(id), item_kind));
+            .insert_reserved(new_node(kind, Some(id), item_kind));
         Ok(NodeId(number))
     }
 
@@ -391,7 +392,7 @@ impl CompositionGraph {
         ensures there { IfOk result (λ alias. IsSome (node_at self.new alias)) }
     {
         self.types.law(); // proof only
-        let package = self.nodes[instance.0].package;
+        let owner = self.nodes[instance.0].package();
         if let Some(alias) = self.edges.alias(instance, position) {
             return Ok(alias);
         }
@@ -403,7 +404,7 @@ impl CompositionGraph {
             label: Label::Alias(position),
         })?;
         self.nodes
-            .insert_reserved(Node::new(NodeKind::Alias, package, item_kind));
+            .insert_reserved(new_node(NodeKind::Alias, owner, item_kind));
         Ok(NodeId(number))
     }
 
@@ -413,7 +414,7 @@ impl CompositionGraph {
         ensures none { IfNone result ((instance : AnId) (position : ℕ) → IsAliasOf self.now instance position id → ⊥) }
     {
         let (source, position) = self.edges.alias_source(id)?;
-        let ItemKind::Instance(interface) = self.nodes[source.0].item_kind else {
+        let ItemKind::Instance(interface) = self.nodes[source.0].item_kind() else {
             unreachable!()
         };
         let name = self.types[interface].exports.name_at(position);
@@ -517,7 +518,7 @@ impl CompositionGraph {
         ensures step { Unexports self.old node result self.new }
         ensures valid { KeepsValid self.old self.new }
     {
-        if let NodeKind::Definition = self.nodes[node.0].kind {
+        if let NodeKind::Definition = self.nodes[node.0].kind() {
             return Err(UnexportError::MustExportDefinition);
         }
         take_exports(&mut self.exports, node);
@@ -586,7 +587,7 @@ fn set_export_name(
     ensures named { OnOk result (Renames (with_export_name (Some name.now)) nodes.old nodes.new number) }
     ensures kept { OnErr result (nodes.new ≡ nodes.old) }
 {
-    nodes[number].set_export_name(alloc, name)
+    inner::set_export_name(&mut nodes[number], alloc, name)
 }
 
 fn set_name(
@@ -599,14 +600,14 @@ fn set_name(
     ensures named { OnOk result (Renames (with_name name.now) nodes.old nodes.new number) }
     ensures kept { OnErr result (nodes.new ≡ nodes.old) }
 {
-    nodes[number].set_name(alloc, name)
+    inner::set_name(&mut nodes[number], alloc, name)
 }
 
 fn clear_export_name(nodes: &mut Slab<Node>, number: usize)
     requires { ContainsKey nodes.old number }
     ensures { Renames (with_export_name None) nodes.old nodes.new number }
 {
-    nodes[number].clear_export_name();
+    inner::clear_export_name(&mut nodes[number]);
 }
 
 /// Removes the exports of a node, from the last to the first. Each time, the last export takes the freed place.

@@ -6,6 +6,7 @@ ghost use Rattle.wac_graph.specs.private.Left.{packages_left};
 use crate::graph::CompositionGraph;
 use slab::Iter;
 use std::marker::Model;
+use wac_graph_model::inner::{new_package_id, slot_of};
 use wac_graph_model::{Node, NodeId, PackageId, Slot};
 use wac_types::Package;
 
@@ -105,7 +106,7 @@ impl<'a> Iterator for Packages<'a> {
             self.slot = self.slots.len();
             return None;
         };
-        self.slot = id.slot + 1;
+        self.slot = slot_of(id) + 1;
         Some((id, package))
     }
 }
@@ -148,10 +149,7 @@ fn first_package(slots: &[Slot], from: usize) -> Option<(PackageId, &Package)>
     for i in from..slots.len() {
         let slot = &slots[i];
         if let Some(package) = &slot.package {
-            let id = PackageId {
-                slot: i,
-                generation: slot.generation,
-            };
+            let id = new_package_id(i, slot.generation);
             return Some((id, package));
         }
     }

@@ -67,6 +67,5 @@ pub use wac_graph_model::{
 pub use wac_merge::MergeFault;
 pub use wac_names::NameFault;
 pub use wac_names::validation::ValidationFault;
-pub use wac_scopes::{EncodeFault, WriteFault};
-pub use wac_state::{State, TypeEncoder};
+pub use wac_scopes::WriteFault;
 pub use wac_types as types;

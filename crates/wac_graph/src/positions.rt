@@ -20,7 +20,7 @@ impl CompositionGraph {
         requires export { (name : AName) × (kind : AnItem) × HasExport self.now instance name position kind }
         ensures { (name : AName) (kind : AnItem) → HasExport self.now instance name position kind → result ≡ kind }
     {
-        let ItemKind::Instance(interface) = self.nodes[instance.0].item_kind else {
+        let ItemKind::Instance(interface) = self.nodes[instance.0].item_kind() else {
             unreachable!()
         };
         *self.types[interface].exports.value_at(position)
@@ -37,7 +37,7 @@ impl CompositionGraph {
         ensures found { IfOk result (λ n. (name : AName) (kind : AnItem) → HasNamed self.now instantiation name position kind → (n.now ≡ name) × HasImport self.now instantiation name position kind) }
         ensures refused { IfErr result (λ e. (name : AName) (argument : AnId) → SetsArgument self.now instantiation name argument (Err e) self.now) }
     {
-        let NodeKind::Instantiation(_) = &self.nodes[instantiation.0].kind else {
+        let NodeKind::Instantiation(_) = self.nodes[instantiation.0].kind() else {
             return Err(InstantiationArgumentError::NodeIsNotAnInstantiation {
                 node: instantiation,
             });

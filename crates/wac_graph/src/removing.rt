@@ -28,7 +28,7 @@ impl CompositionGraph {
             &mut self.lost,
             node,
         );
-        take_import(&mut self.imports, &removed.kind);
+        take_import(&mut self.imports, removed.kind());
         take_lost(&mut self.exports, &self.nodes, &mut self.lost);
     }
 

@@ -65,7 +65,7 @@ impl CompositionGraph {
         ensures { result ≡ role_of (node_at self.now (node_number n)) }
     {
         match self.nodes.get(n) {
-            Some(node) => role(&node.kind),
+            Some(node) => role(node.kind()),
             None => Role::Imported,
         }
     }
@@ -109,8 +109,8 @@ impl CompositionGraph {
         let Some(node) = self.nodes.get(n) else {
             return Ok(());
         };
-        let kind = node.item_kind;
-        match &node.kind {
+        let kind = node.item_kind();
+        match node.kind() {
             NodeKind::Instantiation(_) => self.ask_unset(asking, n),
             NodeKind::Import(name) => {
                 let name = name.as_str();

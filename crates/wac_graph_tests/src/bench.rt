@@ -14,6 +14,7 @@ use wac_graph::{
     CompositionGraph, EncodeError, EncodeOptions, MergeFault, NodeId, NodeKind, PackageId,
     Processor, ValidationFault,
 };
+use wac_graph_model::inner::slot_of;
 
 const PREAMBLE: &str = "0061736d0d000100";
 
@@ -635,7 +636,7 @@ impl Bench {
     fn listed_packages(&self, rt: &impl Abort) -> String {
         let mut rows = String::new(self.alloc);
         for (id, package) in self.graph.packages() {
-            let slot = id.slot;
+            let slot = slot_of(id);
             let name = package.name();
             add(rt, &mut rows, format!(in self.alloc; "{slot}: {name}; "));
         }

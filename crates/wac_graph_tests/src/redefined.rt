@@ -13,8 +13,58 @@ const IMPORTS_I: &str = "0a0a0100056e3a702f690500";
 // An alias of its type item.
 const ALIASES_T: &str = "0606010300000174";
 
-/// Definitions that are aliased from imports.
+// The type item `t` of an enum.
+const IMPORTS_T: &str = "0a0701000174030000";
+
+/// Definitions of types that imports have.
 pub const REDEFINED: &[Case] = &[
+    // A list of an enum that is imported as a type item goes by the import's index.
+    Case {
+        rows: &[Enumeration("x"), List(0)],
+        steps: &[Import("t", 0), Define("l", 1)],
+        want: Parts(&[
+            "0705016d010178",
+            IMPORTS_T,
+            "0703017001",
+            "0b070100016c030200",
+        ]),
+    },
+    // The enum itself is the import.
+    Case {
+        rows: &[Enumeration("x")],
+        steps: &[Import("t", 0), Define("e", 0)],
+        want: Parts(&["0705016d010178", IMPORTS_T, "0b0701000165030100"]),
+    },
+    // A type item counts before an instance that lists the enum too.
+    Case {
+        rows: &[
+            Enumeration("a"),
+            List(0),
+            Instance(Some("n:p/i"), &[("t", 0)]),
+        ],
+        steps: &[Import("n:p/i", 2), Import("t", 0), Define("d", 1)],
+        want: Parts(&[
+            LISTS_T,
+            IMPORTS_I,
+            ALIASES_T,
+            "0a0701000174030001",
+            "0703017002",
+            "0b0701000164030300",
+        ]),
+    },
+    // Of two type items the first counts.
+    Case {
+        rows: &[Enumeration("x"), List(0)],
+        steps: &[Import("t", 0), Import("u", 0), Define("l", 1)],
+        want: Parts(&[
+            "0705016d010178",
+            "0a0d02", // both imports
+            "000174030000",
+            "000175030001",
+            "0703017001",
+            "0b070100016c030300",
+        ]),
+    },
     // A list of the enum that an interface lists beside a function that takes it.
     Case {
         rows: &[

@@ -6,22 +6,26 @@ use Rattle.std.specs.List.{AllByRecursion}
 use Rattle.wac_types_shapes.specs.primitives.Name.{Name, option_case}
 use Rattle.wac_types_shapes.specs.declared.shapes.component.DefinedType.{DefinedType}
 use Rattle.wac_types_shapes.specs.declared.shapes.component.DefinedType.TheVariants as def
+use Rattle.wac_types_shapes.specs.declared.shapes.component.FuncType.{FuncType}
+use Rattle.wac_types_shapes.specs.declared.shapes.component.FuncTypeId.{FuncTypeId}
 use Rattle.wac_types_shapes.specs.declared.shapes.component.ValueType.{ValueType}
 use Rattle.wac_types_shapes.specs.declared.shapes.component.ValueType.TheVariants as val
+use Rattle.wac_types_shapes.specs.declared.shapes.component.«Type».{«Type» as AnyType}
 use Rattle.wac_types_shapes.specs.declared.shapes.component.«Type».TheVariants as ty
 use Rattle.wac_types_collection.specs.declared.collection.collection.Held.{Held}
 use Rattle.wac_types_shapes.specs.primitives.Tree.{Leaf, TypeTree, Tree, absent, primitive, record_of, variant_of, list_of, fixed_list_of, tuple_of, flags_of, enum_of, option_of, result_of, stream_of, future_of, function, moved}
-use Rattle.wac_types_collection.specs.collection.Collection.{Collection, IsWellFormed, IsValueBefore, AreBefore, AddedBefore, size, value_types, defined_values, holds_value}
+use Rattle.wac_types_collection.specs.collection.Collection.{Collection, IsWellFormed, IsValueBefore, AreBefore, AddedBefore, size, value_types, func_values, defined_values, holds_type, holds_value}
 use Rattle.wac_types_collection.specs.collection.Aliases.{target_of, value_resolved, value_resolved_in}
-use Rattle.wac_types_collection.specs.collection.Held.{part_at, option_tree, defined_tree, of_held, step}
+use Rattle.wac_types_collection.specs.collection.Held.{part_at, option_tree, defined_tree, func_tree, of_held, step}
 use Rattle.wac_types_collection.specs.collection.Bound.{Bindings, by_place, held_tree}
-use Rattle.wac_types_collection.specs.subtyping.Subtype.{type_tree}
+use Rattle.wac_types_collection.specs.subtyping.Subtype.{by_name, resource_names, type_tree}
 use Rattle.wac_types_collection.proofs.lemmas.collection.Growth.{type_within, value_more, type_before}
-use Rattle.wac_types_collection.proofs.lemmas.subtyping.Unfolding.{defined_same, unfolded_step, unfolded_is}
+use Rattle.wac_types_collection.proofs.lemmas.subtyping.Unfolding.{func_same, defined_same, unfolded_step, unfolded_is}
 use Rattle.wac_types_collection.proofs.lemmas.subtyping.Trees.{aliases_agree}
 use Rattle.wac_stacks.specs.Good.{IsHeld}
 use Rattle.wac_graph_model.specs.meaning.Importable.{HasNoHandle}
-use Rattle.wac_importable.proofs.Handles.{tree, Free, free_defined, own_handle, borrow_handle, value_step}
+use Rattle.wac_importable.specs.Looked.{IsOfValues}
+use Rattle.wac_importable.proofs.Handles.{tree, Free, free_defined, free_func, own_handle, borrow_handle, value_step}
 
 -- the tree of a value type or a function type, but for resources
 unfoldable pub bare : {L : Type 0} → TypeTree L → Tree
@@ -138,6 +142,27 @@ module _ (c : Collection) (wf : IsWellFormed c) where
 
   pub free_held : (v : ValueType) → holds_value c v ≡ true → HasNoHandle (type_tree c (ty.Value v)) → (m : Bindings) → IsHeld c m (ty.Value v) (bare (type_tree c (ty.Value v)))
   free_held v held free m = λ f more carries. free_tree v held free more ∙ sym (moved_bare f (type_tree c (ty.Value v)))
+
+  -- of a function type, too, the tree is one under all bindings
+  func_step : (m : Bindings) (f : FuncTypeId) → holds_type c (ty.Func f) ≡ true → held_tree c m (ty.Func f) ≡ step (by_place c) c (held_tree c) m (ty.Func f)
+  unfolding held_tree
+  func_step m f held = unfolded_step (by_place c) c wf m (ty.Func f) held
+
+  func_same_tree : (f : FuncTypeId) → holds_type c (ty.Func f) ≡ true → HasNoHandle (type_tree c (ty.Func f)) → (m n : Bindings) → held_tree c m (ty.Func f) ≡ held_tree c n (ty.Func f)
+  func_same_tree f held free m n =
+      func_step m f held
+      ∙ by (slice_get c.funcs f.0) refl (subst HasNoHandle (unfolded_step by_name c wf (resource_names c) (ty.Func f) held) (subst HasNoHandle (sym (unfolded_is c (ty.Func f))) free))
+      ∙ sym (func_step n f held) where
+        by : (o : Option (Held FuncType)) → slice_get c.funcs f.0 ≡ o → HasNoHandle (of_held (func_tree (λ v. tree c (ty.Value v))) o) → of_held (func_tree (λ v. held_tree c m (ty.Value v))) o ≡ of_held (func_tree (λ v. held_tree c n (ty.Value v))) o
+        by None is so = refl
+        by (Some h) is so = func_same (λ v. held_tree c m (ty.Value v)) (λ v. held_tree c n (ty.Value v)) h.item
+            (all_so (λ v. held_tree c m (ty.Value v) ≡ held_tree c n (ty.Value v)) h.before (func_values h.item) (wf.funcs f.0 h is).1 (free_func (λ v. tree c (ty.Value v)) h.item so)
+            (λ v before free_v. bare_value h.before v before free_v m ∙ sym (bare_value h.before v before free_v n)))
+
+  pub same_tree : (a : AnyType) → IsOfValues a → holds_type c a ≡ true → HasNoHandle (type_tree c a) → (m n : Bindings) → held_tree c m a ≡ held_tree c n a
+  same_tree (ty.Value v) of held free m n = free_tree v held free m ∙ sym (free_tree v held free n)
+  same_tree (ty.Func f) of held free m n = func_same_tree f held free m n
+  same_tree a of held free m n = absurd of
 
   -- aliases followed to the end
   end_tree_in : (n : ℕ) (v : ValueType) → type_tree c (ty.Value (value_resolved_in n c v)) ≡ type_tree c (ty.Value v)

@@ -1,5 +1,5 @@
 -- A type that is defined so far is no fault to the writer of definitions, and what it writes defines the type.
-use Rattle.std.proofs.Common.{◌≡◌, ℕ, true, List, [], ◌∷◌, refl, ap, ◌∙◌, sym, subst, Option, Some, None}
+use Rattle.std.proofs.Common.{◌≡◌, ℕ, suc, true, List, [], ◌∷◌, refl, ap, ◌∙◌, sym, subst, Option, Some, None}
 use Rattle.std.specs.List.{AllByRecursion}
 use Rattle.wac_types_shapes.specs.primitives.Name.{Name}
 use Rattle.wac_types_shapes.specs.declared.shapes.component.InterfaceId.{InterfaceId}
@@ -13,7 +13,7 @@ use Rattle.wac_types_shapes.specs.primitives.Tree.{Tree}
 use Rattle.wac_types_collection.specs.collection.Aliases.{value_resolved}
 use Rattle.wac_types_collection.specs.collection.Collection.{Collection, IsWellFormed, holds_type}
 use Rattle.wac_binary.specs.declared.sorts.Sort.TheVariants as sort
-use Rattle.wac_binary.specs.Items.{Item, type_item, alias_item, export_alias}
+use Rattle.wac_binary.specs.Items.{Item, type_item, alias_item, export_alias, outer_alias}
 use Rattle.wac_binary.specs.Meaning.{written}
 use Rattle.wac_scopes.specs.declared.fault.WriteFault.{WriteFault}
 use Rattle.wac_scopes.specs.declared.scope.Scope.{Scope}
@@ -39,6 +39,7 @@ alone : (ts : List Item) → AllByRecursion IsTypeItem ts → AllByRecursion IsT
 alone [] h = tt
 alone (type_item t ∷ ts) h = (tt, alone ts h.1)
 alone (alias_item (export_alias sort.«Type» j n) ∷ ts) h = (refl, alone ts h.1)
+alone (alias_item (outer_alias sort.«Type» (suc k) j) ∷ ts) h = (refl, alone ts h.1)
 alone (t ∷ ts) h = absurd h.0
 
 -- what is listed stays, whatever is defined

@@ -118,7 +118,7 @@ module _ {L : Type 0} (t : ValueType → TypeTree L) where
   func_free : (f : FuncType) → AllByRecursion (λ v. HasNoHandle (t v)) (func_values f) → HasNoHandle (func_tree t f)
   func_free f h = let both = first_maybe f.result (seconds f.params) h in (fields_free f.params both.1, both.0)
 
-  free_func : (f : FuncType) → HasNoHandle (func_tree t f) → AllByRecursion (λ v. HasNoHandle (t v)) (func_values f)
+  pub free_func : (f : FuncType) → HasNoHandle (func_tree t f) → AllByRecursion (λ v. HasNoHandle (t v)) (func_values f)
   free_func f h = maybe_first f.result (seconds f.params) h.1 (free_fields f.params h.0)
 
 -- what holds of value types holds of each of them as a type

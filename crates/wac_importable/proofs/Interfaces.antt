@@ -79,7 +79,7 @@ alone_under_id c i = by (item_at c.interfaces i.0) where
 alone_reached : (c : Collection) (i : InterfaceId) → with_reached c i [] ≡ component_tree c i
 alone_reached c i = λ j. component (no_items j) (items_under ((ap (λ (m : Bindings). listed c m exported (under_id c i)) (none_bound c) ∙ alone_under_id c i) j))
 
-pub interface_tree_is : (c : Collection) (i : InterfaceId) → IsDefinableKind c (kind.TypeItem (ty.Interface i)) → definition_tree c (ty.Interface i) ≡ component_tree c i
+pub interface_tree_is : (c : Collection) (i : InterfaceId) → IsDefinableKind c (kind.TypeItem (ty.Interface i)) → definition_tree c nothing_bound (ty.Interface i) ≡ component_tree c i
 unfolding definition_tree
 interface_tree_is c i so =
     let no_uses : uses_of c i ≡ [] = ap (λ (o : Option Interface). option_case o [] (λ x. x.uses)) so.found ∙ so.uses in

@@ -102,10 +102,10 @@ module _ (m c : Collection) (wm : IsWellFormed m) (wc : IsWellFormed c) (once_m 
       let (it, found) = interface_there c wc i held in
       plain_value c (ty.Value v) tt (importable_instance c wc i it held found (once_c i it found) importable p (n, kind.TypeItem (ty.Value v)) (ap (λ es. slice_get es p) (sym (exports-named c i it found)) ∙ at))
 
-  -- and the item exports each, as it is held, wherever it is bound
-  pub exports_value : (p : ℕ) (n : Name) (v : ValueType) (d : DefinedTypeId) → slice_get (interface_exports c i) p ≡ Some (n, kind.TypeItem (ty.Value v)) → value_resolved c v ≡ val.Defined d
-      → (bindings : Bindings) (side : Side) (path : List Place) (b : Bound) → held_item m bindings side path k ≡ instance_item b.type → Exports c nothing_bound b d n
-  exports_value p n v d at end bindings side path b is =
+  -- and the item has each under its name
+  pub value_there : (p : ℕ) (n : Name) (v : ValueType) → slice_get (interface_exports c i) p ≡ Some (n, kind.TypeItem (ty.Value v)) → (bindings : Bindings) (side : Side) (path : List Place)
+      → (t : Tree) × (held_item m bindings side path k ≡ instance_item t) × (items_in t n ≡ type_equal (bare (type_tree c (ty.Value v)))) × (holds_value c v ≡ true)
+  value_there p n v at bindings side path =
       let (j, is_instance) = instance_sub m c wm wc once_c k i sub in
       let held_j : holds_type m (ty.Interface j) ≡ true = subst (λ x. holds_type m (kind_type x) ≡ true) is_instance held_m in
       let (q, l, at_q, held_l, held_v, sub_l) = exports_sub m c wm wc once_c j i p n (kind.TypeItem (ty.Value v)) at held_j held (subst (λ x. IsSubtype m x c (kind.Instance i)) is_instance sub) in
@@ -119,10 +119,47 @@ module _ (m c : Collection) (wm : IsWellFormed m) (wc : IsWellFormed c) (once_m 
       let at_w : slice_get (interface_exports m j) q ≡ Some (n, kind.TypeItem (ty.Value w)) = at_q ∙ ap (λ x. Some (n, x)) (is_type ∙ ap kind.TypeItem is_value) in
       let same_w : type_tree m (ty.Value w) ≡ type_tree c (ty.Value v) = ap (type_tree m) (sym is_value) ∙ same in
       let (inner, there) = value_exported m wm once_m bindings j q n w at_w held_j in
-      let type_is : held_tree m bindings (ty.Interface j) ≡ b.type = type_of_instance (held_tree m bindings (ty.Interface j)) b.type (sym (ap (held_item m bindings side path) is_instance) ∙ is) in
       let tree_is : held_tree m inner (ty.Value w) ≡ t = free_tree m wm w (subst (λ x. holds_type m x ≡ true) is_value held_a) (subst HasNoHandle (sym same_w) no_handle) inner ∙ ap bare same_w in
-      let item_is : items_in b.type n ≡ type_equal t = ap (λ x. items_in x n) (sym type_is) ∙ there ∙ ap type_equal tree_is in
+      (held_tree m bindings (ty.Interface j), ap (held_item m bindings side path) is_instance, there ∙ ap type_equal tree_is, held_v)
+
+  -- so it exports each, as it is held, wherever it is bound
+  pub exports_value : (p : ℕ) (n : Name) (v : ValueType) (d : DefinedTypeId) → slice_get (interface_exports c i) p ≡ Some (n, kind.TypeItem (ty.Value v)) → value_resolved c v ≡ val.Defined d
+      → (bindings : Bindings) (side : Side) (path : List Place) (b : Bound) → held_item m bindings side path k ≡ instance_item b.type → Exports c nothing_bound b d n
+  exports_value p n v d at end bindings side path b is =
+      let (u, is_instance, there, held_v) = value_there p n v at bindings side path in
+      let no_handle : HasNoHandle (type_tree c (ty.Value v)) = free p n v at in
+      let t : Tree = bare (type_tree c (ty.Value v)) in
+      let value : IsValue t = values c wc nothing_bound v t held_v (free_held c wc v held_v no_handle nothing_bound) in
+      let item_is : items_in b.type n ≡ type_equal t = ap (λ x. items_in x n) (type_of_instance b.type u (sym is ∙ is_instance)) ∙ there in
       let end_is : type_tree c (ty.Value (val.Defined d)) ≡ type_tree c (ty.Value v) = ap (λ x. type_tree c (ty.Value x)) (sym end) ∙ end_tree c wc v in
       let held_d : holds_value c (val.Defined d) ≡ true = ap (holds_value c) (sym end) ∙ end_is_held c wc v (holds_value c v) refl ∙ held_v in
       let held_as : IsHeld c nothing_bound (ty.Value (val.Defined d)) t = subst (IsHeld c nothing_bound (ty.Value (val.Defined d))) (ap bare end_is) (free_held c wc (val.Defined d) held_d (subst HasNoHandle (sym end_is) no_handle) nothing_bound) in
       (t, held_as, value, exported_as b n t item_is (λ f. moved_bare f (type_tree c (ty.Value v))))
+
+-- an item of one collection that is a subtype of a type item of another
+module _ (m c : Collection) (wm : IsWellFormed m) (wc : IsWellFormed c) (once_m : ExportsOnce m) (once_c : ExportsOnce c) (values : HoldsValue) (k : ItemKind) (v : ValueType)
+    (held_m : holds_type m (kind_type k) ≡ true) (held : holds_value c v ≡ true) (sub : IsSubtype m k c (kind.TypeItem (ty.Value v))) (importable : IsImportableKind c (kind.TypeItem (ty.Value v))) where
+  free_item : HasNoHandle (type_tree c (ty.Value v))
+  free_item = plain_value c (ty.Value v) tt importable
+
+  -- is that type, wherever it is bound
+  pub value_item : (bindings : Bindings) (side : Side) (path : List Place) → held_item m bindings side path k ≡ type_equal (bare (type_tree c (ty.Value v)))
+  value_item bindings side path =
+      let (a, is_type, sub_a) = type_item_sub m c wm wc once_c k (ty.Value v) sub in
+      let held_a : holds_type m a ≡ true = subst (λ x. holds_type m (kind_type x) ≡ true) is_type held_m in
+      let same : type_tree m a ≡ type_tree c (ty.Value v) = sub_free (type_tree m a) (type_tree c (ty.Value v)) sub_a free_item in
+      let t : Tree = bare (type_tree c (ty.Value v)) in
+      let value : IsValue t = values c wc nothing_bound v t held (free_held c wc v held free_item nothing_bound) in
+      let (w, is_value) = value_of m wm a held_a (subst IsValue (ap bare (sym same)) value) in
+      let same_w : type_tree m (ty.Value w) ≡ type_tree c (ty.Value v) = ap (type_tree m) (sym is_value) ∙ same in
+      let tree_is : held_tree m bindings (ty.Value w) ≡ t = free_tree m wm w (subst (λ x. holds_type m x ≡ true) is_value held_a) (subst HasNoHandle (sym same_w) free_item) bindings ∙ ap bare same_w in
+      ap (held_item m bindings side path) (is_type ∙ ap kind.TypeItem is_value) ∙ ap type_equal tree_is
+
+  -- and that is the type at the end of its aliases
+  pub item_held : (d : DefinedTypeId) → value_resolved c v ≡ val.Defined d → IsHeld c nothing_bound (ty.Value (val.Defined d)) (bare (type_tree c (ty.Value v))) × IsValue (bare (type_tree c (ty.Value v)))
+  item_held d end =
+      let end_is : type_tree c (ty.Value (val.Defined d)) ≡ type_tree c (ty.Value v) = ap (λ x. type_tree c (ty.Value x)) (sym end) ∙ end_tree c wc v in
+      let held_d : holds_value c (val.Defined d) ≡ true = ap (holds_value c) (sym end) ∙ end_is_held c wc v (holds_value c v) refl ∙ held in (
+        subst (IsHeld c nothing_bound (ty.Value (val.Defined d))) (ap bare end_is) (free_held c wc (val.Defined d) held_d (subst HasNoHandle (sym end_is) free_item) nothing_bound),
+        values c wc nothing_bound v (bare (type_tree c (ty.Value v))) held (free_held c wc v held free_item nothing_bound),
+      )

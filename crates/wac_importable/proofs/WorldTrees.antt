@@ -83,7 +83,7 @@ module _ (c : Collection) where
   of_found : Option World → Tree → Tree
   of_found o t = component (λ n. absent) (items_under (option_case o [] (λ x. option_case x.id [] (λ id. (id, component_item t) ∷ []))))
 
-  pub world_tree_is : IsWellFormed c → (w : WorldId) → IsDefinableKind c (kind.TypeItem (ty.World w)) → definition_tree c (ty.World w) ≡ world_component_tree c w
+  pub world_tree_is : IsWellFormed c → (w : WorldId) → IsDefinableKind c (kind.TypeItem (ty.World w)) → definition_tree c nothing_bound (ty.World w) ≡ world_component_tree c w
   unfolding definition_tree under_id of_found
   world_tree_is wf w so =
       let none = none_unlisted so.world so.uses (λ k e here. (so.imports k e here).0) (λ k e here. (so.exports k e here).0) in

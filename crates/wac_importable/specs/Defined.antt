@@ -9,6 +9,7 @@ use Rattle.wac_binary.specs.declared.sorts.Sort.TheVariants as sort
 use Rattle.wac_binary.specs.Items.{Item, export_item}
 use Rattle.wac_binary.specs.Indexes.{space, indexes}
 use Rattle.wac_binary.specs.Meaning.{Thing, written}
+use Rattle.wac_stacks.specs.Good.{nothing_bound}
 use Rattle.wac_scopes.specs.declared.scope.Scope.{Scope}
 use Rattle.wac_scopes.specs.Rooted.{thing_listed}
 use Rattle.wac_scopes.specs.Scoped.{listing, root_of}
@@ -17,8 +18,8 @@ use Rattle.wac_graph_model.specs.private.meaning.Writing.{WritesType}
 
 -- what a definition is in a root: where an instance lists a value type, aliases followed to the end, the instance's export; else the type itself
 abbrev pub definition_thing : Collection → Scope → AnyType → Thing
-definition_thing c s (ty.Value v) = thing_listed (listing s (ty.Value (value_resolved c v))) (root_of s) (definition_tree c (ty.Value v))
-definition_thing c s t = written (definition_tree c t)
+definition_thing c s (ty.Value v) = thing_listed (listing s (ty.Value (value_resolved c v))) (root_of s) (definition_tree c nothing_bound (ty.Value v))
+definition_thing c s t = written (definition_tree c nothing_bound t)
 
 -- from some items to others: a type that is this behind what stood, then its export by this name, at index i
 pub record DefinesType (thing : Thing) (name : Name) (items items' : List Item) (i : ℕ) : Type 0 where

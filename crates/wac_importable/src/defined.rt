@@ -14,11 +14,12 @@ ghost use Rattle.wac_worlds.specs.Nested.{AreWorlds};
 ghost use Rattle.wac_importable.specs.Defined.{definition_thing, DefinesType};
 ghost use Rattle.wac_importable.specs.Holders.{IsAhead};
 
+use crate::fault::without_write;
 use wac_binary::BinaryFault;
 use wac_components::ComponentEncoder;
 use wac_encode::Worlds;
 use wac_root::RootEncoder;
-use wac_scopes::{EncodeFault, Scope};
+use wac_scopes::Scope;
 use wac_types_collection::{Type, Types, WorldId};
 use wac_worlds::worlds_inside;
 
@@ -63,9 +64,7 @@ fn write_world(
     let worlds = worlds_of(types, Type::World(world))?;
     match ComponentEncoder::new(types, &worlds).define_world(root, name, world) {
         Ok(index) => Ok(index),
-        Err(EncodeFault::Write(_)) => unreachable!(),
-        Err(EncodeFault::TooLarge) => Err(BinaryFault::TooLarge),
-        Err(EncodeFault::OutOfMemory) => Err(BinaryFault::OutOfMemory),
+        Err(fault) => Err(without_write(fault)),
     }
 }
 
@@ -83,9 +82,7 @@ fn write_type(types: &Types, root: &mut Scope, name: &str, ty: Type) -> Result<u
     let worlds = worlds_of(types, ty)?;
     match RootEncoder::new(types, &worlds).definition(root, name, ty) {
         Ok(index) => Ok(index),
-        Err(EncodeFault::Write(_)) => unreachable!(),
-        Err(EncodeFault::TooLarge) => Err(BinaryFault::TooLarge),
-        Err(EncodeFault::OutOfMemory) => Err(BinaryFault::OutOfMemory),
+        Err(fault) => Err(without_write(fault)),
     }
 }
 
@@ -100,9 +97,7 @@ fn worlds_of(types: &Types, ty: Type) -> Result<Worlds, BinaryFault>
     match ty {
         Type::Interface(_) | Type::World(_) => match worlds_inside(types, &[ty]) {
             Ok(worlds) => Ok(worlds),
-            Err(EncodeFault::Write(_)) => unreachable!(),
-            Err(EncodeFault::TooLarge) => Err(BinaryFault::TooLarge),
-            Err(EncodeFault::OutOfMemory) => Err(BinaryFault::OutOfMemory),
+            Err(fault) => Err(without_write(fault)),
         },
         _ => Ok(Worlds::new(types.allocator())),
     }

@@ -5,11 +5,13 @@
 #![tactic(auto)]
 
 mod defined;
+mod fault;
 mod holders;
 mod importable;
 mod modules;
 
 pub use defined::write_definition;
+pub use fault::without_write;
 pub use holders::holders_of;
 pub use importable::{are_importable, is_definable, is_importable};
 pub use modules::import_module;

@@ -1,3 +1,5 @@
 pub mod DefinitionLemmas
 pub mod NodeLemmas
 pub mod ListingLemmas
+pub mod ItemLemmas
+pub mod ShownLemmas

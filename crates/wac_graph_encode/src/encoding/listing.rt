@@ -1,7 +1,7 @@
-//! The types that imported instances export, for definitions to alias.
+//! The types that imports have, for definitions.
 ghost use Rattle.std.specs.Prelude.{◌≡◌, ℕ, false, OnOk, None, Some, IsSomeAnd, slice_get};
 ghost use Rattle.wac_graph_model.specs.causes.NotYet.{AllImportable};
-ghost use Rattle.wac_graph_encode.specs.private.encoding.Listed.{IsListedFor};
+ghost use Rattle.wac_graph_encode.specs.private.encoding.Listed.{AreExported, IsListedFor, NamesItem};
 ghost use Rattle.wac_encode.specs.Instances.{listed_definitions};
 ghost use Rattle.wac_graph_model.specs.private.meaning.Beginning.{Begins, IsPlacedAt};
 ghost use Rattle.wac_graph_model.specs.private.meaning.MergedImports.{merged_imports};
@@ -10,6 +10,7 @@ ghost use Rattle.wac_graph_model.specs.nodes.Graph.{node_at, definition};
 ghost use Rattle.wac_graph_model.specs.nodes.OuterImports.{outer_entries};
 ghost use Rattle.wac_types_collection.specs.collection.Collection.{interface_exports};
 ghost use Rattle.wac_graph_encode.specs.private.places.Places.{ArePlaced};
+ghost use Rattle.wac_merge_classes.specs.terms.Values.{listed_value};
 ghost use Rattle.wac_scopes.specs.Contents.{items_of};
 ghost use Rattle.wac_scopes.specs.Rooted.{IsRightRoot};
 ghost use Rattle.wac_scopes.specs.Scoped.{type_index, listing, AlsoLists};
@@ -23,12 +24,14 @@ use wac_binary::laws::kept_law;
 use wac_encode::{TypeEncoder, Worlds};
 use wac_graph_reader::GraphReader;
 use wac_merge::laws::{class_laws, order_law};
+use wac_planning::listed_definition;
 use wac_scopes::{Scope, instance_law};
-use wac_types::{InterfaceId, ItemKind};
+use wac_types::{InterfaceId, ItemKind, ValueType};
 
-/// Records the types that imported instances export, so that definitions alias them. Does nothing without definitions.
+/// Records the types that imports are and that imported instances export, so that definitions use them. Does nothing
+/// without definitions.
 ///
-/// A type is aliased from the first import that exports it.
+/// A type item is used by its index. A type that no type item is, is aliased from the first instance that exports it.
 pub(crate) fn list_imports(
     reader: &GraphReader<'_>,
     imports: &ImportPlaces,
@@ -49,6 +52,27 @@ pub(crate) fn list_imports(
     if !defined {
         return Ok(());
     }
+    list_instances(reader, imports, root)?;
+    name_items(reader, imports, root)
+}
+
+/// Records the types that imported instances export, each by the first instance.
+fn list_instances(
+    reader: &GraphReader<'_>,
+    imports: &ImportPlaces,
+    root: &mut Scope,
+) -> Result<(), AllocError>
+    requires placed { ArePlaced reader.now imports.now }
+    requires importable { AllImportable reader.now }
+    requires begins { Begins (merged_imports imports.now.merge.merge) imports.now.places.items (items_of root.old.content) }
+    requires right { IsRightRoot reader.now.types root.old }
+    requires types { (a : AnyType) → type_index root.old a ≡ None }
+    requires unlisted { (a : AnyType) → listing root.old a ≡ None }
+    ensures right { OnOk result (IsRightRoot reader.now.types root.new) }
+    ensures types { OnOk result ((a : AnyType) → type_index root.new a ≡ None) }
+    ensures listed { OnOk result (AreExported reader.now imports.now.places.items root.new) }
+    ensures kept { OnOk result (root.new.content ≡ root.old.content) }
+{
     let entries = imports.merge.entries();
     for i in 0..entries.len() {
         let entry = &entries[i];
@@ -57,6 +81,65 @@ pub(crate) fn list_imports(
         }
     }
     Ok(())
+}
+
+/// Records the types that are imported as type items, each by the first one.
+fn name_items(
+    reader: &GraphReader<'_>,
+    imports: &ImportPlaces,
+    root: &mut Scope,
+) -> Result<(), AllocError>
+    requires placed { ArePlaced reader.now imports.now }
+    requires importable { AllImportable reader.now }
+    requires begins { Begins (merged_imports imports.now.merge.merge) imports.now.places.items (items_of root.old.content) }
+    requires right { IsRightRoot reader.now.types root.old }
+    requires types { (a : AnyType) → type_index root.old a ≡ None }
+    requires listed { AreExported reader.now imports.now.places.items root.old }
+    ensures right { OnOk result (IsRightRoot reader.now.types root.new) }
+    ensures listed { OnOk result (IsListedFor reader.now imports.now.places.items root.new) }
+    ensures kept { OnOk result (root.new.content ≡ root.old.content) }
+{
+    let entries = imports.merge.entries();
+    for i in 0..entries.len() {
+        let entry = &entries[i];
+        name_item(reader, imports, root, i, entry.name(), entry.kind())?;
+    }
+    Ok(())
+}
+
+/// Records the type that the import at a position is, if it is a type item of a definition that is not recorded yet.
+fn name_item(
+    reader: &GraphReader<'_>,
+    imports: &ImportPlaces,
+    root: &mut Scope,
+    position: usize,
+    name: &str,
+    item: ItemKind,
+) -> Result<(), AllocError>
+    requires placed { ArePlaced reader.now imports.now }
+    requires importable { AllImportable reader.now }
+    requires asked { slice_get (outer_entries reader.now) position ≡ Some (record { name = name.now; kind = item }) }
+    requires begins { Begins (merged_imports imports.now.merge.merge) imports.now.places.items (items_of root.old.content) }
+    requires right { IsRightRoot reader.now.types root.old }
+    ensures right { OnOk result (IsRightRoot reader.now.types root.new) }
+    ensures named { OnOk result (NamesItem reader.now imports.now.places.items name.now (listed_value reader.now.types item) root.old root.new) }
+    ensures kept { OnOk result (root.new.content ≡ root.old.content) }
+{
+    wac_binary::laws::law(); // proof only
+    kept_law(); // proof only
+    class_laws(); // proof only
+    order_law(); // proof only
+    instance_law(); // proof only
+    reader.law(); // proof only
+    let types = reader.types();
+    let Some(id) = listed_definition(types, item) else {
+        return Ok(());
+    };
+    if let Some(_) = root.value(ValueType::Defined(id)) {
+        return Ok(());
+    }
+    let (_, index) = imports.place_of(name);
+    root.name_import(id, index)
 }
 
 /// Records the types that the instance at a position of the imports exports.

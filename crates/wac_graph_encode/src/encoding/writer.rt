@@ -34,7 +34,7 @@ use wac_binary::{ComponentBuilder, Sort};
 use wac_graph_model::{EncodeError, EncodeOptions, NodeId, NodeKind};
 use wac_graph_reader::{Encoder, GraphReader, sort_of, write_processor};
 use wac_merge::laws::{class_laws, order_law};
-use wac_scopes::rooted_law;
+use wac_scopes::{instance_law, rooted_law};
 
 /// Returns the bytes of the component that the graph composes. The root has the graph's imports already.
 ///
@@ -68,6 +68,7 @@ pub fn write(
     wac_binary::laws::law(); // proof only
     class_laws(); // proof only
     order_law(); // proof only
+    instance_law(); // proof only
     reader.law(); // proof only
     let indexes = import_indexes(reader, imports)?;
     let mut encoder = Encoder::new(reader.allocator(), root, indexes);

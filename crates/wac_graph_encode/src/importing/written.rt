@@ -26,10 +26,10 @@ use std::alloc::Global;
 use wac_binary::{BinaryFault, ComponentBuilder, Sort};
 use wac_components::ComponentEncoder;
 use wac_encode::Worlds;
-use wac_importable::{are_importable, holders_of, import_module};
+use wac_importable::{are_importable, holders_of, import_module, without_write};
 use wac_merge::TypeAggregator;
 use wac_root::RootEncoder;
-use wac_scopes::{Encodable, EncodeFault, Scope, root_law};
+use wac_scopes::{Encodable, Scope, root_law};
 use wac_types_collection::{ItemKind, Named, Type, Types, WorldId};
 use wac_worlds::worlds_inside;
 
@@ -115,9 +115,7 @@ fn write_worlds(types: &Types, imports: &Named<ItemKind>) -> Result<Worlds, Bina
     let holders = holders_of(types.allocator(), imports)?;
     match worlds_inside(types, holders.as_slice()) {
         Ok(worlds) => Ok(worlds),
-        Err(EncodeFault::Write(_)) => unreachable!(),
-        Err(EncodeFault::TooLarge) => Err(BinaryFault::TooLarge),
-        Err(EncodeFault::OutOfMemory) => Err(BinaryFault::OutOfMemory),
+        Err(fault) => Err(without_write(fault)),
     }
 }
 
@@ -144,9 +142,7 @@ fn write_one(
     match item {
         ItemKind::Module(id) => match import_module(alloc, types, root, name, id) {
             Ok(index) => Ok(index),
-            Err(EncodeFault::Write(_)) => unreachable!(),
-            Err(EncodeFault::TooLarge) => Err(BinaryFault::TooLarge),
-            Err(EncodeFault::OutOfMemory) => Err(BinaryFault::OutOfMemory),
+            Err(fault) => Err(without_write(fault)),
         },
         ItemKind::Component(world) => write_component(types, worlds, root, name, world),
         ItemKind::TypeItem(Type::World(world)) => write_world_type(
@@ -178,9 +174,7 @@ fn write_component(
     match ComponentEncoder::new(types, worlds).import_component(root, name, world) {
         Ok(Some(index)) => Ok(index),
         Ok(None) => unreachable!(),
-        Err(EncodeFault::Write(_)) => unreachable!(),
-        Err(EncodeFault::TooLarge) => Err(BinaryFault::TooLarge),
-        Err(EncodeFault::OutOfMemory) => Err(BinaryFault::OutOfMemory),
+        Err(fault) => Err(without_write(fault)),
     }
 }
 
@@ -206,9 +200,7 @@ fn write_world_type(
     match ComponentEncoder::new(types, worlds).import_world_type(root, name, world) {
         Ok(Some(index)) => Ok(index),
         Ok(None) => unreachable!(),
-        Err(EncodeFault::Write(_)) => unreachable!(),
-        Err(EncodeFault::TooLarge) => Err(BinaryFault::TooLarge),
-        Err(EncodeFault::OutOfMemory) => Err(BinaryFault::OutOfMemory),
+        Err(fault) => Err(without_write(fault)),
     }
 }
 
@@ -238,9 +230,7 @@ fn write_item(
     match encoder.import(root, name, item) {
         Ok(Some(index)) => Ok(index),
         Ok(None) => unreachable!(),
-        Err(EncodeFault::Write(_)) => unreachable!(),
-        Err(EncodeFault::TooLarge) => Err(BinaryFault::TooLarge),
-        Err(EncodeFault::OutOfMemory) => Err(BinaryFault::OutOfMemory),
+        Err(fault) => Err(without_write(fault)),
     }
 }
 

@@ -9,6 +9,7 @@ pub mod CauseExample
 pub mod NameRows
 pub mod OptionRows
 pub mod DefinitionRows
+pub mod DefinedRows
 pub mod PlugExample
 pub mod BeginningRows
 pub mod KindRows

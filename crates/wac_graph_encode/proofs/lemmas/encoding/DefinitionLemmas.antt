@@ -14,7 +14,7 @@ use Rattle.wac_graph_model.specs.private.meaning.Beginning.{Places}
 use Rattle.wac_binary.specs.Meaning.{Thing, projected, stands_for}
 use Rattle.wac_types_collection.specs.collection.Aliases.{value_resolved}
 use Rattle.wac_graph_model.specs.meaning.Definition.{definition_tree}
-use Rattle.wac_graph_model.specs.meaning.Listing.{first_listing, listing_of}
+use Rattle.wac_graph_model.specs.private.meaning.Listing.{Listing, by_item, by_export, first_item, first_listing, item_or_export, listing_of}
 use Rattle.wac_graph_model.specs.meaning.Importable.{IsDefinableKind}
 use Rattle.wac_graph_model.specs.private.meaning.Writing.{WritesType, IsDefinedBehind, WritesNode, writes_definition}
 use Rattle.wac_graph_model.specs.causes.NotYet.{AllDefinable}
@@ -52,17 +52,20 @@ module _ (g : Graph) (n : NodeId) (t : AnyType) (name : Name) (is : IsSomeAnd (n
     by (Some node) h d = writes_definition t name k mid thing h d.0 d.1 (λ j. components) is_thing writes exported counted
 
 -- what is listed in the root is what imports list
-defined_listed : (g : Graph) (places : Places) (s : Scope) (t : AnyType) (o : Option (Name × Name)) (l : Option Listed) → IsListedFrom g places o l → IsDefinedBehind g places (items_of s.content) t o (thing_listed l (root_of s) (definition_tree g.types t))
+defined_listed : (g : Graph) (places : Places) (s : Scope) (t : AnyType) (o : Option Listing) (l : Option Listed) → IsListedFrom g places o l → IsDefinedBehind g places (items_of s.content) t o (thing_listed l (root_of s) (definition_tree g.types (λ _. None) t))
 defined_listed g places s t None None h = refl
 defined_listed g places s t None (Some l) h = absurd h
-defined_listed g places s t (Some (entry, name)) None h = absurd h
-defined_listed g places s t (Some (entry, name)) (Some (ByInstance i n)) h = (i, h.0, ap (projected (stands_for (root_of s) sort.Instance i)) h.1)
-defined_listed g places s t (Some (entry, name)) (Some (Around i)) h = absurd h
+defined_listed g places s t (Some (by_item entry)) None h = absurd h
+defined_listed g places s t (Some (by_item entry)) (Some (ByInstance i n)) h = absurd h
+defined_listed g places s t (Some (by_item entry)) (Some (Around i)) h = (i, h, refl)
+defined_listed g places s t (Some (by_export entry name)) None h = absurd h
+defined_listed g places s t (Some (by_export entry name)) (Some (ByInstance i n)) h = (i, h.0, ap (projected (stands_for (root_of s) sort.Instance i)) h.1)
+defined_listed g places s t (Some (by_export entry name)) (Some (Around i)) h = absurd h
 
 pub defined_behind : (g : Graph) (places : Places) (s : Scope) → IsListedFor g places s → (t : AnyType) → IsDefinedBehind g places (items_of s.content) t (listing_of g t) (definition_thing g.types s t)
 defined_behind g places s listed (ty.Value v) = by (value_resolved g.types v) where
-  by : (w : ValueType) → IsDefinedBehind g places (items_of s.content) (ty.Value v) (option_case (definition w) None (first_listing g.types (outer_entries g))) (thing_listed (listing s (ty.Value w)) (root_of s) (definition_tree g.types (ty.Value v)))
-  by (val.Defined d) = defined_listed g places s (ty.Value v) (first_listing g.types (outer_entries g) d) (listed_at s d) (listed d)
+  by : (w : ValueType) → IsDefinedBehind g places (items_of s.content) (ty.Value v) (option_case (definition w) None (λ d. item_or_export (first_item g.types (outer_entries g) d) (first_listing g.types (outer_entries g) d))) (thing_listed (listing s (ty.Value w)) (root_of s) (definition_tree g.types (λ _. None) (ty.Value v)))
+  by (val.Defined d) = defined_listed g places s (ty.Value v) (item_or_export (first_item g.types (outer_entries g) d) (first_listing g.types (outer_entries g) d)) (listed_at s d) (listed d)
   by (val.Primitive p) = refl
   by (val.Own r) = refl
   by (val.Borrow r) = refl
@@ -74,4 +77,4 @@ defined_behind g places s listed (ty.Module m) = refl
 
 -- and stays so where the root lists what it listed
 pub still_listed : (g : Graph) (places : Places) (old new : Scope) → ((a : AnyType) → listing new a ≡ listing old a) → IsListedFor g places old → IsListedFor g places new
-still_listed g places old new same listed d = subst (IsListedFrom g places (first_listing g.types (outer_entries g) d)) (sym (same (ty.Value (val.Defined d)))) (listed d)
+still_listed g places old new same listed d = subst (IsListedFrom g places (item_or_export (first_item g.types (outer_entries g) d) (first_listing g.types (outer_entries g) d))) (sym (same (ty.Value (val.Defined d)))) (listed d)

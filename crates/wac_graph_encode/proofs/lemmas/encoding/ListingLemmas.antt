@@ -50,8 +50,8 @@ use Rattle.wac_scopes.specs.declared.scope.Scope.{Scope}
 use Rattle.wac_scopes.specs.Scoped.{type_index, listed_at, listing, first_of, listed_by, listed_too, AlsoLists}
 use Rattle.wac_graph_model.specs.nodes.Graph.{Graph}
 use Rattle.wac_graph_model.specs.private.meaning.Beginning.{Places, Begins, IsPlacedAt}
-use Rattle.wac_graph_model.specs.meaning.Listing.{name_listed, first_listing}
-use Rattle.wac_graph_encode.specs.private.encoding.Listed.{IsListedFrom}
+use Rattle.wac_graph_model.specs.private.meaning.Listing.{name_listed, first_listing}
+use Rattle.wac_graph_encode.specs.private.encoding.Listed.{IsExportedFrom}
 
 -- an item lists the same definition, however it is said
 same_definition : (v : ValueType) → definition v ≡ definition_of v
@@ -60,7 +60,7 @@ same_definition (val.Primitive p) = refl
 same_definition (val.Own r) = refl
 same_definition (val.Borrow r) = refl
 
-same_listed : (c : Collection) (k : ItemKind) → listed_value c k ≡ listed_definition c k
+pub same_listed : (c : Collection) (k : ItemKind) → listed_value c k ≡ listed_definition c k
 same_listed c (kind.TypeItem (ty.Value v)) = same_definition (value_resolved c v)
 same_listed c (kind.TypeItem (ty.Func f)) = refl
 same_listed c (kind.TypeItem (ty.Interface i)) = refl
@@ -166,12 +166,12 @@ first_more c (x ∷ es) e d = by (name_listed c x.kind d) (first_more c es e d) 
 module _ (g : Graph) (places : Places) where
   -- the entries so far
   abbrev pub AreListed : List Entry → Scope → Type 0
-  AreListed es s = (d : DefinedTypeId) → IsListedFrom g places (first_listing g.types es d) (listed_at s d)
+  AreListed es s = (d : DefinedTypeId) → IsExportedFrom g places (first_listing g.types es d) (listed_at s d)
 
   pub none_listed : (s : Scope) → ((a : AnyType) → listing s a ≡ None) → AreListed [] s
-  none_listed s none d = subst (IsListedFrom g places None) (sym (none (ty.Value (val.Defined d)))) tt
+  none_listed s none d = subst (IsExportedFrom g places None) (sym (none (ty.Value (val.Defined d)))) tt
 
-  one_more : (name : Name) (k : ℕ) → IsPlacedAt g places name sort.Instance k → (o : Option (Name × Name)) (l : Option Listed) (n : Option Name) → IsListedFrom g places o l → IsListedFrom g places (first_some o (option_case n None (λ m. Some (name, m)))) (first_of l (as_listed k n))
+  one_more : (name : Name) (k : ℕ) → IsPlacedAt g places name sort.Instance k → (o : Option (Name × Name)) (l : Option Listed) (n : Option Name) → IsExportedFrom g places o l → IsExportedFrom g places (first_some o (option_case n None (λ m. Some (name, m)))) (first_of l (as_listed k n))
   one_more name k placed None None None h = tt
   one_more name k placed None None (Some m) h = (placed, refl)
   one_more name k placed (Some (entry, m)) (Some (ByInstance i x)) n h = h
@@ -184,19 +184,19 @@ module _ (g : Graph) (places : Places) where
       → AreListed (es ++ (record { name = name; kind = kind.Instance i }) ∷ []) new
   instance_more es name i k old new placed lists listed d =
       let n : Option Name = value_name g.types (interface_exports g.types i) d in
-      subst (λ (o : Option (Name × Name)). IsListedFrom g places o (listed_at new d)) (sym (first_more g.types es (record { name = name; kind = kind.Instance i }) d))
-      (subst (IsListedFrom g places (first_some (first_listing g.types es d) (option_case n None (λ m. Some (name, m))))) (sym (lists.listed d ∙ items_listed g.types k (interface_exports g.types i) (listed_at old) d))
+      subst (λ (o : Option (Name × Name)). IsExportedFrom g places o (listed_at new d)) (sym (first_more g.types es (record { name = name; kind = kind.Instance i }) d))
+      (subst (IsExportedFrom g places (first_some (first_listing g.types es d) (option_case n None (λ m. Some (name, m))))) (sym (lists.listed d ∙ items_listed g.types k (interface_exports g.types i) (listed_at old) d))
       (one_more name k placed (first_listing g.types es d) (listed_at old d) n (listed d)))
 
   -- another entry lists nothing
   pub other_more : (es : List Entry) (e : Entry) (s : Scope) → ((d : DefinedTypeId) → name_listed g.types e.kind d ≡ None) → AreListed es s → AreListed (es ++ e ∷ []) s
   other_more es e s none listed d =
-      subst (λ (o : Option (Name × Name)). IsListedFrom g places o (listed_at s d)) (sym (first_more g.types es e d ∙ ap (λ (n : Option Name). first_some (first_listing g.types es d) (option_case n None (λ m. Some (e.name, m)))) (none d) ∙ same (first_listing g.types es d))) (listed d) where
+      subst (λ (o : Option (Name × Name)). IsExportedFrom g places o (listed_at s d)) (sym (first_more g.types es e d ∙ ap (λ (n : Option Name). first_some (first_listing g.types es d) (option_case n None (λ m. Some (e.name, m)))) (none d) ∙ same (first_listing g.types es d))) (listed d) where
         same : (o : Option (Name × Name)) → first_some o None ≡ o
         same None = refl
         same (Some x) = refl
 
-take_next : {A : Type 0} (xs : List A) (i : ℕ) (x : A) → slice_get xs i ≡ Some x → take (i + 1) xs ≡ take i xs ++ x ∷ []
+pub take_next : {A : Type 0} (xs : List A) (i : ℕ) (x : A) → slice_get xs i ≡ Some x → take (i + 1) xs ≡ take i xs ++ x ∷ []
 take_next [] i x at = cc
 take_next (y ∷ xs) zero x at = let same : y ≡ x = cc in ap (λ z. z ∷ []) same
 take_next (y ∷ xs) (suc i) x at = let step : suc i + 1 ≡ suc (i + 1) = omega arith in ap (λ k. take k (y ∷ xs)) step ∙ ap (λ zs. y ∷ zs) (take_next xs i x at)

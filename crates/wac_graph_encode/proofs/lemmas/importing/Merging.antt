@@ -5,19 +5,28 @@ use Rattle.std.specs.Result.{IfErr, IsErrAnd}
 use Rattle.wac_types_shapes.specs.primitives.Name.{Name}
 use Rattle.wac_types_shapes.specs.shapes.Kinds.{kind_type}
 use Rattle.wac_types_shapes.specs.declared.shapes.component.ItemKind.{ItemKind}
+use Rattle.wac_types_shapes.specs.declared.shapes.component.ItemKind.TheVariants as kind
+use Rattle.wac_types_shapes.specs.declared.shapes.component.ModuleTypeId.{ModuleTypeId}
+use Rattle.wac_types_shapes.specs.declared.shapes.component.WorldId.{WorldId}
+use Rattle.wac_types_shapes.specs.declared.shapes.component.«Type».TheVariants as ty
 use Rattle.wac_types_collection.specs.collection.Collection.{Collection, IsWellFormed, holds_type}
 use Rattle.wac_merge_classes.specs.entries.Bindings.{AreHeld}
 use Rattle.wac_merge_classes.specs.entries.Classes.{Entry}
 use Rattle.wac_merge_classes.specs.terms.Merge.{Merged, import_entries}
 use Rattle.wac_binary.specs.declared.fault.BinaryFault.{BinaryFault}
 use Rattle.wac_binary.specs.declared.fault.BinaryFault.TheVariants.{TooLarge, OutOfMemory}
+use Rattle.wac_binary.specs.declared.sorts.Description.TheVariants as description
 use Rattle.wac_scopes.specs.declared.fault.EncodeFault.TheVariants as fault
+use Rattle.wac_scopes.specs.Faults.{encode_fault}
 use Rattle.wac_scopes.specs.declared.scope.Scope.{Scope}
 use Rattle.wac_graph_model.specs.private.meaning.Beginning.{Places}
 use Rattle.wac_sorting.specs.declared.worlds.Worlds.{Worlds}
+use Rattle.wac_root.specs.Importing.{ImportedDoesNotFit, IsItemNotImported}
+use Rattle.wac_components.specs.Imports.{IsWorldNotImported}
 use Rattle.wac_worlds.specs.Nested.{AreWorlds, AreWorldsRefused}
 use Rattle.wac_importable.specs.Holders.{holders_of, IsAhead}
 use Rattle.wac_importable.specs.Looked.{AreImportable, HasNotYet}
+use Rattle.wac_importable.specs.Modules.{IsModuleNotImported, OneDoesNotFit}
 use Rattle.wac_graph_encode.specs.private.importing.Written.{AllImportable, HasUnimportable, entry_items, IsTooLarge, AreRefused, IsNotWritten, merge_of}
 use Rattle.wac_importable.proofs.Nested.{lists_importable}
 use Rattle.wac_graph_encode.proofs.lemmas.importing.Loop.{IsBegun, entry_there}
@@ -80,5 +89,38 @@ entries_back : (es : List (Name × ItemKind)) → entry_items (import_entries es
 entries_back [] = refl
 entries_back (e ∷ es) = ap (λ (xs : List (Name × ItemKind)). e ∷ xs) (entries_back es)
 
-pub worlds_too_large : (A : Type 0) (c : Collection) (es : List (Name × ItemKind)) → AreWorldsRefused {A = A} c (holders_of es) (Err fault.TooLarge) → IsTooLarge (merge_of c es) TooLarge
-worlds_too_large A c es h = inr (subst (λ (xs : List (Name × ItemKind)). AreWorldsRefused {A = Unit {0}} c (holders_of xs) (Err fault.TooLarge)) (sym (entries_back es)) h)
+-- faults of the writers of types as faults of the writers of imports
+pub worlds_refused : (A : Type 0) (c : Collection) (es : List (Name × ItemKind)) (f : BinaryFault) → AreWorldsRefused {A = A} c (holders_of es) (Err (encode_fault f)) → IsTooLarge (merge_of c es) f
+worlds_refused A c es TooLarge h = inr (subst (λ (xs : List (Name × ItemKind)). AreWorldsRefused {A = Unit {0}} c (holders_of xs) (Err fault.TooLarge)) (sym (entries_back es)) h)
+worlds_refused A c es OutOfMemory h = tt
+
+pub module_refused : (A : Type 0) (ws : Worlds) (c : Collection) (n : Name) (id : ModuleTypeId) (s : Scope) (f : BinaryFault) → IsModuleNotImported {A = A} c n id s (Err (encode_fault f)) → IsNotWritten ws c s n (kind.Module id) f
+module_refused A ws c n id s TooLarge h = h
+module_refused A ws c n id s OutOfMemory h = tt
+
+pub component_refused : (A : Type 0) (ws : Worlds) (c : Collection) (n : Name) (w : WorldId) (s : Scope) (f : BinaryFault) → IsWorldNotImported {A = A} ws c n description.Component w s (Err (encode_fault f)) → IsNotWritten ws c s n (kind.Component w) f
+component_refused A ws c n w s TooLarge h = h
+component_refused A ws c n w s OutOfMemory h = tt
+
+pub world_type_refused : (A : Type 0) (ws : Worlds) (c : Collection) (n : Name) (w : WorldId) (s : Scope) (f : BinaryFault) → IsWorldNotImported {A = A} ws c n description.Equal w s (Err (encode_fault f)) → IsNotWritten ws c s n (kind.TypeItem (ty.World w)) f
+world_type_refused A ws c n w s TooLarge h = h
+world_type_refused A ws c n w s OutOfMemory h = tt
+
+item_large : (ws : Worlds) (c : Collection) (n : Name) (k : ItemKind) (s : Scope) → ((m : ModuleTypeId) → k ≡ kind.Module m → ⊥) → ((w : WorldId) → k ≡ kind.Component w → ⊥) → ((w : WorldId) → k ≡ kind.TypeItem (ty.World w) → ⊥)
+    → ImportedDoesNotFit ws c n k s → OneDoesNotFit ws c n k s
+item_large ws c n (kind.TypeItem (ty.Value v)) s other away apart h = h
+item_large ws c n (kind.TypeItem (ty.Resource r)) s other away apart h = h
+item_large ws c n (kind.TypeItem (ty.Func g)) s other away apart h = h
+item_large ws c n (kind.TypeItem (ty.Interface i)) s other away apart h = h
+item_large ws c n (kind.TypeItem (ty.World w)) s other away apart h = absurd (apart w refl)
+item_large ws c n (kind.TypeItem (ty.Module m)) s other away apart h = h
+item_large ws c n (kind.Func g) s other away apart h = h
+item_large ws c n (kind.Instance i) s other away apart h = h
+item_large ws c n (kind.Component w) s other away apart h = absurd (away w refl)
+item_large ws c n (kind.Module m) s other away apart h = absurd (other m refl)
+item_large ws c n (kind.Value v) s other away apart h = h
+
+pub item_refused : (A : Type 0) (ws : Worlds) (c : Collection) (n : Name) (k : ItemKind) (s : Scope) → ((m : ModuleTypeId) → k ≡ kind.Module m → ⊥) → ((w : WorldId) → k ≡ kind.Component w → ⊥) → ((w : WorldId) → k ≡ kind.TypeItem (ty.World w) → ⊥)
+    → (f : BinaryFault) → IsItemNotImported {A = A} ws c n k s (Err (encode_fault f)) → IsNotWritten ws c s n k f
+item_refused A ws c n k s other away apart TooLarge h = item_large ws c n k s other away apart h
+item_refused A ws c n k s other away apart OutOfMemory h = tt

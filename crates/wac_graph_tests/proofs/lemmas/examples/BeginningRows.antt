@@ -46,7 +46,12 @@ begins = record {
   stand = stand;
   own = own;
   typed = typed;
+  equal = λ p i x t at _ _. equal p i at;
 } where
+  equal : {P : Type 0} (p i : ℕ) → slice_get places p ≡ Some (s.«Type», i) → P
+  equal zero i at = let no : s.Instance ≡ s.«Type» = ap (λ (x : Sort × ℕ). x.0) (some_same (s.Instance, 0) (s.«Type», i) at) in cc
+  equal (suc p) i at = cc
+
   stand : (p : ℕ) (t : Sort) (i : ℕ) → slice_get places p ≡ Some (t, i) → (i < indexes (space t) beginning) × (stands_for (meaning beginning) t i ≡ import_at p)
   stand zero t i at = subst (λ (x : Sort × ℕ). (x.1 < indexes (space x.0) beginning) × (stands_for (meaning beginning) x.0 x.1 ≡ import_at 0)) (some_same (s.Instance, 0) (t, i) at) (omega arith, refl)
   stand (suc p) t i at = cc

@@ -11,7 +11,7 @@ use Rattle.wac_types_shapes.specs.declared.primitives.component.PrimitiveType.Th
 use Rattle.wac_types_shapes.specs.declared.shapes.component.«Type».{«Type» as AnyType}
 use Rattle.wac_types_shapes.specs.declared.shapes.component.«Type».TheVariants as ty
 use Rattle.wac_types_shapes.specs.declared.shapes.component.ValueType.TheVariants as val
-use Rattle.wac_types_collection.specs.collection.Bound.{held_tree}
+use Rattle.wac_types_collection.specs.collection.Bound.{Bindings, held_tree}
 use Rattle.wac_types_collection.specs.collection.Collection.{Collection}
 use Rattle.wac_types_shapes.specs.primitives.Tree.{Tree, absent, primitive, enum_of, type_equal, component, items_in, type_in}
 use Rattle.wac_binary.specs.declared.sorts.Sort.TheVariants as s
@@ -19,6 +19,8 @@ use Rattle.wac_binary.specs.Items.{Item, export_item, type_item, value_def, prim
 use Rattle.wac_binary.specs.Meaning.{meaning, stands_for, written, Thing}
 use Rattle.wac_edges.specs.declared.node.NodeId.{NodeId}
 use Rattle.wac_graph_model.specs.nodes.Asked.{asked, asked_by, imported_by}
+use Rattle.wac_graph_model.specs.nodes.OuterImports.{AreOuterImports, outer_bindings}
+use Rattle.wac_graph_model.specs.meaning.Defined.{as_new}
 use Rattle.wac_graph_model.specs.meaning.Definition.{definition_tree, interface_definition}
 use Rattle.wac_graph_model.specs.nodes.Graph as graph
 use Rattle.wac_edges.specs.Edge.{node_number}
@@ -70,9 +72,12 @@ asks_nothing =
       none_imported n (Some node) is = by_one base defined (λ k x. imported_by k.0 (Some x) ≡ []) refl (node_number n) node is
 
 -- what it is
-bool_is : written (primitive prim.Bool) ≡ written (definition_tree defining_bool.types of_bool)
+bool_is : (m : Bindings) → written (primitive prim.Bool) ≡ written (definition_tree defining_bool.types m of_bool)
 unfolding definition_tree held_tree
-bool_is = refl
+bool_is m = refl
+
+bool_imports : AreOuterImports defining_bool []
+bool_imports = no_imports defining_bool asks_nothing
 
 abbrev bool_at : NodeId → Thing
 bool_at n = written (primitive prim.Bool)
@@ -108,11 +113,11 @@ definition_means = record {
   index = λ n. 1;
   meant = (tt, ((refl, tt), ((refl, tt), tt)));
   classes = [];
-  outer = no_imports defining_bool asks_nothing;
+  outer = bool_imports;
   imports = refl;
   components = rw (node_0 base defined) refl;
   instances = subst (λ ns. AreInstantiations defining_bool defining 0 bool_at (node_number 0 ∷ []) ns []) (sym no_instances) tt;
-  things = by_one base defined (λ n node. IsThing defining_bool bool_at (node_number 0 ∷ []) n node) (as_definition of_bool refl refl bool_is);
+  things = by_one base defined (λ n node. IsThing defining_bool [] (outer_bindings defining_bool bool_imports.order) bool_at (node_number 0 ∷ []) n node) (as_definition of_bool refl refl (as_new (bool_is (outer_bindings defining_bool bool_imports.order))));
   stand = by_one base defined (λ n node. stands_for (meaning two_names) (sort_of_kind node.item_kind) 1 ≡ bool_at n) refl;
   exports = bool_exports;
   place = λ n. suc n.0;
@@ -135,7 +140,7 @@ definition_is_written = subst
     (λ o. IfSome o (λ node. (i : ℕ)
     × WritesNode defining_bool [] (node_number 0) node (index_in (0 ∷ [])) [] [] [] (type_item (value_def (primitive_def prim.Bool)) ∷ export_item (codes "foo") s.«Type» 0 ∷ []) i × (1 ∷ [] ≡ slice_set (0 ∷ []) 0 i)))
     (sym (node_0 base defined))
-    (1, writes_definition of_bool (codes "foo") 0 types (written (primitive prim.Bool)) refl refl refl refl bool_is (record { types = types; alone = (tt, tt); added = refl; meant = λ _. ((tt, tt), refl) }) refl refl, refl) where
+    (1, writes_definition of_bool (codes "foo") 0 types (written (primitive prim.Bool)) refl refl refl refl (bool_is (λ _. None)) (record { types = types; alone = (tt, tt); added = refl; meant = λ _. ((tt, tt), refl) }) refl refl, refl) where
       types : List Item
       types = type_item (value_def (primitive_def prim.Bool)) ∷ []
 

@@ -10,7 +10,7 @@ use Rattle.wac_types_shapes.specs.declared.shapes.component.«Type».TheVariants
 use Rattle.wac_types_shapes.specs.declared.shapes.component.ValueType.TheVariants as val
 use Rattle.wac_types_collection.specs.collection.Collection.{Collection}
 use Rattle.wac_merge_classes.specs.entries.Classes.{Entry}
-use Rattle.wac_graph_model.specs.meaning.Listing.{first_listing}
+use Rattle.wac_graph_model.specs.private.meaning.Listing.{by_item, first_item, first_listing, item_or_export}
 
 -- three enums of the same case: the first two are listed, and an alias of the first
 abbrev enum_type : DefinedType
@@ -76,3 +76,13 @@ listed_by_alias = refl
 -- the third is listed by none, though it has the same cases
 pub third_is_not_listed : first_listing listing_types entries third_enum ≡ None
 third_is_not_listed = refl
+
+-- the type item is of the first alone, and counts before the instance that lists it
+pub first_is_item : first_item listing_types entries first_enum ≡ Some (codes "e")
+first_is_item = refl
+
+pub second_is_no_item : first_item listing_types entries second_enum ≡ None
+second_is_no_item = refl
+
+pub item_counts_first : item_or_export (first_item listing_types entries first_enum) (first_listing listing_types entries first_enum) ≡ Some (by_item (codes "e"))
+item_counts_first = refl

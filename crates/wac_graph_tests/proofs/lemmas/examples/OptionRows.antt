@@ -24,6 +24,7 @@ use Rattle.wac_graph_model.specs.declared.nodes.options.Processor.{Processor}
 use Rattle.wac_graph_model.specs.nodes.Graph as graph
 use Rattle.wac_edges.specs.Edge.{node_number}
 use Rattle.wac_graph_model.specs.nodes.Graph.{Graph, GraphNode, node_at, imports_of}
+use Rattle.wac_graph_model.specs.nodes.OuterImports.{AreOuterImports, outer_bindings}
 use Rattle.wac_graph_model.specs.meaning.Means.{Means, is_import, is_written, instantiations, used_after, used_packages, package_bytes, sort_of_kind, AreInstantiations, IsThing, as_instantiation, HasItem, name_customs, AreNames, IsNameOf}
 use Rattle.wac_graph_model.proofs.lemmas.meaning.DefinedLemmas.{no_names}
 use Rattle.wac_graph_model.proofs.lemmas.meaning.AskedLemmas.{AllSet, no_imports, asked_none}
@@ -190,6 +191,14 @@ calling_names = record { each = both_ways; rising = (tt, (tt, (tt, (tt, (tt, (tt
   both_ways : (t : Sort) (i : ℕ) (name : Name) → ((k : ℕ) × (slice_get (of_sort t names_of_one) k ≡ Some (i, name))) ↔ IsNameOf calling (λ n. n.0) t i name
   both_ways t i name = (from t i name, into t i name)
 
+calling_imports : AreOuterImports calling []
+calling_imports = no_imports calling (asked_none calling (by_one readme_graph called (λ n node. (node.kind ≡ graph.instantiation) ⊎ (node.kind ≡ graph.alias)) (inl refl)) no_arguments) where
+  none : (n : NodeId) (node : GraphNode) → node_at calling n ≡ Some node → (i : ℕ) → i < length (imports_of calling node) → ⊥
+  none = by_one readme_graph called (λ n node. (i : ℕ) → i < length (imports_of calling node) → ⊥) (λ i small. omega (arith, small))
+
+  no_arguments : AllSet calling
+  no_arguments n node there is i small = absurd (none n node there i small)
+
 pub called_mean : Means called_items calling defining
 called_mean = record {
   order = node_number 0 ∷ [];
@@ -198,12 +207,12 @@ called_mean = record {
   index = λ n. n.0;
   meant = (tt, ((tt, tt), (tt, tt)));
   classes = [];
-  outer = no_imports calling (asked_none calling (by_one readme_graph called (λ n node. (node.kind ≡ graph.instantiation) ⊎ (node.kind ≡ graph.alias)) (inl refl)) no_arguments);
+  outer = calling_imports;
   imports = refl;
   components = ap (map (package_bytes calling)) (sym calling_packages);
   instances = subst (λ ns. AreInstantiations calling defining 0 (λ n. instance_at n.0) (node_number 0 ∷ []) ns (meaning called_items).instantiations) (sym calling_instantiations)
       (record { node = called; there = node_0 readme_graph called; owner = first; owned = refl; place = 0; used = ap (λ ps. slice_get ps 0) calling_packages; component = refl; arguments = tt }, tt);
-  things = by_one readme_graph called (λ n node. IsThing calling (λ k. instance_at k.0) (node_number 0 ∷ []) n node) (as_instantiation 0 refl (ap (λ ns. slice_get ns 0) calling_instantiations) refl);
+  things = by_one readme_graph called (λ n node. IsThing calling [] (outer_bindings calling calling_imports.order) (λ k. instance_at k.0) (node_number 0 ∷ []) n node) (as_instantiation 0 refl (ap (λ ns. slice_get ns 0) calling_instantiations) refl);
   stand = by_one readme_graph called (λ n node. stands_for (meaning called_items) (sort_of_kind node.item_kind) n.0 ≡ instance_at n.0) refl;
   exports = rw (node_0 readme_graph called) refl;
   place = λ n. suc n.0;
@@ -215,11 +224,7 @@ called_mean = record {
   customs = refl;
   body = nested preamble ∷ instantiate 0 [] ∷ [];
   last = refl;
-} where
-  no_arguments : AllSet calling
-  no_arguments n node there is i small = absurd (none n node there i small) where
-    none : (n : NodeId) (node : GraphNode) → node_at calling n ≡ Some node → (i : ℕ) → i < length (imports_of calling node) → ⊥
-    none = by_one readme_graph called (λ n node. (i : ℕ) → i < length (imports_of calling node) → ⊥) (λ i small. omega (arith, small))
+}
 
 -- items that leave the name out do not mean the graph
 pub no_lost_name : Means (nested preamble ∷ instantiate 0 [] ∷ []) calling defining → ⊥

@@ -13,6 +13,7 @@ use Rattle.wac_types_shapes.specs.primitives.Name.{option_case}
 use Rattle.wac_types_collection.specs.collection.Collection.{Collection}
 use Rattle.wac_types_shapes.specs.declared.shapes.component.ItemKind.{ItemKind}
 use Rattle.wac_types_shapes.specs.declared.shapes.component.ItemKind.TheVariants as item
+use Rattle.wac_types_collection.specs.collection.Bound.{Bindings}
 use Rattle.wac_binary.specs.declared.sorts.Sort.TheVariants as s
 use Rattle.wac_binary.specs.Bytes.{preamble}
 use Rattle.wac_binary.specs.Items.{Item, nested, instantiate, alias_item, export_alias, export_item}
@@ -24,7 +25,7 @@ use Rattle.wac_edges.specs.Edge.{edge_cmp, alias_edge, argument_edge, node_numbe
 use Rattle.wac_graph_model.specs.nodes.Graph as graph
 use Rattle.wac_graph_model.specs.nodes.Graph.{Graph, GraphNode, node_at, imports_of, IsSatisfied}
 use Rattle.wac_edges.specs.Order.{Edges, Writes, IsLowestReady, without}
-use Rattle.wac_graph_model.specs.nodes.OuterImports.{AreOuterImports}
+use Rattle.wac_graph_model.specs.nodes.OuterImports.{AreOuterImports, outer_bindings}
 use Rattle.wac_graph_model.specs.meaning.Means.{Means, is_import, is_written, instantiations, used_after, used_packages, package_bytes, sort_of_kind, AreInstantiations, IsThing, as_instantiation, as_alias, given, HasItem, shown, export_of, export_item_of, first_export, further_exports, custom_item}
 use Rattle.wac_graph_model.proofs.lemmas.meaning.ThingLemmas.{IsPlain}
 use Rattle.wac_graph_model.proofs.lemmas.meaning.AskedLemmas.{AllSet, no_imports, asked_none}
@@ -310,8 +311,8 @@ readme_instances = subst (λ ns. AreInstantiations readme_graph defining 0 readm
 )
 
 -- what each node is
-readme_things : (n : NodeId) (node : GraphNode) → node_at readme_graph n ≡ Some node → IsThing readme_graph readme_at three_nodes n node
-readme_things = by_node (λ n node. IsThing readme_graph readme_at three_nodes n node)
+readme_things : (m : Bindings) (n : NodeId) (node : GraphNode) → node_at readme_graph n ≡ Some node → IsThing readme_graph [] m readme_at three_nodes n node
+readme_things m = by_node (λ n node. IsThing readme_graph [] m readme_at three_nodes n node)
     (as_instantiation 0 refl (ap (λ ns. slice_get ns 0) readme_instantiations) refl)
     (as_alias (node_number 0) instance_of_first 0 (97 ∷ []) refl stands_alias node_0 refl refl)
     (as_instantiation 1 refl (ap (λ ns. slice_get ns 1) readme_instantiations) refl)
@@ -372,7 +373,7 @@ readme_means = record {
   imports = refl;
   components = readme_components;
   instances = readme_instances;
-  things = readme_things;
+  things = readme_things (outer_bindings readme_graph readme_imports.order);
   stand = readme_stand;
   exports = rw (node_0, node_1, node_2) refl;
   place = readme_place;
@@ -520,7 +521,7 @@ twice_means = record {
   imports = refl;
   components = ap (map (package_bytes twice_graph)) (sym twice_packages);
   instances = twice_instances;
-  things = by_twice (λ n node. IsThing twice_graph twice_at two_nodes n node)
+  things = by_twice (λ n node. IsThing twice_graph [] (outer_bindings twice_graph twice_imports.order) twice_at two_nodes n node)
       (as_instantiation 0 refl (ap (λ ns. slice_get ns 0) twice_instantiations) refl)
       (as_instantiation 1 refl (ap (λ ns. slice_get ns 1) twice_instantiations) refl);
   stand = by_twice (λ n node. stands_for (meaning twice) (sort_of_kind node.item_kind) (twice_index n) ≡ twice_at n) refl refl;
@@ -653,7 +654,7 @@ exporting_means = record {
   imports = refl;
   components = ap (map (package_bytes exporting_graph)) (sym exporting_packages);
   instances = exporting_instances;
-  things = by_exporting (λ n node. IsThing exporting_graph readme_at two_nodes n node)
+  things = by_exporting (λ n node. IsThing exporting_graph [] (outer_bindings exporting_graph exporting_imports.order) readme_at two_nodes n node)
       (as_instantiation 0 refl (ap (λ ns. slice_get ns 0) exporting_instantiations) refl)
       (as_alias (node_number 0) instance_of_first 0 (97 ∷ []) refl exporting_stands exporting_0 refl refl);
   stand = by_exporting (λ n node. stands_for (meaning exporting) (sort_of_kind node.item_kind) (readme_index n) ≡ readme_at n) refl refl;

@@ -15,6 +15,7 @@ use Rattle.wac_edges.specs.declared.node.NodeId.{NodeId}
 use Rattle.wac_edges.specs.Edge.{alias_edge, argument_edge, node_number}
 use Rattle.wac_graph_model.specs.nodes.Graph as graph
 use Rattle.wac_graph_model.specs.nodes.Graph.{GraphNode, node_at, imports_of, exports_of}
+use Rattle.wac_graph_model.specs.nodes.OuterImports.{outer_bindings}
 use Rattle.wac_graph_model.specs.meaning.Means.{Means, is_written, instantiations, used_packages, package_bytes, IsArgument, given, asked, AreArguments, IsInstantiationOf, AreInstantiations, IsThing, as_import, as_instantiation, as_alias, shown, as_definition, export_of, first_export, further_exports}
 use Rattle.wac_graph_tests.proofs.lemmas.examples.Ordered.{by_edge}
 use Rattle.wac_graph_model.proofs.lemmas.meaning.OrderLemmas.{one_order}
@@ -147,14 +148,14 @@ module _ (items : List Item) (means : Means items twins defining) where
   packages_are = ap (used_packages twins) order_is ∙ twins_packages
 
   -- ---- what the nodes are
-  of_instance : (n : NodeId) (node : GraphNode) → node.kind ≡ graph.instantiation → IsThing twins means.at means.order n node → means.at n ≡ twins_at n
+  of_instance : (n : NodeId) (node : GraphNode) → node.kind ≡ graph.instantiation → IsThing twins means.classes (outer_bindings twins means.outer.order) means.at means.order n node → means.at n ≡ twins_at n
   of_instance n node kind (as_import name p is _ _) = absurd ((not_import node.kind name is).0 kind)
   of_instance n node kind (as_instantiation k _ placed is) = is ∙ instance_placed k n (ap (λ ns. slice_get ns k) (sym instances_are) ∙ placed)
   of_instance n node kind (as_definition t is _ _) = absurd ((not_definition node.kind is).0 kind)
   of_instance n node kind (as_alias instance source p name is _ _ _ _) = absurd (not_alias node.kind kind is)
 
   of_alias : (n j : NodeId) (node : GraphNode) → node.kind ≡ graph.alias → ((k : NodeId) (p : ℕ) → set.contains twins.edges (alias_edge k n p) ≡ true → (k ≡ j) × (p ≡ 0)) → node_at twins j ≡ Some instance_of_first
-      → IsThing twins means.at means.order n node → means.at n ≡ projection (means.at j) (codes "a")
+      → IsThing twins means.classes (outer_bindings twins means.outer.order) means.at means.order n node → means.at n ≡ projection (means.at j) (codes "a")
   of_alias n j node kind only there (as_import name p is _ _) = absurd ((not_import node.kind name is).1 kind)
   of_alias n j node kind only there (as_instantiation k is _ _) = absurd (not_alias node.kind is kind)
   of_alias n j node kind only there (as_definition t is _ _) = absurd ((not_definition node.kind is).1 kind)

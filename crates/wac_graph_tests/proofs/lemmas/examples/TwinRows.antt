@@ -12,6 +12,7 @@ use Rattle.std.proofs.lemmas.List.{append-nil}
 use Rattle.wac_types_shapes.specs.primitives.Name.{Name, option_case}
 use Rattle.wac_types_collection.specs.collection.Collection.{Collection}
 use Rattle.wac_types_shapes.specs.declared.shapes.component.ItemKind.{ItemKind}
+use Rattle.wac_types_collection.specs.collection.Bound.{Bindings}
 use Rattle.wac_binary.specs.declared.sorts.Sort.TheVariants as s
 use Rattle.wac_binary.specs.Bytes.{preamble}
 use Rattle.wac_binary.specs.Items.{Item, nested, instantiate, alias_item, export_alias, export_item}
@@ -22,7 +23,7 @@ use Rattle.wac_edges.specs.Edge.{edge_cmp, alias_edge, argument_edge, node_numbe
 use Rattle.wac_graph_model.specs.nodes.Graph as graph
 use Rattle.wac_graph_model.specs.nodes.Graph.{Graph, GraphNode, node_at, imports_of, IsSatisfied}
 use Rattle.wac_edges.specs.Order.{Writes}
-use Rattle.wac_graph_model.specs.nodes.OuterImports.{AreOuterImports}
+use Rattle.wac_graph_model.specs.nodes.OuterImports.{AreOuterImports, outer_bindings}
 use Rattle.wac_graph_model.specs.meaning.Means.{Means, is_import, is_written, instantiations, used_after, used_packages, package_bytes, sort_of_kind, AreInstantiations, IsThing, as_instantiation, as_alias, given, HasItem, shown, export_of, export_item_of, first_export, further_exports, custom_item}
 use Rattle.wac_graph_model.proofs.lemmas.meaning.ThingLemmas.{IsPlain}
 use Rattle.wac_graph_model.proofs.lemmas.meaning.AskedLemmas.{AllSet, no_imports, asked_none}
@@ -245,8 +246,8 @@ twins_instances = subst (λ ns. AreInstantiations twins defining 0 twins_at by_t
   ),
 )
 
-twins_things : (n : NodeId) (node : GraphNode) → node_at twins n ≡ Some node → IsThing twins twins_at by_their_numbers n node
-twins_things = by_node (λ n node. IsThing twins twins_at by_their_numbers n node)
+twins_things : (m : Bindings) (n : NodeId) (node : GraphNode) → node_at twins n ≡ Some node → IsThing twins [] m twins_at by_their_numbers n node
+twins_things m = by_node (λ n node. IsThing twins [] m twins_at by_their_numbers n node)
     (as_instantiation 0 refl (ap (λ ns. slice_get ns 0) twins_instantiations) refl)
     (as_instantiation 1 refl (ap (λ ns. slice_get ns 1) twins_instantiations) refl)
     (as_alias (node_number 0) instance_of_first 0 (codes "a") refl (stands (alias_edge (node_number 0) (node_number 2) 0) refl) node_0 refl refl)
@@ -335,7 +336,7 @@ twins_mean = record {
   imports = refl;
   components = ap (map (package_bytes twins)) (sym twins_packages);
   instances = twins_instances;
-  things = twins_things;
+  things = twins_things (outer_bindings twins twins_imports.order);
   stand = by_node (λ n node. stands_for (meaning right) (sort_of_kind node.item_kind) (twins_index n) ≡ twins_at n) refl refl refl refl refl;
   exports = twins_exports;
   place = twins_place;

@@ -11,11 +11,11 @@ use Rattle.wac_importable.proofs.defined.worlds_of.Goals as goal
 pub worlds_inside-requires : goal.worlds_inside-requires
 worlds_inside-requires c = one-start (IsHolder c.args.types.now) c.args.ty (is_holder c.args.types.now c.args.ty c.requires.held c.in-Interface.is)
 
-pub unreachable-requires : goal.unreachable-requires
-unreachable-requires c =
+pub without_write-requires : goal.without_write-requires
+without_write-requires c f same =
     worlds_no_fault Worlds c.args.types.now c.law.ensures (c.args.ty ∷ [])
-    (only_one (ArePlainInside c.args.types.now) c.args.ty (definable_inside c.args.types.now c.law.ensures c.args.ty (is_holder c.args.types.now c.args.ty c.requires.held c.in-Interface.is) c.requires.definable)) c.in-Err-Write.field-0-0
-    (subst (AreWorldsRefused c.args.types.now (c.args.ty ∷ [])) (c.in-Err-Write.is ∙ ap Err c.in-Err-Write.field-0-is) c.worlds_inside.ensures.fault)
+    (only_one (ArePlainInside c.args.types.now) c.args.ty (definable_inside c.args.types.now c.law.ensures c.args.ty (is_holder c.args.types.now c.args.ty c.requires.held c.in-Interface.is) c.requires.definable)) f
+    (subst (AreWorldsRefused c.args.types.now (c.args.ty ∷ [])) (c.in-Err.is ∙ ap Err same) c.worlds_inside.ensures.fault)
 
 pub returns-in-Ok-clause-ahead : goal.returns-in-Ok-clause-ahead
 returns-in-Ok-clause-ahead c = all_ahead c.args.types.now c.in-Ok.worlds c.args.ty c.requires.held c.in-Ok.ensures.all

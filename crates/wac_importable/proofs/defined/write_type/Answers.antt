@@ -12,10 +12,10 @@ pub definition-requires-clause-definable : goal.definition-requires-clause-defin
 definition-requires-clause-definable c = as-held (λ types ws. IsDefinable ws types c.args.ty) c.args.types.now c.new.result.types.now c.in_ok-worlds.worlds c.new.result.worlds.now c.new.ensures.types c.new.ensures.worlds
     (is_writable c.args.types.now c.law.ensures c.in_ok-worlds.worlds c.args.ty c.in_ok-worlds.ensures.ahead c.requires.other c.requires.held c.requires.definable)
 
-pub unreachable-requires : goal.unreachable-requires
-unreachable-requires c =
-    no_fault c.args.types.now c.law.ensures c.in_ok-worlds.worlds c.args.ty c.requires.other c.requires.held c.requires.definable c.in-Err-Write.field-0-0
-    (subst (IsDefinitionRefused c.in_ok-worlds.worlds c.args.types.now c.args.ty c.args.name.now c.args.root.now) (c.in-Err-Write.is ∙ ap Err c.in-Err-Write.field-0-is)
+pub without_write-requires : goal.without_write-requires
+without_write-requires c f same =
+    no_fault c.args.types.now c.law.ensures c.in_ok-worlds.worlds c.args.ty c.requires.other c.requires.held c.requires.definable f
+    (subst (IsDefinitionRefused c.in_ok-worlds.worlds c.args.types.now c.args.ty c.args.name.now c.args.root.now) (c.in-Err.is ∙ ap Err same)
     (of-held (λ types ws. IsDefinitionRefused ws types c.args.ty c.args.name.now c.args.root.now c.definition.result) c.args.types.now c.new.result.types.now c.in_ok-worlds.worlds c.new.result.worlds.now c.new.ensures.types c.new.ensures.worlds c.definition.ensures.fault))
 
 pub returns-in-Ok-clause-written : goal.returns-in-Ok-clause-written

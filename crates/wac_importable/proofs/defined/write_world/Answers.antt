@@ -18,10 +18,10 @@ pub define_world-requires-clause-definable : goal.define_world-requires-clause-d
 define_world-requires-clause-definable c = as-held (λ types ws. IsDefinableWorld ws types c.args.world) c.args.types.now c.new.result.types.now c.in_ok-worlds.worlds c.new.result.worlds.now c.new.ensures.types c.new.ensures.worlds
     (world_definable c.args.types.now c.law.ensures c.args.world c.in_ok-worlds.worlds (c.in_ok-worlds.ensures.ahead (ty.World c.args.world) refl) c.requires.held c.requires.definable)
 
-pub unreachable-requires : goal.unreachable-requires
-unreachable-requires c =
-    world_no_fault c.args.types.now c.law.ensures ℕ c.in_ok-worlds.worlds c.args.world (plain_items c.args.types.now c.law.ensures c.args.world c.requires.definable) c.in-Err-Write.field-0-0
-    (subst (IsWorldNotDefined c.in_ok-worlds.worlds c.args.types.now c.args.world c.args.name.now c.args.root.now) (c.in-Err-Write.is ∙ ap Err c.in-Err-Write.field-0-is)
+pub without_write-requires : goal.without_write-requires
+without_write-requires c f same =
+    world_no_fault c.args.types.now c.law.ensures ℕ c.in_ok-worlds.worlds c.args.world (plain_items c.args.types.now c.law.ensures c.args.world c.requires.definable) f
+    (subst (IsWorldNotDefined c.in_ok-worlds.worlds c.args.types.now c.args.world c.args.name.now c.args.root.now) (c.in-Err.is ∙ ap Err same)
     (of-held (λ types ws. IsWorldNotDefined ws types c.args.world c.args.name.now c.args.root.now c.define_world.result) c.args.types.now c.new.result.types.now c.in_ok-worlds.worlds c.new.result.worlds.now c.new.ensures.types c.new.ensures.worlds c.define_world.ensures.fault))
 
 pub returns-in-Ok-clause-written : goal.returns-in-Ok-clause-written

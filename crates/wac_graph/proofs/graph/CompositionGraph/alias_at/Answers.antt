@@ -1,5 +1,6 @@
 use Rattle.std.proofs.Common.{ap, ◌∙◌}
-use Rattle.wac_graph_model.specs.nodes.Nodes.{satisfied}
+use Rattle.wac_graph_model.specs.nodes.Graph.{alias}
+use Rattle.wac_graph_model.specs.nodes.Nodes.{satisfied, unnamed}
 use Rattle.wac_graph_model.proofs.lemmas.nodes.NodeLemmas.{there}
 use Rattle.wac_graph_fields.proofs.AliasLemmas.{already, aliased, invariant_aliased, before_reserve, vacant_before, alias_stands, alias_made}
 use Rattle.wac_graph.specs.private.Inside.{fields_of}
@@ -23,7 +24,7 @@ invariant_of-self-2 c =
     c.index.ensures f.is f.at f.found c.in_default.ensures.none
     (vacant_before (fields_of c.self.inside) c.reserve.new.self c.vacant_key-number.result c.in_ok-reserve.ensures.rest_kept c.vacant_key-number.ensures.vacant)
     (before_reserve (fields_of c.self.inside) c.reserve.new.self c.insert_reserved.new.self c.vacant_key-number.result c.insert_reserved.result _ c.in_ok-reserve.ensures.rest_kept c.vacant_key-number.ensures.value c.insert_reserved.ensures.key c.insert_reserved.ensures.updates)
-    (λ j. ap (λ k. satisfied k j) c.new.ensures.kind) c.in_ok-add.ensures.ok c.new.ensures.node
+    (λ j. ap (λ k. satisfied k j) c.new_node.ensures.kind) c.in_ok-add.ensures.ok (c.new_node.ensures.node ∙ ap (λ owner. unnamed alias owner c.args.item_kind) c.package-owner.ensures)
 
 pub returns-clause-step : goal.returns-clause-step
 returns-clause-step c =
@@ -35,7 +36,7 @@ returns-clause-step c =
     (c.vacant_key-number.ensures.value ∙ ap (λ s. s.vacant_key) c.in_ok-reserve.ensures.rest_kept)
     (vacant_before (fields_of c.self.inside) c.reserve.new.self c.vacant_key-number.result c.in_ok-reserve.ensures.rest_kept c.vacant_key-number.ensures.vacant)
     (before_reserve (fields_of c.self.inside) c.reserve.new.self c.insert_reserved.new.self c.vacant_key-number.result c.insert_reserved.result _ c.in_ok-reserve.ensures.rest_kept c.vacant_key-number.ensures.value c.insert_reserved.ensures.key c.insert_reserved.ensures.updates)
-    c.in_ok-add.ensures.ok c.new.ensures.node)
+    c.in_ok-add.ensures.ok (c.new_node.ensures.node ∙ ap (λ owner. unnamed alias owner c.args.item_kind) c.package-owner.ensures))
 
 pub returns-in-Some-clause-there : goal.returns-in-Some-clause-there
 returns-in-Some-clause-there c = rw (← c.self.view_is) (alias_stands (fields_of c.self.inside) c.self.invariant c.args.instance.0 c.in-Some.alias.0 c.args.position c.in-Some.ensures.some)

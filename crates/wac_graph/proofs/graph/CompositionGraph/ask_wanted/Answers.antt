@@ -25,21 +25,21 @@ returns-in-Alias-clause-stands c =
     let g = c.args.self.now in
     let n = c.args.n in
     nothing_wanted g.types (entries_of c.args.asking.now) (wanted_at g n)
-    (subst (λ (h : Graph). wanted_at h n ≡ []) c.self.view_is (node_wanted (fields_of c.self.inside) n c.in-Some.node.now (sym c.in-Some.ensures) graph.alias (ap kind_of c.in-Alias.is)))
+    (subst (λ (h : Graph). wanted_at h n ≡ []) c.self.view_is (node_wanted (fields_of c.self.inside) n c.in-Some.node.now (sym c.in-Some.ensures) graph.alias (ap kind_of (sym c.kind.ensures ∙ c.in-Alias.is))))
 
 pub returns-in-Instantiation-clause-stands : goal.returns-in-Instantiation-clause-stands
 returns-in-Instantiation-clause-stands c =
     let g = c.args.self.now in
     let n = c.args.n in
     subst (λ es. OnOk c.ask_unset.result (AsksAlike g.types (entries_of c.args.asking.now ++ all_with_used g.types es) (entries_of c.ask_unset.new.asking)))
-    (subst (λ (h : Graph). asked_at h n ≡ wanted_at h n) c.self.view_is (instantiation_wanted (fields_of c.self.inside) n c.in-Some.node.now (sym c.in-Some.ensures) (ap kind_of c.in-Instantiation.is)))
+    (subst (λ (h : Graph). asked_at h n ≡ wanted_at h n) c.self.view_is (instantiation_wanted (fields_of c.self.inside) n c.in-Some.node.now (sym c.in-Some.ensures) (ap kind_of (sym c.kind.ensures ∙ c.in-Instantiation.is))))
     c.ask_unset.ensures.stands
 
 pub ask-requires-clause-held : goal.ask-requires-clause-held
-ask-requires-clause-held c = item_held (fields_of c.self.inside) c.self.invariant c.args.n c.in-Some.node.now (sym c.in-Some.ensures)
+ask-requires-clause-held c = rw c.item_kind-kind.ensures (item_held (fields_of c.self.inside) c.self.invariant c.args.n c.in-Some.node.now (sym c.in-Some.ensures))
 
 pub ask-requires-in-Definition-clause-held : goal.ask-requires-in-Definition-clause-held
-ask-requires-in-Definition-clause-held c = item_held (fields_of c.self.inside) c.self.invariant c.args.n c.in-Some.node.now (sym c.in-Some.ensures)
+ask-requires-in-Definition-clause-held c = rw c.item_kind-kind.ensures (item_held (fields_of c.self.inside) c.self.invariant c.args.n c.in-Some.node.now (sym c.in-Some.ensures))
 
 pub returns-in-Import-clause-stands : goal.returns-in-Import-clause-stands
 returns-in-Import-clause-stands c =
@@ -50,8 +50,8 @@ returns-in-Import-clause-stands c =
     let e : Entry = record { name = c.as_str-name.result.now; kind = (c.in-Some.node.now).item_kind; node = n } in
     let types : c.self.inside.types ≡ g.types = ap (λ (h : Graph). h.types) c.self.view_is in
     let is : wanted_at g n ≡ e ∷ [] = subst (λ (h : Graph). wanted_at h n ≡ e ∷ []) c.self.view_is
-    (node_wanted (fields_of c.self.inside) n c.in-Some.node.now (sym c.in-Some.ensures) (graph.import c.as_str-name.result.now) (ap kind_of c.in-Import.is ∙ ap graph.import (sym c.as_str-name.ensures.value))) in
-    on_ok c.ask.result (λ s. one_number g.types old new e (wanted_at g n) is (subst (λ (t : Collection). AsksAlike t (old ++ with_used t e) new) types s)) c.ask.ensures.stands
+    (node_wanted (fields_of c.self.inside) n c.in-Some.node.now (sym c.in-Some.ensures) (graph.import c.as_str-name.result.now) (ap kind_of (sym c.kind.ensures ∙ c.in-Import.is) ∙ ap graph.import (sym c.as_str-name.ensures.value))) in
+    on_ok c.ask.result (λ s. one_number g.types old new e (wanted_at g n) is (subst (λ (t : Collection). AsksAlike t (old ++ with_used t e) new) types s)) (rw c.item_kind-kind.ensures at c.ask.ensures.stands)
 
 pub returns-in-Definition-clause-stands : goal.returns-in-Definition-clause-stands
 returns-in-Definition-clause-stands c =
@@ -61,5 +61,5 @@ returns-in-Definition-clause-stands c =
     let new = entries_of c.ask-in-Definition.new.self in
     let e : Entry = record { name = []; kind = (c.in-Some.node.now).item_kind; node = n } in
     let types : c.self.inside.types ≡ g.types = ap (λ (h : Graph). h.types) c.self.view_is in
-    let is : wanted_at g n ≡ e ∷ [] = subst (λ (h : Graph). wanted_at h n ≡ e ∷ []) c.self.view_is (node_wanted (fields_of c.self.inside) n c.in-Some.node.now (sym c.in-Some.ensures) graph.definition (ap kind_of c.in-Definition.is)) in
-    on_ok c.ask-in-Definition.result (λ s. one_number g.types old new e (wanted_at g n) is (subst (λ (t : Collection). AsksAlike t (old ++ with_used t e) new) types s)) c.ask-in-Definition.ensures.stands
+    let is : wanted_at g n ≡ e ∷ [] = subst (λ (h : Graph). wanted_at h n ≡ e ∷ []) c.self.view_is (node_wanted (fields_of c.self.inside) n c.in-Some.node.now (sym c.in-Some.ensures) graph.definition (ap kind_of (sym c.kind.ensures ∙ c.in-Definition.is))) in
+    on_ok c.ask-in-Definition.result (λ s. one_number g.types old new e (wanted_at g n) is (subst (λ (t : Collection). AsksAlike t (old ++ with_used t e) new) types s)) (rw c.item_kind-kind.ensures at c.ask-in-Definition.ensures.stands)

@@ -9,15 +9,15 @@ use Rattle.wac_graph.proofs.graph.CompositionGraph.import.Goals as goal
 
 pub invariant_of-self-2 : goal.invariant_of-self-2
 invariant_of-self-2 c =
-    invariant_imported (fields_of c.self.inside) c.self.invariant c.args.name.now c.args.kind c.in_ok-key.key c.new.result c.vacant_key-number.result c.insert_reserved.new.self c.insert.new.self c.in_ok-key.ensures.ok (import_shape c.new.result c.in_ok-own.own c.args.name.now c.args.kind c.new.ensures.node c.in_ok-own.ensures.ok) (absent (fields_of c.self.inside) c.self.invariant c.args.name.now (rw (← c.self.view_is) at c.in_ok-check_import.ensures.free))
+    invariant_imported (fields_of c.self.inside) c.self.invariant c.args.name.now c.args.kind c.in_ok-key.key c.new_node.result c.vacant_key-number.result c.insert_reserved.new.self c.insert.new.self c.in_ok-key.ensures.ok (import_shape c.new_node.result c.in_ok-own.own c.args.name.now c.args.kind c.new_node.ensures.node c.in_ok-own.ensures.ok) (absent (fields_of c.self.inside) c.self.invariant c.args.name.now (rw (← c.self.view_is) at c.in_ok-check_import.ensures.free))
     (vacant_before (fields_of c.self.inside) c.reserve.new.self c.vacant_key-number.result c.in_ok-reserve.ensures.rest_kept c.vacant_key-number.ensures.vacant)
     (before_reserve (fields_of c.self.inside) c.reserve.new.self c.insert_reserved.new.self c.vacant_key-number.result c.insert_reserved.result _ c.in_ok-reserve.ensures.rest_kept c.vacant_key-number.ensures.value c.insert_reserved.ensures.key c.insert_reserved.ensures.updates)
-    (import_bare c.new.result c.in_ok-own.own c.new.ensures.kind) (rw (← c.self.view_is) at c.requires) c.in_ok-insert.ensures.entries
+    (import_bare c.new_node.result c.in_ok-own.own c.new_node.ensures.kind) (rw (← c.self.view_is) at c.requires) c.in_ok-insert.ensures.entries
 
 pub returns-clause-step : goal.returns-clause-step
 returns-clause-step c =
     rw (← c.self.view_is)
-    (imported (fields_of c.self.inside) c.self.invariant c.args.name.now c.args.kind c.in_ok-key.key c.new.result c.vacant_key-number.result c.insert_reserved.new.self c.insert.new.self c.in_ok-key.ensures.ok (import_shape c.new.result c.in_ok-own.own c.args.name.now c.args.kind c.new.ensures.node c.in_ok-own.ensures.ok) (absent (fields_of c.self.inside) c.self.invariant c.args.name.now (rw (← c.self.view_is) at c.in_ok-check_import.ensures.free))
+    (imported (fields_of c.self.inside) c.self.invariant c.args.name.now c.args.kind c.in_ok-key.key c.new_node.result c.vacant_key-number.result c.insert_reserved.new.self c.insert.new.self c.in_ok-key.ensures.ok (import_shape c.new_node.result c.in_ok-own.own c.args.name.now c.args.kind c.new_node.ensures.node c.in_ok-own.ensures.ok) (absent (fields_of c.self.inside) c.self.invariant c.args.name.now (rw (← c.self.view_is) at c.in_ok-check_import.ensures.free))
     (vacant_before (fields_of c.self.inside) c.reserve.new.self c.vacant_key-number.result c.in_ok-reserve.ensures.rest_kept c.vacant_key-number.ensures.vacant)
     (before_reserve (fields_of c.self.inside) c.reserve.new.self c.insert_reserved.new.self c.vacant_key-number.result c.insert_reserved.result _ c.in_ok-reserve.ensures.rest_kept c.vacant_key-number.ensures.value c.insert_reserved.ensures.key c.insert_reserved.ensures.updates)
     (c.vacant_key-number.ensures.value ∙ ap (λ s. s.vacant_key) c.in_ok-reserve.ensures.rest_kept)
@@ -25,7 +25,7 @@ returns-clause-step c =
 
 pub returns-clause-there : goal.returns-clause-there
 returns-clause-there c =
-    import_is_there (fields_of c.self.inside) c.self.invariant c.args.name.now c.args.kind c.in_ok-key.key c.new.result c.vacant_key-number.result c.insert_reserved.new.self c.insert.new.self c.in_ok-key.ensures.ok (import_shape c.new.result c.in_ok-own.own c.args.name.now c.args.kind c.new.ensures.node c.in_ok-own.ensures.ok) (absent (fields_of c.self.inside) c.self.invariant c.args.name.now (rw (← c.self.view_is) at c.in_ok-check_import.ensures.free))
+    import_is_there (fields_of c.self.inside) c.self.invariant c.args.name.now c.args.kind c.in_ok-key.key c.new_node.result c.vacant_key-number.result c.insert_reserved.new.self c.insert.new.self c.in_ok-key.ensures.ok (import_shape c.new_node.result c.in_ok-own.own c.args.name.now c.args.kind c.new_node.ensures.node c.in_ok-own.ensures.ok) (absent (fields_of c.self.inside) c.self.invariant c.args.name.now (rw (← c.self.view_is) at c.in_ok-check_import.ensures.free))
     (vacant_before (fields_of c.self.inside) c.reserve.new.self c.vacant_key-number.result c.in_ok-reserve.ensures.rest_kept c.vacant_key-number.ensures.vacant)
     (before_reserve (fields_of c.self.inside) c.reserve.new.self c.insert_reserved.new.self c.vacant_key-number.result c.insert_reserved.result _ c.in_ok-reserve.ensures.rest_kept c.vacant_key-number.ensures.value c.insert_reserved.ensures.key c.insert_reserved.ensures.updates)
 

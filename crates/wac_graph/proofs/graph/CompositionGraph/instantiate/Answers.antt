@@ -16,13 +16,13 @@ invariant_of-self-2 c =
     invariant_instance (fields_of c.self.inside) c.self.invariant c.insert_reserved.new.self c.vacant_key-number.result _
     (vacant_before (fields_of c.self.inside) c.reserve.new.self c.vacant_key-number.result c.in_ok-reserve.ensures.rest_kept c.vacant_key-number.ensures.vacant)
     (before_reserve (fields_of c.self.inside) c.reserve.new.self c.insert_reserved.new.self c.vacant_key-number.result c.insert_reserved.result _ c.in_ok-reserve.ensures.rest_kept c.vacant_key-number.ensures.value c.insert_reserved.ensures.key c.insert_reserved.ensures.updates)
-    (λ i. ap (λ k. satisfied k i) c.new-2.ensures.kind ∙ ap (λ ks. list_any (is_at (nat_cmp i)) ks) c.new.ensures.empty)
-    c.args.id c.in-Some.«package».now (c.new-2.ensures.node ∙ instance_shape c.args.id c.instance_type.result c.in-Some.«package».now c.instance_type.ensures) (sym (rw c.deref.ensures.value at c.in-Some.ensures))
+    (λ i. ap (λ k. satisfied k i) c.new_node.ensures.kind ∙ ap (λ ks. list_any (is_at (nat_cmp i)) ks) c.new.ensures.empty)
+    c.args.id c.in-Some.«package».now (c.new_node.ensures.node ∙ instance_shape c.args.id c.instance_type.result c.in-Some.«package».now c.instance_type.ensures) (sym (rw c.deref.ensures.value at c.in-Some.ensures))
 
 pub returns-clause-step : goal.returns-clause-step
 returns-clause-step c =
     rw (← c.self.view_is)
-    (instantiated (fields_of c.self.inside) c.insert_reserved.new.self c.vacant_key-number.result c.args.id c.in-Some.«package».now _ (c.new-2.ensures.node ∙ instance_shape c.args.id c.instance_type.result c.in-Some.«package».now c.instance_type.ensures) (rw c.deref.ensures.value at c.in-Some.ensures)
+    (instantiated (fields_of c.self.inside) c.insert_reserved.new.self c.vacant_key-number.result c.args.id c.in-Some.«package».now _ (c.new_node.ensures.node ∙ instance_shape c.args.id c.instance_type.result c.in-Some.«package».now c.instance_type.ensures) (rw c.deref.ensures.value at c.in-Some.ensures)
     (c.vacant_key-number.ensures.value ∙ ap (λ s. s.vacant_key) c.in_ok-reserve.ensures.rest_kept)
     (vacant_before (fields_of c.self.inside) c.reserve.new.self c.vacant_key-number.result c.in_ok-reserve.ensures.rest_kept c.vacant_key-number.ensures.vacant)
     (before_reserve (fields_of c.self.inside) c.reserve.new.self c.insert_reserved.new.self c.vacant_key-number.result c.insert_reserved.result _ c.in_ok-reserve.ensures.rest_kept c.vacant_key-number.ensures.value c.insert_reserved.ensures.key c.insert_reserved.ensures.updates))

@@ -16,10 +16,10 @@ take_nodes-removed-requires-clause-noted c = noted_told c.self.inside.nodes c.se
 pub invariant_of-self : goal.invariant_of-self
 invariant_of-self c =
     invariant_removed (fields_of c.self.inside) c.self.invariant c.args.node c.take_nodes-removed.result c.take_nodes-removed.ensures.node c.take_nodes-removed.new.nodes c.take_nodes-removed.new.edges c.take_nodes-removed.ensures.next c.take_nodes-removed.ensures.taken c.take_nodes-removed.ensures.tied
-    c.take_import.new.imports c.take_lost.new.exports c.take_import.ensures c.take_lost.ensures.left c.take_nodes-removed.new.lost c.take_nodes-removed.ensures.noted c.take_lost.new.lost c.take_lost.ensures.same
+    c.take_import.new.imports c.take_lost.new.exports (rw c.kind.ensures at c.take_import.ensures) c.take_lost.ensures.left c.take_nodes-removed.new.lost c.take_nodes-removed.ensures.noted c.take_lost.new.lost c.take_lost.ensures.same
 
 pub returns : goal.returns
 returns c =
     rw (← c.self.view_is)
     (removes (fields_of c.self.inside) c.self.invariant c.args.node c.take_nodes-removed.result c.take_nodes-removed.ensures.node c.take_nodes-removed.new.nodes c.take_nodes-removed.new.edges c.take_nodes-removed.ensures.next c.take_nodes-removed.ensures.taken c.take_nodes-removed.ensures.tied
-    c.take_import.new.imports c.take_lost.new.exports c.take_import.ensures c.take_lost.ensures.left c.take_nodes-removed.new.lost c.take_nodes-removed.ensures.noted c.take_lost.new.lost c.take_lost.ensures.same)
+    c.take_import.new.imports c.take_lost.new.exports (rw c.kind.ensures at c.take_import.ensures) c.take_lost.ensures.left c.take_nodes-removed.new.lost c.take_nodes-removed.ensures.noted c.take_lost.new.lost c.take_lost.ensures.same)

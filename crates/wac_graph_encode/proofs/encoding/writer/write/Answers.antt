@@ -9,6 +9,7 @@ use Rattle.wac_graph_model.proofs.lemmas.meaning.MergeLemmas.{means_merged}
 use Rattle.wac_graph_reader.specs.private.reading.EncoderView.{progress}
 use Rattle.wac_graph_reader.proofs.lemmas.writing.MeansLemmas.{in_order}
 use Rattle.wac_graph_reader.proofs.lemmas.writing.WriteArgumentsLemmas.{room_kept}
+use Rattle.wac_graph_encode.proofs.lemmas.encoding.ShownLemmas.{shows}
 use Rattle.wac_graph_encode.proofs.encoding.writer.write.Goals as goal
 
 pub write_nodes-requires-clause-nodes : goal.write_nodes-requires-clause-nodes
@@ -40,8 +41,11 @@ returns-clause-means c =
       c.write_processor.new.component,
       c.in_ok-into_bytes.ensures.bytes,
       c.in_ok-into_bytes.ensures.fits,
-      means_merged (record { counted = c.law.ensures.counted; earlier = c.law.ensures.earlier; bounds_counted = c.law.ensures.instances_counted; bounds_earlier = c.law.ensures.instances_earlier }) c.class_laws.ensures (λ t es order w. (c.order_law.ensures t es order w).each) c.args.reader.now (λ order w. (c.order_law.ensures c.args.reader.now.types (outer_entries c.args.reader.now) order w).once c.requires.ordered) c.law-2.ensures
-          c.args.imports.now.merge.merge (c.requires.placed.merged).whole c.args.order.now c.requires.whole c.args.options c.requires.defined
+      means_merged (record { counted = c.law.ensures.counted; earlier = c.law.ensures.earlier; bounds_counted = c.law.ensures.instances_counted; bounds_earlier = c.law.ensures.instances_earlier; types_counted = c.law.ensures.types_counted; types_earlier = c.law.ensures.types_earlier }) c.class_laws.ensures (λ t es order w. (c.order_law.ensures t es order w).each) c.args.reader.now (λ order w. (c.order_law.ensures c.args.reader.now.types (outer_entries c.args.reader.now) order w).once c.requires.ordered) c.law-2.ensures
+          c.args.imports.now.merge.merge (c.requires.placed.merged).whole
+          (shows c.class_laws.ensures (λ t es order w. (c.order_law.ensures t es order w).each) c.args.reader.now (λ order w. (c.order_law.ensures c.args.reader.now.types (outer_entries c.args.reader.now) order w).once c.requires.ordered) c.law-2.ensures
+          c.args.imports.now.merge.merge (c.requires.placed.merged).whole c.requires.importable c.requires.definable c.instance_law.ensures.holds_value)
+          c.args.order.now c.requires.whole c.args.options c.requires.defined
           c.args.imports.now.places.items c.args.root c.in_ok-indexes.indexes.items c.requires.begins c.in_ok-indexes.ensures.found c.in_ok-indexes.ensures.room
           (progress (record { alloc = c.new-encoder.result.alloc; root = c.list_imports.new.root; components = c.new-encoder.result.components; indexes = c.new-encoder.result.indexes })) (progress c.write_nodes.new.encoder)
           (λ i. record { items = (ap (λ (x : Encodable). items_of x) c.in_ok-list_imports.ensures.kept ∙ c.new-encoder.ensures.items) i; components = c.new-encoder.ensures.components i; indexes = (c.new-encoder.ensures.indexes i).items })

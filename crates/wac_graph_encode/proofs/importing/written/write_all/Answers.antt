@@ -33,7 +33,7 @@ loop-i-preserved c =
     let name : Name = c.entry_at.result.0.now in
     let item : ItemKind = c.entry_at.result.1.now in
     subst (λ (ps : Places). IsBegun (merge_of c.args.types.now c.args.imports.now) (c.loop-i.i + 1) c.write_one.new.root ps) (sym (c.in_ok-push.ensures.items ∙ ap (λ (s : Sort). c.loop-i.places.items ++ (s, c.in_ok-index.index) ∷ []) c.sort_of.ensures))
-    (one_more c.in_ok-worlds.worlds (record { counted = c.law-3.ensures.counted; earlier = c.law-3.ensures.earlier; bounds_counted = c.law-3.ensures.instances_counted; bounds_earlier = c.law-3.ensures.instances_earlier })
+    (one_more c.in_ok-worlds.worlds (record { counted = c.law-3.ensures.counted; earlier = c.law-3.ensures.earlier; bounds_counted = c.law-3.ensures.instances_counted; bounds_earlier = c.law-3.ensures.instances_earlier; types_counted = c.law-3.ensures.types_counted; types_earlier = c.law-3.ensures.types_earlier })
     (merge_of c.args.types.now c.args.imports.now) c.args.imports.now refl c.law-2.ensures c.loop-i.i (name, item) c.entry_at.ensures c.loop-i.root c.write_one.new.root c.loop-i.places.items c.in_ok-index.index c.loop-i.invariant
     c.in_ok-index.ensures.imports c.in_ok-index.ensures.written c.in_ok-index.ensures.root)
 

@@ -2,9 +2,11 @@ use Rattle.std.proofs.Common.{◌≡◌, ℕ, Option, true, false, ap, ◌∙◌
 use Rattle.wac_types_collection.specs.collection.Collection.{Collection}
 use Rattle.wac_sorting.specs.Worlds.{SayWorlds}
 use Rattle.wac_scopes.specs.declared.fault.EncodeFault.TheVariants.{Write}
+use Rattle.wac_scopes.specs.Faults.{encode_fault}
 use Rattle.wac_root.specs.Importing.{IsItemNotImported, ImportsHeld, ImportsIfThere, is_importable}
 use Rattle.wac_worlds.proofs.Ahead.{as-held, of-held, say}
 use Rattle.wac_importable.proofs.Refusing.{is_written, no_fault}
+use Rattle.wac_graph_encode.proofs.lemmas.importing.Merging.{item_refused}
 use Rattle.wac_graph_encode.proofs.importing.written.write_item.Goals as goal
 
 pub import-requires-clause-say : goal.import-requires-clause-say
@@ -16,11 +18,17 @@ unreachable-requires c =
     let yes : is_importable c.args.worlds.now c.args.types.now c.args.item ≡ true = is_written c.args.types.now c.requires.ordered c.args.worlds.now c.args.item c.requires.held c.requires.importable c.requires.ahead c.requires.other c.requires.no_component c.requires.no_world in
     cc
 
-pub unreachable-requires-in-Err-Write : goal.unreachable-requires-in-Err-Write
-unreachable-requires-in-Err-Write c =
-    no_fault c.args.types.now c.requires.ordered c.args.worlds.now c.args.item c.requires.held c.requires.importable c.in-Err-Write.field-0-0
-    (of-held (λ t ws. IsItemNotImported {A = Option ℕ} ws t c.args.name.now c.args.item c.args.root.now (Err (Write c.in-Err-Write.field-0-0))) c.args.types.now c.new-encoder.result.types.now c.args.worlds.now c.new-encoder.result.worlds.now c.new-encoder.ensures.types c.new-encoder.ensures.worlds
-    (subst (IsItemNotImported c.new-encoder.result.worlds.now c.new-encoder.result.types.now c.args.name.now c.args.item c.args.root.now) (c.in-Err-Write.is ∙ ap Err c.in-Err-Write.field-0-is) c.import.ensures.fault))
+pub without_write-requires : goal.without_write-requires
+without_write-requires c f same =
+    no_fault c.args.types.now c.requires.ordered c.args.worlds.now c.args.item c.requires.held c.requires.importable f
+    (of-held (λ t ws. IsItemNotImported {A = Option ℕ} ws t c.args.name.now c.args.item c.args.root.now (Err (Write f))) c.args.types.now c.new-encoder.result.types.now c.args.worlds.now c.new-encoder.result.worlds.now c.new-encoder.ensures.types c.new-encoder.ensures.worlds
+    (subst (IsItemNotImported c.new-encoder.result.worlds.now c.new-encoder.result.types.now c.args.name.now c.args.item c.args.root.now) (c.in-Err.is ∙ ap Err same) c.import.ensures.fault))
+
+pub returns-in-Err-clause-fault : goal.returns-in-Err-clause-fault
+returns-in-Err-clause-fault c =
+    item_refused (Option ℕ) c.args.worlds.now c.args.types.now c.args.name.now c.args.item c.args.root.now c.requires.other c.requires.no_component c.requires.no_world c.without_write.result
+    (of-held (λ t ws. IsItemNotImported {A = Option ℕ} ws t c.args.name.now c.args.item c.args.root.now (Err (encode_fault c.without_write.result))) c.args.types.now c.new-encoder.result.types.now c.args.worlds.now c.new-encoder.result.worlds.now c.new-encoder.ensures.types c.new-encoder.ensures.worlds
+    (subst (IsItemNotImported c.new-encoder.result.worlds.now c.new-encoder.result.types.now c.args.name.now c.args.item c.args.root.now) (c.in-Err.is ∙ ap Err c.without_write.ensures) c.import.ensures.fault))
 
 pub returns-in-Ok-Some-clause-imports : goal.returns-in-Ok-Some-clause-imports
 returns-in-Ok-Some-clause-imports c =
