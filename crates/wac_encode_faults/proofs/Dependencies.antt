@@ -87,7 +87,7 @@ module _ (c : Collection) (name : Name) (i : InterfaceId) where
   of_interface None = (λ e. cc, λ e. cc)
   of_interface (Some it) = of_id it.id
 
-  id_law : IsIdOf c name i ↔ (list_any (λ (e : Name × ItemKind). same_name name e.0) (under_id c i) ≡ true)
+  pub id_law : IsIdOf c name i ↔ (list_any (λ (e : Name × ItemKind). same_name name e.0) (under_id c i) ≡ true)
   id_law = of_interface (item_at c.interfaces i.0)
 
   pub listed_by_id : IsIdOf c name i → listed_interface c (name, kind.Instance i) ≡ i ∷ []

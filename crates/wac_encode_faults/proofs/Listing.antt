@@ -21,13 +21,13 @@ use Rattle.wac_encode_faults.specs.declared.fault.WriteFault.{WriteFault}
 use Rattle.wac_encode_faults.specs.Faults.{listed_items, IsListed, listed_fault, IsLowest, IsFaultOfListed}
 use Rattle.wac_encode_faults.specs.private.Search.{is_scope, scope_of, scopes_of, inner_scopes}
 
-listed_left : (k : ItemKind) (es fs : List (Name × ItemKind)) → IsListed k es → IsListed k (es ++ fs)
+pub listed_left : (k : ItemKind) (es fs : List (Name × ItemKind)) → IsListed k es → IsListed k (es ++ fs)
 listed_left k es fs (n, h) = (n, in_joined_left es fs (n, k) h)
 
-listed_right : (k : ItemKind) (es fs : List (Name × ItemKind)) → IsListed k fs → IsListed k (es ++ fs)
+pub listed_right : (k : ItemKind) (es fs : List (Name × ItemKind)) → IsListed k fs → IsListed k (es ++ fs)
 listed_right k es fs (n, h) = (n, in_joined_right es fs (n, k) h)
 
-listed_either : (k : ItemKind) (es fs : List (Name × ItemKind)) → IsListed k (es ++ fs) → IsListed k es ⊎ IsListed k fs
+pub listed_either : (k : ItemKind) (es fs : List (Name × ItemKind)) → IsListed k (es ++ fs) → IsListed k es ⊎ IsListed k fs
 listed_either k es fs (n, h) = elim (in_joined es fs (n, k) h) [ inl x ↦ inl (n, x) | inr y ↦ inr (n, y) ]
 
 -- the first item, and one of the others
@@ -152,14 +152,14 @@ scope_or_nothing c (ty.Func r) = inr (refl, refl)
 scope_or_nothing c (ty.Value r) = inr (refl, refl)
 scope_or_nothing c (ty.Module r) = inr (refl, refl)
 
-scope_listed : (k : ItemKind) (es : List (Name × ItemKind)) (s : AnyType) → IsListed k es → IsIn s (scope_of (kind_type k)) → IsIn s (scopes_of es)
+pub scope_listed : (k : ItemKind) (es : List (Name × ItemKind)) (s : AnyType) → IsListed k es → IsIn s (scope_of (kind_type k)) → IsIn s (scopes_of es)
 scope_listed k [] s h w = absurd (listed_none k h)
 scope_listed k (e ∷ es) s h w = elim (listed_parts k e es h) [
   | inl same ↦ in_left s (scope_of (kind_type e.1)) (scopes_of es) (subst (λ z. IsIn s (scope_of (kind_type z))) same w)
   | inr more ↦ in_right s (scope_of (kind_type e.1)) (scopes_of es) (scope_listed k es s more w)
 ]
 
-listed_scope : (es : List (Name × ItemKind)) (s : AnyType) → IsIn s (scopes_of es) → (k : ItemKind) × IsListed k es × (s ≡ kind_type k)
+pub listed_scope : (es : List (Name × ItemKind)) (s : AnyType) → IsIn s (scopes_of es) → (k : ItemKind) × IsListed k es × (s ≡ kind_type k)
 listed_scope [] s h = absurd h
 listed_scope (e ∷ es) s h = elim (in_either s (scope_of (kind_type e.1)) (scopes_of es) h) [
   | inl w ↦ (e.1, listed_first e es, in_scope s (kind_type e.1) w)
@@ -216,7 +216,7 @@ inner_mentioned c (ty.Value r) s h = absurd h
 inner_mentioned c (ty.Module r) s h = absurd h
 
 -- what a type lists inside is an interface or a world
-scopes_are : (es : List (Name × ItemKind)) (s : AnyType) → IsIn s (scopes_of es) → is_scope s ≡ true
+pub scopes_are : (es : List (Name × ItemKind)) (s : AnyType) → IsIn s (scopes_of es) → is_scope s ≡ true
 scopes_are [] s h = absurd h
 scopes_are (e ∷ es) s h = elim (in_either s (scope_of (kind_type e.1)) (scopes_of es) h) [ inl w ↦ (scope_there s (kind_type e.1) w).1 | inr w ↦ scopes_are es s w ]
 

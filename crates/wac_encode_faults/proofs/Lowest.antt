@@ -1,5 +1,5 @@
 -- The lowest of faults that are there.
-use Rattle.std.proofs.Common.{ℕ, zero, suc, ◌≤◌, ◌≡◌, ◌⊎◌, inl, inr, refl, ap, sym, ◌∙◌, Bool, true, false, cond, nat_lt, Option, Some, None, arith}
+use Rattle.std.proofs.Common.{ℕ, zero, suc, ◌≤◌, ◌≡◌, ◌⊎◌, inl, inr, refl, ap, sym, ◌∙◌, subst, Bool, true, false, IsTrue, cond, if◌then◌else◌, nat_lt, Option, Some, None, arith}
 use Rattle.std.specs.Prelude.{◌↔◌}
 use Rattle.wac_encode_faults.specs.declared.fault.WriteFault.{WriteFault}
 use Rattle.wac_encode_faults.specs.Faults.{fault_rank, IsLowest}
@@ -74,3 +74,14 @@ only_fault P f p = ((p, refl), λ other h. let ranks = ap fault_rank h.1 in omeg
 
 pub no_fault : (P : Type 0) (f : WriteFault) → (P → ⊥) → IsLowest (λ g. P × (f ≡ g)) None
 no_fault P f none g h = none h.0
+
+-- a fault that is there if a flag is true
+pub lowest_if : (P : Type 0) (f : WriteFault) (b : Bool) (o : Option WriteFault) → IsTrue b ↔ P → o ≡ (if b then Some f else None) → IsLowest (λ g. P × (f ≡ g)) o
+lowest_if P f b o decided is = subst (IsLowest (λ g. P × (f ≡ g))) (sym is) (by b decided)
+  where
+    never : false ≡ true → ⊥
+    never e = cc
+
+    by : (b : Bool) → IsTrue b ↔ P → IsLowest (λ g. P × (f ≡ g)) (if b then Some f else None)
+    by true decided = only_fault P f (decided.0 refl)
+    by false decided = no_fault P f (λ p. never (decided.1 p))

@@ -172,20 +172,20 @@ added_to old inner now P law added r = (
 -- ---- the instance of an interface under its id
 
 module _ (c : Collection) (i : InterfaceId) (it : Interface) (at : item_at c.interfaces i.0 ≡ Some it) where
-  under_some : (id : Name) → it.id ≡ Some id → under_id c i ≡ (id, kind.Instance i) ∷ []
+  pub under_some : (id : Name) → it.id ≡ Some id → under_id c i ≡ (id, kind.Instance i) ∷ []
   under_some id is = ap (λ (o : Option Interface). option_case o [] (λ x. option_case x.id [] (λ n. (n, kind.Instance i) ∷ []))) at ∙ ap (λ (o : Option Name). option_case o [] (λ n. (n, kind.Instance i) ∷ [])) is
 
-  under_none : it.id ≡ None → under_id c i ≡ []
+  pub under_none : it.id ≡ None → under_id c i ≡ []
   under_none is = ap (λ (o : Option Interface). option_case o [] (λ x. option_case x.id [] (λ n. (n, kind.Instance i) ∷ []))) at ∙ ap (λ (o : Option Name). option_case o [] (λ n. (n, kind.Instance i) ∷ [])) is
 
-  has_some : is_some it.id ≡ true → (id : Name) × (it.id ≡ Some id)
+  pub has_some : is_some it.id ≡ true → (id : Name) × (it.id ≡ Some id)
   has_some h = by it.id refl h
     where
       by : (o : Option Name) → it.id ≡ o → is_some o ≡ true → (id : Name) × (it.id ≡ Some id)
       by None is e = cc
       by (Some id) is e = (id, is)
 
-  has_none : is_some it.id ≡ false → it.id ≡ None
+  pub has_none : is_some it.id ≡ false → it.id ≡ None
   has_none h = by it.id refl h
     where
       by : (o : Option Name) → it.id ≡ o → is_some o ≡ false → it.id ≡ None
@@ -217,7 +217,7 @@ module _ (c : Collection) (i : InterfaceId) (it : Interface) (at : item_at c.int
   under_free_none has old r = (λ h. inl h, λ h. elim h [ inl w ↦ w | inr w ↦ absurd (in_none (w.0, kind.Instance i) (subst (λ l. Contains l (w.0, kind.Instance i)) (under_none (has_none has)) w.1)) ])
 
 -- an instance under an id is of that interface
-under_same : (c : Collection) (i j : InterfaceId) (n : Name) → Contains (under_id c j) (n, kind.Instance i) → i ≡ j
+pub under_same : (c : Collection) (i j : InterfaceId) (n : Name) → Contains (under_id c j) (n, kind.Instance i) → i ≡ j
 under_same c i j n h = by (item_at c.interfaces j.0) h
   where
     inner : (o : Option Name) → Contains {X = Name × ItemKind} (option_case o [] (λ id. (id, kind.Instance j) ∷ [])) (n, kind.Instance i) → i ≡ j

@@ -1,13 +1,16 @@
 -- Which imports and exports of a component type depend on each other.
-use Rattle.std.specs.Prelude.{◌≡◌, List, ◌∷◌, Some, Contains}
+use Rattle.std.specs.Prelude.{ℕ, ◌≡◌, List, ◌∷◌, ◌++◌, map, slice_get, Option, Some, None, Contains}
+use Rattle.std.specs.Map.{lookup}
 use Rattle.wac_types_shapes.specs.primitives.Name.{Name}
 use Rattle.wac_types_shapes.specs.primitives.Tree.{Side, imported, exported, Leaf, Place, named}
+use Rattle.wac_types_shapes.specs.contracts.shapes.component.ResourceIdPartialEq.TheImpl as IdEq
 use Rattle.wac_types_shapes.specs.declared.shapes.component.InterfaceId.{InterfaceId}
 use Rattle.wac_types_shapes.specs.declared.shapes.component.UsedType.{UsedType}
 use Rattle.wac_types_shapes.specs.declared.shapes.component.ResourceId.{ResourceId}
 use Rattle.wac_types_shapes.specs.declared.shapes.component.ItemKind.{ItemKind}
 use Rattle.wac_types_shapes.specs.declared.shapes.component.ItemKind.TheVariants as kind
 use Rattle.wac_types_collection.specs.collection.Collection.{Collection}
+use Rattle.wac_types_collection.specs.collection.Bound.{Bindings}
 use Rattle.wac_types_collection.specs.wide.Wide.{interface_uses, UsesWidely}
 use Rattle.wac_encode_faults.specs.Sides.{Sides, all_imports, listed_interface, listed_interfaces, side_bindings}
 use Rattle.wac_encode_faults.specs.Free.{SideItem, IsFreeInItem}
@@ -49,3 +52,25 @@ pub data LeadsToItem (c : Collection) (s : Sides) : SideItem → SideItem → Ty
 -- Items depend on each other in a cycle.
 abbrev pub HasItemCycle : Collection → Sides → Type 0
 HasItemCycle c s = (x : SideItem) × LeadsToItem c s x x
+
+-- The items by their numbers: imports, additional imports, exports.
+abbrev pub numbered_items : Sides → List SideItem
+numbered_items s = map (λ e. record { side = imported; name = e.0 }) (all_imports s) ++ map (λ e. record { side = exported; name = e.0 }) s.exports
+
+-- The item with the first number depends on the item with the second.
+abbrev pub DependsByNumber : Collection → Sides → ℕ → ℕ → Type 0
+DependsByNumber c s a b =
+    (x y : SideItem) × (slice_get (numbered_items s) a ≡ Some x) × (slice_get (numbered_items s) b ≡ Some y) × ItemDependsOn c s x y
+
+-- The number of a resource in a map.
+abbrev pub owner_of : List (ResourceId × ℕ) → ResourceId → Option ℕ
+owner_of entries r = lookup ((IdEq.ghosts).eq r) entries
+
+-- The number is that of the item with the binding. There is none if there is no binding.
+abbrev pub IsOwner : List SideItem → Option ℕ → Option Leaf → Type 0
+IsOwner all None o = o ≡ None
+IsOwner all (Some n) o = (l : Leaf) × (x : SideItem) × (o ≡ Some l) × (slice_get all n ≡ Some x) × IsBindingOf x l
+
+-- The map has the number of the item with the binding of each resource.
+abbrev pub AreOwners : List SideItem → Bindings → List (ResourceId × ℕ) → Type 0
+AreOwners all m entries = (r : ResourceId) → IsOwner all (owner_of entries r) (m r)

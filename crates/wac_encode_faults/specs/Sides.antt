@@ -1,5 +1,5 @@
 -- The two sides of a component type: of a world, and of the definition of an interface or a world.
-use Rattle.std.specs.Prelude.{ℕ, zero, suc, not, if◌then◌else◌, List, [], ◌∷◌, ◌++◌, filter, Option, Some, None}
+use Rattle.std.specs.Prelude.{ℕ, zero, suc, not, if◌then◌else◌, List, [], ◌∷◌, ◌++◌, take, drop, filter, Option, Some, None}
 use Rattle.std.specs.List.{flat_map, list_any}
 use Rattle.wac_types_shapes.specs.primitives.Name.{Name, same_name, option_case, first_some}
 use Rattle.wac_types_shapes.specs.primitives.Tree.{Side, imported, exported}
@@ -102,3 +102,7 @@ abbrev pub defined_sides : Collection → AnyType → Option Sides
 defined_sides c (ty.Interface i) = Some (interface_sides c i)
 defined_sides c (ty.World w) = option_case (item_at c.worlds w.0) None (λ x. Some (completed_sides c x))
 defined_sides c t = None
+
+-- The sides with these imports, of which those from a number on are additional.
+abbrev pub parted_sides : List (Name × UsedType) → ℕ → List (Name × ItemKind) → List (Name × ItemKind) → Sides
+parted_sides uses own imports exports = record { imports = take own imports; additional = drop own imports; exports = exports; uses = uses }

@@ -69,7 +69,7 @@ fn add_bound_by_instance(
 }
 
 /// Adds what an item binds.
-fn add_bound_by(
+pub(crate) fn add_bound_by(
     found: &mut IndexSet<ResourceId>,
     types: &Types,
     uses: &Named<UsedType>,

@@ -1,5 +1,5 @@
 //! Faults and their order.
-ghost use Rattle.std.specs.Prelude.{◌≡◌, true};
+ghost use Rattle.std.specs.Prelude.{◌≡◌, true, if◌then◌else◌, Some, None};
 ghost use Rattle.wac_types_collection.specs.collection.Collection.{holds_type};
 ghost use Rattle.wac_encode_faults.specs.Faults.{fault_rank, import_fault as import_fault_of, definition_fault as definition_fault_of, unnamed as unnamed_of};
 ghost use Rattle.wac_encode_faults.specs.private.Search.{lower_of};
@@ -47,6 +47,16 @@ pub(crate) fn lower(first: Option<WriteFault>, second: Option<WriteFault>) -> Op
     } else {
         first
     }
+}
+
+/// Returns the fault, if it is there.
+pub(crate) fn fault_if(is_there: bool, fault: WriteFault) -> Option<WriteFault>
+    ensures { result ≡ (if is_there then Some fault else None) }
+{
+    if is_there {
+        return Some(fault);
+    }
+    None
 }
 
 /// Returns the fault that an item has as an import of the root.

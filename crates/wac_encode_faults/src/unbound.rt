@@ -22,7 +22,7 @@ use std::alloc::AllocError;
 use wac_types_collection::{InterfaceId, ItemKind, Named, ResourceId, Type, Types, WorldId};
 
 /// Returns the resource at an index of a set.
-fn resource_at(found: &IndexSet<ResourceId>, index: usize) -> ResourceId
+pub(crate) fn resource_at(found: &IndexSet<ResourceId>, index: usize) -> ResourceId
     requires { index < length found.now.keys }
     ensures { slice_get found.now.keys index ≡ Some result }
 {
@@ -86,7 +86,7 @@ pub(crate) fn add_free_of_items(
 }
 
 /// Adds the free resources of a type of the collection.
-fn add_free_of_type(
+pub(crate) fn add_free_of_type(
     found: &mut IndexSet<ResourceId>,
     types: &Types,
     ty: Type,

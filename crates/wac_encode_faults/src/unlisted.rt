@@ -26,7 +26,7 @@ pub(crate) fn has_id(types: &Types, id: InterfaceId, name: &str) -> bool
 }
 
 /// Adds the interface of an item, if the item is an instance under its interface's id.
-fn add_item(
+pub(crate) fn add_item(
     listed: &mut IndexSet<InterfaceId>,
     types: &Types,
     name: &str,

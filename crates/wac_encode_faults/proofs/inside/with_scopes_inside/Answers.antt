@@ -1,13 +1,11 @@
-use Rattle.std.proofs.Common.{ap, ◌∙◌, ◌≤◌, length, arith, refl}
-use Rattle.wac_types_collection.specs.private.reach.Found.{with_all}
+use Rattle.std.proofs.Common.{◌≤◌, length, arith, refl}
 use Rattle.wac_types_collection.proofs.lemmas.reach.Lists.{in_at, read_at}
 use Rattle.wac_types_collection.proofs.lemmas.reach.Universe.{types_of, found_few}
-use Rattle.wac_encode_faults.specs.private.Search.{scope_of}
 use Rattle.wac_encode_faults.proofs.Insides.{inside_first, inside_next, inside_all}
-use Rattle.wac_encode_faults.proofs.inside.scopes_inside.Goals as goal
+use Rattle.wac_encode_faults.proofs.inside.with_scopes_inside.Goals as goal
 
 pub loop-next-init : goal.loop-next-init
-loop-next-init c = inside_first c.args.types.now c.args.ty c.add_scope.new.found.keys (c.in_ok-add_scope.ensures ∙ ap (λ ts. with_all ts (scope_of c.args.ty)) c.new-found.ensures.empty) c.requires
+loop-next-init c = inside_first c.args.types.now c.args.roots.keys c.requires
 
 pub add_inner-requires : goal.add_inner-requires
 add_inner-requires c =
@@ -23,11 +21,11 @@ loop-next-smaller c =
 
 pub loop-next-preserved : goal.loop-next-preserved
 loop-next-preserved c =
-    inside_next c.args.types.now c.law.ensures c.args.ty c.loop-next.found.keys c.loop-next.next _
+    inside_next c.args.types.now c.law.ensures c.args.roots.keys c.loop-next.found.keys c.loop-next.next _
     (read_at c.as_slice.result.now c.loop-next.found.keys c.loop-next.found.keys c.loop-next.next c.len.result _ c.loop-next-test.true c.len.ensures.len c.as_slice.ensures.keys refl)
     c.add_inner.new.found.keys c.in_ok-add_inner.ensures c.loop-next.invariant
 
 pub returns : goal.returns
 returns c =
     let past : length c.loop-next.found.keys ≤ c.loop-next.next = let l = c.len.ensures.len in let f = c.loop-next-test.false in omega (arith, l, f) in
-    record { inside = inside_all c.args.types.now c.args.ty c.loop-next.found.keys c.loop-next.next past c.loop-next.invariant; held = c.loop-next.invariant.held }
+    record { inside = c.loop-next.invariant.inside; scopes = inside_all c.args.types.now c.args.roots.keys c.loop-next.found.keys c.loop-next.next past c.loop-next.invariant; held = c.loop-next.invariant.held }

@@ -1,0 +1,22 @@
+use Rattle.std.proofs.Common.{arith, Some, ◌≡◌, sym, ◌∙◌}
+use Rattle.wac_encode_faults.specs.Cycle.{owner_of}
+use Rattle.wac_encode_faults.proofs.Steps.{steps_as, steps_first, steps_next, steps_all}
+use Rattle.wac_encode_faults.proofs.cycle.add_steps_of_free.Goals as goal
+
+pub loop-i-init : goal.loop-i-init
+loop-i-init c = steps_first (owner_of c.args.owners.now.entries) c.args.from c.args.free.now.keys c.args.targets.now
+
+pub resource_at-resource-requires : goal.resource_at-resource-requires
+resource_at-resource-requires c = let l = c.len-i-end.ensures.len in let t = c.loop-i-test.true in omega (arith, l, t)
+
+pub loop-i-preserved : goal.loop-i-preserved
+loop-i-preserved c =
+    steps_next (owner_of c.args.owners.now.entries) c.args.from c.args.free.now.keys c.loop-i.i c.resource_at-resource.result c.args.targets.now c.loop-i.targets c.add_step_to.new.targets c.resource_at-resource.ensures c.loop-i.invariant
+    (steps_as c.args.from _ (λ b. owner_of c.args.owners.now.entries c.resource_at-resource.result ≡ Some b) c.loop-i.targets c.add_step_to.new.targets
+    (λ b. (λ e. sym c.get.ensures.value ∙ sym c.copied.ensures ∙ e, λ e. c.copied.ensures ∙ c.get.ensures.value ∙ e)) c.in_ok-add_step_to.ensures)
+
+pub returns : goal.returns
+returns c =
+    let past = c.loop-i-test.false in
+    let counted = c.len-i-end.ensures.len in
+    steps_all (owner_of c.args.owners.now.entries) c.args.from c.args.free.now.keys c.loop-i.i c.args.targets.now c.loop-i.targets (omega (arith, past, counted)) c.loop-i.invariant

@@ -1,0 +1,19 @@
+use Rattle.std.proofs.Common.{arith}
+use Rattle.wac_types_collection.proofs.lemmas.wide.Members.{at_in}
+use Rattle.wac_encode_faults.proofs.Joined.{joined_first, joined_next, joined_all}
+use Rattle.wac_encode_faults.proofs.imports.join_imports.Goals as goal
+
+pub loop-i-init : goal.loop-i-init
+loop-i-init c = joined_first c.args.types.now c.args.imports.now c.args.additional.now c.in-Ok.all c.in-Ok.ensures
+
+pub add_under_id-requires : goal.add_under_id-requires
+add_under_id-requires c = c.requires c.id_at-id.result (at_in c.args.additional.now c.loop-i.i c.id_at-id.result c.id_at-id.ensures)
+
+pub loop-i-preserved : goal.loop-i-preserved
+loop-i-preserved c =
+    joined_next c.args.types.now c.args.imports.now c.args.additional.now c.loop-i.i c.id_at-id.result c.loop-i.all c.add_under_id.new.all c.id_at-id.ensures c.loop-i.invariant c.in_ok-add_under_id.ensures
+
+pub returns : goal.returns
+returns c =
+    let past = c.loop-i-test.false in
+    joined_all c.args.types.now c.args.imports.now c.args.additional.now c.loop-i.i c.loop-i.all (omega (arith, past)) c.loop-i.invariant
