@@ -11,3 +11,5 @@ pub mod ArrangedLaws
 pub mod ArrangedPlaces
 pub mod ArrangedSteps
 pub mod Siding
+pub mod Exporting
+pub mod Merges

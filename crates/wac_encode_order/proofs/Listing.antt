@@ -72,12 +72,18 @@ pub others-done : (es : List (Name × ItemKind)) (i : ℕ) (now all : List ℕ) 
 others-done es i now all past before = sym (append-nil now) ∙ sym (ap (λ (xs : List (Name × ItemKind)). now ++ others_from i xs) (dropped-all es i past)) ∙ before
 
 -- ---- the whole order
-pub in-order : (c : Collection) (it : Interface) (chosen shown : List Bool) (types order : List ℕ) → chosen ≡ map (lists_other_type c it.uses) it.exports → shown ≡ chosen → Takes (Reaches c it.exports) (is_set shown) types → order ≡ types ++ others_from 0 it.exports → IsInterfaceOrder c it order
-in-order c it chosen shown types order is same takes all = record {
+pub in-order : (c : Collection) (it : Interface) (b : Bool) (chosen shown : List Bool) (types order : List ℕ) → chosen ≡ map (lists_other_type c it.uses) it.exports → shown ≡ chosen → Takes (Reaches c it.exports) (is_set shown) types → order ≡ types ++ (if b then [] else others_from 0 it.exports) → IsInterfaceOrder c it b order
+in-order c it b chosen shown types order is same takes all = record {
   types = types;
   taken = takes-alike (Reaches c it.exports) (is_set shown) (is_other_type_at c it) types (λ p. ap (λ (xs : List Bool). get_or xs p false) (same ∙ is) ∙ get-flag (lists_other_type c it.uses) it.exports p) takes;
   is = all;
 }
+
+pub types-alone : (b : Bool) (types others : List ℕ) → b ≡ true → types ≡ types ++ (if b then [] else others)
+types-alone b types others is = sym (append-nil types) ∙ sym (ap (λ (x : Bool). types ++ (if x then [] else others)) is)
+
+pub and-others : (b : Bool) (types others order : List ℕ) → b ≡ false → order ≡ types ++ others → order ≡ types ++ (if b then [] else others)
+and-others b types others order is all = all ∙ sym (ap (λ (x : Bool). types ++ (if x then [] else others)) is)
 
 -- ---- the interface of an id
 kind-in : (es : List (Name × ItemKind)) (k : ℕ) (e : Name × ItemKind) → slice_get es k ≡ Some e → IsIn (kind_type e.1) (kind_types es)
@@ -90,6 +96,6 @@ exports-held c wf id it held is k e at =
     part-held c wf (ty.Interface id) (kind_type e.1) (let there : nat_lt id.0 (length c.interfaces) ≡ true = grind (arith, held) in there)
     (subst (λ (o : Option Interface). IsIn (kind_type e.1) (kind_types (option_case o [] (λ x. x.exports)))) (sym is) (kind-in it.exports k e at))
 
-pub of-interface : {E : Type 0} (c : Collection) (id : InterfaceId) (found : Interface) → item_at c.interfaces id.0 ≡ Some found → (r : Result (Vec ℕ Global) E) → IfOk r (λ order. IsInterfaceOrder c found order.items) → IfOk r (λ order. (it : Interface) → item_at c.interfaces id.0 ≡ Some it → IsInterfaceOrder c it order.items)
-of-interface c id found is (Ok v) ordered = λ it at. subst (λ (x : Interface). IsInterfaceOrder c x v.items) (let both : Some found ≡ Some it = sym is ∙ at in let same : found ≡ it = cc in same) ordered
-of-interface c id found is (Err e) ordered = tt
+pub of-interface : {E : Type 0} (c : Collection) (id : InterfaceId) (found : Interface) (P : Interface → List ℕ → Type 0) → item_at c.interfaces id.0 ≡ Some found → (r : Result (Vec ℕ Global) E) → IfOk r (λ order. P found order.items) → IfOk r (λ order. (it : Interface) → item_at c.interfaces id.0 ≡ Some it → P it order.items)
+of-interface c id found P is (Ok v) ordered = λ it at. subst (λ (x : Interface). P x v.items) (let both : Some found ≡ Some it = sym is ∙ at in let same : found ≡ it = cc in same) ordered
+of-interface c id found P is (Err e) ordered = tt

@@ -1,6 +1,6 @@
 -- The items of a side in groups.
 use Rattle.std.specs.Prelude.{◌↔◌, slice_get}
-use Rattle.std.proofs.Common.{ℕ, zero, suc, ◌+◌, ◌<◌, ◌≤◌, ◌≡◌, ◌⊎◌, inl, inr, Bool, true, false, not, ◌&&◌, ◌==◌, if◌then◌else◌, List, [], ◌∷◌, ◌++◌, Option, Some, None, Result, Ok, Err, IfOk, Vec, Global, Contains, length, map, drop, get_or, refl, ap, sym, ◌∙◌, subst, arith, add-one, append_assoc}
+use Rattle.std.proofs.Common.{ℕ, zero, suc, ◌+◌, ◌<◌, ◌≤◌, ◌≡◌, ◌⊎◌, inl, inr, Bool, true, false, not, ◌&&◌, ◌==◌, if◌then◌else◌, List, [], ◌∷◌, ◌++◌, Option, Some, None, Contains, length, drop, refl, ap, sym, ◌∙◌, subst, arith, add-one, append_assoc}
 use Rattle.std.proofs.lemmas.Bool.{eqb-true}
 use Rattle.std.proofs.lemmas.List.{append-nil}
 use Rattle.wac_types_shapes.specs.primitives.Name.{Name, option_case}
@@ -9,15 +9,14 @@ use Rattle.wac_types_shapes.specs.declared.shapes.component.ItemKind.TheVariants
 use Rattle.wac_types_collection.specs.collection.Collection.{Collection}
 use Rattle.wac_types_collection.specs.collection.Bound.{lists_type}
 use Rattle.wac_edges.specs.cycles.Cycles.{Path}
-use Rattle.wac_encode_order.specs.TypeItems.{Reaches, Takes}
+use Rattle.wac_encode_order.specs.TypeItems.{Takes}
 use Rattle.wac_encode_order.specs.Arranged.{Arranges}
-use Rattle.wac_encode_order.specs.SideOrder.{lists_instance, lists_rest, is_type_at, positions_of, counted_from, grouped, AreGroups}
-use Rattle.wac_encode_order.specs.private.Graph.{is_set}
+use Rattle.wac_encode_order.specs.SideOrder.{ReachesType, lists_instance, lists_rest, is_type_at, positions_of, counted_from, grouped, AreGroups}
 use Rattle.wac_encode_order.specs.private.Arranging.{AreAll, IsOnce}
 use Rattle.wac_encode_order.proofs.Lists.{some-is, within, there-is}
 use Rattle.wac_encode_order.proofs.KeySets.{In}
 use Rattle.wac_encode_order.proofs.ArrangedLaws.{in_front, in_behind, in_either, in_contains, contains_in, Once, once_joined, once_at, arranges_each, arranges_only, arranges_once}
-use Rattle.wac_encode_order.proofs.Listing.{dropped, dropped-all, get-flag, takes-alike}
+use Rattle.wac_encode_order.proofs.Listing.{dropped, dropped-all}
 
 -- ---- positions, one after another
 module _ (f : Name × ItemKind → Bool) (es : List (Name × ItemKind)) where
@@ -70,7 +69,7 @@ module _ (f : Name × ItemKind → Bool) where
       by true w = inr w
       by false w = w
 
-  picked-once : (i : ℕ) (es : List (Name × ItemKind)) → Once (positions_of f i es)
+  pub picked-once : (i : ℕ) (es : List (Name × ItemKind)) → Once (positions_of f i es)
   unfolding IsAt
   picked-once i [] = tt
   picked-once i (e ∷ es) = by (f e) (picked-once (suc i) es)
@@ -172,7 +171,7 @@ module _ (c : Collection) (es : List (Name × ItemKind)) (n : ℕ) (all : List �
 
   type-at : (q : ℕ) → In ts q → (e : Name × ItemKind) × (slice_get es q ≡ Some e) × (lists_type e ≡ true)
   unfolding ts
-  type-at q h = by (slice_get es q) refl (taken-left (Reaches c es) (is_type_at es) groups.types groups.taken q h)
+  type-at q h = by (slice_get es q) refl (taken-left (ReachesType c es) (is_type_at es) groups.types groups.taken q h)
     where
       by : (o : Option (Name × ItemKind)) → slice_get es q ≡ o → option_case o false lists_type ≡ true → (e : Name × ItemKind) × (slice_get es q ≡ Some e) × (lists_type e ≡ true)
       by None at is = let no : false ≡ true = is in cc
@@ -180,7 +179,7 @@ module _ (c : Collection) (es : List (Name × ItemKind)) (n : ℕ) (all : List �
 
   at-type : (q : ℕ) (e : Name × ItemKind) → slice_get es q ≡ Some e → lists_type e ≡ true → In ts q
   unfolding ts
-  at-type q e at is = left-taken (Reaches c es) (is_type_at es) groups.types groups.taken q (ap (λ (o : Option (Name × ItemKind)). option_case o false lists_type) at ∙ is)
+  at-type q e at is = left-taken (ReachesType c es) (is_type_at es) groups.types groups.taken q (ap (λ (o : Option (Name × ItemKind)). option_case o false lists_type) at ∙ is)
 
   -- an item is in one group
   one-item : (q : ℕ) (d e : Name × ItemKind) → slice_get es q ≡ Some d → slice_get es q ≡ Some e → d ≡ e
@@ -234,7 +233,7 @@ module _ (c : Collection) (es : List (Name × ItemKind)) (n : ℕ) (all : List �
   groups-once =
       once_joined (positions_of lists_instance 0 es) (counted_from (length es) n ++ (ts ++ positions_of lists_rest 0 es)) (picked-once lists_instance 0 es)
       (once_joined (counted_from (length es) n) (ts ++ positions_of lists_rest 0 es) (counted-once (length es) n)
-      (once_joined ts (positions_of lists_rest 0 es) (taken-once (Reaches c es) (is_type_at es) groups.types groups.taken) (picked-once lists_rest 0 es) rest-apart) counted-apart) instance-apart
+      (once_joined ts (positions_of lists_rest 0 es) (taken-once (ReachesType c es) (is_type_at es) groups.types groups.taken) (picked-once lists_rest 0 es) rest-apart) counted-apart) instance-apart
 
   groups-low : (q : ℕ) → In (grouped es n ts) q → q < length es + n
   groups-low q h = first (in_either (positions_of lists_instance 0 es) (counted_from (length es) n ++ (ts ++ positions_of lists_rest 0 es)) q h)
@@ -306,11 +305,7 @@ module _ (c : Collection) (es : List (Name × ItemKind)) (n : ℕ) (all : List �
     order-once ordered = once_at order (arranges_once R all ordered [] all order arranged tt)
 
 -- ---- the type items, and the groups
-pub types-taken : {E : Type 0} (c : Collection) (es : List (Name × ItemKind)) (chosen : List Bool) → chosen ≡ map lists_type es → (r : Result (Vec ℕ Global) E) → IfOk r (λ order. Takes (Reaches c es) (is_set chosen) order.items) → IfOk r (λ order. Takes (Reaches c es) (is_type_at es) order.items)
-types-taken c es chosen is (Ok v) takes = takes-alike (Reaches c es) (is_set chosen) (is_type_at es) v.items (λ p. ap (λ (xs : List Bool). get_or xs p false) is ∙ get-flag lists_type es p) takes
-types-taken c es chosen is (Err e) takes = tt
-
-pub in-groups : (c : Collection) (es : List (Name × ItemKind)) (n len : ℕ) (types shown first a b d all : List ℕ) → Takes (Reaches c es) (is_type_at es) types → len ≡ length es → shown ≡ types → first ≡ []
+pub in-groups : (c : Collection) (es : List (Name × ItemKind)) (n len : ℕ) (types shown first a b d all : List ℕ) → Takes (ReachesType c es) (is_type_at es) types → len ≡ length es → shown ≡ types → first ≡ []
     → a ≡ first ++ positions_of lists_instance 0 es → b ≡ a ++ counted_from len n → d ≡ b ++ shown → all ≡ d ++ positions_of lists_rest 0 es → AreGroups c es n all
 in-groups c es n len types shown first a b d all takes long same none one two three four =
     let instances : List ℕ = positions_of lists_instance 0 es in

@@ -1,5 +1,5 @@
 -- The order of the items of an instance type.
-use Rattle.std.specs.Prelude.{ℕ, suc, ◌≡◌, ◌&&◌, not, Bool, false, if◌then◌else◌, is_none, List, [], ◌∷◌, ◌++◌, slice_get}
+use Rattle.std.specs.Prelude.{ℕ, suc, ◌≡◌, ◌&&◌, ◌||◌, not, Bool, false, if◌then◌else◌, is_none, List, [], ◌∷◌, ◌++◌, slice_get}
 use Rattle.wac_types_shapes.specs.primitives.Name.{Name, find_name, option_case}
 use Rattle.wac_types_shapes.specs.declared.shapes.component.Interface.{Interface}
 use Rattle.wac_types_shapes.specs.declared.shapes.component.ItemKind.{ItemKind}
@@ -28,9 +28,17 @@ abbrev pub others_from : ℕ → List (Name × ItemKind) → List ℕ
 others_from i [] = []
 others_from i (e ∷ es) = if lists_type e then others_from (suc i) es else i ∷ others_from (suc i) es
 
+-- The item comes after the own resources: it is no own resource, and a type item if only those are exported.
+abbrev pub comes_later : Collection → Interface → Bool → Name × ItemKind → Bool
+comes_later c it types_only e = not (lists_own_resource c it.uses e) && (lists_type e || not types_only)
+
+-- The item at this position comes after the own resources.
+abbrev pub is_later_at : Collection → Interface → Bool → ℕ → Bool
+is_later_at c it types_only p = option_case (slice_get it.exports p) false (comes_later c it types_only)
+
 -- The order of an interface's items after its own resources: type items, the next the first of those left that reaches
--- none of those left, and then the other items as they are listed.
-pub record IsInterfaceOrder (c : Collection) (it : Interface) (order : List ℕ) : Type 0 where
+-- none of those left, and then the other items as they are listed, unless only type items are exported.
+pub record IsInterfaceOrder (c : Collection) (it : Interface) (types_only : Bool) (order : List ℕ) : Type 0 where
   pub types : List ℕ
   pub taken : Takes (Reaches c it.exports) (is_other_type_at c it) types
-  pub is : order ≡ types ++ others_from 0 it.exports
+  pub is : order ≡ types ++ (if types_only then [] else others_from 0 it.exports)

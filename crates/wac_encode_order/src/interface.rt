@@ -1,11 +1,11 @@
 //! The order of the items of an instance type.
-ghost use Rattle.std.specs.Prelude.{◌≡◌, ◌++◌, Some, true, map, is_some, IfOk, OnOk};
+ghost use Rattle.std.specs.Prelude.{◌≡◌, ◌++◌, ◌↔◌, ℕ, Some, true, map, is_some, slice_get, Contains, IfOk, OnOk};
 ghost use Rattle.wac_types_shapes.specs.primitives.Name.{find_name};
 ghost use Rattle.wac_types_shapes.specs.shapes.Kinds.{kind_type};
 ghost use Rattle.wac_types_shapes.specs.declared.shapes.component.Interface.{Interface as AnInterface};
 ghost use Rattle.wac_types_collection.specs.collection.Bound.{is_alias as is_alias_of, lists_type};
 ghost use Rattle.wac_types_collection.specs.collection.Collection.{HasInterface, HasResource, holds_type, item_at};
-ghost use Rattle.wac_encode_order.specs.Interfaces.{IsInterfaceOrder, lists_own_resource, lists_other_type, others_from};
+ghost use Rattle.wac_encode_order.specs.Interfaces.{IsInterfaceOrder, is_later_at, lists_own_resource, lists_other_type, others_from};
 ghost use Rattle.wac_encode_order.specs.private.Graph.{AreHeld};
 
 use crate::type_items::order_chosen;
@@ -87,19 +87,26 @@ fn add_others(order: &mut Vec<usize>, items: &Named<ItemKind>) -> Result<(), All
     Ok(())
 }
 
-/// Returns the positions of an interface's items in order.
-fn order_items(types: &Types, interface: &Interface) -> Result<Vec<usize>, AllocError>
+/// Returns the positions of an interface's items in order, or those of its type items alone.
+fn order_items(
+    types: &Types,
+    interface: &Interface,
+    types_only: bool,
+) -> Result<Vec<usize>, AllocError>
     requires { AreHeld types.now interface.now.exports }
-    ensures { IfOk result (λ order. IsInterfaceOrder types.now interface.now order.items) }
+    ensures { IfOk result (λ order. IsInterfaceOrder types.now interface.now types_only order.items) }
 {
     let chosen = other_types(types, interface)?;
     let mut order = order_chosen(types, &interface.exports, chosen.as_slice())?;
+    if types_only {
+        return Ok(order);
+    }
     add_others(&mut order, &interface.exports)?;
     Ok(order)
 }
 
 /// Returns the positions of an interface's items in the order in which an instance type exports them, after the own
-/// resources.
+/// resources. With `types_only`, those of the type items alone.
 ///
 /// First come the type items. The next is always the first of those left that reaches none of those left: its type is
 /// not made of one that they name. Then come the other items as they are listed. Takes time linear in the parts of the
@@ -107,10 +114,16 @@ fn order_items(types: &Types, interface: &Interface) -> Result<Vec<usize>, Alloc
 ///
 /// # Errors
 /// - `AllocError` if out of memory.
-pub fn interface_order(types: &Types, id: InterfaceId) -> Result<Vec<usize>, AllocError>
+pub fn interface_order(
+    types: &Types,
+    id: InterfaceId,
+    types_only: bool,
+) -> Result<Vec<usize>, AllocError>
     requires { HasInterface types.now id }
-    ensures { IfOk result (λ order. (it : AnInterface) → item_at types.now.interfaces id.0 ≡ Some it → IsInterfaceOrder types.now it order.items) }
+    ensures order { IfOk result (λ order. (it : AnInterface) → item_at types.now.interfaces id.0 ≡ Some it → IsInterfaceOrder types.now it types_only order.items) }
+    ensures each { IfOk result (λ order. (it : AnInterface) → item_at types.now.interfaces id.0 ≡ Some it → (p : ℕ) → (Contains order.items p ↔ is_later_at types.now it types_only p ≡ true)) }
+    ensures once { IfOk result (λ order. (i j p : ℕ) → slice_get order.items i ≡ Some p → slice_get order.items j ≡ Some p → i ≡ j) }
 {
     types.law();
-    order_items(types, &types[id])
+    order_items(types, &types[id], types_only)
 }

@@ -1,17 +1,18 @@
 //! The order of the items on a side of a component type.
-ghost use Rattle.std.specs.Prelude.{◌≡◌, ◌+◌, ◌<◌, ◌^◌, ◌++◌, ◌↔◌, ℕ, Some, map, length, slice_get, IfOk, OnOk, Contains};
+ghost use Rattle.std.specs.Prelude.{◌≡◌, ◌+◌, ◌<◌, ◌^◌, ◌++◌, ◌∷◌, ◌↔◌, ℕ, List, Some, drop, if◌then◌else◌, map, length, slice_get, IfOk, OnOk, Contains};
 ghost use Rattle.wac_types_collection.specs.collection.Bound.{lists_type};
 ghost use Rattle.wac_edges.specs.cycles.Cycles.{AreWithin, HasNoCycle, IsStep};
-ghost use Rattle.wac_encode_order.specs.TypeItems.{Reaches, Takes};
-ghost use Rattle.wac_encode_order.specs.SideOrder.{AreGroups, IsSideOrder, counted_from, is_type_at, lists_instance as instance_listed, lists_rest as rest_listed, positions_of};
+ghost use Rattle.wac_encode_order.specs.TypeItems.{Takes};
+ghost use Rattle.wac_encode_order.specs.SideOrder.{AreGroups, IsSideOrder, ReachesType, counted_from, is_type_at, lists_instance as instance_listed, lists_resource as resource_listed, lists_rest as rest_listed, positions_of};
+ghost use Rattle.wac_encode_order.specs.private.Merging.{lists_plain_type, merged, rest_from, taken_below};
 ghost use Rattle.wac_encode_order.specs.private.Graph.{AreHeld};
 
 use crate::arranged::arranged;
 use crate::interface::is_type_item;
 use crate::type_items::order_chosen;
-use std::alloc::AllocError;
+use std::alloc::{AllocError, Global};
 use std::collections::BTreeSet;
-use wac_types_collection::{ItemKind, Named, Types};
+use wac_types_collection::{ItemKind, Named, Type, Types};
 
 /// Whether an item is an instance.
 fn is_instance(name: &str, item: ItemKind) -> bool
@@ -67,25 +68,112 @@ fn add_counted(numbers: &mut Vec<usize>, start: usize, count: usize) -> Result<(
     Ok(())
 }
 
-/// Returns for each item whether it is a type item.
+/// Whether an item is a type item of a resource.
+fn is_resource(name: &str, item: ItemKind) -> bool
+    ensures { result ≡ resource_listed (name.now, item) }
+{
+    matches!(item, ItemKind::TypeItem(Type::Resource(_)))
+}
+
+/// Whether an item is a type item of another type than a resource.
+fn is_plain_type(name: &str, item: ItemKind) -> bool
+    ensures { result ≡ lists_plain_type (name.now, item) }
+{
+    is_type_item(name, item) && !is_resource(name, item)
+}
+
+/// Returns for each item whether it is a type item of another type than a resource.
 fn type_flags(types: &Types, items: &Named<ItemKind>) -> Result<Vec<bool>, AllocError>
-    ensures { IfOk result (λ chosen. chosen.items ≡ map lists_type items.now) }
+    ensures { IfOk result (λ chosen. chosen.items ≡ map lists_plain_type items.now) }
 {
     let mut chosen = Vec::with_capacity(types.allocator(), items.len())?;
     for i in 0..items.len() {
         let (name, item) = items.entry_at(i);
-        chosen.push(is_type_item(name, *item))?;
+        chosen.push(is_plain_type(name, *item))?;
     }
     Ok(chosen)
+}
+
+/// Appends the numbers from the index `next` on, up to the first that is not below `end`. Returns the index of that one.
+fn add_below(
+    order: &mut Vec<usize>,
+    numbers: &[usize],
+    next: usize,
+    end: usize,
+) -> Result<usize, AllocError>
+    ensures added { OnOk result (order.new.items ≡ order.old.items ++ taken_below end (drop next numbers.now)) }
+    ensures rest { IfOk result (λ at. drop at numbers.now ≡ rest_from end (drop next numbers.now)) }
+{
+    let mut at = next;
+    'numbers: while at < numbers.len() {
+        let number = numbers[at];
+        if number >= end {
+            return Ok(at);
+        }
+        order.push(number)?;
+        at += 1;
+    }
+    Ok(at)
+}
+
+/// Appends the numbers from the index `next` on.
+fn add_from(order: &mut Vec<usize>, numbers: &[usize], next: usize) -> Result<(), AllocError>
+    ensures { OnOk result (order.new.items ≡ order.old.items ++ drop next numbers.now) }
+{
+    let mut at = next;
+    'numbers: while at < numbers.len() {
+        order.push(numbers[at])?;
+        at += 1;
+    }
+    Ok(())
+}
+
+/// Appends the position of an item, if it is a type item of a resource, after the numbers from the index `next` on that
+/// come before it. Returns the index of the next number.
+fn add_resource(
+    order: &mut Vec<usize>,
+    numbers: &[usize],
+    next: usize,
+    position: usize,
+    is_resource: bool,
+) -> Result<usize, AllocError>
+    ensures { IfOk result (λ at. (rs : List ℕ) → order.new.items ++ merged (drop at numbers.now) rs ≡ order.old.items ++ merged (drop next numbers.now) (if is_resource then position ∷ rs else rs)) }
+{
+    if !is_resource {
+        return Ok(next);
+    }
+    let at = add_below(order, numbers, next, position)?;
+    order.push(position)?;
+    Ok(at)
+}
+
+/// Returns the positions of type items in order: these, with those of resources among them.
+fn with_resources(
+    alloc: Global,
+    items: &Named<ItemKind>,
+    numbers: &[usize],
+) -> Result<Vec<usize>, AllocError>
+    ensures { IfOk result (λ order. order.items ≡ merged numbers.now (positions_of resource_listed 0 items.now)) }
+{
+    let mut order = Vec::new(alloc);
+    let mut next = 0;
+    for i in 0..items.len() {
+        let (name, item) = items.entry_at(i);
+        let is_resource = is_resource(name, *item);
+        next = add_resource(&mut order, numbers, next, i, is_resource)?;
+    }
+    add_from(&mut order, numbers, next)?;
+    Ok(order)
 }
 
 /// Returns the positions of the type items in order.
 fn type_order(types: &Types, items: &Named<ItemKind>) -> Result<Vec<usize>, AllocError>
     requires { AreHeld types.now items.now }
-    ensures { IfOk result (λ order. Takes (Reaches types.now items.now) (is_type_at items.now) order.items) }
+    ensures { IfOk result (λ order. Takes (ReachesType types.now items.now) (is_type_at items.now) order.items) }
 {
     let chosen = type_flags(types, items)?;
-    order_chosen(types, items, chosen.as_slice())
+    let plain = order_chosen(types, items, chosen.as_slice())?;
+    with_resources(types.allocator(), items, plain.as_slice())
 }
 
 /// Returns the numbers of the items in groups: instances, type items, the rest.
@@ -113,8 +201,8 @@ fn groups(
 /// has for each item the items of the side that it depends on; no item may depend on itself through others.
 ///
 /// First come the instances, then the type items, then the rest, each directly after the items that it depends on. The
-/// type items come in the order of [`interface_order`](crate::interface_order), the others as they are listed. Takes
-/// linear time, up to a logarithm, without recursion.
+/// type items come in the order of [`interface_order`](crate::interface_order), but that none waits for a resource which
+/// it does not depend on. The others come as they are listed. Takes linear time, up to a logarithm, without recursion.
 ///
 /// # Errors
 /// - `AllocError` if out of memory.

@@ -1,12 +1,12 @@
 use Rattle.std.proofs.Common.{ap, ◌∙◌, ◌≡◌, length, map, arith, ◌++◌, ◌∷◌, []}
-use Rattle.wac_types_collection.specs.collection.Bound.{lists_type}
+use Rattle.wac_encode_order.specs.private.Merging.{lists_plain_type}
 use Rattle.wac_encode_order.proofs.Listing.{mapped-next, taken-all}
 use Rattle.wac_encode_order.proofs.side.type_flags.Goals as goal
 
 pub loop-i-preserved : goal.loop-i-preserved
-loop-i-preserved c = mapped-next lists_type c.args.items.now c.loop-i.i (c.entry_at.result.0.now, c.entry_at.result.1.now) c.loop-i.chosen.items c.push.new.self.items c.entry_at.ensures c.loop-i.invariant (c.in_ok-push.ensures.items ∙ ap (λ b. c.loop-i.chosen.items ++ b ∷ []) c.is_type_item.ensures)
+loop-i-preserved c = mapped-next lists_plain_type c.args.items.now c.loop-i.i (c.entry_at.result.0.now, c.entry_at.result.1.now) c.loop-i.chosen.items c.push.new.self.items c.entry_at.ensures c.loop-i.invariant (c.in_ok-push.ensures.items ∙ ap (λ b. c.loop-i.chosen.items ++ b ∷ []) c.is_plain_type.ensures)
 
 pub returns : goal.returns
 returns c =
     let whole : c.loop-i.i ≡ length c.args.items.now = (let l = c.len-i-end.ensures in let f = c.loop-i-test.false in let m = c.loop-i.auto.i-end in omega (arith, l, f, m)) in
-    c.loop-i.invariant ∙ ap (map lists_type) (taken-all c.args.items.now c.loop-i.i whole)
+    c.loop-i.invariant ∙ ap (map lists_plain_type) (taken-all c.args.items.now c.loop-i.i whole)
