@@ -2,3 +2,5 @@ pub mod StillOpen
 pub mod Saying
 pub mod Added
 pub mod lemmas
+pub mod OpenScopes
+pub mod RootItems

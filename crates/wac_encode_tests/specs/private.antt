@@ -1,1 +1,3 @@
 pub mod examples
+pub mod Stacks
+pub mod Opened

@@ -16,11 +16,15 @@ mod modules;
 #[cfg(test)]
 mod nested;
 #[cfg(test)]
+mod opened;
+#[cfg(test)]
 mod roots;
 #[cfg(test)]
 mod rows;
 #[cfg(test)]
 mod scopes;
+#[cfg(test)]
+mod stacks;
 #[cfg(test)]
 mod states;
 #[cfg(test)]

@@ -14,6 +14,9 @@ use wac_types_shapes::{
 /// A name, and the place of what it is of.
 pub type Item = (&'static str, usize);
 
+/// The name of a used type, the place of the instance that exports it, and its name there.
+pub type Use = (&'static str, usize, &'static str);
+
 /// An item that a row adds to those before it, each of which it means by its place.
 #[derive(Clone, Copy)]
 pub enum Row {
@@ -33,6 +36,8 @@ pub enum Row {
     Record(&'static [Item]),
     /// A new resource.
     Resource,
+    /// An alias of this name, of a resource that the instance at a place owns, which comes first.
+    AliasOf(&'static str, usize, usize),
     /// The type of a handle to a resource.
     Own(usize),
     /// A function of these parameters, and of what it gives.
@@ -41,6 +46,8 @@ pub enum Row {
     Async(&'static [Item], Option<usize>),
     /// An instance of an interface of this id, which lists these.
     Instance(Option<&'static str>, &'static [Item]),
+    /// An instance of an interface of this id, which uses and lists these.
+    User(Option<&'static str>, &'static [Use], &'static [Item]),
     /// A component of a world of this id, which imports and exports these.
     Component(Option<&'static str>, &'static [Item], &'static [Item]),
     /// The type of a function, of an instance or of a component.
@@ -94,10 +101,12 @@ impl Items {
         match row {
             Row::Primitive(primitive) => value_item(ValueType::Primitive(primitive)),
             Row::Resource => self.new_resource(rt),
+            Row::AliasOf(name, owner, of) => self.resource_alias(rt, name, owner, of),
             Row::Own(of) => value_item(ValueType::Own(self.resource(rt, of))),
             Row::Func(params, returned) => self.function(rt, params, returned, false),
             Row::Async(params, returned) => self.function(rt, params, returned, true),
-            Row::Instance(id, exports) => self.instance(rt, id, exports),
+            Row::Instance(id, exports) => self.instance(rt, id, &[], exports),
+            Row::User(id, uses, exports) => self.instance(rt, id, uses, exports),
             Row::Component(id, imports, exports) => self.component(rt, id, imports, exports),
             Row::TypeOf(of) => ItemKind::TypeItem(self.kind(rt, of).ty()),
             Row::Value(of) => ItemKind::Value(self.value(rt, of)),
@@ -168,6 +177,18 @@ impl Items {
         }
     }
 
+    /// The resources of the items, without aliases.
+    pub fn resources(&self, rt: &impl Abort) -> Vec<ResourceId> {
+        let mut resources = Vec::new(self.types.allocator());
+        for kind in &self.kinds {
+            if let ItemKind::TypeItem(Type::Resource(id)) = *kind {
+                let end = self.types.resolve_resource(id);
+                resources.push(end).expect(rt, "room for an id");
+            }
+        }
+        resources
+    }
+
     /// The world of the component at a place.
     pub fn world(&self, rt: &impl Abort, place: usize) -> WorldId {
         match self.kind(rt, place) {
@@ -185,6 +206,14 @@ impl Items {
 
     fn new_resource(&mut self, rt: &impl Abort) -> ItemKind {
         let resource = Resource::new(self.types.allocator(), "r").expect(rt, "a resource");
+        ItemKind::TypeItem(Type::Resource(self.types.add_resource(resource).expect(rt, "its id")))
+    }
+
+    fn resource_alias(&mut self, rt: &impl Abort, name: &str, owner: usize, of: usize) -> ItemKind {
+        let owner = self.interface(rt, owner);
+        let source = self.resource(rt, of);
+        let resource = Resource::alias(self.types.allocator(), name, Some(owner), source);
+        let resource = resource.expect(rt, "a resource");
         ItemKind::TypeItem(Type::Resource(self.types.add_resource(resource).expect(rt, "its id")))
     }
 
@@ -235,9 +264,30 @@ impl Items {
         named
     }
 
-    fn instance(&mut self, rt: &impl Abort, id: Option<&str>, exports: &[Item]) -> ItemKind {
+    fn used<'a>(
+        &self,
+        rt: &impl Abort,
+        uses: &[(&'a str, usize, &'a str)],
+    ) -> Vec<(&'a str, InterfaceId, Option<&'a str>)> {
+        let mut used = Vec::new(self.types.allocator());
+        for (name, place, there) in uses {
+            let interface = self.interface(rt, *place);
+            used.push((*name, interface, Some(*there)))
+                .expect(rt, "room for a use");
+        }
+        used
+    }
+
+    fn instance(
+        &mut self,
+        rt: &impl Abort,
+        id: Option<&str>,
+        uses: &[Use],
+        exports: &[Item],
+    ) -> ItemKind {
+        let uses = self.used(rt, uses);
         let exports = self.named(rt, exports);
-        let interface = Interface::new(self.types.allocator(), id, &exports);
+        let interface = Interface::with_uses(self.types.allocator(), id, &uses, &exports);
         let interface = interface.expect(rt, "an interface");
         ItemKind::Instance(self.types.add_interface(interface).expect(rt, "its id"))
     }

@@ -10,3 +10,4 @@ pub mod PlaceRows
 pub mod NestedRows
 pub mod PlanRows
 pub mod WorldRows
+pub mod TreeRows

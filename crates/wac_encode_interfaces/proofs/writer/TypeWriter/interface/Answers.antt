@@ -1,0 +1,110 @@
+use Rattle.std.specs.Prelude.{◌≡◌, ℕ, ◌-◌, List, [], ◌++◌, take, reverse}
+use Rattle.std.proofs.Common.{ap, sym, subst, ◌∙◌}
+use Rattle.wac_encode_interfaces.specs.declared.level.Level.{Level}
+use Rattle.wac_encode_interfaces.specs.private.Nests.{Nest, IsFilled}
+use Rattle.wac_encode_interfaces.proofs.Parts.{waited-held, waits-no-more}
+use Rattle.wac_encode_interfaces.proofs.Ended.{first-nest, opened-inside, outer-waits, outer-nest, last-closed, last-level, recorded-as, inner-less, ended-less, waits-left}
+use Rattle.wac_encode_interfaces.proofs.writer.TypeWriter.interface.Goals as goal
+
+pub levels-init : goal.levels-init
+levels-init c =
+    subst (λ (ls : List Level). Nest c.args.self.now.types.now c.args.self.now.merged c.args.interface c.args.types_only c.args.state.now c.in_ok-level.level (reverse ls) c.open_level.new.state) (sym c.new-waiting.ensures.items)
+    (first-nest c.args.self.now.types.now c.args.self.now.merged c.args.interface c.args.types_only c.args.state.now c.open_level.new.state c.in_ok-level.level c.in_ok-level.ensures.fresh c.in_ok-level.ensures.level c.in_ok-level.ensures.begins)
+
+pub fill-requires-clause-under_way : goal.fill-requires-clause-under_way
+fill-requires-clause-under_way c = (reverse c.levels.waiting.items, (c.args.interface, c.args.types_only, c.args.state.now, c.levels.invariant, c.requires.ready, c.requires.worlds))
+
+pub open_level-requires-in-Some : goal.open_level-requires-in-Some
+open_level-requires-in-Some c =
+    let keeps = c.in_ok-inside.ensures.keeps c.args.interface c.args.types_only c.args.state.now (reverse c.levels.waiting.items) c.levels.invariant in
+    let waits = subst (IsFilled c.args.self.now.types.now c.fill.new.level) c.in-Some.is c.in_ok-inside.ensures.filled in
+    record { held = waited-held c.args.self.now.types.now c.law.ensures c.fill.new.level keeps.2.0 c.in-Some.inside waits }
+
+pub levels-preserved-in-Continue-branch-5 : goal.levels-preserved-in-Continue-branch-5
+levels-preserved-in-Continue-branch-5 c =
+    let keeps = c.in_ok-inside.ensures.keeps c.args.interface c.args.types_only c.args.state.now (reverse c.levels.waiting.items) c.levels.invariant in
+    let waits = subst (IsFilled c.args.self.now.types.now c.fill.new.level) c.in-Some.is c.in_ok-inside.ensures.filled in
+    let inner = c.in_ok-inner-in-Some in
+    opened-inside c.args.self.now.types.now c.args.self.now.merged c.args.interface c.args.types_only c.args.state.now c.fill.new.state c.open_level-in-Some.new.state c.fill.new.level inner.inner c.replace-outer.result c.replace-outer.new.dest c.levels.waiting.items c.push.new.self.items c.in-Some.inside keeps waits
+    inner.ensures.fresh inner.ensures.level inner.ensures.begins c.replace-outer.ensures.value c.replace-outer.ensures.after c.in_ok-push-in-Some.ensures.items
+
+pub levels-smaller-in-Continue-branch-5 : goal.levels-smaller-in-Continue-branch-5
+levels-smaller-in-Continue-branch-5 c =
+    let keeps = c.in_ok-inside.ensures.keeps c.args.interface c.args.types_only c.args.state.now (reverse c.levels.waiting.items) c.levels.invariant in
+    let waits = subst (IsFilled c.args.self.now.types.now c.fill.new.level) c.in-Some.is c.in_ok-inside.ensures.filled in
+    let fresh = c.in_ok-inner-in-Some.ensures.fresh in
+    inner-less c.args.self.now.types.now c.law.ensures c.levels.waiting.items c.push.new.self.items c.levels.level c.fill.new.level c.replace-outer.result c.replace-outer.new.dest c.in-Some.inside keeps.2.0 waits
+    c.in_ok-inside.ensures.same c.in_ok-inside.ensures.further c.replace-outer.ensures.value c.in_ok-push-in-Some.ensures.items
+    (ap (λ (k : Level). k.interface) c.replace-outer.ensures.after ∙ fresh.0) (ap (λ (k : Level). k.next) c.replace-outer.ensures.after ∙ fresh.2)
+
+pub close_level-requires-clause-under_way : goal.close_level-requires-clause-under_way
+close_level-requires-clause-under_way c =
+    let keeps = c.in_ok-inside.ensures.keeps c.args.interface c.args.types_only c.args.state.now (reverse c.levels.waiting.items) c.levels.invariant in
+    (reverse c.levels.waiting.items, (c.args.interface, c.args.types_only, c.args.state.now, keeps, c.requires.ready, c.requires.worlds))
+
+pub close_level-requires-clause-ended : goal.close_level-requires-clause-ended
+close_level-requires-clause-ended c = subst (IsFilled c.args.self.now.types.now c.fill.new.level) c.in-None.is c.in_ok-inside.ensures.filled
+
+pub returns-in_default-clause-goes : goal.returns-in_default-clause-goes
+returns-in_default-clause-goes c =
+    let keeps = c.in_ok-inside.ensures.keeps c.args.interface c.args.types_only c.args.state.now (reverse c.levels.waiting.items) c.levels.invariant in
+    let closed = c.in_ok-index-in-None.ensures.closed c.args.interface c.args.types_only c.args.state.now (reverse c.levels.waiting.items) keeps c.requires.ready in
+    let rest : c.pop.new.self.items ≡ [] = c.in_default.ensures.rest ∙ ap (λ (k : ℕ). take (k - 1) c.levels.waiting.items) c.in_default.ensures.cases.0 in
+    let none : c.levels.waiting.items ≡ [] = c.in_default.ensures.items ∙ ap (λ (ls : List Level). ls ++ []) rest in
+    (last-closed c.args.self.now.types.now c.args.self.now.merged c.args.interface c.args.types_only c.args.state.now c.close_level.new.state c.levels.waiting.items c.in_ok-index-in-None.index none closed).0
+
+pub returns-in_default-clause-is : goal.returns-in_default-clause-is
+returns-in_default-clause-is c =
+    let keeps = c.in_ok-inside.ensures.keeps c.args.interface c.args.types_only c.args.state.now (reverse c.levels.waiting.items) c.levels.invariant in
+    let closed = c.in_ok-index-in-None.ensures.closed c.args.interface c.args.types_only c.args.state.now (reverse c.levels.waiting.items) keeps c.requires.ready in
+    let rest : c.pop.new.self.items ≡ [] = c.in_default.ensures.rest ∙ ap (λ (k : ℕ). take (k - 1) c.levels.waiting.items) c.in_default.ensures.cases.0 in
+    let none : c.levels.waiting.items ≡ [] = c.in_default.ensures.items ∙ ap (λ (ls : List Level). ls ++ []) rest in
+    (last-closed c.args.self.now.types.now c.args.self.now.merged c.args.interface c.args.types_only c.args.state.now c.close_level.new.state c.levels.waiting.items c.in_ok-index-in-None.index none closed).1
+
+pub returns-in_default-clause-recorded : goal.returns-in_default-clause-recorded
+returns-in_default-clause-recorded c =
+    let keeps = c.in_ok-inside.ensures.keeps c.args.interface c.args.types_only c.args.state.now (reverse c.levels.waiting.items) c.levels.invariant in
+    let rest : c.pop.new.self.items ≡ [] = c.in_default.ensures.rest ∙ ap (λ (k : ℕ). take (k - 1) c.levels.waiting.items) c.in_default.ensures.cases.0 in
+    let none : c.levels.waiting.items ≡ [] = c.in_default.ensures.items ∙ ap (λ (ls : List Level). ls ++ []) rest in
+    recorded-as c.args.self.now.types.now c.args.self.now.merged c.args.types_only c.args.interface c.close_level.new.state c.fill.new.level c.in_ok-index-in-None.index
+    (last-level c.args.self.now.types.now c.args.self.now.merged c.args.interface c.args.types_only c.args.state.now c.fill.new.state c.fill.new.level c.levels.waiting.items none keeps c.requires.ready) c.in_ok-index-in-None.ensures.recorded
+
+pub export_next-requires-clause-under_way : goal.export_next-requires-clause-under_way
+export_next-requires-clause-under_way c =
+    let keeps = c.in_ok-inside.ensures.keeps c.args.interface c.args.types_only c.args.state.now (reverse c.levels.waiting.items) c.levels.invariant in
+    let us = c.pop.new.self.items in
+    let outer = c.in-Some-pop.outer in
+    let closed = c.in_ok-index-in-None.ensures.closed c.args.interface c.args.types_only c.args.state.now (reverse c.levels.waiting.items) keeps c.requires.ready in
+    let nest = outer-nest c.args.self.now.types.now c.args.self.now.merged c.args.interface c.args.types_only c.args.state.now c.fill.new.state c.close_level.new.state c.fill.new.level outer c.levels.waiting.items us c.in_ok-index-in-None.index c.in-Some-pop.ensures.items c.requires.ready closed in
+    (reverse us, (c.args.interface, c.args.types_only, c.args.state.now, nest, c.requires.ready, c.requires.worlds))
+
+pub export_next-requires-clause-known : goal.export_next-requires-clause-known
+export_next-requires-clause-known c =
+    let keeps = c.in_ok-inside.ensures.keeps c.args.interface c.args.types_only c.args.state.now (reverse c.levels.waiting.items) c.levels.invariant in
+    let waits = outer-waits c.args.self.now.types.now c.args.self.now.merged c.args.interface c.args.types_only c.args.state.now c.fill.new.state c.close_level.new.state c.fill.new.level c.in-Some-pop.outer c.levels.waiting.items c.pop.new.self.items c.in_ok-index-in-None.index c.in-Some-pop.ensures.items c.requires.ready keeps in
+    let recorded = c.in_ok-index-in-None.ensures.recorded waits.1 in
+    waits-no-more c.args.self.now.types.now c.args.self.now.merged c.close_level.new.state c.in-Some-pop.outer c.fill.new.level.interface waits.0 (recorded.0, c.in_ok-index-in-None.index, recorded.1)
+
+pub export_next-requires-clause-left : goal.export_next-requires-clause-left
+export_next-requires-clause-left c =
+    let keeps = c.in_ok-inside.ensures.keeps c.args.interface c.args.types_only c.args.state.now (reverse c.levels.waiting.items) c.levels.invariant in
+    let waits = outer-waits c.args.self.now.types.now c.args.self.now.merged c.args.interface c.args.types_only c.args.state.now c.fill.new.state c.close_level.new.state c.fill.new.level c.in-Some-pop.outer c.levels.waiting.items c.pop.new.self.items c.in_ok-index-in-None.index c.in-Some-pop.ensures.items c.requires.ready keeps in
+    waits-left c.args.self.now.types.now c.in-Some-pop.outer c.fill.new.level.interface waits.0
+
+pub export_next-requires-clause-small : goal.export_next-requires-clause-small
+export_next-requires-clause-small c =
+    let keeps = c.in_ok-inside.ensures.keeps c.args.interface c.args.types_only c.args.state.now (reverse c.levels.waiting.items) c.levels.invariant in
+    let waits = outer-waits c.args.self.now.types.now c.args.self.now.merged c.args.interface c.args.types_only c.args.state.now c.fill.new.state c.close_level.new.state c.fill.new.level c.in-Some-pop.outer c.levels.waiting.items c.pop.new.self.items c.in_ok-index-in-None.index c.in-Some-pop.ensures.items c.requires.ready keeps in
+    waits.0.4
+
+pub levels-preserved : goal.levels-preserved
+levels-preserved c =
+    let keeps = c.in_ok-inside.ensures.keeps c.args.interface c.args.types_only c.args.state.now (reverse c.levels.waiting.items) c.levels.invariant in
+    let us = c.pop.new.self.items in
+    let outer = c.in-Some-pop.outer in
+    let closed = c.in_ok-index-in-None.ensures.closed c.args.interface c.args.types_only c.args.state.now (reverse c.levels.waiting.items) keeps c.requires.ready in
+    let nest = outer-nest c.args.self.now.types.now c.args.self.now.merged c.args.interface c.args.types_only c.args.state.now c.fill.new.state c.close_level.new.state c.fill.new.level outer c.levels.waiting.items us c.in_ok-index-in-None.index c.in-Some-pop.ensures.items c.requires.ready closed in
+    c.in_ok-export_next-in-None.ensures.keeps c.args.interface c.args.types_only c.args.state.now (reverse us) nest
+
+pub levels-smaller : goal.levels-smaller
+levels-smaller c = ended-less c.args.self.now.types.now c.levels.waiting.items c.pop.new.self.items c.levels.level c.in-Some-pop.outer c.export_next.new.level c.in-Some-pop.ensures.items c.in_ok-export_next-in-None.ensures.level

@@ -1,0 +1,28 @@
+use Rattle.wac_types_shapes.specs.declared.shapes.component.ValueType.TheVariants as val
+use Rattle.wac_types_shapes.specs.declared.shapes.component.«Type».TheVariants as ty
+use Rattle.wac_encode_scopes.specs.States.{Goes, IsTypeAt}
+use Rattle.wac_encode_scopes.specs.Components.{DefinesPrimitiveType}
+use Rattle.wac_encode_scopes.proofs.Stepped.{goes-none}
+use Rattle.wac_encode_interfaces.proofs.Written.{if-ok, ok-of, indexed-at, primitive-goes, primitive-at}
+use Rattle.wac_encode_interfaces.proofs.writer.TypeWriter.primitive.Goals as goal
+
+pub returns-in-Some-clause-goes : goal.returns-in-Some-clause-goes
+returns-in-Some-clause-goes c = goes-none c.still_law.ensures c.args.self.now.merged c.args.state.now c.args.self.now.types.now
+
+pub returns-in-Some-clause-is : goal.returns-in-Some-clause-is
+returns-in-Some-clause-is c = indexed-at c.step_law.ensures.stands_recorded c.args.self.now.types.now c.args.self.now.merged c.args.state.now (ty.Value (val.Primitive c.args.primitive)) c.index.result c.in-Some.index c.in-Some.is c.index.ensures.some
+
+pub returns-in-None-clause-goes : goal.returns-in-None-clause-goes
+returns-in-None-clause-goes c =
+    let t = c.args.self.now.types.now in
+    let b = c.args.self.now.merged in
+    ok-of (DefinesPrimitiveType c.args.primitive c.args.state.now c.define_primitive.new.self) (Goes t b c.args.state.now c.define_primitive.new.self) c.define_primitive.result
+    (λ k h. primitive-goes t b c.args.primitive c.args.state.now c.define_primitive.new.self k h) c.define_primitive.ensures.defines
+
+pub returns-in-None-clause-is : goal.returns-in-None-clause-is
+returns-in-None-clause-is c =
+    let t = c.args.self.now.types.now in
+    let b = c.args.self.now.merged in
+    let a = ty.Value (val.Primitive c.args.primitive) in
+    if-ok (DefinesPrimitiveType c.args.primitive c.args.state.now c.define_primitive.new.self) (IsTypeAt t b c.define_primitive.new.self a) c.define_primitive.result
+    (λ k h. primitive-at t b c.args.primitive a c.args.state.now c.define_primitive.new.self k c.requires h) c.define_primitive.ensures.defines

@@ -1,0 +1,26 @@
+use Rattle.std.proofs.Common.{sym, refl, ◌∙◌}
+use Rattle.wac_encode_stacks.specs.Scopes.{index_at, listed}
+use Rattle.wac_encode_scopes.proofs.Stepped.{goes-none}
+use Rattle.wac_encode_interfaces.proofs.Written.{on-ok, named-at}
+use Rattle.wac_encode_interfaces.proofs.writer.TypeWriter.record_item.Goals as goal
+
+pub returns-in_default-clause-goes : goal.returns-in_default-clause-goes
+returns-in_default-clause-goes c = λ h. goes-none c.still_law.ensures c.args.self.now.merged c.args.state.now c.args.self.now.types.now
+
+pub returns-in_default-clause-records : goal.returns-in_default-clause-records
+returns-in_default-clause-records c = ((λ o. o), record { here = refl; other = refl; content = refl; around = refl })
+
+pub returns-then-is_listed-clause-goes : goal.returns-then-is_listed-clause-goes
+returns-then-is_listed-clause-goes c = λ h. goes-none c.still_law.ensures c.args.self.now.merged c.args.state.now c.args.self.now.types.now
+
+pub returns-then-is_listed-clause-records : goal.returns-then-is_listed-clause-records
+returns-then-is_listed-clause-records c = ((λ o. o), record { here = refl; other = refl; content = refl; around = refl })
+
+pub returns-clause-goes : goal.returns-clause-goes
+returns-clause-goes c =
+    let t = c.args.self.now.types.now in
+    let b = c.args.self.now.merged in
+    on-ok c.record.result (λ h names. h t (named-at t c.law.ensures b c.args.state.now c.args.item c.in-Some.ty c.args.index (sym c.recorded_type.ensures ∙ c.in-Some.is) names)) c.record.ensures.goes
+
+pub returns-clause-records : goal.returns-clause-records
+returns-clause-records c = on-ok c.record.result (λ h. (index_at c.in-Some.ty listed c.args.index, h)) c.record.ensures.records

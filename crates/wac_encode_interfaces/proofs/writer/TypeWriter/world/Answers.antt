@@ -1,0 +1,33 @@
+use Rattle.std.specs.Prelude.{Some}
+use Rattle.std.proofs.Common.{sym}
+use Rattle.wac_types_shapes.specs.declared.shapes.component.«Type».TheVariants as ty
+use Rattle.wac_encode_stacks.specs.Scopes.{defined}
+use Rattle.wac_encode_scopes.specs.States.{Goes, IsRecordedAt, IsTypeAt}
+use Rattle.wac_encode_scopes.specs.Components.{DefinesComponent}
+use Rattle.wac_encode_scopes.proofs.Stepped.{goes-none}
+use Rattle.wac_encode_interfaces.specs.Worlds.{written_in}
+use Rattle.wac_encode_interfaces.proofs.Written.{if-ok, ok-of, indexed-at, type-at, has-world, world-goes}
+use Rattle.wac_encode_interfaces.proofs.writer.TypeWriter.world.Goals as goal
+
+pub returns-in-Some-clause-goes : goal.returns-in-Some-clause-goes
+returns-in-Some-clause-goes c = goes-none c.still_law.ensures c.args.self.now.merged c.args.state.now c.args.self.now.types.now
+
+pub returns-in-Some-clause-is : goal.returns-in-Some-clause-is
+returns-in-Some-clause-is c = indexed-at c.step_law.ensures.stands_recorded c.args.self.now.types.now c.args.self.now.merged c.args.state.now (ty.World c.args.world) c.index.result c.in-Some.index c.in-Some.is c.index.ensures.some
+
+pub unreachable-requires : goal.unreachable-requires
+unreachable-requires c = has-world c.args.self.now.types.now (written_in c.args.self.now.worlds.now) c.args.world (sym c.in_default-get.ensures) c.requires.written
+
+pub returns-clause-goes : goal.returns-clause-goes
+returns-clause-goes c =
+    let t = c.args.self.now.types.now in
+    let b = c.args.self.now.merged in
+    ok-of (DefinesComponent b (Some c.args.world) c.in-Some-get.component.now c.args.state.now c.define_component.new.self) (Goes t b c.args.state.now c.define_component.new.self) c.define_component.result
+    (λ k h. world-goes t b (written_in c.args.self.now.worlds.now) c.args.world c.in-Some-get.component.now c.args.state.now c.define_component.new.self k c.requires.writer.worlds (sym c.in-Some-get.ensures) h) c.define_component.ensures.defines
+
+pub returns-clause-is : goal.returns-clause-is
+returns-clause-is c =
+    let t = c.args.self.now.types.now in
+    let b = c.args.self.now.merged in
+    if-ok (IsRecordedAt b c.define_component.new.self (ty.World c.args.world) defined) (IsTypeAt t b c.define_component.new.self (ty.World c.args.world)) c.define_component.result
+    (λ k h. type-at c.step_law.ensures.stands_recorded t b c.define_component.new.self (ty.World c.args.world) defined k h) c.define_component.ensures.recorded

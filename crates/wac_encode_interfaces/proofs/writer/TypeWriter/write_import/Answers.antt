@@ -1,0 +1,35 @@
+use Rattle.std.proofs.Common.{ℕ, ◌≡◌, ◌+◌, nat_le, Some, ap, sym, ◌∙◌, subst, arith, slice_get}
+use Rattle.wac_types_shapes.specs.primitives.Name.{Name}
+use Rattle.wac_types_shapes.specs.primitives.Tree.{imported, exported}
+use Rattle.wac_types_shapes.specs.declared.shapes.component.ItemKind.{ItemKind}
+use Rattle.wac_encode_faults.specs.Cycle.{numbered_items}
+use Rattle.wac_encode_interfaces.specs.Worlds.{written_in}
+use Rattle.wac_encode_interfaces.specs.private.Written.{side_item}
+use Rattle.wac_encode_interfaces.specs.private.Parts.{sides_in, WritesItem}
+use Rattle.wac_encode_interfaces.proofs.Bound.{one-some}
+use Rattle.wac_encode_interfaces.proofs.Written.{on-ok}
+use Rattle.wac_encode_interfaces.proofs.Sided.{import-item, export-item, number-of}
+use Rattle.wac_encode_interfaces.proofs.writer.TypeWriter.write_import.Goals as goal
+
+pub write_item-requires-clause-item : goal.write_item-requires-clause-item
+write_item-requires-clause-item c =
+    import-item c.args.self.now.types.now c.args.self.now.merged (written_in c.args.self.now.worlds.now) c.args.parts.now c.requires.planned c.args.position c.entry_at.result.0.now c.entry_at.result.1.now (nat_le c.len.result c.args.position) c.entry_at.ensures
+    (ap (λ (m : ℕ). nat_le m c.args.position) c.len.ensures)
+
+pub write_item-requires-clause-number : goal.write_item-requires-clause-number
+write_item-requires-clause-number c =
+    let same : 0 + c.args.position ≡ c.args.position = omega arith in
+    subst (λ (m : ℕ). slice_get (numbered_items (sides_in c.args.parts.now)) m ≡ Some (side_item imported c.entry_at.result.0.now)) same
+    (number-of c.args.self.now.types.now c.args.self.now.merged (written_in c.args.self.now.worlds.now) c.args.parts.now c.requires.planned imported c.args.position c.entry_at.result.0.now c.entry_at.result.1.now c.entry_at.ensures)
+
+pub write_item-requires-clause-next : goal.write_item-requires-clause-next
+write_item-requires-clause-next c = c.requires.next c.entry_at.result.0.now c.entry_at.result.1.now c.entry_at.ensures
+
+pub returns : goal.returns
+returns c = record {
+  writes =
+      on-ok c.write_item.result (λ h n k at.
+      let same = one-some {A = Name × ItemKind} (c.entry_at.result.0.now, c.entry_at.result.1.now) (n, k) (sym c.entry_at.ensures ∙ at) in
+      subst (λ (e : Name × ItemKind). WritesItem c.args.self.now.types.now c.args.self.now.merged c.args.parts.now imported e.0 c.args.state.now c.write_item.new.state) same h)
+      c.write_item.ensures.writes;
+}

@@ -1,0 +1,9 @@
+pub mod Worlds
+pub mod Items
+pub mod Writers
+pub mod Trees
+pub mod Ready
+pub mod Given
+pub mod Ids
+pub mod WorldTrees
+pub mod private
