@@ -52,7 +52,8 @@ use Rattle.wac_encode_faults.specs.Free as free
 use Rattle.wac_encode_faults.specs.Cycle.{ItemDependsOn}
 use Rattle.wac_encode_interfaces.specs.Items.{IsItemReady, HasInterfaceOf, AddsItem, AddsBeside, AddsTree}
 use Rattle.wac_encode_interfaces.specs.Ready.{IsClean, IsInterfaceClean, IsInterfaceReady, AreSidesClean}
-use Rattle.wac_encode_interfaces.specs.Trees.{interface_tree, types_tree, additional_tree, side_trees, IsInterfaceHeld}
+use Rattle.wac_encode_faults.specs.Trees.{types_tree, additional_tree, side_trees}
+use Rattle.wac_encode_interfaces.specs.Trees.{interface_tree, IsInterfaceHeld}
 use Rattle.wac_encode_interfaces.specs.Worlds.{Worlds, HaveWorlds, HaveInterfaceWorlds}
 use Rattle.wac_encode_interfaces.specs.private.Written.{side_item, is_bound_at, begins_with, bound_so_far, listed_so_far, IsWritten, IsNext, IsItemOf, AreWritable, AddsToSide}
 use Rattle.wac_encode_interfaces.specs.private.Parts.{ListsInterface, interface_of, resource_of}

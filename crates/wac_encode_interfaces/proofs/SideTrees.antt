@@ -22,7 +22,7 @@ use Rattle.wac_encode_scopes.specs.declared.state.State.{State}
 use Rattle.wac_encode_scopes.specs.States.{stack}
 use Rattle.wac_encode_faults.specs.Sides.{Sides, all_imports, import_bindings, side_bindings}
 use Rattle.wac_encode_faults.specs.Free.{SideItem}
-use Rattle.wac_encode_interfaces.specs.Trees.{item_trees, additional_tree, additional_trees, side_trees, sides_tree}
+use Rattle.wac_encode_faults.specs.Trees.{item_trees, additional_tree, additional_trees, side_trees, sides_tree}
 use Rattle.wac_encode_interfaces.specs.private.Written.{side_item, is_under, bound_so_far, listed_so_far, IsItemOf, IsWritten, AddsToSide}
 use Rattle.wac_encode_interfaces.proofs.Bound.{true-false, no-some, both-true, true-both, same-sides, side-itself, any-in, in-any, found-in, items_of_side}
 

@@ -25,7 +25,7 @@ use Rattle.wac_encode_faults.specs.declared.fault.WriteFault.TheVariants as faul
 use Rattle.wac_encode_interfaces.specs.declared.sides.Sides.{Sides as GivenSides}
 use Rattle.wac_encode_interfaces.specs.declared.worlds.WorldTypes.{WorldTypes}
 use Rattle.wac_encode_interfaces.specs.Given.{AreHeldSides, HaveSidesWorlds}
-use Rattle.wac_encode_interfaces.specs.Trees.{sides_tree}
+use Rattle.wac_encode_faults.specs.Trees.{sides_tree}
 use Rattle.wac_encode_interfaces.specs.Worlds.{Worlds, AreWorldTypes, HaveWorlds, written_in}
 use Rattle.wac_encode_interfaces.specs.Ready.{IsClean, AreSidesClean}
 use Rattle.wac_encode_interfaces.specs.private.InnerTypes.{interface_or_world, IsInnerFirst, IsWorldType, HaveInner, KeepsWorlds}

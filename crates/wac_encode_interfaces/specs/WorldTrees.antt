@@ -6,7 +6,7 @@ use Rattle.wac_types_shapes.specs.declared.shapes.component.«Type».TheVariants
 use Rattle.wac_types_collection.specs.collection.Collection.{Collection, IsWellFormed, item_at}
 use Rattle.wac_types_collection.specs.collection.Bound.{Bindings, held_tree}
 use Rattle.wac_encode_faults.specs.Sides.{world_sides}
-use Rattle.wac_encode_interfaces.specs.Trees.{sides_tree}
+use Rattle.wac_encode_faults.specs.Trees.{sides_tree}
 
 -- The tree of a world, under all bindings, is the tree of the component type with its sides.
 abbrev pub IsTreeOfItsSides : Type 0

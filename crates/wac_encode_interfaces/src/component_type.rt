@@ -17,7 +17,7 @@ ghost use Rattle.wac_encode_scopes.specs.States.{Goes};
 ghost use Rattle.wac_encode_faults.specs.Cycle.{numbered_items, owner_of};
 ghost use Rattle.wac_encode_faults.specs.Sides.{export_bindings};
 ghost use Rattle.wac_encode_interfaces.specs.Items.{HasInterfaceOf};
-ghost use Rattle.wac_encode_interfaces.specs.Trees.{sides_tree};
+ghost use Rattle.wac_encode_faults.specs.Trees.{sides_tree};
 ghost use Rattle.wac_encode_interfaces.specs.Given.{sides_of, AreHeldItems, AreHeldSides, HaveSidesWorlds};
 ghost use Rattle.wac_encode_interfaces.specs.Ready.{AreSidesClean, IsInterfaceReady};
 ghost use Rattle.wac_encode_interfaces.specs.Worlds.{HaveInterfaceWorlds, written_in};

@@ -20,7 +20,7 @@ use Rattle.wac_encode_scopes.specs.States.{stack}
 use Rattle.wac_encode_faults.specs.Sides.{Sides, all_imports, export_bindings}
 use Rattle.wac_encode_faults.specs.Free.{SideItem}
 use Rattle.wac_encode_faults.specs.Cycle.{ItemDependsOn}
-use Rattle.wac_encode_interfaces.specs.Trees.{side_trees}
+use Rattle.wac_encode_faults.specs.Trees.{side_trees}
 use Rattle.wac_encode_interfaces.specs.Ready.{AreSidesClean}
 use Rattle.wac_encode_interfaces.specs.Worlds.{Worlds, HaveWorlds, HaveInterfaceWorlds}
 

@@ -5,7 +5,7 @@ use Rattle.wac_encode_faults.specs.Sides.{world_sides}
 use Rattle.wac_encode_scopes.specs.Components.{ComponentHasMeaning, component_tree}
 use Rattle.wac_encode_interfaces.specs.Worlds.{written_in}
 use Rattle.wac_encode_interfaces.specs.Ready.{AreSidesClean}
-use Rattle.wac_encode_interfaces.specs.Trees.{sides_tree}
+use Rattle.wac_encode_faults.specs.Trees.{sides_tree}
 use Rattle.wac_encode_interfaces.specs.private.InnerTypes.{IsWorldType}
 use Rattle.wac_encode_interfaces.proofs.Written.{if-ok}
 use Rattle.wac_encode_interfaces.proofs.WorldsAhead.{clean-sides, is-world-type, world-held-items, world-inner, held-as, worlds-as}

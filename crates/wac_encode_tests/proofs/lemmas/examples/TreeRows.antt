@@ -21,7 +21,8 @@ use Rattle.wac_types_collection.specs.collection.Collection.{Collection, empty}
 use Rattle.wac_types_collection.specs.collection.Held.{items_under, part_at}
 use Rattle.wac_types_collection.specs.collection.Bound.{Bindings, held_tree}
 use Rattle.wac_encode_faults.specs.Sides.{world_sides, interface_sides, completed_sides}
-use Rattle.wac_encode_interfaces.specs.Trees.{interface_tree, sides_tree}
+use Rattle.wac_encode_faults.specs.Trees.{sides_tree}
+use Rattle.wac_encode_interfaces.specs.Trees.{interface_tree}
 
 abbrev held : {A : Type 0} → A → Held A
 held a = record { item = a; before = 0 }

@@ -4,7 +4,7 @@ use Rattle.std.proofs.Common.{◌≡◌, ◌++◌, List, refl, subst}
 use Rattle.wac_encode_scopes.specs.Components.{ComponentHasMeaning, component_tree}
 use Rattle.wac_encode_faults.specs.Sides.{Sides, under_id}
 use Rattle.wac_encode_interfaces.specs.Given.{sides_of}
-use Rattle.wac_encode_interfaces.specs.Trees.{sides_tree}
+use Rattle.wac_encode_faults.specs.Trees.{sides_tree}
 use Rattle.wac_encode_interfaces.specs.Worlds.{written_in}
 use Rattle.wac_encode_interfaces.proofs.Begun.{joined-held, planned-parts, parted-are, of-ok}
 use Rattle.wac_encode_interfaces.proofs.writer.TypeWriter.component_type.Goals as goal
