@@ -12,3 +12,4 @@ pub mod ListedExample
 pub mod NestedUsesExample
 pub mod UsedValues
 pub mod UsedResources
+pub mod ImportFaults

@@ -16,6 +16,7 @@ ghost use Rattle.wac_merge_classes.specs.entries.Classes.{AreClasses, by_names, 
 ghost use Rattle.wac_merge_classes.specs.terms.Faults.{Fault as AFault, HasFault, HasNoCircle, fault_of, use_each_other};
 ghost use Rattle.wac_merge_classes.specs.terms.NoDisagreement.{HasNoDisagreement};
 ghost use Rattle.wac_merge_classes.specs.terms.Merge.{IsMerge, bound_resource, import_entries, listed_resource, own_resource};
+ghost use Rattle.wac_merge_imports.specs.unions.EntryFaults.{HasFaultsOfEntries};
 ghost use Rattle.wac_merge_imports.specs.unions.MergedScope.{BindsAsClasses, BindsUnder, IsBoundAs};
 ghost use Rattle.wac_merge_imports.specs.unions.OneId.{HasOneIdEach};
 ghost use Rattle.wac_merge_unions.specs.uses.KeptUses.{KeepsUses};
@@ -121,6 +122,7 @@ impl TypeAggregator {
     /// - Each import is a subtype of each entry of its class, and mentions no resource that a later import binds.
     /// - Each named type has one id.
     /// - An instance has the uses that the entries of its class have of earlier imports.
+    /// - An import cannot be written only if an entry of its class cannot, by the same fault.
     ///
     /// # Errors
     /// - [`Disagree`](MergeFault::Disagree) if two entries of one class disagree: the earliest that disagrees with an
@@ -136,6 +138,7 @@ impl TypeAggregator {
         ensures once { IfOk result (λ a. HasOneIdEach types.now self.entries a.merge) }
         ensures uses { IfOk result (λ a. KeepsUses by_names types.now self.entries a.merge) }
         ensures before { IfOk result (λ a. MentionsBefore by_names a.merge) }
+        ensures faults { IfOk result (λ a. HasFaultsOfEntries by_names types.now self.entries a.merge) }
         ensures kept { IfOk result (λ a. IsKeptBy types.now a.merge.types) }
         ensures meant { IfOk result (λ a. KeepsTrees types.now a.merge.types) }
         ensures held { IfOk result (λ a. AreHeld a.merge.types a.merge.imports) }

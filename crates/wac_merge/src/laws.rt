@@ -1,6 +1,7 @@
 //! Laws of classes, faults and the order of imports. Each is brought by a call, for proofs only.
 ghost use Rattle.wac_merge_classes.specs.entries.Classes.{ClassLaws};
 ghost use Rattle.wac_merge_classes.specs.terms.Faults.{OneFault};
+ghost use Rattle.wac_merge.specs.ImportFaults.{ImportFaultLaw};
 ghost use Rattle.wac_merge.specs.OrderLaws.{ListedLaw, OrderLaw, RestsLaw, UsedLaw};
 ghost use Rattle.wac_merge.specs.UsedResources.{UsedResourceLaw};
 ghost use Rattle.wac_merge.specs.UsedValues.{UsedValueLaw};
@@ -45,4 +46,9 @@ pub fn used_value_law()
 /// If a class exports a resource that another one is the first to bind, a use of it from that one is of that type.
 pub fn used_resource_law()
     ensures { UsedResourceLaw }
+{}
+
+/// If an import of a merge cannot be written, an entry of its class cannot be written, by the same fault.
+pub fn import_fault_law()
+    ensures { ImportFaultLaw }
 {}

@@ -1,2 +1,3 @@
 pub mod fitting
 pub mod unions
+pub mod faults

@@ -4,3 +4,4 @@ pub mod SharedUnions
 pub mod OneInterface
 pub mod OneId
 pub mod MergedScope
+pub mod EntryFaults

@@ -17,6 +17,7 @@ ghost use Rattle.wac_merge_classes.specs.terms.ClassOrder.{IsWrittenOrder};
 ghost use Rattle.wac_merge_classes.specs.entries.Classes.{AreClasses, Entry as AnEntry, by_names, class_names, is_asked, same_class};
 ghost use Rattle.wac_merge_classes.specs.terms.Merge.{IsMerge, import_entries, is_on_track};
 ghost use Rattle.wac_merge_imports.specs.private.unions.Basis.{IsBasis, IsBecame};
+ghost use Rattle.wac_merge_imports.specs.unions.EntryFaults.{HasFaultsOfEntries};
 ghost use Rattle.wac_merge_imports.specs.unions.MergedScope.{BindsAsClasses};
 ghost use Rattle.wac_merge_imports.specs.unions.OneId.{AreMadeOnce, HasOneIdEach};
 ghost use Rattle.wac_merge_imports.specs.unions.WritingSteps.{AreImportsMadeOf};
@@ -474,6 +475,7 @@ impl Merged {
         ensures bound { IfOk result (λ m. BindsAsClasses by_names types.now entries.now m) }
         ensures once { IfOk result (λ m. HasOneIdEach types.now entries.now m) }
         ensures uses { IfOk result (λ m. KeepsUses by_names types.now entries.now m) }
+        ensures faults { IfOk result (λ m. HasFaultsOfEntries by_names types.now entries.now m) }
         ensures begins { IfOk result (λ m. IsExtended types.now m.types) }
         ensures holds { IfOk result (λ m. AreHeld m.types m.imports) }
         ensures asked { IfOk result (λ m. AreHeld m.types entries.now) }

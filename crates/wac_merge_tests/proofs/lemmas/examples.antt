@@ -3,3 +3,4 @@ pub mod WayRows
 pub mod PlainInterfaces
 pub mod OneIds
 pub mod AgainRows
+pub mod FaultsOfEntries

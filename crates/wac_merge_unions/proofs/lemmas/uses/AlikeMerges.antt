@@ -122,6 +122,10 @@ module _ (c : Collection) (es : List Entry) (m : Collection) (bare imports : Lis
   pub using-bound : (id n : Name) → bound_resource (record { types = m; imports = imports }) id n ≡ bound_resource (record { types = m; imports = bare }) id n
   using-bound id n = bound-under c m bare imports all-alike id n bare imports all-alike
 
+  -- what they bind at the root
+  pub using-roots : (at : ℕ → ℕ) → root_bindings by_names m imports at ≡ root_bindings by_names m bare at
+  using-roots = roots-same c m bare imports all-alike
+
   pub using-held-all : AreHeld m bare → AreHeld m imports
   using-held-all held p e at = let a = bare-at p e at in using-held c m (uses-at p) (users-of a.0) (a.0).kind e.kind (held p a.0 a.1) (are.kinds p a.0 e a.1 at)
 

@@ -8,6 +8,7 @@ use Rattle.wac_merge_classes.specs.terms.NoDisagreement.{HasNoDisagreement}
 use Rattle.wac_merge_classes.specs.declared.terms.fault.MergeFault.{MergeFault}
 use Rattle.wac_merge_classes.specs.declared.terms.fault.MergeFault.TheVariants.{OutOfMemory}
 use Rattle.wac_merge_unions.specs.uses.KeptUses.{KeepsUses}
+use Rattle.wac_merge_imports.specs.unions.EntryFaults.{HasFaultsOfEntries}
 use Rattle.wac_merge.proofs.BoundLookups.{bindings-kept}
 use Rattle.wac_merge.proofs.FaultLemmas.{exit_cause, exit_refused, names_fault, no_fault, refused_for}
 use Rattle.wac_merge.proofs.MergedMentions.{imports_mention}
@@ -74,6 +75,11 @@ pub returns-clause-uses : goal.returns-clause-uses
 returns-clause-uses c =
     let same : c.as_slice-asked.result.now ≡ c.args.self.entries = c.as_slice-asked.ensures.value ∙ ap (λ (a : Aggregate). a.entries) c.self.view_is in
     subst (λ (es : List Entry). KeepsUses by_names c.args.types.now es c.in_ok-merged.merged) same c.in_ok-merged.ensures.uses
+
+pub returns-clause-faults : goal.returns-clause-faults
+returns-clause-faults c =
+    let same : c.as_slice-asked.result.now ≡ c.args.self.entries = c.as_slice-asked.ensures.value ∙ ap (λ (a : Aggregate). a.entries) c.self.view_is in
+    subst (λ (es : List Entry). HasFaultsOfEntries by_names c.args.types.now es c.in_ok-merged.merged) same c.in_ok-merged.ensures.faults
 
 pub returns-clause-before : goal.returns-clause-before
 returns-clause-before c =

@@ -11,7 +11,8 @@ use Rattle.wac_merge_tables.proofs.lemmas.made.Extending.{extended_twice, still_
 use Rattle.wac_merge_imports.proofs.lemmas.unions.MadeAlike.{one-func}
 use Rattle.wac_merge_imports.proofs.lemmas.unions.OneIds.{apart-named, one-id}
 use Rattle.wac_merge_imports.proofs.lemmas.unions.OneInterface.{one-interface}
-use Rattle.wac_merge_unions.proofs.lemmas.uses.AlikeMerges.{using-held-all, using-keeps, using-merge}
+use Rattle.wac_merge_unions.proofs.lemmas.uses.AlikeMerges.{using-held-all, using-keeps, using-merge, using-roots}
+use Rattle.wac_merge_imports.proofs.lemmas.faults.EntryFaults.{entry_faults}
 use Rattle.wac_merge_imports.proofs.unions.merged.Merged.new.Goals as goal
 
 pub write_imports-requires-clause-each : goal.write_imports-requires-clause-each
@@ -137,6 +138,7 @@ returns c =
         one_interface = one-interface t more es u.roots us ps bs f named positions c.args.order.now bare o assembled imports using;
       };
       uses = using-keeps t es more bare imports using;
+      faults = entry_faults t more es u.roots us ps bs f w.ids w.ws c.args.order.now bare imports all using (using-roots t es more bare imports using (λ i. i));
       begins = all.extended;
       asked = λ i e at. still_holds t more all.extended (kind_type e.kind) (c.requires.held i e at);
       holds = using-held-all t es more bare imports using (imports-held t more es u.roots us ps bs f w.ids w.ws c.args.order.now bare all);
