@@ -5,6 +5,7 @@ pub mod Dependencies
 pub mod Reached
 pub mod UseWalk
 pub mod Needed
+pub mod UsedIds
 pub mod Twice
 pub mod Mentioned
 pub mod Ordering

@@ -1,4 +1,5 @@
 pub mod Sides
+pub mod Ids
 pub mod Free
 pub mod Cycle
 pub mod Faults

@@ -4,6 +4,7 @@ ghost use Rattle.wac_types_shapes.specs.declared.shapes.component.World.{World a
 ghost use Rattle.wac_types_shapes.specs.declared.shapes.component.«Type».TheVariants as ty;
 ghost use Rattle.wac_types_collection.specs.collection.Collection.{HasInterface, item_at, holds_type};
 ghost use Rattle.wac_types_collection.specs.wide.Wide.{AreThere, with_each, each_once, wide_uses as wide_uses_of, wide_uses_of_items as wide_uses_of_all, used_interfaces};
+ghost use Rattle.wac_encode_faults.specs.Ids.{HaveIds};
 ghost use Rattle.wac_encode_faults.specs.Sides.{listed_interfaces, needed_by_imports, needed_by_exports, reached, without, unlisted};
 ghost use Rattle.wac_encode_faults.specs.private.Search.{AreHeld};
 
@@ -22,7 +23,8 @@ pub(crate) fn interface_at(found: &IndexSet<InterfaceId>, index: usize) -> Inter
     found.as_slice()[index]
 }
 
-/// Returns the interfaces that the definition of an interface imports, in order. Takes linear time, without recursion.
+/// Returns the interfaces that the definition of an interface imports, in order. Each has an id. Takes linear time,
+/// without recursion.
 ///
 /// # Errors
 /// - `AllocError` if out of memory.
@@ -31,9 +33,12 @@ pub fn interface_additional(
     id: InterfaceId,
 ) -> Result<IndexSet<InterfaceId>, AllocError>
     requires { HasInterface types.now id }
-    ensures { IfOk result (λ s. s.keys ≡ each_once (reached types.now (wide_uses_of types.now id))) }
+    ensures interfaces { IfOk result (λ s. s.keys ≡ each_once (reached types.now (wide_uses_of types.now id))) }
+    ensures there { IfOk result (λ s. AreThere types.now s.keys) }
+    ensures named { IfOk result (λ s. HaveIds types.now s.keys) }
 {
-    types.law();
+    types.law(); // proof only
+    types.uses_law(); // proof only
     let wide = wide_uses(types, id)?;
     reach_uses(types, &wide)
 }
@@ -148,16 +153,19 @@ fn add_unlisted(
     add_all_unknown(found, &used, listed)
 }
 
-/// Returns the interfaces that the definition of a world imports in addition, in order. Takes linear time, without
-/// recursion.
+/// Returns the interfaces that the definition of a world imports in addition, in order. Each has an id. Takes linear time,
+/// without recursion.
 ///
 /// # Errors
 /// - `AllocError` if out of memory.
 pub fn world_additional(types: &Types, id: WorldId) -> Result<IndexSet<InterfaceId>, AllocError>
     requires { holds_type types.now (ty.World id) ≡ true }
-    ensures { IfOk result (λ s. (x : Worlds) → item_at types.now.worlds id.0 ≡ Some x → s.keys ≡ unlisted types.now x) }
+    ensures interfaces { IfOk result (λ s. (x : Worlds) → item_at types.now.worlds id.0 ≡ Some x → s.keys ≡ unlisted types.now x) }
+    ensures there { IfOk result (λ s. AreThere types.now s.keys) }
+    ensures named { IfOk result (λ s. HaveIds types.now s.keys) }
 {
-    types.law();
+    types.law(); // proof only
+    types.uses_law(); // proof only
     let world = &types[id];
     let mut listed = IndexSet::new(types.allocator());
     add_listed(&mut listed, types, &world.imports)?;

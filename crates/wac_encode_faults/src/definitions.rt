@@ -54,7 +54,6 @@ pub(crate) fn find_interface_fault(
     requires { HasInterface types.now id }
     ensures { IfOk result (IsLowest (IsSidesFault types.now (interface_sides types.now id))) }
 {
-    types.law();
     let additional = interface_additional(types, id)?;
     let exports = definition_exports(types, id)?;
     let uses = Named::new(types.allocator());

@@ -25,3 +25,4 @@ pub mod Sided
 pub mod InnerTypes
 pub mod WorldsAhead
 pub mod RootTypes
+pub mod Faultless

@@ -11,10 +11,10 @@ use Rattle.wac_types_shapes.specs.declared.shapes.component.«Type».TheVariants
 use Rattle.wac_types_collection.specs.collection.Collection.{Collection, IsWellFormed, holds_type, interface_exports}
 use Rattle.wac_types_collection.proofs.lemmas.wide.Members.{in_none, in_first, in_one, in_left, in_right, in_either, in_flat, flat_in}
 use Rattle.wac_encode_faults.specs.Sides.{under_id}
+use Rattle.wac_encode_faults.specs.Ids.{HasInterfaceId, HaveIds}
 use Rattle.wac_encode_faults.specs.Faults.{IsListed, IsSidesFault}
 use Rattle.wac_encode_interfaces.specs.declared.sides.Sides.{Sides as GivenSides}
 use Rattle.wac_encode_interfaces.specs.Given.{sides_of, AreHeldSides, HaveSidesWorlds}
-use Rattle.wac_encode_interfaces.specs.Ids.{HasInterfaceId}
 use Rattle.wac_encode_interfaces.specs.Ready.{IsClean, AreSidesClean}
 use Rattle.wac_encode_interfaces.specs.Worlds.{Worlds, HaveWorlds}
 use Rattle.wac_encode_interfaces.specs.private.Roots.{item_root, type_item_root, additional_roots, side_roots}
@@ -76,7 +76,7 @@ id-there c i (x, n, at, id) =
     let is : under_id c i ≡ (n, kind.Instance i) ∷ [] = ap (λ (o : Option Interface). option_case o [] (λ it. option_case it.id [] (λ id. (id, kind.Instance i) ∷ []))) at ∙ ap (λ (o : Option Name). option_case o [] (λ id. (id, kind.Instance i) ∷ [])) id in
     (n, subst (λ es. Contains es (n, kind.Instance i)) (sym is) (in_first (n, kind.Instance i) []))
 
-pub roots-clean : (c : Collection) (x : GivenSides) → ((i : InterfaceId) → Contains x.additional.now i → HasInterfaceId c i) → AreSidesClean c (sides_of c x) → (t : AnyType) → Contains (side_roots c x) t → IsClean c t
+pub roots-clean : (c : Collection) (x : GivenSides) → HaveIds c x.additional.now → AreSidesClean c (sides_of c x) → (t : AnyType) → Contains (side_roots c x) t → IsClean c t
 roots-clean c x named clean t h = by (root-is c x t h)
   where
     item : (e : Name × ItemKind) → Contains (x.imports.now ++ x.exports.now) e → IsClean c (kind_type e.1)

@@ -3,7 +3,7 @@ pub mod Items
 pub mod Writers
 pub mod Trees
 pub mod Ready
+pub mod Clean
 pub mod Given
-pub mod Ids
 pub mod WorldTrees
 pub mod private

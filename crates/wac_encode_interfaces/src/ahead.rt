@@ -2,13 +2,12 @@
 //!
 //! A component type sees nothing outside itself, so it is the same in each scope that mentions the world.
 ghost use Rattle.std.specs.Prelude.{◌≡◌, true, Contains, IfOk, OnOk};
-ghost use Rattle.wac_types_shapes.specs.declared.shapes.component.InterfaceId.{InterfaceId as Interfaces};
 ghost use Rattle.wac_types_shapes.specs.declared.shapes.component.«Type».{«Type» as AnyType};
 ghost use Rattle.wac_types_shapes.specs.declared.shapes.component.«Type».TheVariants as ty_of;
 ghost use Rattle.wac_types_collection.specs.collection.Collection.{holds_type};
 ghost use Rattle.wac_encode_scopes.specs.Closed.{AreClosedTypes};
+ghost use Rattle.wac_encode_faults.specs.Ids.{HaveIds};
 ghost use Rattle.wac_encode_interfaces.specs.Given.{sides_of, AreHeldSides, HaveSidesWorlds};
-ghost use Rattle.wac_encode_interfaces.specs.Ids.{HasInterfaceId};
 ghost use Rattle.wac_encode_interfaces.specs.Ready.{AreSidesClean, IsClean};
 ghost use Rattle.wac_encode_interfaces.specs.Worlds.{AreWorldTypes, HaveWorlds, written_in};
 ghost use Rattle.wac_encode_interfaces.specs.private.InnerTypes.{AreCleanTypes, HaveInner, IsCleanType, IsInnerFirst, IsWorldType, KeepsWorlds};
@@ -130,7 +129,7 @@ pub fn side_world_types(
 ) -> Result<WorldTypes, BinaryFault>
     requires closed { AreClosedTypes types.now closed.now }
     requires held { AreHeldSides types.now sides.now }
-    requires named { (i : Interfaces) → Contains sides.now.additional.now i → HasInterfaceId types.now i }
+    requires named { HaveIds types.now sides.now.additional.now }
     requires clean { AreSidesClean types.now (sides_of types.now sides.now) }
     ensures written { IfOk result (λ ws. AreWorldTypes types.now (written_in ws)) }
     ensures there { IfOk result (λ ws. HaveSidesWorlds types.now (written_in ws) sides.now) }

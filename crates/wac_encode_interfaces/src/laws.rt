@@ -1,10 +1,23 @@
-//! Laws of the trees of interfaces and component types.
+//! Laws of the trees of interfaces and component types, and of items without a fault.
 //!
 //! Each function does nothing. Its contract is a law that a caller cites by a call (docs/PROOFS.md, 'Laws').
+ghost use Rattle.wac_encode_interfaces.specs.Clean.{IsDefinitionOfNoFault, IsImportOfNoFault};
 ghost use Rattle.wac_encode_interfaces.specs.WorldTrees.{IsTreeOfItsSides};
 
 /// The tree of a world is the tree of the component type with its sides.
 #[tactic(auto, using(crate::proofs::WorldSides::world_tree_of_sides))]
 pub fn world_law()
     ensures { IsTreeOfItsSides }
+{}
+
+/// An item without a fault as an import of the root can be imported there.
+#[tactic(auto, using(crate::proofs::Faultless::import_of_none))]
+pub fn import_law()
+    ensures { IsImportOfNoFault }
+{}
+
+/// The type of an item without a fault as a definition can be defined.
+#[tactic(auto, using(crate::proofs::Faultless::definition_of_none))]
+pub fn definition_law()
+    ensures { IsDefinitionOfNoFault }
 {}
