@@ -18,10 +18,10 @@ use Rattle.wac_encode_scopes.specs.Contents.{content_of, and_type, and_item, Has
 use Rattle.wac_binary.specs.Indexes.{space, described_sort, declared}
 use Rattle.wac_encode_scopes.specs.Books.{binds_in, types_in, exports_in, recorded, book_of, opened}
 use Rattle.wac_encode_scopes.specs.States.{outward, stack, KeepsRecords}
-use Rattle.wac_encode_scopes.specs.Listing.{Describes, RefersTo, ListsItem, ListsResource, BindsExport, Opens, ClosesInto}
+use Rattle.wac_encode_scopes.specs.Listing.{Describes, RefersTo, ListsItem, ListsResource, BindsExport, BindsType, Opens, ClosesInto}
 use Rattle.wac_encode_scopes.specs.private.Steps.{empty_scope, either, ScopeChanges, and_fresh, with_fresh}
 use Rattle.wac_encode_stacks.specs.Scopes.{Content, declarations, root, Open, Stack, env, envs, next_type, type_count, and_def, with_def, opening, at_type, at_export, bind_at}
-use Rattle.wac_encode_stacks.specs.Good.{Good, nothing_bound, innermost, Stands, Onward, top}
+use Rattle.wac_encode_stacks.specs.Good.{At, Good, nothing_bound, innermost, Stands, Onward, top}
 use Rattle.wac_encode_stacks.specs.Laws.{Adds}
 use Rattle.wac_encode_stacks.specs.Listed.{side_decl, IsNewName, Lists, ListsEqual, ListsFunc, ListsInstance, ListsComponent, ListsModule, ClosesInstance, OpensWorld, calling, listed_leaf, RecordsNoType, ListsFresh, ListsOwn, BindsMore}
 use Rattle.wac_encode_stacks.specs.Inside.{StartsRoot}
@@ -191,3 +191,10 @@ binds-state law b st here r j n step c m l none good unbound at =
     subst (λ (o : Open). Onward c (calling r l m ∷ []) (stack b st) (o ∷ outward b st.around.items)) (sym step.0)
     (subst (λ (ss : List Scope). Onward c (calling r l m ∷ []) (opened b st.here ∷ outward b ss) (bind_at r (at_export j n) (opened b st.here) ∷ outward b ss)) (sym none)
     (law c m (opened b st.here) r l (at_export j n) (subst (λ (ss : List Scope). Good c (m ∷ []) (opened b st.here ∷ outward b ss)) none good) unbound (subst (λ (ss : List Scope). Stands (env (opened b st.here) (envs (outward b ss))) (resource l) (at_export j n)) none at)))
+
+-- or what a type index refers to
+pub binds-type : BindsMore → (b : Bool) (st : State) (here : Scope) (r : ResourceId) (i : ℕ) → ScopeChanges b (bind_at r (at_type i)) st.here here → BindsType b r i st (record st { here = here })
+binds-type law b st here r i step c m l none good unbound at =
+    subst (λ (o : Open). Onward c (calling r l m ∷ []) (stack b st) (o ∷ outward b st.around.items)) (sym step.0)
+    (subst (λ (ss : List Scope). Onward c (calling r l m ∷ []) (opened b st.here ∷ outward b ss) (bind_at r (at_type i) (opened b st.here) ∷ outward b ss)) (sym none)
+    (law c m (opened b st.here) r l (at_type i) (subst (λ (ss : List Scope). Good c (m ∷ []) (opened b st.here ∷ outward b ss)) none good) unbound (subst (λ (ss : List Scope). At (env (opened b st.here) (envs (outward b ss))).types i (resource l)) none at)))

@@ -8,6 +8,7 @@ use Rattle.wac_types_collection.specs.collection.Collection.{Collection}
 use Rattle.wac_types_collection.specs.collection.Bound.{Bindings}
 use Rattle.wac_binary.specs.declared.sorts.Description.{Description}
 use Rattle.wac_binary.specs.declared.sorts.Description.TheVariants as e
+use Rattle.wac_binary.specs.declared.sorts.Sort.TheVariants as sort
 use Rattle.wac_binary.specs.Items.{Item, import_item}
 use Rattle.wac_binary.specs.Indexes.{space, described_sort, indexes}
 use Rattle.wac_binary.specs.HasMeaning.{HasMeaning}
@@ -23,7 +24,7 @@ use Rattle.wac_encode_scopes.specs.Listing.{Describes}
 use Rattle.wac_encode_scopes.specs.Roots.{IsRoot, items_of, and_import, ImportRefersTo, ImportsItem, ImportsResource}
 use Rattle.wac_encode_scopes.specs.Lending.{GoesOnLent}
 use Rattle.wac_encode_scopes.specs.private.Steps.{ScopeChanges, and_fresh_import, with_fresh_import}
-use Rattle.wac_encode_stacks.specs.Scopes.{root, at_type, Open, Stack, env, envs, next_type, bind_at, Content}
+use Rattle.wac_encode_stacks.specs.Scopes.{root, at_type, Open, Stack, env, envs, next_type, type_count, bind_at, Content}
 use Rattle.wac_encode_stacks.specs.Good.{Good, Onward}
 use Rattle.wac_encode_stacks.specs.Laws.{Adds}
 use Rattle.wac_encode_stacks.specs.Listed.{calling}
@@ -109,3 +110,9 @@ goes-on-lent law st items more is means c b m ms g =
     subst (λ (k : Book). Onward c (m ∷ ms) (stack b st) (recorded k (root (items ++ more)) ∷ os)) (sym (book-kept b st.here (Builder (items ++ more))))
     (subst (λ (x : Encodable). Onward c (m ∷ ms) (recorded a (content_of x) ∷ os) (recorded a (root (items ++ more)) ∷ os)) (sym is)
     (lend-root law c m ms a items more os (subst (λ (x : Encodable). Good c (m ∷ ms) (recorded a (content_of x) ∷ os)) is g) means))
+
+-- the next type index of a content
+pub count-type : (x : Encodable) → type_count (content_of x) ≡ count_of (space sort.«Type») x
+count-type (Builder items) = refl
+count-type (Instance ds) = refl
+count-type (Component ds) = refl

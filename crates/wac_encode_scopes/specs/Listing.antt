@@ -90,6 +90,11 @@ abbrev pub BindsExport : Bool → ResourceId → ℕ → Name → State → Stat
 BindsExport b r j n old new = (c : Collection) (m : Bindings) (l : Leaf) → old.around.items ≡ [] → Good c (m ∷ []) (stack b old) → m r ≡ None → Stands (innermost (stack b old)) (resource l) (at_export j n)
     → Onward c (calling r l m ∷ []) (stack b old) (stack b new)
 
+-- The bottom scope binds a resource that a type index refers to.
+abbrev pub BindsType : Bool → ResourceId → ℕ → State → State → Type 0
+BindsType b r i old new = (c : Collection) (m : Bindings) (l : Leaf) → old.around.items ≡ [] → Good c (m ∷ []) (stack b old) → m r ≡ None → At ((innermost (stack b old)).types) i (resource l)
+    → Onward c (calling r l m ∷ []) (stack b old) (stack b new)
+
 -- The value type may be recorded in the innermost scope as this export of an instance.
 abbrev pub MayTell : Collection → Bool → DefinedTypeId → ℕ → Name → State → Type 0
 MayTell c b d j n s = (m : Bindings) (ms : List Bindings) → Good c (m ∷ ms) (stack b s) → Onward c (m ∷ ms) (stack b s) (export_at d (at_export j n) (opened b s.here) ∷ outward b s.around.items)

@@ -47,6 +47,7 @@ impl State {
     ) -> Result<u32, BinaryFault>
         requires { IsRoot self.old.here.content }
         ensures imports { IfOk result (ImportsResource merged resource self.old self.new) }
+        ensures index { IfOk result (λ i. i ≡ count_of (space (described_sort e.Fresh)) self.old.here.content) }
         ensures content { OnOk result (self.new.here.content ≡ and_import name.now e.Fresh self.old.here.content) }
         ensures refused { OnErr result (AllAddTypes self.old self.new) }
     {

@@ -20,7 +20,7 @@ ghost use Rattle.wac_binary.specs.HasMeaning.{ImportNothing};
 ghost use Rattle.wac_encode_scopes.specs.declared.encodable.Encodable.TheVariants.{Builder, Component};
 ghost use Rattle.wac_encode_scopes.specs.Contents.{HasSide, IsInstanceType, side_of, declarations_of, count_of, and_item};
 ghost use Rattle.wac_encode_scopes.specs.Books.{opened, how_of};
-ghost use Rattle.wac_encode_scopes.specs.Listing.{ListsItem, ListsResource, BindsExport, MayTell, Opens, Closes, ClosesInto, IsSame, IsNonempty};
+ghost use Rattle.wac_encode_scopes.specs.Listing.{ListsItem, ListsResource, BindsExport, BindsType, MayTell, Opens, Closes, ClosesInto, IsSame, IsNonempty};
 ghost use Rattle.wac_encode_stacks.specs.Parts.{IsReached};
 ghost use Rattle.wac_encode_stacks.specs.Inside.{next_type_at};
 ghost use Rattle.wac_encode_scopes.specs.States.{stack, RecordsHere, KeepsRecords, named_in, IsNamedAt, Crosses, AllAddTypes, Goes, GoesForAll, SaysWritten, SaysWrittenFunc, IsRecordedAt, IsTypeAt, IsBound, IsResourceAt, IsPlace};
@@ -590,6 +590,27 @@ impl State {
         closing_law();
         self.here
             .record_resource(merged, resource, Place::Export(instance, name))
+    }
+
+    /// Records that a type index refers to a resource, and so binds the resource in the bottom scope.
+    ///
+    /// The bottom scope must be the innermost.
+    ///
+    /// # Errors
+    /// - `OutOfMemory`.
+    pub fn bind_type(
+        &mut self,
+        merged: bool,
+        resource: ResourceId,
+        index: u32,
+    ) -> Result<(), BinaryFault>
+        ensures binds { OnOk result (BindsType merged resource index self.old self.new) }
+        ensures recorded { OnOk result (RecordsHere merged (bind_at resource (at_type index)) self.old self.new) }
+        ensures types { AllAddTypes self.old self.new }
+    {
+        closing_law();
+        self.here
+            .record_resource(merged, resource, Place::Index(index))
     }
 
     /// Records that an instance in the innermost scope exports a value type.
