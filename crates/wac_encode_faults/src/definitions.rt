@@ -28,7 +28,7 @@ fn definition_name(types: &Types, id: InterfaceId) -> &str
 ///
 /// # Errors
 /// - `AllocError` if out of memory.
-pub(crate) fn definition_exports(
+pub fn definition_exports(
     types: &Types,
     id: InterfaceId,
 ) -> Result<Named<ItemKind>, AllocError>

@@ -3,7 +3,7 @@
 //! - [`WriteFault`]: the faults, in their order. A type is looked at with all that is written inside it: its imports and
 //!   exports, theirs, and so on. What it only uses is not written inside it.
 //! - [`interface_additional`] and [`world_additional`]: the interfaces that a definition imports in addition, each after
-//!   those that it uses itself.
+//!   those that it uses itself. [`definition_exports`]: what the definition of an interface exports.
 //! - [`item_dependencies`]: which imports and exports of a component type depend on each other, over all imports as
 //!   [`join_imports`] makes them.
 //! - [`item_owners`]: which of them binds each resource.
@@ -38,6 +38,7 @@ mod worlds;
 
 pub use additional::{interface_additional, world_additional};
 pub use cycle::item_dependencies;
+pub use definitions::definition_exports;
 pub use fault::{EncodeFault, WriteFault};
 pub use faults::Role;
 pub use imports::join_imports;
