@@ -143,6 +143,7 @@ impl TypeAggregator {
         ensures meant { IfOk result (λ a. KeepsTrees types.now a.merge.types) }
         ensures held { IfOk result (λ a. AreHeld a.merge.types a.merge.imports) }
         ensures agree { OnOk result (HasNoDisagreement by_names types.now self.entries) }
+        ensures agreed { OnOk result (AllMembersAgree by_names types.now self.entries) }
         ensures ordered { OnOk result (HasNoCircle by_names types.now self.entries) }
         ensures fault { IfErr result (λ e. IfSome (fault_of e) (HasFault by_names types.now self.entries)) }
         ensures refused { (fault : AFault) → HasFault by_names types.now self.entries fault → IsErrAnd result (λ e. (fault_of e ≡ Some fault) ⊎ (e ≡ MergeFault.OutOfMemory)) }

@@ -1,5 +1,6 @@
 use Rattle.std.proofs.Common.{ℕ, ◌≡◌, ◌<◌, List, length, Contains, refl, ap, sym, ◌∙◌, subst, Some, IfSome, ◌⊎◌, inr}
 use Rattle.std.specs.Prelude.{◌↔◌}
+use Rattle.wac_merge_classes.specs.entries.Agreement.{AllMembersAgree}
 use Rattle.wac_merge_classes.specs.entries.Bindings.{AreHeld}
 use Rattle.wac_merge.specs.Aggregate.{Aggregate, AreKnown, IsFault}
 use Rattle.wac_merge_classes.specs.entries.Classes.{Entry, by_names, class_names}
@@ -19,6 +20,11 @@ pub returns-clause-agree : goal.returns-clause-agree
 returns-clause-agree c =
     let same : c.as_slice-asked.result.now ≡ c.args.self.entries = c.as_slice-asked.ensures.value ∙ ap (λ (a : Aggregate). a.entries) c.self.view_is in
     subst (λ (es : List Entry). HasNoDisagreement by_names c.args.types.now es) same c.in_ok-order.ensures.agree
+
+pub returns-clause-agreed : goal.returns-clause-agreed
+returns-clause-agreed c =
+    let same : c.as_slice-asked.result.now ≡ c.args.self.entries = c.as_slice-asked.ensures.value ∙ ap (λ (a : Aggregate). a.entries) c.self.view_is in
+    subst (λ (es : List Entry). AllMembersAgree by_names c.args.types.now es) same c.in_ok-order.ensures.agreed
 
 pub returns-clause-refused : goal.returns-clause-refused
 returns-clause-refused c = λ fault has.
