@@ -11,13 +11,11 @@ pub fn world_law()
 {}
 
 /// An item without a fault as an import of the root can be imported there.
-#[tactic(auto, using(crate::proofs::Faultless::import_of_none))]
 pub fn import_law()
     ensures { IsImportOfNoFault }
 {}
 
 /// The type of an item without a fault as a definition can be defined.
-#[tactic(auto, using(crate::proofs::Faultless::definition_of_none))]
 pub fn definition_law()
     ensures { IsDefinitionOfNoFault }
 {}
