@@ -5,6 +5,7 @@ mod FittingLemmas
 mod NothingLemmas
 mod OpenLemmas
 mod PositionLemmas
+mod BoundLemmas
 pub mod ConflictFreeLemmas
 pub mod WantedAskedLemmas
 pub mod lemmas

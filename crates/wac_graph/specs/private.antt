@@ -1,3 +1,4 @@
 pub mod plugs
 pub mod Inside
 pub mod Left
+pub mod Bound

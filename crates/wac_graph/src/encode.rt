@@ -49,7 +49,7 @@ impl CompositionGraph {
     ///   earlier import of its class.
     /// - [`ExplicitImportMergeConflict`](EncodeError::ExplicitImportMergeConflict) if an import node does.
     /// - [`ImportsUseEachOther`](EncodeError::ImportsUseEachOther) if imports depend on each other in a cycle.
-    /// - [`TypeNotWritable`](EncodeError::TypeNotWritable) if a type that a node needs has no encoding.
+    /// - [`TypeNotWritable`](EncodeError::TypeNotWritable) if a type that a node needs has a fault.
     /// - [`NotYet`](EncodeError::NotYet) if an import or definition is not supported, or `define_components` is false.
     /// - [`TooLarge`](EncodeError::TooLarge) if an index, a count or a size does not fit 32 bits.
     /// - [`ValidationFailure`](EncodeError::ValidationFailure) if `validate` is set and a name of an import or export
@@ -74,7 +74,7 @@ impl CompositionGraph {
         let ordered = reader.ordered()?;
         self.check_conflicts()?;
         let (merge, entries) = self.merged(ordered.open.as_slice())?;
-        self.check_types(entries, ordered.defined)?;
+        self.check_types(&merge, entries, ordered.defined, options.define_components)?;
         let (root, imports) = self.begin(options.define_components, ordered.defined, merge)?;
         let bytes = write(
             &reader,
@@ -101,7 +101,7 @@ impl CompositionGraph {
         requires acyclic { IsAcyclic self.now.edges }
         requires apart { HasNoConflict self.now }
         requires merges { HasMerge self.now }
-        requires writable { HasNoTypeFault self.now }
+        requires writable { HasNoTypeFault self.now define_components }
         requires merged { IsMergedFor self.now merge }
         requires definitions { defined ≡ false → (n : AnId) → IsSomeAnd (node_at self.now n) (λ node. node.kind ≡ definition) → ⊥ }
         ensures begins { IfOk result (λ b. Begins (merged_imports b.1.merge.merge) b.1.places.items b.0) }

@@ -31,6 +31,7 @@
 mod arguments;
 mod arguments_of;
 mod asked;
+mod bound;
 mod checking;
 mod clones;
 mod conflicts;
@@ -59,6 +60,7 @@ pub use graph::CompositionGraph;
 pub use imports::Imports;
 pub use iterators::{NodeIds, Nodes, Packages};
 pub use plugging::plug;
+pub use wac_encode_faults::WriteFault;
 pub use wac_graph_model::{
     AliasError, DefineTypeError, EncodeError, EncodeOptions, ExportError, ImportError,
     InstantiationArgumentError, Node, NodeId, NodeKind, PackageId, Processor, RegisterPackageError,
@@ -67,5 +69,4 @@ pub use wac_graph_model::{
 pub use wac_merge::MergeFault;
 pub use wac_names::NameFault;
 pub use wac_names::validation::ValidationFault;
-pub use wac_scopes::WriteFault;
 pub use wac_types as types;

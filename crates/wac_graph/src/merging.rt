@@ -10,6 +10,7 @@ ghost use Rattle.wac_graph_fields.specs.private.EntriesLeft.{entry_view, IsHeldK
 ghost use Rattle.wac_edges.specs.Order.{IsAcyclic};
 ghost use Rattle.wac_graph_model.specs.private.causes.Search.{IsRefused};
 ghost use Rattle.wac_graph_encode.specs.private.places.Places.{IsMergedFor};
+ghost use Rattle.wac_graph.specs.private.Bound.{BindsAlike};
 ghost use Rattle.wac_graph_reader.specs.private.reading.Seen.{open_numbers};
 ghost use Rattle.wac_graph_model.specs.declared.nodes.options.EncodeOptions.{EncodeOptions as Asked};
 
@@ -34,6 +35,7 @@ impl CompositionGraph {
         requires acyclic { IsAcyclic self.now.edges }
         requires apart { HasNoConflict self.now }
         ensures merged { IfOk result (λ a. IsMergedFor self.now a.0) }
+        ensures alike { IfOk result (λ a. BindsAlike self.now a.0) }
         ensures asked { IfOk result (λ a. map entry_view a.1.items ≡ asked_entries self.now) }
         ensures merges { OnOk result (HasMerge self.now) }
         ensures refused { IfErr result (λ e. (o : Asked) → IsRefused self.now o e) }
@@ -62,6 +64,7 @@ impl CompositionGraph {
     fn merged_nothing(&self) -> Result<TypeAggregator, EncodeError>
         requires { asked_entries self.now ≡ [] }
         ensures merged { IfOk result (IsMergedFor self.now) }
+        ensures alike { IfOk result (BindsAlike self.now) }
         ensures merges { HasMerge self.now }
         ensures refused { IfErr result (λ e. e ≡ EncodeError.OutOfMemory) }
     {

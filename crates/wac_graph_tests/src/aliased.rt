@@ -46,7 +46,7 @@ pub const ALIASED: &[Case] = &[
             Enumeration("a"),
             Func(&[("x", 0)], None),
             Instance(Some("n:p/j"), &[("t", 0)]),
-            Using("n:p/i", ("t", 2), &[("t", 0), ("f", 1)]),
+            Using(Some("n:p/i"), ("t", 2), &[("t", 0), ("f", 1)]),
         ],
         steps: &[Import("n:p/j", 2), Import("n:p/i", 3)],
         want: Parts(BROUGHT_IN),

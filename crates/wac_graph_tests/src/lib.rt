@@ -33,6 +33,8 @@ mod plugging;
 #[cfg(test)]
 mod redefined;
 #[cfg(test)]
+mod refused;
+#[cfg(test)]
 mod removal;
 #[cfg(test)]
 mod tables;

@@ -51,7 +51,7 @@ pub enum Row {
     // A function of these parameters, and of what it gives.
     Func(&'static [Item], Option<usize>),
     // An instance of an interface of this id, which uses a type of the first name of an instance, and lists these.
-    Using(&'static str, Item, &'static [Item]),
+    Using(Option<&'static str>, Item, &'static [Item]),
     // An instance of an interface of this id, which lists these.
     Instance(Option<&'static str>, &'static [Item]),
     // A component of a world of this id, which imports and exports these.
@@ -273,10 +273,10 @@ impl Made {
         parts::instance(rt, &mut self.graph, id, &[], &items)
     }
 
-    fn using(&mut self, rt: &impl Abort, id: &str, used: Item, items: &[Item]) -> ItemKind {
+    fn using(&mut self, rt: &impl Abort, id: Option<&str>, used: Item, items: &[Item]) -> ItemKind {
         let of = self.interface(rt, used.1);
         let items = self.named(rt, items);
-        parts::instance(rt, &mut self.graph, Some(id), &[(used.0, of, None)], &items)
+        parts::instance(rt, &mut self.graph, id, &[(used.0, of, None)], &items)
     }
 
     fn component(
@@ -407,7 +407,17 @@ fn assert_written(rt: &(impl Abort + AllocGlobal), bytes: &[u8], want: Want) {
 
 /// What `encode` answers is this.
 pub fn assert_encoded(rt: &(impl Abort + AllocGlobal), graph: &CompositionGraph, want: Want) {
-    match encode(graph, EncodeOptions::default()) {
+    assert_encoded_with(rt, graph, EncodeOptions::default(), want);
+}
+
+/// What `encode` answers with these options is this.
+pub fn assert_encoded_with(
+    rt: &(impl Abort + AllocGlobal),
+    graph: &CompositionGraph,
+    options: EncodeOptions<'_>,
+    want: Want,
+) {
+    match encode(graph, options) {
         Ok(bytes) => assert_written(rt, &bytes, want),
         Err(error) => assert_refused(rt, &error, want),
     }

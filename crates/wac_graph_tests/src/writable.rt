@@ -27,7 +27,7 @@ const VALUE_FIRST: &[Step] = &[
 const WORLDS: &[Row] = &[
     Enumeration("a"),
     Instance(Some("n:p/j"), &[("t", 0)]),
-    Using("n:p/i", ("t", 1), &[("t", 0)]),
+    Using(Some("n:p/i"), ("t", 1), &[("t", 0)]),
     Component(Some("n:p/w"), &[("n:p/i", 2)], &[]),
     Component(None, &[("n:p/i", 2), ("n:p/j", 1)], &[]),
     Component(None, &[("n:p/i", 2)], &[("n:p/j", 1)]),

@@ -10,7 +10,7 @@ use Rattle.wac_merge_classes.specs.terms.Faults.{Disagrees, HasNoCircle, UseEach
 use Rattle.wac_merge_classes.specs.terms.NoDisagreement.{HasNoDisagreement}
 use Rattle.wac_merge_classes.specs.declared.terms.fault.MergeFault.{MergeFault}
 use Rattle.wac_merge_classes.specs.declared.terms.fault.MergeFault.TheVariants as merge
-use Rattle.wac_scopes.specs.declared.fault.WriteFault.{WriteFault}
+use Rattle.wac_encode_faults.specs.declared.fault.WriteFault.{WriteFault}
 use Rattle.wac_graph_model.specs.declared.nodes.options.EncodeOptions.{EncodeOptions}
 use Rattle.wac_graph_model.specs.declared.causes.errors.EncodeError.{EncodeError}
 use Rattle.wac_graph_model.specs.declared.causes.errors.EncodeError.TheVariants as error
@@ -143,7 +143,7 @@ Occurs g o a_cycle = (n : NodeId) × IsOnCycle g.edges n
 Occurs g o a_conflict = (import : NodeId) × (instantiation : NodeId) × (position : ℕ) × (name : Name) × IsConflict g import instantiation position name
 Occurs g o a_disagreement = (first : ℕ) × (second : ℕ) × IsDisagreement by_names g.types (to_merge (asked_entries g)) first second
 Occurs g o a_circle = (class : ℕ) × IsOnCircle by_names g.types (to_merge (asked_entries g)) class
-Occurs g o a_type_fault = (position : ℕ) × (entry : Entry) × (fault : WriteFault) × (slice_get (wanted_entries g) position ≡ Some entry) × IsEntryFault g entry fault
+Occurs g o a_type_fault = (position : ℕ) × (entry : Entry) × (fault : WriteFault) × (slice_get (wanted_entries g o.define_components) position ≡ Some entry) × IsEntryFault g entry fault
 Occurs g o unwritten = IsNotYet g o
 Occurs g o an_invalid_name = IsTrue o.validate × ((fault : Fault) × IsOuterFault g o fault)
 
@@ -158,7 +158,7 @@ IsNamed g o (conflict import instantiation key name) = IsFirstConflict g import 
 IsNamed g o (implicit_merge import first second p q export) = IsImplicitMerge g import first second p q export
 IsNamed g o (explicit_merge import node other) = IsExplicitMerge g import node other
 IsNamed g o (import_circle import) = IsImportCircle g import
-IsNamed g o (unwritable node fault) = IsTypeFault g node fault
+IsNamed g o (unwritable node fault) = IsTypeFault g o.define_components node fault
 IsNamed g o not_yet = Unit {0}
 IsNamed g o (invalid fault) = IsOuterFault g o fault
 

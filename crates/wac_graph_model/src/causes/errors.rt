@@ -5,9 +5,9 @@ use crate::nodes::NodeId;
 use std::alloc::{AllocError, AllocFailed};
 use thiserror::Error;
 use wac_binary::BinaryFault;
+use wac_encode_faults::WriteFault;
 use wac_merge_classes::terms::fault::MergeFault;
 use wac_names::validation::{ValidationError, ValidationFault};
-use wac_scopes::WriteFault;
 use wac_types::PackageKey;
 
 /// The error of `encode`.

@@ -7,7 +7,7 @@ use Rattle.wac_merge_classes.specs.entries.Classes.{by_names}
 use Rattle.wac_merge_classes.specs.terms.Faults.{HasNoCircle}
 use Rattle.wac_merge_classes.specs.terms.NoDisagreement.{HasNoDisagreement}
 use Rattle.wac_graph_model.specs.declared.nodes.options.EncodeOptions.{EncodeOptions}
-use Rattle.wac_scopes.specs.declared.fault.WriteFault.{WriteFault}
+use Rattle.wac_encode_faults.specs.declared.fault.WriteFault.{WriteFault}
 use Rattle.wac_edges.specs.declared.node.NodeId.{NodeId}
 use Rattle.wac_graph_model.specs.nodes.Graph.{Graph}
 use Rattle.wac_edges.specs.Order.{IsAcyclic, IsLowestOnCycle}
@@ -39,7 +39,7 @@ module _ (g : Graph) (o : EncodeOptions) where
   AllWritten = IsNotYet g o → ⊥
 
   -- nothing below a kind is there
-  none_below : (k : CauseKind) → (0 < rank k → IsAcyclic g.edges) → (1 < rank k → HasNoConflict g) → (2 < rank k → AllAgree) → (3 < rank k → NoCircle) → (4 < rank k → HasNoTypeFault g) → (5 < rank k → AllWritten) → (below : CauseKind) → rank below < rank k → Occurs g o below → ⊥
+  none_below : (k : CauseKind) → (0 < rank k → IsAcyclic g.edges) → (1 < rank k → HasNoConflict g) → (2 < rank k → AllAgree) → (3 < rank k → NoCircle) → (4 < rank k → HasNoTypeFault g o.define_components) → (5 < rank k → AllWritten) → (below : CauseKind) → rank below < rank k → Occurs g o below → ⊥
   none_below k acyclic apart agree circles types written a_cycle less h = acyclic less h.0 h.1
   none_below k acyclic apart agree circles types written a_conflict less h = apart less h.0 h.1 h.2 h.3 h.4
   none_below k acyclic apart agree circles types written a_disagreement less h = agree less h.0 h.1 h.2
@@ -66,14 +66,14 @@ module _ (g : Graph) (o : EncodeOptions) where
   pub stands_circle : (import : Name) → IsAcyclic g.edges → HasNoConflict g → AllAgree → IsImportCircle g import → Stands g o (import_circle import)
   stands_circle import acyclic apart agree circle = (((circle.number, circle.is_first.on), none_below a_circle (λ _. acyclic) (λ _. apart) (λ _. agree) (λ h. absurd (omega (arith, h))) (λ h. absurd (omega (arith, h))) (λ h. absurd (omega (arith, h)))), circle)
 
-  pub stands_unwritable : (node : NodeId) (fault : WriteFault) → IsAcyclic g.edges → HasNoConflict g → HasMerge g → IsTypeFault g node fault → Stands g o (unwritable node fault)
+  pub stands_unwritable : (node : NodeId) (fault : WriteFault) → IsAcyclic g.edges → HasNoConflict g → HasMerge g → IsTypeFault g o.define_components node fault → Stands g o (unwritable node fault)
   stands_unwritable node fault acyclic apart merges here =
       (((here.position, here.entry, fault, here.there, here.lowest.0), none_below a_type_fault (λ _. acyclic) (λ _. apart) (λ _. merges.0) (λ _. merges.1) (λ h. absurd (omega (arith, h))) (λ h. absurd (omega (arith, h)))), here)
 
-  pub stands_not_yet : IsAcyclic g.edges → HasNoConflict g → HasMerge g → HasNoTypeFault g → IsNotYet g o → Stands g o not_yet
+  pub stands_not_yet : IsAcyclic g.edges → HasNoConflict g → HasMerge g → HasNoTypeFault g o.define_components → IsNotYet g o → Stands g o not_yet
   stands_not_yet acyclic apart merges types here = ((here, none_below unwritten (λ _. acyclic) (λ _. apart) (λ _. merges.0) (λ _. merges.1) (λ _. types) (λ h. absurd (omega (arith, h)))), tt)
 
-  pub stands_invalid : (fault : Fault) → IsAcyclic g.edges → HasNoConflict g → HasMerge g → HasNoTypeFault g → (IsNotYet g o → ⊥) → IsTrue o.validate → IsOuterFault g o fault → Stands g o (invalid fault)
+  pub stands_invalid : (fault : Fault) → IsAcyclic g.edges → HasNoConflict g → HasMerge g → HasNoTypeFault g o.define_components → (IsNotYet g o → ⊥) → IsTrue o.validate → IsOuterFault g o fault → Stands g o (invalid fault)
   stands_invalid fault acyclic apart merges types written asked here =
       (((asked, (fault, here)), none_below an_invalid_name (λ _. acyclic) (λ _. apart) (λ _. merges.0) (λ _. merges.1) (λ _. types) (λ _. written)), here)
 
@@ -84,9 +84,9 @@ module _ (g : Graph) (o : EncodeOptions) where
   StandsAlone (implicit_merge import first second p q export) = IsAcyclic g.edges × HasNoConflict g × IsImplicitMerge g import first second p q export
   StandsAlone (explicit_merge import node other) = IsAcyclic g.edges × HasNoConflict g × IsExplicitMerge g import node other
   StandsAlone (import_circle import) = IsAcyclic g.edges × HasNoConflict g × AllAgree × IsImportCircle g import
-  StandsAlone (unwritable node fault) = IsAcyclic g.edges × HasNoConflict g × HasMerge g × IsTypeFault g node fault
-  StandsAlone not_yet = IsAcyclic g.edges × HasNoConflict g × HasMerge g × HasNoTypeFault g × IsNotYet g o
-  StandsAlone (invalid fault) = IsAcyclic g.edges × HasNoConflict g × HasMerge g × HasNoTypeFault g × AllWritten × IsTrue o.validate × IsOuterFault g o fault
+  StandsAlone (unwritable node fault) = IsAcyclic g.edges × HasNoConflict g × HasMerge g × IsTypeFault g o.define_components node fault
+  StandsAlone not_yet = IsAcyclic g.edges × HasNoConflict g × HasMerge g × HasNoTypeFault g o.define_components × IsNotYet g o
+  StandsAlone (invalid fault) = IsAcyclic g.edges × HasNoConflict g × HasMerge g × HasNoTypeFault g o.define_components × AllWritten × IsTrue o.validate × IsOuterFault g o fault
 
   acyclic_below : (k : CauseKind) → IsFirstKind g o k → 0 < rank k → IsAcyclic g.edges
   acyclic_below k first less n h = first.1 a_cycle less (n, h)
@@ -100,7 +100,7 @@ module _ (g : Graph) (o : EncodeOptions) where
   circles_below : (k : CauseKind) → IsFirstKind g o k → 3 < rank k → NoCircle
   circles_below k first less n h = first.1 a_circle less (n, h)
 
-  types_below : (k : CauseKind) → IsFirstKind g o k → 4 < rank k → HasNoTypeFault g
+  types_below : (k : CauseKind) → IsFirstKind g o k → 4 < rank k → HasNoTypeFault g o.define_components
   types_below k first less i e f at h = first.1 a_type_fault less (i, e, f, at, h)
 
   written_below : (k : CauseKind) → IsFirstKind g o k → 5 < rank k → AllWritten
@@ -172,7 +172,7 @@ module _ (g : Graph) (o : EncodeOptions) where
   same_kind a b p q = by_order (rank a) (rank b) (λ less. absurd (q.1 a less p.0)) (λ more. absurd (p.1 b more q.0)) (λ same. sym (of_rank a) ∙ ap by_rank same ∙ of_rank b)
 
   -- no cause stands where none is there
-  pub none_there : IsAcyclic g.edges → HasNoConflict g → HasMerge g → HasNoTypeFault g → (IsNotYet g o → ⊥) → (IsTrue o.validate → (fault : Fault) → IsOuterFault g o fault → ⊥) → (k : CauseKind) → Occurs g o k → ⊥
+  pub none_there : IsAcyclic g.edges → HasNoConflict g → HasMerge g → HasNoTypeFault g o.define_components → (IsNotYet g o → ⊥) → (IsTrue o.validate → (fault : Fault) → IsOuterFault g o fault → ⊥) → (k : CauseKind) → Occurs g o k → ⊥
   none_there acyclic apart merges types written valid a_cycle h = acyclic h.0 h.1
   none_there acyclic apart merges types written valid a_conflict h = apart h.0 h.1 h.2 h.3 h.4
   none_there acyclic apart merges types written valid a_disagreement h = merges.0 h.0 h.1 h.2
@@ -182,7 +182,7 @@ module _ (g : Graph) (o : EncodeOptions) where
   none_there acyclic apart merges types written valid an_invalid_name h = valid h.0 h.1.0 h.1.1
 
   -- where names alone may be at fault, that is what stands
-  pub invalid_alone : IsAcyclic g.edges → HasNoConflict g → HasMerge g → HasNoTypeFault g → (IsNotYet g o → ⊥) → (k : CauseKind) → Occurs g o k → k ≡ an_invalid_name
+  pub invalid_alone : IsAcyclic g.edges → HasNoConflict g → HasMerge g → HasNoTypeFault g o.define_components → (IsNotYet g o → ⊥) → (k : CauseKind) → Occurs g o k → k ≡ an_invalid_name
   invalid_alone acyclic apart merges types written a_cycle h = absurd (acyclic h.0 h.1)
   invalid_alone acyclic apart merges types written a_conflict h = absurd (apart h.0 h.1 h.2 h.3 h.4)
   invalid_alone acyclic apart merges types written a_disagreement h = absurd (merges.0 h.0 h.1 h.2)

@@ -3,19 +3,22 @@ use Rattle.std.proofs.Common.{◌≡◌, ℕ, zero, suc, ◌⊎◌, inl, inr, Bo
 use Rattle.std.specs.Prelude.{filter, slice_get}
 use Rattle.std.specs.List.{AllByRecursion, flat_map}
 use Rattle.std.specs.FinMap as finite
+use Rattle.std.specs.Option.{option_and_then}
 use Rattle.std.proofs.lemmas.Bool.{lt-ltb}
 use Rattle.std.proofs.lemmas.Option.{slice_get_within}
 use Rattle.wac_types_shapes.specs.primitives.Name.{Name, option_case}
 use Rattle.wac_types_collection.specs.collection.Collection.{Collection, IsWellFormed, item_of}
+use Rattle.wac_types_collection.specs.collection.Package.{PackageParts}
 use Rattle.wac_types_collection.specs.declared.collection.collection.Held.{Held}
 use Rattle.wac_types_collection.specs.wide.Wide.{wide_uses}
 use Rattle.wac_types_shapes.specs.declared.shapes.component.Interface.{Interface}
 use Rattle.wac_types_shapes.specs.declared.shapes.component.InterfaceId.{InterfaceId}
 use Rattle.wac_types_shapes.specs.declared.shapes.component.ItemKind.{ItemKind}
 use Rattle.wac_types_shapes.specs.declared.shapes.component.ItemKind.TheVariants as kind
+use Rattle.wac_graph_model.specs.declared.nodes.packages.PackageId.{PackageId}
 use Rattle.wac_graph_model.specs.nodes.Graph as graph
 use Rattle.wac_edges.specs.Edge.{node_number}
-use Rattle.wac_graph_model.specs.nodes.Graph.{Graph, GraphNode, Kind, node_at}
+use Rattle.wac_graph_model.specs.nodes.Graph.{Graph, GraphNode, Kind, node_at, package_at, package_of}
 use Rattle.wac_graph_model.specs.nodes.Asked.{Entry, asked_by, imported_by, asked}
 use Rattle.wac_graph_model.specs.nodes.Sound.{IsSound}
 use Rattle.wac_graph_model.specs.causes.Cause.{AsksImplicitly, AsksExplicitly}
@@ -23,7 +26,7 @@ use Rattle.wac_graph_fields.specs.private.ImportsLeft.{node_left}
 use Rattle.wac_graph_model.specs.nodes.Entries.{under_id, used_to, used_by, with_used, asks_again, once, asked_entries}
 use Rattle.wac_graph_fields.specs.private.EntriesLeft.{IsHeldKind, by_node, row_entry, asked_at, imported_at}
 use Rattle.wac_graph_fields.proofs.EntryLists.{all_joined}
-use Rattle.wac_graph_model.specs.causes.TypeFaults.{wanted_by, wanted_at, wanted_entries}
+use Rattle.wac_graph_model.specs.causes.TypeFaults.{imported_package, wanted_by, wanted_at, wanted_entries}
 use Rattle.wac_graph_reader.proofs.lemmas.writing.AskingWalk.{first_entries, first_held, wanted_asked}
 
 -- ---- lists
@@ -118,15 +121,30 @@ module _ (g : Graph) (n : ℕ) where
       by_kind (graph.import name) is = rw is (sound.held (node_number n) node at, tt)
       by_kind graph.alias is = rw is tt
 
-  wanted_held_at : IsSound g → IsWellFormed g.types → AllByRecursion (λ e. IsHeldKind g.types e.kind) (wanted_at g n)
-  wanted_held_at sound wf = split (node_at g (node_number n)) refl where
-    split : (o : Option GraphNode) → node_at g (node_number n) ≡ o → AllByRecursion (λ e. IsHeldKind g.types e.kind) (wanted_by g n o)
+  world_held : IsSound g → (o : Option PackageId) (p : PackageParts) → option_and_then (package_at g) o ≡ Some p → IsHeldKind g.types (kind.Component p.world)
+  world_held sound None p there = cc
+  world_held sound (Some id) p there = (sound.packages id p there).0
+
+  abbrev package_entry : PackageParts → Entry
+  package_entry p = record { name = []; kind = kind.Component p.world; node = n }
+
+  package_held : IsSound g → (d : Bool) (node : GraphNode) → AllByRecursion (λ e. IsHeldKind g.types e.kind) (imported_package g d n node)
+  package_held sound true node = tt
+  package_held sound false node = split (package_of g node) refl where
+    split : (o : Option PackageParts) → package_of g node ≡ o → AllByRecursion (λ (e : Entry). IsHeldKind g.types e.kind) (option_case o [] (λ p. package_entry p ∷ []))
+    split None _ = tt
+    split (Some p) there = (world_held sound node.owner p there, tt)
+
+  wanted_held_at : IsSound g → IsWellFormed g.types → (d : Bool) → AllByRecursion (λ e. IsHeldKind g.types e.kind) (wanted_at g d n)
+  wanted_held_at sound wf d = split (node_at g (node_number n)) refl where
+    split : (o : Option GraphNode) → node_at g (node_number n) ≡ o → AllByRecursion (λ e. IsHeldKind g.types e.kind) (wanted_by g d n o)
     split None _ = tt
     split (Some node) at = by_kind node.kind refl where
-      by_kind : (k : Kind) → node.kind ≡ k → AllByRecursion (λ e. IsHeldKind g.types e.kind) (wanted_by g n (Some node))
+      by_kind : (k : Kind) → node.kind ≡ k → AllByRecursion (λ e. IsHeldKind g.types e.kind) (wanted_by g d n (Some node))
       by_kind graph.instantiation is =
-          subst (AllByRecursion (λ e. IsHeldKind g.types e.kind)) (wanted_asked g n (Some node) node refl is)
-          (subst (λ o. AllByRecursion (λ e. IsHeldKind g.types e.kind) (asked_by g n o)) at (asked_held wf))
+          subst (AllByRecursion (λ e. IsHeldKind g.types e.kind)) (sym (wanted_asked g d n (Some node) node refl is))
+          (all_joined (λ (e : Entry). IsHeldKind g.types e.kind) (asked_by g n (Some node)) (imported_package g d n node)
+          (subst (λ o. AllByRecursion (λ e. IsHeldKind g.types e.kind) (asked_by g n o)) at (asked_held wf)) (package_held sound d node))
       by_kind graph.definition is = rw is (sound.held (node_number n) node at, tt)
       by_kind (graph.import name) is = rw is (sound.held (node_number n) node at, tt)
       by_kind graph.alias is = rw is tt
@@ -167,10 +185,10 @@ held_entries g sound wf = all_entries g (λ e. IsHeldKind g.types e.kind) (λ e 
 pub asking_nodes : (g : Graph) → AllByRecursion (λ e. AsksImplicitly g (node_number e.node) ⊎ AsksExplicitly g (node_number e.node)) (asked_entries g)
 asking_nodes g = all_entries g (IsAskedByNode g) (λ e h name i held. h) (asked_by_node g) (imported_by_node g)
 
-pub held_wanted : (g : Graph) → IsSound g → IsWellFormed g.types → AllByRecursion (λ e. IsHeldKind g.types e.kind) (wanted_entries g)
-held_wanted g sound wf =
+pub held_wanted : (g : Graph) → IsSound g → IsWellFormed g.types → (d : Bool) → AllByRecursion (λ e. IsHeldKind g.types e.kind) (wanted_entries g d)
+held_wanted g sound wf d =
     let P : Entry → Type 0 = λ e. IsHeldKind g.types e.kind in
     let ns = finite.keys g.nodes in
-    let each = all_flat P (wanted_at g) ns (all_of (λ n. AllByRecursion P (wanted_at g n)) (λ n. wanted_held_at g n sound wf) ns) in
-    all_once P (flat_map (with_used g.types) (flat_map (wanted_at g) ns))
-    (all_flat P (with_used g.types) (flat_map (wanted_at g) ns) (each_with_used g P (λ e h name i held. held) (flat_map (wanted_at g) ns) each))
+    let each = all_flat P (wanted_at g d) ns (all_of (λ n. AllByRecursion P (wanted_at g d n)) (λ n. wanted_held_at g n sound wf d) ns) in
+    all_once P (flat_map (with_used g.types) (flat_map (wanted_at g d) ns))
+    (all_flat P (with_used g.types) (flat_map (wanted_at g d) ns) (each_with_used g P (λ e h name i held. held) (flat_map (wanted_at g d) ns) each))

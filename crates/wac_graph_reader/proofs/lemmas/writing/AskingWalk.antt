@@ -23,7 +23,7 @@ use Rattle.wac_graph_fields.specs.private.EntriesLeft.{IsHeldKind, AsksAlike, ro
 use Rattle.wac_graph_fields.specs.private.Fields.{Fields, graph_of}
 use Rattle.wac_graph_fields.proofs.EntryLists.{stands_itself, stands_through, stands_more}
 use Rattle.wac_graph_model.proofs.lemmas.nodes.HeldLemmas.{imports_held}
-use Rattle.wac_graph_model.specs.causes.TypeFaults.{wanted_by, wanted_at}
+use Rattle.wac_graph_model.specs.causes.TypeFaults.{imported_package, wanted_by, wanted_at}
 use Rattle.wac_graph_reader.proofs.lemmas.writing.EncodingLemmas.{node_is}
 use Rattle.wac_graph_reader.proofs.lemmas.writing.ImportRows.{by_numbers}
 
@@ -146,6 +146,14 @@ module _ (c : Collection) where
       subst (λ es. AsksAlike c es new) (sym parts)
       (stands_through c ((first ++ A) ++ all_with_used c (F n)) (old ++ all_with_used c (F n)) new (stands_more c (first ++ A) old (all_with_used c (F n)) f) g)
 
+  -- those of a number are asked for in two parts
+  pub both_parts : (old mid new xs ys zs : List Entry) → zs ≡ xs ++ ys → AsksAlike c (old ++ all_with_used c xs) mid → AsksAlike c (mid ++ all_with_used c ys) new → AsksAlike c (old ++ all_with_used c zs) new
+  both_parts old mid new xs ys zs is f g =
+      let parts : old ++ all_with_used c zs ≡ (old ++ all_with_used c xs) ++ all_with_used c ys =
+      ap (λ es. old ++ all_with_used c es) is ∙ ap (λ es. old ++ es) (flat_joined (with_used c) xs ys) ∙ sym (append_assoc old (all_with_used c xs) (all_with_used c ys)) in
+      subst (λ es. AsksAlike c es new) (sym parts)
+      (stands_through c ((old ++ all_with_used c xs) ++ all_with_used c ys) (mid ++ all_with_used c ys) new (stands_more c (old ++ all_with_used c xs) mid (all_with_used c ys) f) g)
+
   -- a number that asks for nothing
   pub number_passed : (F : ℕ → List Entry) (first old : List Entry) (n : ℕ) → AsksAlike c (first ++ all_with_used c (flat_map F (range_with_len 0 n))) old → F n ≡ [] → AsksAlike c (first ++ all_with_used c (flat_map F (range_with_len 0 (n + 1)))) old
   number_passed F first old n f none = number_asked F first old old n f (subst (λ es. AsksAlike c (old ++ all_with_used c es) old) (sym none) (subst (λ es. AsksAlike c es old) (sym (append-nil old)) (stands_itself c old)))
@@ -164,18 +172,18 @@ module _ (a : Fields) (end : ℕ) (slots : length a.nodes.slots ≤ end) where
   pub all_imported : all_imported_by (graph_of a) ≡ flat_map (imported_at (graph_of a)) (range_with_len 0 end)
   all_imported = by_numbers a end slots (imported_at (graph_of a)) (λ n none. ap (imported_by n) (node_is a n None none))
 
-  pub all_wanted : flat_map (wanted_at (graph_of a)) (finite.keys (graph_of a).nodes) ≡ flat_map (wanted_at (graph_of a)) (range_with_len 0 end)
-  all_wanted = by_numbers a end slots (wanted_at (graph_of a)) (λ n none. ap (wanted_by (graph_of a) n) (node_is a n None none))
+  pub all_wanted : (d : Bool) → flat_map (wanted_at (graph_of a) d) (finite.keys (graph_of a).nodes) ≡ flat_map (wanted_at (graph_of a) d) (range_with_len 0 end)
+  all_wanted d = by_numbers a end slots (wanted_at (graph_of a) d) (λ n none. ap (wanted_by (graph_of a) d n) (node_is a n None none))
 
--- what an instantiation is wanted for is what it asks for
-pub wanted_asked : (g : Graph) (n : ℕ) (o : Option GraphNode) (node : GraphNode) → o ≡ Some node → node.kind ≡ graph.instantiation → asked_by g n o ≡ wanted_by g n o
-wanted_asked g n None node is kind = cc
-wanted_asked g n (Some other) node is kind =
+-- an instantiation is wanted for what it asks for, and for its package where packages are imported
+pub wanted_asked : (g : Graph) (d : Bool) (n : ℕ) (o : Option GraphNode) (node : GraphNode) → o ≡ Some node → node.kind ≡ graph.instantiation → wanted_by g d n o ≡ asked_by g n o ++ imported_package g d n node
+wanted_asked g d n None node is kind = cc
+wanted_asked g d n (Some other) node is kind =
     let same : other ≡ node = cc in
     let of_other : other.kind ≡ graph.instantiation = ap (λ (x : GraphNode). x.kind) same ∙ kind in
-    by of_other
+    subst (λ (x : GraphNode). wanted_by g d n (Some other) ≡ asked_by g n (Some other) ++ imported_package g d n x) same (by of_other)
   where
-    by : other.kind ≡ graph.instantiation → asked_by g n (Some other) ≡ wanted_by g n (Some other)
+    by : other.kind ≡ graph.instantiation → wanted_by g d n (Some other) ≡ asked_by g n (Some other) ++ imported_package g d n other
     by e = rw e refl
 
 -- first what instantiations ask for, then what import nodes do

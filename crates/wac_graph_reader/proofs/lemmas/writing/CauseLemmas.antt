@@ -26,9 +26,9 @@ use Rattle.wac_graph_model.specs.nodes.Entries.{asked_entries, to_merge}
 use Rattle.wac_graph_model.specs.causes.Cause.{IsFirstConflict, HasNoConflict, HasMerge, IsMergeConflict, IsImplicitMerge, IsExplicitMerge, IsImportCircle, Cause, cycle, conflict, implicit_merge, explicit_merge, import_circle, unwritable, not_yet, invalid, CauseKind, a_disagreement, an_invalid_name, rank, kind_of_cause, Occurs, Stands, cause_of, AnswersFor}
 use Rattle.wac_graph_model.specs.causes.TypeFaults.{wanted_entries, IsEntryFault, IsTypeFault, HasNoTypeFault}
 use Rattle.wac_graph_model.specs.private.causes.Search.{IsRefused}
-use Rattle.wac_scopes.specs.declared.fault.WriteFault.{WriteFault}
-use Rattle.wac_writable.specs.Faults.{IsLowest}
-use Rattle.wac_writable.proofs.Lowest.{one_lowest}
+use Rattle.wac_encode_faults.specs.declared.fault.WriteFault.{WriteFault}
+use Rattle.wac_encode_faults.specs.Faults.{IsLowest}
+use Rattle.wac_encode_faults.proofs.Lowest.{one_lowest}
 use Rattle.wac_graph_reader.specs.private.writing.Refused.{IsRefusedBefore}
 use Rattle.wac_graph_model.proofs.lemmas.causes.StandsLemmas.{stands_cycle, stands_unwritable, stands_not_yet, same_kind, none_there, invalid_alone}
 use Rattle.wac_graph_model.specs.causes.OuterNames.{IsOuterFault}
@@ -136,16 +136,16 @@ module _ (g : Graph) (law : OneFault) where
   one_circle i j agree a b = ap import_circle (ap text_in (law g.types (to_merge (asked_entries g)) (use_each_other i) (use_each_other j) (agree, a) (agree, b)))
 
 -- of what cannot be written one fault is the first
-one_type_fault : (g : Graph) (n m : NodeId) (f h : WriteFault) → IsTypeFault g n f → IsTypeFault g m h → unwritable n f ≡ unwritable m h
-one_type_fault g n m f h a b =
+one_type_fault : (g : Graph) (d : Bool) (n m : NodeId) (f h : WriteFault) → IsTypeFault g d n f → IsTypeFault g d m h → unwritable n f ≡ unwritable m h
+one_type_fault g d n m f h a b =
     let up = a.first b.position b.entry h b.there b.lowest.0 in
     let down = b.first a.position a.entry f a.there a.lowest.0 in
     let at : a.position ≡ b.position = omega (arith, up, down) in
-    let entry : a.entry ≡ b.entry = same_some (slice_get (wanted_entries g) a.position) a.entry b.entry a.there (ap (slice_get (wanted_entries g)) at ∙ b.there) in
+    let entry : a.entry ≡ b.entry = same_some (slice_get (wanted_entries g d) a.position) a.entry b.entry a.there (ap (slice_get (wanted_entries g d)) at ∙ b.there) in
     let number : n.0 ≡ m.0 = a.by_node ∙ (ap (λ (e : Entry). e.node) entry ∙ sym b.by_node) in
-    let node : n ≡ m = λ d. record { 0 = number d } in
+    let node : n ≡ m = λ k. record { 0 = number k } in
     let fault : f ≡ h = one_lowest (IsEntryFault g b.entry) f h (subst (λ (e : Entry). IsLowest (IsEntryFault g e) (Some f)) entry a.lowest) b.lowest in
-    λ d. unwritable (node d) (fault d)
+    λ k. unwritable (node k) (fault k)
 
 -- of one kind no two causes are named
 one_named : (g : Graph) → IsSound g → OneFault → (o : EncodeOptions) (a b : Cause) → rank (kind_of_cause a) < rank an_invalid_name → kind_of_cause a ≡ kind_of_cause b → Stands g o a → Stands g o b → a ≡ b
@@ -194,7 +194,7 @@ one_named g sound law o (unwritable n f) (conflict j m l t) before e a b = cc
 one_named g sound law o (unwritable n f) (implicit_merge j t u r v y) before e a b = cc
 one_named g sound law o (unwritable n f) (explicit_merge j m l) before e a b = cc
 one_named g sound law o (unwritable n f) (import_circle j) before e a b = cc
-one_named g sound law o (unwritable n f) (unwritable m h) before e a b = one_type_fault g n m f h a.1 b.1
+one_named g sound law o (unwritable n f) (unwritable m h) before e a b = one_type_fault g o.define_components n m f h a.1 b.1
 one_named g sound law o (unwritable n f) not_yet before e a b = cc
 one_named g sound law o (unwritable n f) (invalid f') before e a b = cc
 one_named g sound law o not_yet (cycle m) before e a b = cc
@@ -223,7 +223,7 @@ refused_for g sound law o e (inr (named, names, before, there)) cause stands = i
 
 -- where all is written names alone may be at fault
 abbrev pub IsChecked : Graph → EncodeOptions → Type 0
-IsChecked g o = IsAcyclic g.edges × HasNoConflict g × HasMerge g × HasNoTypeFault g × (IsNotYet g o → ⊥)
+IsChecked g o = IsAcyclic g.edges × HasNoConflict g × HasMerge g × HasNoTypeFault g o.define_components × (IsNotYet g o → ⊥)
 
 -- where the names are valid, or none asks whether they are, no cause of any kind occurs
 pub none_occurs : (g : Graph) → (o : EncodeOptions) → IsChecked g o → (IsTrue o.validate → (fault : names.Fault) → IsOuterFault g o fault → ⊥) → (kind : CauseKind) → Occurs g o kind → ⊥
@@ -233,11 +233,11 @@ none_occurs g o h valid = none_there g o h.0 h.1 h.2 h.3 h.4 valid
 pub too_large : (g : Graph) → (o : EncodeOptions) → IsChecked g o → (cause : Cause) → Stands g o cause → AnswersFor cause error.TooLarge
 too_large g o h cause s = inr (inr (invalid_alone g o h.0 h.1 h.2 h.3 h.4 (kind_of_cause cause) s.0.0, refl))
 
-pub at_not_yet : (g : Graph) (o : EncodeOptions) → IsAcyclic g.edges → HasNoConflict g → HasMerge g → HasNoTypeFault g → IsNotYet g o → IsRefused g o error.NotYet
+pub at_not_yet : (g : Graph) (o : EncodeOptions) → IsAcyclic g.edges → HasNoConflict g → HasMerge g → HasNoTypeFault g o.define_components → IsNotYet g o → IsRefused g o error.NotYet
 at_not_yet g o acyclic apart merges types here = inr (not_yet, refl, lit< tt, stands_not_yet g o acyclic apart merges types here)
 
-pub at_type_fault : (g : Graph) (n : NodeId) (f : WriteFault) → IsAcyclic g.edges → HasNoConflict g → HasMerge g → IsTypeFault g n f → (o : EncodeOptions) → IsRefused g o (error.TypeNotWritable n f)
-at_type_fault g n f acyclic apart merges here o = inr (unwritable n f, refl, lit< tt, stands_unwritable g o n f acyclic apart merges here)
+pub at_type_fault : (g : Graph) (o : EncodeOptions) (n : NodeId) (f : WriteFault) → IsAcyclic g.edges → HasNoConflict g → HasMerge g → IsTypeFault g o.define_components n f → IsRefused g o (error.TypeNotWritable n f)
+at_type_fault g o n f acyclic apart merges here = inr (unwritable n f, refl, lit< tt, stands_unwritable g o n f acyclic apart merges here)
 
 pub at_cycle : (g : Graph) (n : NodeId) → IsLowestOnCycle g.edges n → (o : EncodeOptions) → IsRefused g o (error.GraphContainsCycle n)
 at_cycle g n lowest o = inr (cycle n, refl, lit< tt, stands_cycle g o n lowest)
@@ -268,7 +268,7 @@ pub begun_cause : (g : Graph) (o : EncodeOptions) (e : EncodeError) → IsRefuse
 begun_cause g o e (inl h) = names_cause g o e h
 begun_cause g o e (inr (none, written)) = subst (λ x. IfSome x (Stands g o)) (sym none) tt
 
-pub begun_refused : (g : Graph) → IsSound g → OneFault → (o : EncodeOptions) → IsAcyclic g.edges → HasNoConflict g → HasMerge g → HasNoTypeFault g → (e : EncodeError) → IsRefusedBefore g o e → (cause : Cause) → Stands g o cause → AnswersFor cause e
+pub begun_refused : (g : Graph) → IsSound g → OneFault → (o : EncodeOptions) → IsAcyclic g.edges → HasNoConflict g → HasMerge g → HasNoTypeFault g o.define_components → (e : EncodeError) → IsRefusedBefore g o e → (cause : Cause) → Stands g o cause → AnswersFor cause e
 begun_refused g sound law o acyclic apart merges types e (inl h) cause s = refused_for g sound law o e h cause s
 begun_refused g sound law o acyclic apart merges types e (inr (none, written)) cause s = nameless_answers g o (acyclic, apart, merges, types, written) e none cause s
 

@@ -1,5 +1,6 @@
-use Rattle.std.proofs.Common.{◌≡◌, Ok, ap, inl, ◌∙◌}
+use Rattle.std.proofs.Common.{◌≡◌, Ok, ap, inl, sym, subst, ◌∙◌}
 use Rattle.wac_graph_model.specs.causes.NotYet.{AllImportable, undefined_components, undefined_type, unwritten}
+use Rattle.wac_graph_model.specs.causes.TypeFaults.{HasNoTypeFault}
 use Rattle.wac_graph_model.specs.private.meaning.Beginning.{Begins}
 use Rattle.wac_graph_model.specs.private.meaning.MergedImports.{merged_imports, AreOfSorts}
 use Rattle.wac_graph_model.specs.declared.nodes.options.EncodeOptions.{EncodeOptions}
@@ -12,7 +13,7 @@ use Rattle.wac_graph.proofs.graph.CompositionGraph.begin.Goals as goal
 use Rattle.wac_graph.proofs.graph.CompositionGraph.begin.Goals.{then-not-define_components-via-then-not-define_components, then-not-define_components-via-else-not-define_components+in_ok-are_definable+then-not-branch}
 
 pub returns-then-not-define_components-clause-refused : goal.returns-then-not-define_components-clause-refused
-returns-then-not-define_components-clause-refused c = λ o is. inl (at_not_yet c.args.self.now o c.requires.acyclic c.requires.apart c.requires.merges c.requires.writable (elim c.then-not-define_components.branch [
+returns-then-not-define_components-clause-refused c = λ o is. inl (at_not_yet c.args.self.now o c.requires.acyclic c.requires.apart c.requires.merges (subst (HasNoTypeFault c.args.self.now) (sym is) c.requires.writable) (elim c.then-not-define_components.branch [
   | then-not-define_components-via-then-not-define_components w ↦ undefined_components (is ∙ w.if-not-define_components.true)
   | then-not-define_components-via-else-not-define_components+in_ok-are_definable+then-not-branch w ↦ undefined_type (w.are_definable.ensures.not (w.in_ok-are_definable.was ∙ ap Ok w.if-not-branch.true))
 ]))
@@ -37,7 +38,7 @@ returns-in-Some-clause-written c = λ o is.
 
 pub returns-in-None-clause-refused : goal.returns-in-None-clause-refused
 returns-in-None-clause-refused c = λ o is.
-    inl (at_not_yet c.args.self.now o c.requires.acyclic c.requires.apart c.requires.merges c.requires.writable (unwritten (when_none c.in_ok-root.field-0 (AllImportable c.args.self.now → ⊥) c.in-None.is c.in_ok-root.ensures.none)))
+    inl (at_not_yet c.args.self.now o c.requires.acyclic c.requires.apart c.requires.merges (subst (HasNoTypeFault c.args.self.now) (sym is) c.requires.writable) (unwritten (when_none c.in_ok-root.field-0 (AllImportable c.args.self.now → ⊥) c.in-None.is c.in_ok-root.ensures.none)))
 
 pub returns-in-Some-clause-definable : goal.returns-in-Some-clause-definable
 returns-in-Some-clause-definable c = c.are_definable.ensures.all (c.in_ok-are_definable.was ∙ ap Ok c.if-not-branch.false)

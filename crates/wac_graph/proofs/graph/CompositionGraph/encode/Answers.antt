@@ -45,11 +45,11 @@ returns-in_err-merge-clause-refused c = λ cause stands. exit_refused (AnswersFo
 
 pub returns-in_err-check_types-clause-cause : goal.returns-in_err-check_types-clause-cause
 returns-in_err-check_types-clause-cause c = exit_cause (λ e. IfSome (cause_of e) (Stands c.args.self.now c.args.options)) c.from_residual-in_err-check_types.result (c.in_err-check_types.field-0).0 c.from_residual-in_err-check_types.ensures.1
-    (names_cause c.args.self.now c.args.options (c.in_err-check_types.field-0).0 (c.in_err-check_types.ensures.refused c.args.options))
+    (names_cause c.args.self.now c.args.options (c.in_err-check_types.field-0).0 (c.in_err-check_types.ensures.refused c.args.options refl))
 
 pub returns-in_err-check_types-clause-refused : goal.returns-in_err-check_types-clause-refused
 returns-in_err-check_types-clause-refused c = λ cause stands. exit_refused (AnswersFor cause) c.from_residual-in_err-check_types.result (c.in_err-check_types.field-0).0 c.from_residual-in_err-check_types.ensures.1
-    (refused_for c.args.self.now c.law.ensures c.fault_law.ensures c.args.options (c.in_err-check_types.field-0).0 (c.in_err-check_types.ensures.refused c.args.options) cause stands)
+    (refused_for c.args.self.now c.law.ensures c.fault_law.ensures c.args.options (c.in_err-check_types.field-0).0 (c.in_err-check_types.ensures.refused c.args.options refl) cause stands)
 
 pub returns-in_err-root-clause-cause : goal.returns-in_err-root-clause-cause
 returns-in_err-root-clause-cause c = exit_cause (λ e. IfSome (cause_of e) (Stands c.args.self.now c.args.options)) c.from_residual-in_err-root.result (c.in_err-root.field-0).0 c.from_residual-in_err-root.ensures.1

@@ -4,6 +4,7 @@ use Rattle.wac_merge.specs.Aggregate.{Aggregate}
 use Rattle.wac_graph_model.specs.private.meaning.MergedImports.{ExportsOnce}
 use Rattle.wac_graph_model.specs.nodes.Entries.{to_merge}
 use Rattle.wac_graph_model.specs.nodes.Graph.{Graph}
+use Rattle.wac_graph.proofs.BoundLemmas.{nothing_alike}
 use Rattle.wac_graph.proofs.NothingLemmas.{has_merge, lists_nothing, merges_nothing}
 use Rattle.wac_graph.proofs.graph.CompositionGraph.merged_nothing.Goals as goal
 
@@ -27,3 +28,8 @@ returns-in-Ok-clause-merged c =
 
 pub returns-in-Ok-clause-merges : goal.returns-in-Ok-clause-merges
 returns-in-Ok-clause-merges c = has_merge c.args.self.now c.requires
+
+pub returns-in-Ok-clause-alike : goal.returns-in-Ok-clause-alike
+returns-in-Ok-clause-alike c =
+    let entries : c.new.result.entries ≡ [] = ap (λ (a : Aggregate). a.entries) c.new.ensures in
+    nothing_alike c.args.self.now c.in-Ok.merge (c.in-Ok.ensures.finished.0 ∙ entries) (ap to_merge c.requires)

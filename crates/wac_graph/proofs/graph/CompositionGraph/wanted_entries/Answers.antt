@@ -16,14 +16,14 @@ loop-n-preserved c =
     record {
       right = c.in_ok-ask_wanted.ensures.right;
       settled = c.in_ok-ask_wanted.ensures.settled;
-      stands = number_asked g.types (wanted_at g) [] (entries_of c.loop-n.asking) (entries_of c.ask_wanted.new.asking) c.loop-n.n c.loop-n.invariant.stands c.in_ok-ask_wanted.ensures.stands;
+      stands = number_asked g.types (wanted_at g c.args.define_components) [] (entries_of c.loop-n.asking) (entries_of c.ask_wanted.new.asking) c.loop-n.n c.loop-n.invariant.stands c.in_ok-ask_wanted.ensures.stands;
     }
 
 pub returns : goal.returns
 returns c =
     let g = c.args.self.now in
-    let all = subst (λ (h : Graph). flat_map (wanted_at h) (finite.keys h.nodes) ≡ flat_map (wanted_at h) (range_with_len 0 c.loop-n.n)) c.self.view_is (all_wanted (fields_of c.self.inside) c.loop-n.n (omega (arith, c.loop-n-test.false, c.capacity-n-end.ensures.slots))) in
-    c.into_entries.ensures ∙ stands_once g.types (all_with_used g.types (flat_map (wanted_at g) (finite.keys g.nodes))) (entries_of c.loop-n.asking)
+    let all = subst (λ (h : Graph). flat_map (wanted_at h c.args.define_components) (finite.keys h.nodes) ≡ flat_map (wanted_at h c.args.define_components) (range_with_len 0 c.loop-n.n)) c.self.view_is (all_wanted (fields_of c.self.inside) c.loop-n.n (omega (arith, c.loop-n-test.false, c.capacity-n-end.ensures.slots)) c.args.define_components) in
+    c.into_entries.ensures ∙ stands_once g.types (all_with_used g.types (flat_map (wanted_at g c.args.define_components) (finite.keys g.nodes))) (entries_of c.loop-n.asking)
     (subst (λ es. AsksAlike g.types (all_with_used g.types es) (entries_of c.loop-n.asking)) (sym all) c.loop-n.invariant.stands) c.loop-n.invariant.right.apart
 
 pub loop-n-init : goal.loop-n-init

@@ -8,5 +8,5 @@ abbrev pub invariant-loop-n : goal.invariant-loop-n
 invariant-loop-n l = record {
   right : IsRight l.asking;
   settled : IsSettled l.self.types l.asking;
-  stands : AsksAlike l.self.types ([] ++ all_with_used l.self.types (flat_map (wanted_at l.self) (range_with_len 0 l.n))) (entries_of l.asking);
+  stands : AsksAlike l.self.types ([] ++ all_with_used l.self.types (flat_map (wanted_at l.self l.define_components) (range_with_len 0 l.n))) (entries_of l.asking);
 }

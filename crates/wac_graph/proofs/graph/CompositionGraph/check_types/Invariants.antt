@@ -1,5 +1,0 @@
-use Rattle.wac_graph_reader.proofs.lemmas.writing.WantedLemmas.{NoneBefore}
-use Rattle.wac_graph.proofs.graph.CompositionGraph.check_types.Given as goal
-
-abbrev pub invariant-loop-i : goal.invariant-loop-i
-invariant-loop-i l = NoneBefore l.self l.i

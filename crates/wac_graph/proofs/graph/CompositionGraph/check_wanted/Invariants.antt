@@ -1,0 +1,5 @@
+use Rattle.wac_graph_reader.proofs.lemmas.writing.WantedLemmas.{NoneBefore}
+use Rattle.wac_graph.proofs.graph.CompositionGraph.check_wanted.Given as goal
+
+abbrev pub invariant-loop-i : goal.invariant-loop-i
+invariant-loop-i l = NoneBefore l.self l.define_components l.i
