@@ -64,7 +64,7 @@ component-type : (t : Tree) → IsComponent t → IsType t
 component-type (component xs ys) h = tt
 component-type t h = absurd h
 
-of-item : (a : AnyType) (t : Tree) → IsTypeOf a t → IsType t
+pub of-item : (a : AnyType) (t : Tree) → IsTypeOf a t → IsType t
 of-item (ty.Resource r) t h = h
 of-item (ty.Value v) t h = value-type t h
 of-item (ty.Func f) t h = function-type t h

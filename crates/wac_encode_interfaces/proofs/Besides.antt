@@ -42,7 +42,7 @@ long-append (x ∷ ps) (y ∷ os) p o h = long-append ps os p o h
 long-append [] (y ∷ os) p o h = absurd h
 long-append (x ∷ ps) [] p o h = absurd h
 
-long-outward : (b d : Bool) (ss ts : List Scope) → AllZip Added ss ts → Long (outward b ts) (outward d ss)
+pub long-outward : (b d : Bool) (ss ts : List Scope) → AllZip Added ss ts → Long (outward b ts) (outward d ss)
 long-outward b d [] [] h = tt
 long-outward b d (s ∷ ss) (t ∷ ts) h = long-append (outward b ts) (outward d ss) (opened b t) (opened d s) (long-outward b d ss ts h.1)
 long-outward b d [] (t ∷ ts) h = absurd h
@@ -52,7 +52,7 @@ pub long-same : (ps : Stack) → Long ps ps
 long-same [] = tt
 long-same (p ∷ ps) = long-same ps
 
-same-items : (s t : State) → s.around ≡ t.around → s.around.items ≡ t.around.items
+pub same-items : (s t : State) → s.around ≡ t.around → s.around.items ≡ t.around.items
 same-items s t h = cc
 
 -- an item, and records of the innermost scope

@@ -106,7 +106,7 @@ one-interface j i h = cc
 no-part : (c : Collection) (t u : AnyType) (i : InterfaceId) → t ≡ ty.Interface i → Contains (free.parts c t) u → ⊥
 no-part c t u i is h = in_none u (subst (λ (z : AnyType). Contains (free.parts c z) u) is h)
 
-free-not-own : (c : Collection) (t : AnyType) (i : InterfaceId) (it : Interface) (r : ResourceId) → t ≡ ty.Interface i → item_at c.interfaces i.0 ≡ Some it → IsFree c t r → own_name c it.uses it.exports r ≡ None
+pub free-not-own : (c : Collection) (t : AnyType) (i : InterfaceId) (it : Interface) (r : ResourceId) → t ≡ ty.Interface i → item_at c.interfaces i.0 ≡ Some it → IsFree c t r → own_name c it.uses it.exports r ≡ None
 free-not-own c _ i it _ is at (free.itself q) = absurd (no-resource q i is)
 free-not-own c t i it r is at (free.in_part _ u _ part f) = absurd (no-part c t u i is part)
 free-not-own c _ i it r is at (free.in_export j other n k _ there listed not_own f) =

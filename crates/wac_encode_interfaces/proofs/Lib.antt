@@ -26,3 +26,5 @@ pub mod InnerTypes
 pub mod WorldsAhead
 pub mod RootTypes
 pub mod Faultless
+pub mod Importing
+pub mod ByFree

@@ -1,5 +1,7 @@
 pub mod Worlds
 pub mod Items
+pub mod Imports
+pub mod FreeTrees
 pub mod Writers
 pub mod Trees
 pub mod Ready

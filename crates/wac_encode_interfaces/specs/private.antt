@@ -1,4 +1,5 @@
 pub mod Names
+pub mod Sorts
 pub mod Levels
 pub mod Nests
 pub mod Written

@@ -99,7 +99,11 @@ impl<'a> TypeWriter<'a> {
     }
 
     /// Writes the interface of an item into the innermost scope, unless it is recorded there.
-    fn write_interface_of(&self, state: &mut State, item: ItemKind) -> Result<(), BinaryFault>
+    pub(crate) fn write_interface_of(
+        &self,
+        state: &mut State,
+        item: ItemKind,
+    ) -> Result<(), BinaryFault>
         requires writer { IsWriter self.now }
         requires held { (i : AnInterfaceId) → kind_type item ≡ ty_of.Interface i → HasInterface self.now.types.now i }
         requires ready { (i : AnInterfaceId) → kind_type item ≡ ty_of.Interface i → IsInterfaceReady self.now.types.now self.now.merged state.old false i }

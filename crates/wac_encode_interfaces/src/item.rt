@@ -100,7 +100,11 @@ impl<'a> TypeWriter<'a> {
     }
 
     /// Writes the type of an item. Returns the item's description.
-    fn describe(&self, state: &mut State, item: ItemKind) -> Result<Description, BinaryFault>
+    pub(crate) fn describe(
+        &self,
+        state: &mut State,
+        item: ItemKind,
+    ) -> Result<Description, BinaryFault>
         requires writer { IsWriter self.now }
         requires ready { IsItemReady self.now.types.now self.now.merged (written_in self.now.worlds.now) state.old item }
         ensures goes { OnOk result (Goes self.now.types.now self.now.merged state.old state.new) }
@@ -133,7 +137,12 @@ impl<'a> TypeWriter<'a> {
     }
 
     /// Records a type item of the innermost scope as a name of its type, unless an earlier item names it.
-    fn record_item(&self, state: &mut State, item: ItemKind, index: u32) -> Result<(), BinaryFault>
+    pub(crate) fn record_item(
+        &self,
+        state: &mut State,
+        item: ItemKind,
+        index: u32,
+    ) -> Result<(), BinaryFault>
         ensures goes { OnOk result (NamesType self.now.types.now self.now.merged state.old item index → Goes self.now.types.now self.now.merged state.old state.new) }
         ensures records { OnOk result ((f : Open → Open) × RecordsHere self.now.merged f state.old state.new) }
     {

@@ -2,6 +2,7 @@
 //!
 //! Each function does nothing. Its contract is a law that a caller cites by a call (docs/PROOFS.md, 'Laws').
 ghost use Rattle.wac_encode_interfaces.specs.Clean.{IsDefinitionOfNoFault, IsImportOfNoFault};
+ghost use Rattle.wac_encode_interfaces.specs.FreeTrees.{TreesByFree};
 ghost use Rattle.wac_encode_interfaces.specs.WorldTrees.{IsTreeOfItsSides};
 
 /// The tree of a world is the tree of the component type with its sides.
@@ -18,4 +19,9 @@ pub fn import_law()
 /// The type of an item without a fault as a definition can be defined.
 pub fn definition_law()
     ensures { IsDefinitionOfNoFault }
+{}
+
+/// The tree of a type depends on its free resources alone.
+pub fn free_law()
+    ensures { TreesByFree }
 {}

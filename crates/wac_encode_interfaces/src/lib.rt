@@ -3,6 +3,7 @@
 
 mod ahead;
 mod component_type;
+mod import;
 mod inside;
 mod instance;
 mod interface;

@@ -1,0 +1,25 @@
+use Rattle.std.proofs.Common.{length}
+use Rattle.wac_types_collection.proofs.lemmas.collection.Steady.{within}
+use Rattle.wac_encode_scopes.specs.Components.{DefinesModuleType}
+use Rattle.wac_encode_scopes.specs.States.{Goes}
+use Rattle.wac_encode_interfaces.specs.Imports.{IsModuleAt}
+use Rattle.wac_encode_interfaces.proofs.Written.{if-ok, ok-of}
+use Rattle.wac_encode_interfaces.proofs.Importing.{module-goes, module-at}
+use Rattle.wac_encode_interfaces.proofs.writer.TypeWriter.core_module.Goals as goal
+
+pub index-requires : goal.index-requires
+index-requires c = within c.args.id.0 (length c.args.self.now.types.now.modules) c.requires.held
+
+pub returns-clause-goes : goal.returns-clause-goes
+returns-clause-goes c =
+    let t = c.args.self.now.types.now in
+    let b = c.args.self.now.merged in
+    ok-of (DefinesModuleType c.in_ok-written.written c.args.state.now c.define_module.new.self) (Goes t b c.args.state.now c.define_module.new.self) c.define_module.result
+    (λ k defines. module-goes t b c.index.result.now c.in_ok-written.written c.args.state.now c.define_module.new.self k c.in_ok-written.ensures.means defines) c.define_module.ensures.defines
+
+pub returns-clause-is : goal.returns-clause-is
+returns-clause-is c =
+    let t = c.args.self.now.types.now in
+    let b = c.args.self.now.merged in
+    if-ok (DefinesModuleType c.in_ok-written.written c.args.state.now c.define_module.new.self) (IsModuleAt t b c.define_module.new.self c.args.id) c.define_module.result
+    (λ k defines. module-at c.module_law.ensures.holds_module t b c.args.id c.index.result.now c.in_ok-written.written c.args.state.now c.define_module.new.self k c.index.ensures c.requires.ready c.in_ok-written.ensures.means defines) c.define_module.ensures.defines

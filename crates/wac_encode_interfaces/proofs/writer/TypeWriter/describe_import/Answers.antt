@@ -1,0 +1,52 @@
+use Rattle.std.proofs.Common.{◌≡◌, true, length, sym, ◌∙◌, subst}
+use Rattle.wac_types_shapes.specs.shapes.Kinds.{kind_type}
+use Rattle.wac_types_shapes.specs.declared.shapes.component.ItemKind.{ItemKind}
+use Rattle.wac_types_shapes.specs.declared.shapes.component.«Type».{«Type» as AnyType}
+use Rattle.wac_types_collection.specs.collection.Collection.{holds_type}
+use Rattle.wac_types_collection.proofs.lemmas.collection.Steady.{within}
+use Rattle.wac_encode_values.specs.Values.{IsReady}
+use Rattle.wac_encode_scopes.proofs.Stepped.{goes-both}
+use Rattle.wac_encode_interfaces.specs.Imports.{DescribesImport}
+use Rattle.wac_encode_interfaces.specs.Items.{DescribesItem}
+use Rattle.wac_encode_interfaces.specs.Worlds.{HaveWorlds, written_in}
+use Rattle.wac_encode_interfaces.proofs.Written.{if-ok, on-ok}
+use Rattle.wac_encode_interfaces.proofs.Importing.{component-is, described-component, described-item, described-module, interface-ready, item-after, module-is}
+use Rattle.wac_encode_interfaces.proofs.writer.TypeWriter.describe_import.Goals as goal
+
+pub world-requires-clause-written : goal.world-requires-clause-written
+world-requires-clause-written c =
+    subst (λ (k : ItemKind). HaveWorlds c.args.self.now.types.now (written_in c.args.self.now.worlds.now) (kind_type k)) (component-is c.args.item c.in-Some.world (sym c.world_in.ensures ∙ c.in-Some.is)) c.requires.ready.worlds
+
+pub returns-in-Some-clause-describes : goal.returns-in-Some-clause-describes
+returns-in-Some-clause-describes c = described-component c.args.self.now.types.now c.args.self.now.merged c.world.new.state c.args.item c.in-Some.world c.in_ok-index.index (sym c.world_in.ensures ∙ c.in-Some.is) c.in_ok-index.ensures.is
+
+pub core_module-requires-clause-held : goal.core_module-requires-clause-held
+core_module-requires-clause-held c = subst (λ (k : ItemKind). holds_type c.args.self.now.types.now (kind_type k) ≡ true) (module-is c.args.item c.in-Some-2.id (sym c.module_in.ensures ∙ c.in-Some-2.is)) c.requires.ready.held
+
+pub core_module-requires-clause-ready : goal.core_module-requires-clause-ready
+core_module-requires-clause-ready c = subst (λ (k : ItemKind). IsReady c.args.self.now.types.now c.args.self.now.merged c.args.state.now (kind_type k)) (module-is c.args.item c.in-Some-2.id (sym c.module_in.ensures ∙ c.in-Some-2.is)) c.requires.ready.ready
+
+pub returns-in-Some-2-clause-describes : goal.returns-in-Some-2-clause-describes
+returns-in-Some-2-clause-describes c = described-module c.args.self.now.types.now c.args.self.now.merged c.core_module.new.state c.args.item c.in-Some-2.id c.in_ok-index-2.index (sym c.module_in.ensures ∙ c.in-Some-2.is) c.in_ok-index-2.ensures.is
+
+pub write_interface_of-requires-clause-held : goal.write_interface_of-requires-clause-held
+write_interface_of-requires-clause-held c = λ i is. within i.0 (length c.args.self.now.types.now.interfaces) (subst (λ (a : AnyType). holds_type c.args.self.now.types.now a ≡ true) is c.requires.ready.held)
+
+pub write_interface_of-requires-clause-ready : goal.write_interface_of-requires-clause-ready
+write_interface_of-requires-clause-ready c = λ i is. interface-ready c.args.self.now.types.now c.args.self.now.merged (written_in c.args.self.now.worlds.now) c.args.state.now c.args.item i is c.requires.ready
+
+pub write_interface_of-requires-clause-worlds : goal.write_interface_of-requires-clause-worlds
+write_interface_of-requires-clause-worlds c = λ i is. subst (HaveWorlds c.args.self.now.types.now (written_in c.args.self.now.worlds.now)) is c.requires.ready.worlds
+
+pub describe-requires-clause-ready : goal.describe-requires-clause-ready
+describe-requires-clause-ready c =
+    item-after c.args.self.now.types.now c.args.self.now.merged (written_in c.args.self.now.worlds.now) c.args.state.now c.write_interface_of.new.state c.args.item (sym c.world_in.ensures ∙ c.in-None.is) (sym c.module_in.ensures ∙ c.in-None-2.is) c.requires.ready c.in_ok-write_interface_of.ensures.goes c.in_ok-write_interface_of.ensures.has
+
+pub returns-clause-goes : goal.returns-clause-goes
+returns-clause-goes c =
+    on-ok c.describe.result (λ g. goes-both c.step_law.ensures.follows c.args.self.now.types.now c.args.self.now.merged c.args.state.now c.write_interface_of.new.state c.describe.new.state c.in_ok-write_interface_of.ensures.goes g) c.describe.ensures.goes
+
+pub returns-clause-describes : goal.returns-clause-describes
+returns-clause-describes c =
+    if-ok (DescribesItem c.args.self.now.types.now c.args.self.now.merged c.describe.new.state c.args.item) (DescribesImport c.args.self.now.types.now c.args.self.now.merged c.describe.new.state c.args.item) c.describe.result
+    (λ d h. described-item c.args.self.now.types.now c.args.self.now.merged c.describe.new.state c.args.item d (sym c.world_in.ensures ∙ c.in-None.is) (sym c.module_in.ensures ∙ c.in-None-2.is) h) c.describe.ensures.describes
