@@ -82,35 +82,35 @@ interface-ready c b ws s k i is h = record {
 }
 
 listed-as-import : (k : ItemKind) → component_world k ≡ None → module_type_of k ≡ None → import_fault k ≡ None → listed_fault k ≡ None
-listed-as-import (kind.TypeItem (ty.Resource r)) no none h = refl
-listed-as-import (kind.TypeItem (ty.Value v)) no none h = refl
-listed-as-import (kind.TypeItem (ty.Func f)) no none h = refl
-listed-as-import (kind.TypeItem (ty.Interface i)) no none h = refl
-listed-as-import (kind.TypeItem (ty.World w)) no none h = refl
-listed-as-import (kind.TypeItem (ty.Module m)) no none h = h
-listed-as-import (kind.Func f) no none h = refl
-listed-as-import (kind.Instance i) no none h = refl
-listed-as-import (kind.Component w) no none h = let wrong : Some w ≡ None = no in cc
-listed-as-import (kind.Module m) no none h = let wrong : Some m ≡ None = none in cc
-listed-as-import (kind.Value v) no none h = let wrong : Some fault.ValueItem ≡ None = h in cc
+listed-as-import (kind.TypeItem (ty.Resource r)) other plain h = refl
+listed-as-import (kind.TypeItem (ty.Value v)) other plain h = refl
+listed-as-import (kind.TypeItem (ty.Func f)) other plain h = refl
+listed-as-import (kind.TypeItem (ty.Interface i)) other plain h = refl
+listed-as-import (kind.TypeItem (ty.World w)) other plain h = refl
+listed-as-import (kind.TypeItem (ty.Module m)) other plain h = h
+listed-as-import (kind.Func f) other plain h = refl
+listed-as-import (kind.Instance i) other plain h = refl
+listed-as-import (kind.Component w) other plain h = let wrong : Some w ≡ None = other in cc
+listed-as-import (kind.Module m) other plain h = let wrong : Some m ≡ None = plain in cc
+listed-as-import (kind.Value v) other plain h = let wrong : Some fault.ValueItem ≡ None = h in cc
 
 -- After the interface of an item is written, the item can be added.
 pub item-after : (c : Collection) (b : Bool) (ws : Worlds) (old new : State) (k : ItemKind) → component_world k ≡ None → module_type_of k ≡ None → IsImportReady c b ws old k → Goes c b old new → HasInterfaceOf b new k → IsItemReady c b ws new k
-item-after c b ws old new k no none h goes has = record {
+item-after c b ws old new k other plain h goes has = record {
   held = h.held;
   ready = (h.ready.0, (goes.onward h.ready.0 h.ready.1).0, h.ready.2);
-  writable = listed-as-import k no none h.writable;
+  writable = listed-as-import k other plain h.writable;
   worlds = h.worlds;
   interface = has;
 }
 
 pub described-item : (c : Collection) (b : Bool) (s : State) (k : ItemKind) (d : Description) → component_world k ≡ None → module_type_of k ≡ None → DescribesItem c b s k d → DescribesImport c b s k d
-described-item c b s (kind.TypeItem a) d no none h = h
-described-item c b s (kind.Func f) d no none h = h
-described-item c b s (kind.Instance i) d no none h = h
-described-item c b s (kind.Component w) d no none h = h
-described-item c b s (kind.Module m) d no none h = h
-described-item c b s (kind.Value v) d no none h = h
+described-item c b s (kind.TypeItem a) d other plain h = h
+described-item c b s (kind.Func f) d other plain h = h
+described-item c b s (kind.Instance i) d other plain h = h
+described-item c b s (kind.Component w) d other plain h = h
+described-item c b s (kind.Module m) d other plain h = h
+described-item c b s (kind.Value v) d other plain h = h
 
 pub described-component : (c : Collection) (b : Bool) (s : State) (k : ItemKind) (w : WorldId) (i : ℕ) → component_world k ≡ Some w → IsTypeAt c b s (ty.World w) i → DescribesImport c b s k (e.Component i)
 described-component c b s (kind.Component v) w i is h = let same : v ≡ w = cc in (i, refl, subst (λ (x : WorldId). IsTypeAt c b s (ty.World x) i) (sym same) h)

@@ -21,13 +21,13 @@ pub returns-in-Some-clause-describes : goal.returns-in-Some-clause-describes
 returns-in-Some-clause-describes c = described-component c.args.self.now.types.now c.args.self.now.merged c.world.new.state c.args.item c.in-Some.world c.in_ok-index.index (sym c.world_in.ensures ∙ c.in-Some.is) c.in_ok-index.ensures.is
 
 pub core_module-requires-clause-held : goal.core_module-requires-clause-held
-core_module-requires-clause-held c = subst (λ (k : ItemKind). holds_type c.args.self.now.types.now (kind_type k) ≡ true) (module-is c.args.item c.in-Some-2.id (sym c.module_in.ensures ∙ c.in-Some-2.is)) c.requires.ready.held
+core_module-requires-clause-held c = subst (λ (k : ItemKind). holds_type c.args.self.now.types.now (kind_type k) ≡ true) (module-is c.args.item c.in-Some-module_in.id (sym c.module_in.ensures ∙ c.in-Some-module_in.is)) c.requires.ready.held
 
 pub core_module-requires-clause-ready : goal.core_module-requires-clause-ready
-core_module-requires-clause-ready c = subst (λ (k : ItemKind). IsReady c.args.self.now.types.now c.args.self.now.merged c.args.state.now (kind_type k)) (module-is c.args.item c.in-Some-2.id (sym c.module_in.ensures ∙ c.in-Some-2.is)) c.requires.ready.ready
+core_module-requires-clause-ready c = subst (λ (k : ItemKind). IsReady c.args.self.now.types.now c.args.self.now.merged c.args.state.now (kind_type k)) (module-is c.args.item c.in-Some-module_in.id (sym c.module_in.ensures ∙ c.in-Some-module_in.is)) c.requires.ready.ready
 
-pub returns-in-Some-2-clause-describes : goal.returns-in-Some-2-clause-describes
-returns-in-Some-2-clause-describes c = described-module c.args.self.now.types.now c.args.self.now.merged c.core_module.new.state c.args.item c.in-Some-2.id c.in_ok-index-2.index (sym c.module_in.ensures ∙ c.in-Some-2.is) c.in_ok-index-2.ensures.is
+pub returns-in-Some-module_in-clause-describes : goal.returns-in-Some-module_in-clause-describes
+returns-in-Some-module_in-clause-describes c = described-module c.args.self.now.types.now c.args.self.now.merged c.core_module.new.state c.args.item c.in-Some-module_in.id c.in_ok-index-2.index (sym c.module_in.ensures ∙ c.in-Some-module_in.is) c.in_ok-index-2.ensures.is
 
 pub write_interface_of-requires-clause-held : goal.write_interface_of-requires-clause-held
 write_interface_of-requires-clause-held c = λ i is. within i.0 (length c.args.self.now.types.now.interfaces) (subst (λ (a : AnyType). holds_type c.args.self.now.types.now a ≡ true) is c.requires.ready.held)
@@ -40,7 +40,7 @@ write_interface_of-requires-clause-worlds c = λ i is. subst (HaveWorlds c.args.
 
 pub describe-requires-clause-ready : goal.describe-requires-clause-ready
 describe-requires-clause-ready c =
-    item-after c.args.self.now.types.now c.args.self.now.merged (written_in c.args.self.now.worlds.now) c.args.state.now c.write_interface_of.new.state c.args.item (sym c.world_in.ensures ∙ c.in-None.is) (sym c.module_in.ensures ∙ c.in-None-2.is) c.requires.ready c.in_ok-write_interface_of.ensures.goes c.in_ok-write_interface_of.ensures.has
+    item-after c.args.self.now.types.now c.args.self.now.merged (written_in c.args.self.now.worlds.now) c.args.state.now c.write_interface_of.new.state c.args.item (sym c.world_in.ensures ∙ c.in_default.is) (sym c.module_in.ensures ∙ c.in_default-module_in.is) c.requires.ready c.in_ok-write_interface_of.ensures.goes c.in_ok-write_interface_of.ensures.has
 
 pub returns-clause-goes : goal.returns-clause-goes
 returns-clause-goes c =
@@ -49,4 +49,4 @@ returns-clause-goes c =
 pub returns-clause-describes : goal.returns-clause-describes
 returns-clause-describes c =
     if-ok (DescribesItem c.args.self.now.types.now c.args.self.now.merged c.describe.new.state c.args.item) (DescribesImport c.args.self.now.types.now c.args.self.now.merged c.describe.new.state c.args.item) c.describe.result
-    (λ d h. described-item c.args.self.now.types.now c.args.self.now.merged c.describe.new.state c.args.item d (sym c.world_in.ensures ∙ c.in-None.is) (sym c.module_in.ensures ∙ c.in-None-2.is) h) c.describe.ensures.describes
+    (λ d h. described-item c.args.self.now.types.now c.args.self.now.merged c.describe.new.state c.args.item d (sym c.world_in.ensures ∙ c.in_default.is) (sym c.module_in.ensures ∙ c.in_default-module_in.is) h) c.describe.ensures.describes
