@@ -108,9 +108,9 @@ pub described-item : (c : Collection) (b : Bool) (s : State) (k : ItemKind) (d :
 described-item c b s (kind.TypeItem a) d other plain h = h
 described-item c b s (kind.Func f) d other plain h = h
 described-item c b s (kind.Instance i) d other plain h = h
-described-item c b s (kind.Component w) d other plain h = h
-described-item c b s (kind.Module m) d other plain h = h
-described-item c b s (kind.Value v) d other plain h = h
+described-item c b s (kind.Component w) d other plain h = absurd h
+described-item c b s (kind.Module m) d other plain h = absurd h
+described-item c b s (kind.Value v) d other plain h = absurd h
 
 pub described-component : (c : Collection) (b : Bool) (s : State) (k : ItemKind) (w : WorldId) (i : ℕ) → component_world k ≡ Some w → IsTypeAt c b s (ty.World w) i → DescribesImport c b s k (e.Component i)
 described-component c b s (kind.Component v) w i is h = let same : v ≡ w = cc in (i, refl, subst (λ (x : WorldId). IsTypeAt c b s (ty.World x) i) (sym same) h)
