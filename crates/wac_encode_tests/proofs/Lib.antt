@@ -4,3 +4,4 @@ pub mod Added
 pub mod lemmas
 pub mod OpenScopes
 pub mod RootItems
+pub mod WorldDefinitions

@@ -1,10 +1,14 @@
-//! Tests of open scopes, of the writers of types, of worlds and of the root, of a root that is written by hand, and of the imports
-//! of a merge, through what they make public.
+//! Tests of open scopes, of the writers of types, of worlds and of the root, of a root that is written by hand, of the imports
+//! of a merge, and of the faults of items, through what they make public.
 #![tactic(auto)]
 
 #[cfg(test)]
+mod component_types;
+#[cfg(test)]
 mod definitions;
 mod examples;
+#[cfg(test)]
+mod faults;
 #[cfg(test)]
 mod imports;
 #[cfg(test)]

@@ -175,7 +175,7 @@ const BOUND: &[OpenedRow] = &[
         rows: &[
             Resource,
             Instance(Some("n:p/k"), &[("r", 0)]),
-            AliasOf("s", 1, 0),
+            AliasOf("s", Some(1), 0),
             Own(2),
             Func(&[("x", 3)], None),
             Instance(Some("n:p/i"), &[("f", 4), ("s", 2)]),

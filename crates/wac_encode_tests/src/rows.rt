@@ -34,14 +34,18 @@ pub enum Row {
     Pair(usize, usize),
     /// A record of these fields.
     Record(&'static [Item]),
-    /// A new resource.
+    /// A new resource, `r`.
     Resource,
-    /// An alias of this name, of a resource that the instance at a place owns, which comes first.
-    AliasOf(&'static str, usize, usize),
+    /// A new resource of this name.
+    NamedResource(&'static str),
+    /// An alias of this name of a resource. The instance that owns the resource comes first, if there is one.
+    AliasOf(&'static str, Option<usize>, usize),
     /// The type of a handle to a resource.
     Own(usize),
     /// A function of these parameters, and of what it gives.
     Func(&'static [Item], Option<usize>),
+    /// A function whose parameter is a handle to a resource.
+    Taker(usize),
     /// A function that is async, of these parameters, and of what it gives.
     Async(&'static [Item], Option<usize>),
     /// An instance of an interface of this id, which lists these.
@@ -50,6 +54,8 @@ pub enum Row {
     User(Option<&'static str>, &'static [Use], &'static [Item]),
     /// A component of a world of this id, which imports and exports these.
     Component(Option<&'static str>, &'static [Item], &'static [Item]),
+    /// A component of a world of this id, which uses, imports and exports these.
+    WorldUser(Option<&'static str>, &'static [Use], &'static [Item], &'static [Item]),
     /// The type of a function, of an instance or of a component.
     TypeOf(usize),
     /// A value of a type.
@@ -100,14 +106,19 @@ impl Items {
     fn made(&mut self, rt: &impl Abort, row: Row) -> ItemKind {
         match row {
             Row::Primitive(primitive) => value_item(ValueType::Primitive(primitive)),
-            Row::Resource => self.new_resource(rt),
+            Row::Resource => self.new_resource(rt, "r"),
+            Row::NamedResource(name) => self.new_resource(rt, name),
             Row::AliasOf(name, owner, of) => self.resource_alias(rt, name, owner, of),
             Row::Own(of) => value_item(ValueType::Own(self.resource(rt, of))),
             Row::Func(params, returned) => self.function(rt, params, returned, false),
+            Row::Taker(of) => self.taker(rt, of),
             Row::Async(params, returned) => self.function(rt, params, returned, true),
             Row::Instance(id, exports) => self.instance(rt, id, &[], exports),
             Row::User(id, uses, exports) => self.instance(rt, id, uses, exports),
-            Row::Component(id, imports, exports) => self.component(rt, id, imports, exports),
+            Row::Component(id, imports, exports) => self.component(rt, id, &[], imports, exports),
+            Row::WorldUser(id, uses, imports, exports) => {
+                self.component(rt, id, uses, imports, exports)
+            }
             Row::TypeOf(of) => ItemKind::TypeItem(self.kind(rt, of).ty()),
             Row::Value(of) => ItemKind::Value(self.value(rt, of)),
             Row::Module(exports) => self.module(rt, exports),
@@ -197,22 +208,32 @@ impl Items {
         }
     }
 
-    fn resource(&self, rt: &impl Abort, place: usize) -> ResourceId {
+    /// The resource at a place.
+    pub fn resource(&self, rt: &impl Abort, place: usize) -> ResourceId {
         match self.kind(rt, place) {
             ItemKind::TypeItem(Type::Resource(id)) => id,
             _ => panic!(rt; "no resource"),
         }
     }
 
-    fn new_resource(&mut self, rt: &impl Abort) -> ItemKind {
-        let resource = Resource::new(self.types.allocator(), "r").expect(rt, "a resource");
+    fn new_resource(&mut self, rt: &impl Abort, name: &str) -> ItemKind {
+        let resource = Resource::new(self.types.allocator(), name).expect(rt, "a resource");
         ItemKind::TypeItem(Type::Resource(self.types.add_resource(resource).expect(rt, "its id")))
     }
 
-    fn resource_alias(&mut self, rt: &impl Abort, name: &str, owner: usize, of: usize) -> ItemKind {
-        let owner = self.interface(rt, owner);
+    fn resource_alias(
+        &mut self,
+        rt: &impl Abort,
+        name: &str,
+        owner: Option<usize>,
+        of: usize,
+    ) -> ItemKind {
+        let owner = match owner {
+            Some(place) => Some(self.interface(rt, place)),
+            None => None,
+        };
         let source = self.resource(rt, of);
-        let resource = Resource::alias(self.types.allocator(), name, Some(owner), source);
+        let resource = Resource::alias(self.types.allocator(), name, owner, source);
         let resource = resource.expect(rt, "a resource");
         ItemKind::TypeItem(Type::Resource(self.types.add_resource(resource).expect(rt, "its id")))
     }
@@ -246,6 +267,13 @@ impl Items {
             None => None,
         };
         let function = FuncType::new(self.types.allocator(), &params, returned, is_async);
+        let function = function.expect(rt, "a function type");
+        ItemKind::Func(self.types.add_func_type(function).expect(rt, "its id"))
+    }
+
+    fn taker(&mut self, rt: &impl Abort, of: usize) -> ItemKind {
+        let params = [("x", ValueType::Own(self.resource(rt, of)))];
+        let function = FuncType::new(self.types.allocator(), &params, None, false);
         let function = function.expect(rt, "a function type");
         ItemKind::Func(self.types.add_func_type(function).expect(rt, "its id"))
     }
@@ -296,12 +324,14 @@ impl Items {
         &mut self,
         rt: &impl Abort,
         id: Option<&str>,
+        uses: &[Use],
         imports: &[Item],
         exports: &[Item],
     ) -> ItemKind {
+        let uses = self.used(rt, uses);
         let imports = self.named(rt, imports);
         let exports = self.named(rt, exports);
-        let world = World::new(self.types.allocator(), id, &imports, &exports);
+        let world = World::with_uses(self.types.allocator(), id, &uses, &imports, &exports);
         let world = world.expect(rt, "a world");
         ItemKind::Component(self.types.add_world(world).expect(rt, "its id"))
     }

@@ -1,10 +1,12 @@
 //! The lowest fault of imports of the root that are no components.
 
-use crate::cases::{Case, assert_faults};
+use crate::faults::cases::{Case, assert_faults};
 use crate::rows::Row::{
-    Alias, Component, Enumeration, Instance, Module, Resource, Taker, TypeOf, Value,
+    AliasOf, Component, Enumeration, Instance, Module, Primitive, Resource, Taker, TypeOf, User,
+    Value,
 };
 use wac_encode_faults::{Role, WriteFault};
+use wac_types_shapes::PrimitiveType;
 
 const CASES: &[Case] = &[
     Case {
@@ -28,7 +30,7 @@ const CASES: &[Case] = &[
         rows: &[
             Resource,
             Taker(0),
-            Instance(Some("n:p/i"), &[], &[("r", 0), ("f", 1)]),
+            Instance(Some("n:p/i"), &[("r", 0), ("f", 1)]),
         ],
         place: 2,
         role: Role::Imported,
@@ -39,8 +41,8 @@ const CASES: &[Case] = &[
         name: "an alias binds nothing",
         rows: &[
             Resource,
-            Alias(0),
-            Instance(Some("n:p/i"), &[], &[("t", 1)]),
+            AliasOf("r", None, 0),
+            Instance(Some("n:p/i"), &[("t", 1)]),
         ],
         place: 2,
         role: Role::Imported,
@@ -51,9 +53,9 @@ const CASES: &[Case] = &[
         name: "what an instance inside binds, beside it",
         rows: &[
             Resource,
-            Instance(Some("n:p/j"), &[], &[("r", 0)]),
+            Instance(Some("n:p/j"), &[("r", 0)]),
             Taker(0),
-            Instance(Some("n:p/i"), &[], &[("n:p/j", 1), ("f", 2)]),
+            Instance(Some("n:p/i"), &[("n:p/j", 1), ("f", 2)]),
         ],
         place: 3,
         role: Role::Imported,
@@ -64,9 +66,9 @@ const CASES: &[Case] = &[
         name: "the same, where the root binds it",
         rows: &[
             Resource,
-            Instance(Some("n:p/j"), &[], &[("r", 0)]),
+            Instance(Some("n:p/j"), &[("r", 0)]),
             Taker(0),
-            Instance(Some("n:p/i"), &[], &[("n:p/j", 1), ("f", 2)]),
+            Instance(Some("n:p/i"), &[("n:p/j", 1), ("f", 2)]),
         ],
         place: 3,
         role: Role::Imported,
@@ -76,11 +78,11 @@ const CASES: &[Case] = &[
     Case {
         name: "an interface as a type item, which uses an enumeration",
         rows: &[
-            Enumeration,
-            Instance(Some("n:p/k"), &[], &[("t", 0)]),
-            Instance(None, &[("t", 1)], &[]),
+            Enumeration("a"),
+            Instance(Some("n:p/k"), &[("t", 0)]),
+            User(None, &[("t", 1, "t")], &[]),
             TypeOf(2),
-            Instance(Some("n:p/i"), &[], &[("z", 3)]),
+            Instance(Some("n:p/i"), &[("z", 3)]),
         ],
         place: 4,
         role: Role::Imported,
@@ -91,11 +93,11 @@ const CASES: &[Case] = &[
         name: "an interface as a type item, over a resource that nothing binds",
         rows: &[
             Resource,
-            Instance(Some("n:p/k"), &[], &[("r", 0)]),
+            Instance(Some("n:p/k"), &[("r", 0)]),
             Taker(0),
-            Instance(None, &[("r", 1)], &[("f", 2)]),
+            User(None, &[("r", 1, "r")], &[("f", 2)]),
             TypeOf(3),
-            Instance(Some("n:p/i"), &[], &[("z", 4)]),
+            Instance(Some("n:p/i"), &[("z", 4)]),
         ],
         place: 5,
         role: Role::Imported,
@@ -104,7 +106,7 @@ const CASES: &[Case] = &[
     },
     Case {
         name: "a core module type as a type item",
-        rows: &[Module, TypeOf(0)],
+        rows: &[Module(&[]), TypeOf(0)],
         place: 1,
         role: Role::Imported,
         bound: &[],
@@ -112,7 +114,7 @@ const CASES: &[Case] = &[
     },
     Case {
         name: "an interface without an id",
-        rows: &[Enumeration, Instance(None, &[], &[("t", 0)])],
+        rows: &[Enumeration("a"), Instance(None, &[("t", 0)])],
         place: 1,
         role: Role::Imported,
         bound: &[],
@@ -121,9 +123,9 @@ const CASES: &[Case] = &[
     Case {
         name: "a component item of an instance inside another",
         rows: &[
-            Component(None, &[], &[], &[]),
-            Instance(None, &[], &[("c", 0)]),
-            Instance(Some("n:p/i"), &[], &[("j", 1)]),
+            Component(None, &[], &[]),
+            Instance(None, &[("c", 0)]),
+            Instance(Some("n:p/i"), &[("j", 1)]),
         ],
         place: 2,
         role: Role::Imported,
@@ -132,8 +134,8 @@ const CASES: &[Case] = &[
     },
     Case {
         name: "a value item",
-        rows: &[Value],
-        place: 0,
+        rows: &[Primitive(PrimitiveType::U8), Value(0)],
+        place: 1,
         role: Role::Imported,
         bound: &[],
         want: Some(WriteFault::ValueItem),

@@ -4,7 +4,7 @@ use crate::rows::{Items, Row};
 use indexmap::IndexSet;
 use std::process::Abort;
 use wac_encode_faults::{Role, WriteFault, lowest_fault};
-use wac_types_collection::ResourceId;
+use wac_types_shapes::ResourceId;
 
 /// The lowest fault of the item at a place, where the root binds the resources at these places.
 pub struct Case {

@@ -1,7 +1,9 @@
 //! The lowest fault of definitions.
 
-use crate::cases::{Case, assert_faults};
-use crate::rows::Row::{Alias, Component, Enumeration, Instance, Module, Resource, Taker, TypeOf};
+use crate::faults::cases::{Case, assert_faults};
+use crate::rows::Row::{
+    AliasOf, Component, Enumeration, Instance, Module, Resource, Taker, TypeOf, User,
+};
 use wac_encode_faults::{Role, WriteFault};
 
 const CASES: &[Case] = &[
@@ -23,7 +25,7 @@ const CASES: &[Case] = &[
     },
     Case {
         name: "a core module type",
-        rows: &[Module, TypeOf(0)],
+        rows: &[Module(&[]), TypeOf(0)],
         place: 1,
         role: Role::Defined,
         bound: &[],
@@ -31,7 +33,7 @@ const CASES: &[Case] = &[
     },
     Case {
         name: "an interface without an id",
-        rows: &[Enumeration, Instance(None, &[], &[("t", 0)])],
+        rows: &[Enumeration("a"), Instance(None, &[("t", 0)])],
         place: 1,
         role: Role::Defined,
         bound: &[],
@@ -39,7 +41,7 @@ const CASES: &[Case] = &[
     },
     Case {
         name: "an interface without an id, over a resource that nothing binds",
-        rows: &[Resource, Taker(0), Instance(None, &[], &[("f", 1)])],
+        rows: &[Resource, Taker(0), Instance(None, &[("f", 1)])],
         place: 2,
         role: Role::Defined,
         bound: &[],
@@ -49,9 +51,9 @@ const CASES: &[Case] = &[
         name: "an interface imports what it uses",
         rows: &[
             Resource,
-            Instance(Some("n:p/k"), &[], &[("r", 0)]),
+            Instance(Some("n:p/k"), &[("r", 0)]),
             Taker(0),
-            Instance(Some("n:p/i"), &[("r", 1)], &[("f", 2)]),
+            User(Some("n:p/i"), &[("r", 1, "r")], &[("f", 2)]),
         ],
         place: 3,
         role: Role::Defined,
@@ -62,8 +64,8 @@ const CASES: &[Case] = &[
         name: "an alias binds nothing",
         rows: &[
             Resource,
-            Alias(0),
-            Instance(Some("n:p/i"), &[], &[("t", 1)]),
+            AliasOf("r", None, 0),
+            Instance(Some("n:p/i"), &[("t", 1)]),
         ],
         place: 2,
         role: Role::Defined,
@@ -74,10 +76,10 @@ const CASES: &[Case] = &[
         name: "a core module type of an interface that is used",
         rows: &[
             Resource,
-            Module,
+            Module(&[]),
             TypeOf(1),
-            Instance(Some("n:p/j"), &[], &[("r", 0), ("m", 2)]),
-            Instance(Some("n:p/i"), &[("r", 3)], &[]),
+            Instance(Some("n:p/j"), &[("r", 0), ("m", 2)]),
+            User(Some("n:p/i"), &[("r", 3, "r")], &[]),
         ],
         place: 4,
         role: Role::Defined,
@@ -88,12 +90,12 @@ const CASES: &[Case] = &[
         name: "an additional import depends by its own uses",
         rows: &[
             Resource,
-            Enumeration,
-            Alias(0),
-            Instance(Some("n:p/j"), &[], &[("t", 1), ("q", 2)]),
-            Instance(None, &[("t", 3)], &[]),
-            Instance(Some("n:p/k"), &[], &[("r", 0), ("x", 4)]),
-            Instance(Some("n:p/i"), &[("r", 5), ("t", 3)], &[]),
+            Enumeration("a"),
+            AliasOf("r", None, 0),
+            Instance(Some("n:p/j"), &[("t", 1), ("q", 2)]),
+            User(None, &[("t", 3, "t")], &[]),
+            Instance(Some("n:p/k"), &[("r", 0), ("x", 4)]),
+            User(Some("n:p/i"), &[("r", 5, "r"), ("t", 3, "t")], &[]),
         ],
         place: 6,
         role: Role::Defined,
@@ -103,10 +105,10 @@ const CASES: &[Case] = &[
     Case {
         name: "a world imports what its imports use",
         rows: &[
-            Enumeration,
-            Instance(Some("n:p/j"), &[], &[("t", 0)]),
-            Instance(Some("n:p/i"), &[("t", 1)], &[]),
-            Component(Some("n:p/w"), &[], &[("n:p/i", 2)], &[]),
+            Enumeration("a"),
+            Instance(Some("n:p/j"), &[("t", 0)]),
+            User(Some("n:p/i"), &[("t", 1, "t")], &[]),
+            Component(Some("n:p/w"), &[("n:p/i", 2)], &[]),
         ],
         place: 3,
         role: Role::Defined,
@@ -116,10 +118,10 @@ const CASES: &[Case] = &[
     Case {
         name: "a world imports what it exports too",
         rows: &[
-            Enumeration,
-            Instance(Some("n:p/j"), &[], &[("t", 0)]),
-            Instance(Some("n:p/i"), &[("t", 1)], &[]),
-            Component(Some("n:p/w"), &[], &[("n:p/i", 2)], &[("n:p/j", 1)]),
+            Enumeration("a"),
+            Instance(Some("n:p/j"), &[("t", 0)]),
+            User(Some("n:p/i"), &[("t", 1, "t")], &[]),
+            Component(Some("n:p/w"), &[("n:p/i", 2)], &[("n:p/j", 1)]),
         ],
         place: 3,
         role: Role::Defined,
@@ -129,11 +131,11 @@ const CASES: &[Case] = &[
     Case {
         name: "a world would import two interfaces of one id",
         rows: &[
-            Enumeration,
-            Instance(Some("n:p/j"), &[], &[("t", 0)]),
-            Instance(Some("n:p/j"), &[], &[("t", 0)]),
-            Instance(Some("n:p/i"), &[("t", 2)], &[]),
-            Component(Some("n:p/w"), &[], &[("n:p/j", 1), ("n:p/i", 3)], &[]),
+            Enumeration("a"),
+            Instance(Some("n:p/j"), &[("t", 0)]),
+            Instance(Some("n:p/j"), &[("t", 0)]),
+            User(Some("n:p/i"), &[("t", 2, "t")], &[]),
+            Component(Some("n:p/w"), &[("n:p/j", 1), ("n:p/i", 3)], &[]),
         ],
         place: 4,
         role: Role::Defined,
@@ -147,9 +149,9 @@ const CASES: &[Case] = &[
             Resource,
             Taker(0),
             Taker(1),
-            Instance(Some("n:p/a"), &[], &[("r", 0), ("f", 3)]),
-            Instance(Some("n:p/b"), &[], &[("r", 1), ("f", 2)]),
-            Component(Some("n:p/w"), &[], &[("n:p/a", 4), ("n:p/b", 5)], &[]),
+            Instance(Some("n:p/a"), &[("r", 0), ("f", 3)]),
+            Instance(Some("n:p/b"), &[("r", 1), ("f", 2)]),
+            Component(Some("n:p/w"), &[("n:p/a", 4), ("n:p/b", 5)], &[]),
         ],
         place: 6,
         role: Role::Defined,

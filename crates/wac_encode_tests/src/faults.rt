@@ -1,0 +1,6 @@
+//! The lowest faults of items.
+
+mod cases;
+mod components;
+mod definitions;
+mod items;
