@@ -1,0 +1,11 @@
+pub mod Bound
+pub mod Binders
+pub mod Mentioned
+pub mod Ready
+pub mod Next
+pub mod Steps
+pub mod Writing
+pub mod Looked
+pub mod ExportNames
+pub mod Given
+pub mod Distinct

@@ -1,0 +1,9 @@
+use Rattle.std.proofs.Common.{◌≡◌, take}
+use Rattle.std.specs.List.{list_any}
+use Rattle.wac_types_shapes.specs.declared.shapes.component.ResourceId.{ResourceId}
+use Rattle.wac_encode_scopes.specs.Telling.{is_one_of}
+use Rattle.wac_encode_imports.specs.private.Classes.{is_first_of}
+use Rattle.wac_encode_imports.proofs.classes.first_among.Given as goal
+
+abbrev pub invariant-loop-i : goal.invariant-loop-i
+invariant-loop-i l = (r : ResourceId) → is_one_of l.own.keys r ≡ list_any (is_first_of l.fn.bindings l.fn.number r) (take l.i l.fn.items)

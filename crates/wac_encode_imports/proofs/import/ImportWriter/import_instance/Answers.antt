@@ -1,0 +1,25 @@
+use Rattle.wac_encode_scopes.specs.Closed.{is_closed_in}
+use Rattle.wac_encode_scopes.specs.Telling.{is_one_of, telling}
+use Rattle.wac_encode_imports.proofs.Writing.{instance-held, ready-instance, writes-instance}
+use Rattle.wac_encode_imports.proofs.import.ImportWriter.import_instance.Goals as goal
+
+pub import_item-requires-clause-writer : goal.import_item-requires-clause-writer
+import_item-requires-clause-writer c = c.requires.2.writer
+
+pub import_item-requires-clause-root : goal.import_item-requires-clause-root
+import_item-requires-clause-root c = c.requires.3.written.root
+
+pub import_item-requires-clause-ready : goal.import_item-requires-clause-ready
+import_item-requires-clause-ready c = ready-instance c.args.self.now c.args.position c.args.name.now c.args.interface c.args.state.now c.free_law.ensures c.requires
+
+pub first_resources-requires : goal.first_resources-requires
+first_resources-requires c = instance-held c.args.self.now c.args.position c.args.name.now c.args.interface c.args.state.now c.requires
+
+pub tell_instance-requires : goal.tell_instance-requires
+tell_instance-requires c = instance-held c.args.self.now c.args.position c.args.name.now c.args.interface c.args.state.now c.requires
+
+pub returns : goal.returns
+returns c =
+    writes-instance c.args.self.now c.args.position c.args.name.now c.args.interface (is_one_of c.in_ok-own.own.keys) (λ it. telling c.args.self.now.types.now it (is_one_of c.in_ok-own.own.keys) (is_closed_in c.args.self.now.closed.now) c.in_ok-index.index)
+    c.args.state.now c.import_item.new.state c.tell_instance.new.self c.in_ok-index.index c.free_law.ensures c.instance_law.ensures.shows_whole
+    c.in_ok-tell_instance.ensures.tells c.in_ok-tell_instance.ensures.recorded c.in_ok-own.ensures c.in_ok-index.ensures.imports c.in_ok-index.ensures.beside

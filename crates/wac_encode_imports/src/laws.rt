@@ -1,0 +1,8 @@
+//! Laws of the imports of a merge. Each is brought by a call, for proofs only.
+ghost use Rattle.wac_encode_imports.specs.Distinct.{DistinctClassesLaw};
+
+/// No two imports of a merge are of one class.
+#[tactic(auto, using(crate::proofs::Distinct::distinct_classes_law))]
+pub fn distinct_classes_law()
+    ensures { DistinctClassesLaw }
+{}
