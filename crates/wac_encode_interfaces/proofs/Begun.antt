@@ -55,7 +55,7 @@ start-written c b s st good content = record {
 
 -- the sides as they are given
 
-under-instance : (c : Collection) (i : InterfaceId) (e : Name × ItemKind) → Contains (under_id c i) e → e.1 ≡ kind.Instance i
+pub under-instance : (c : Collection) (i : InterfaceId) (e : Name × ItemKind) → Contains (under_id c i) e → e.1 ≡ kind.Instance i
 under-instance c i e h = by (item_at c.interfaces i.0) h
   where
     by-id : (d : Option Name) → Contains {X = Name × ItemKind} (option_case d [] (λ id. (id, kind.Instance i) ∷ [])) e → e.1 ≡ kind.Instance i
@@ -66,7 +66,7 @@ under-instance c i e h = by (item_at c.interfaces i.0) h
     by None h = absurd (in_none e h)
     by (Some it) h = by-id it.id h
 
-one-instance : (i j : InterfaceId) → kind.Instance i ≡ kind.Instance j → i ≡ j
+pub one-instance : (i j : InterfaceId) → kind.Instance i ≡ kind.Instance j → i ≡ j
 one-instance i j h = cc
 
 module _ (c : Collection) (ws : Worlds) (x : GivenSides) (held : AreHeldSides c x) (clean : AreSidesClean c (sides_of c x)) (worlds : HaveSidesWorlds c ws x) where

@@ -28,3 +28,5 @@ pub mod RootTypes
 pub mod Faultless
 pub mod Importing
 pub mod ByFree
+pub mod DefinedSides
+pub mod Definitions

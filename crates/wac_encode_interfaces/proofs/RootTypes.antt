@@ -71,7 +71,7 @@ roots-held c wf x held t h = by (root-is c x t h)
     by (inl (e, inr r, is)) = subst (λ z. holds_type c z ≡ true) is (held.exports e r)
     by (inr (i, there, (n, listed))) = listed-held c wf (ty.Interface i) (n, kind.TypeItem t) listed
 
-id-there : (c : Collection) (i : InterfaceId) → HasInterfaceId c i → (n : Name) × Contains (under_id c i) (n, kind.Instance i)
+pub id-there : (c : Collection) (i : InterfaceId) → HasInterfaceId c i → (n : Name) × Contains (under_id c i) (n, kind.Instance i)
 id-there c i (x, n, at, id) =
     let is : under_id c i ≡ (n, kind.Instance i) ∷ [] = ap (λ (o : Option Interface). option_case o [] (λ it. option_case it.id [] (λ id. (id, kind.Instance i) ∷ []))) at ∙ ap (λ (o : Option Name). option_case o [] (λ id. (id, kind.Instance i) ∷ [])) id in
     (n, subst (λ es. Contains es (n, kind.Instance i)) (sym is) (in_first (n, kind.Instance i) []))

@@ -66,7 +66,7 @@ pub inner-worlds : (c : Collection) (ws : Worlds) (t : AnyType) → ((w : WorldI
 inner-worlds c ws t here inner w (faults.itself _ _ e) = here w (sym e)
 inner-worlds c ws t here inner w (faults.in_item _ _ k l within) = inner k l w within
 
-no-scope : (c : Collection) (ws : Worlds) (t : AnyType) → listed_items c t ≡ [] → ((w : WorldId) → t ≡ ty.World w → ⊥) → HaveWorlds c ws t
+pub no-scope : (c : Collection) (ws : Worlds) (t : AnyType) → listed_items c t ≡ [] → ((w : WorldId) → t ≡ ty.World w → ⊥) → HaveWorlds c ws t
 no-scope c ws t none differs = inner-worlds c ws t (λ w e. absurd (differs w e)) (λ k l. absurd (in_none (l.0, k) (subst (λ es. Contains es (l.0, k)) none l.1)))
 
 scope-worlds : (c : Collection) (ws : Worlds) (t : AnyType) → ((u : AnyType) → Contains (interface_or_world t) u → HaveWorlds c ws u) → HaveWorlds c ws t

@@ -54,7 +54,7 @@ has-side side (Instance ds) is = absurd is
 pub still-component : (c : Collection) (b : Bool) (old new : State) → Goes c b old new → IsComponentType old.here.content → IsComponentType new.here.content
 still-component c b old new goes is = component-more old.here.content new.here.content goes.types.0 is
 
-item-held : {A : Type 0} (xs : List (Held A)) (i : ℕ) → nat_lt i (length xs) ≡ true → (x : A) × (item_at xs i ≡ Some x)
+pub item-held : {A : Type 0} (xs : List (Held A)) (i : ℕ) → nat_lt i (length xs) ≡ true → (x : A) × (item_at xs i ≡ Some x)
 item-held [] i h = absurd (grind arith)
 item-held (x ∷ xs) zero h = (x.item, refl)
 item-held (x ∷ xs) (suc i) h = item-held xs i (grind arith)

@@ -8,4 +8,5 @@ pub mod Ready
 pub mod Clean
 pub mod Given
 pub mod WorldTrees
+pub mod Definitions
 pub mod private

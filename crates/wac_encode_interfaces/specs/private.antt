@@ -7,3 +7,4 @@ pub mod Parts
 pub mod Ordered
 pub mod InnerTypes
 pub mod Roots
+pub mod Defined

@@ -73,7 +73,7 @@ impl<'a> TypeWriter<'a> {
 
     /// Returns the type index in the innermost scope of a type whose interface, if it is one, is recorded there. Of a
     /// resource, the index of the resource itself.
-    fn type_index(&self, state: &mut State, ty: Type) -> Result<u32, BinaryFault>
+    pub(crate) fn type_index(&self, state: &mut State, ty: Type) -> Result<u32, BinaryFault>
         requires writer { IsWriter self.now }
         requires ready { IsItemReady self.now.types.now self.now.merged (written_in self.now.worlds.now) state.old (kind_of.TypeItem ty) }
         ensures goes { OnOk result (Goes self.now.types.now self.now.merged state.old state.new) }

@@ -3,6 +3,7 @@
 
 mod ahead;
 mod component_type;
+mod definition;
 mod import;
 mod inside;
 mod instance;
@@ -17,6 +18,7 @@ mod worlds;
 mod writer;
 
 pub use ahead::{side_world_types, world_types};
+pub use roots::definition_roots;
 pub use sides::Sides;
 pub use worlds::WorldTypes;
 pub use writer::TypeWriter;

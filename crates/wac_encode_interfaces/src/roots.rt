@@ -1,13 +1,19 @@
-//! The types of a component type's imports and exports.
-ghost use Rattle.std.specs.Prelude.{◌≡◌, ◌<◌, ◌++◌, Some, length, slice_get, IfOk, OnOk};
+//! The types of a component type's imports and exports, and those inside the definition of a type.
+ghost use Rattle.std.specs.Prelude.{◌≡◌, ◌<◌, ◌++◌, true, Some, length, slice_get, IfOk, OnOk};
 ghost use Rattle.std.specs.List.{flat_map};
-ghost use Rattle.wac_types_collection.specs.collection.Collection.{HasInterface};
+ghost use Rattle.wac_types_shapes.specs.declared.shapes.component.«Type».TheVariants as ty_of;
+ghost use Rattle.wac_types_collection.specs.collection.Collection.{HasInterface, holds_type};
 ghost use Rattle.wac_types_collection.specs.wide.Wide.{AreThere};
+ghost use Rattle.wac_encode_faults.specs.Ids.{HaveIds};
+ghost use Rattle.wac_encode_interfaces.specs.Definitions.{AreDefinitionRoots};
+ghost use Rattle.wac_encode_interfaces.specs.Given.{sides_of, AreHeldSides};
+ghost use Rattle.wac_encode_interfaces.specs.private.Defined.{AreDefinedRoots, AreSideRoots};
 ghost use Rattle.wac_encode_interfaces.specs.private.Roots.{item_root, type_item_root, type_item_roots, additional_roots, side_roots as side_roots_of};
 
 use crate::sides::Sides;
 use std::alloc::AllocError;
-use wac_types_collection::{InterfaceId, ItemKind, Named, Type, Types};
+use wac_encode_faults::{definition_exports, interface_additional, world_additional};
+use wac_types_collection::{InterfaceId, ItemKind, Named, Type, Types, WorldId};
 
 /// Returns the interface at an index.
 fn interface_at(interfaces: &[InterfaceId], index: usize) -> InterfaceId
@@ -89,4 +95,68 @@ pub(crate) fn side_roots(types: &Types, sides: &Sides<'_>) -> Result<Vec<Type>, 
     push_items(&mut found, sides.exports)?;
     push_additional(&mut found, types, sides.additional)?;
     Ok(found)
+}
+
+/// Returns the roots of a component type.
+fn component_roots(types: &Types, sides: &Sides<'_>) -> Result<Vec<Type>, AllocError>
+    requires held { AreHeldSides types.now sides.now }
+    requires named { HaveIds types.now sides.now.additional.now }
+    ensures { IfOk result (λ v. AreSideRoots types.now (sides_of types.now sides.now) v.items) }
+{
+    types.law(); // proof only
+    side_roots(types, sides)
+}
+
+/// Returns the roots of the definition of an interface.
+fn interface_roots(types: &Types, interface: InterfaceId) -> Result<Vec<Type>, AllocError>
+    requires { HasInterface types.now interface }
+    ensures { IfOk result (λ v. AreDefinedRoots types.now (ty_of.Interface interface) v.items) }
+{
+    let additional = interface_additional(types, interface)?;
+    let exports = definition_exports(types, interface)?;
+    let imports = Named::new(types.allocator());
+    let uses = Named::new(types.allocator());
+    component_roots(
+        types,
+        &Sides {
+            imports: &imports,
+            additional: additional.as_slice(),
+            exports: &exports,
+            uses: &uses,
+        },
+    )
+}
+
+/// Returns the roots of the definition of a world.
+fn world_roots(types: &Types, world: WorldId) -> Result<Vec<Type>, AllocError>
+    requires { holds_type types.now (ty_of.World world) ≡ true }
+    ensures { IfOk result (λ v. AreDefinedRoots types.now (ty_of.World world) v.items) }
+{
+    types.law(); // proof only
+    let additional = world_additional(types, world)?;
+    let item = &types[world];
+    component_roots(
+        types,
+        &Sides {
+            imports: &item.imports,
+            additional: additional.as_slice(),
+            exports: &item.exports,
+            uses: &item.uses,
+        },
+    )
+}
+
+/// Returns the types inside which worlds must be written before a type is defined.
+///
+/// # Errors
+/// - `AllocError` if out of memory.
+pub fn definition_roots(types: &Types, ty: Type) -> Result<Vec<Type>, AllocError>
+    requires { holds_type types.now ty ≡ true }
+    ensures { IfOk result (λ v. AreDefinitionRoots types.now ty v.items) }
+{
+    match ty {
+        Type::Interface(id) => interface_roots(types, id),
+        Type::World(id) => world_roots(types, id),
+        _ => Ok(Vec::new(types.allocator())),
+    }
 }

@@ -1,0 +1,41 @@
+use Rattle.std.specs.Prelude.{List, Option, None, IfSome}
+use Rattle.std.proofs.Common.{subst}
+use Rattle.wac_binary.specs.Items.{Decl}
+use Rattle.wac_encode_scopes.specs.Components.{DefinesComponent}
+use Rattle.wac_encode_scopes.specs.States.{Goes}
+use Rattle.wac_encode_interfaces.specs.Definitions.{IsDefinitionAt}
+use Rattle.wac_encode_interfaces.specs.Items.{IsTypeIndex}
+use Rattle.wac_encode_interfaces.specs.Worlds.{written_in}
+use Rattle.wac_encode_interfaces.specs.private.Defined.{IsDefinition}
+use Rattle.wac_encode_interfaces.proofs.Definitions.{has-definition, plain-ready, plain-at, component-goes, component-at}
+use Rattle.wac_encode_interfaces.proofs.Written.{if-ok, ok-of}
+use Rattle.wac_encode_interfaces.proofs.writer.TypeWriter.definition.Goals as goal
+
+pub definition_component-requires-clause-ready : goal.definition_component-requires-clause-ready
+definition_component-requires-clause-ready c = has-definition c.args.self.now.types.now c.args.self.now.merged (written_in c.args.self.now.worlds.now) c.args.state.now c.args.ty c.requires.ready
+
+pub returns-in-Some-clause-goes : goal.returns-in-Some-clause-goes
+returns-in-Some-clause-goes c =
+    let t = c.args.self.now.types.now in
+    let b = c.args.self.now.merged in
+    let is = subst (λ (o : Option (List Decl)). IfSome o (IsDefinition t c.args.ty)) c.in-Some.is c.in_ok-defined.ensures.component in
+    ok-of (DefinesComponent b None c.in-Some.component c.args.state.now c.define_component.new.self) (Goes t b c.args.state.now c.define_component.new.self) c.define_component.result
+    (λ k h. component-goes t b c.args.ty c.in-Some.component c.args.state.now c.define_component.new.self k is h) c.define_component.ensures.defines
+
+pub returns-in-Some-clause-is : goal.returns-in-Some-clause-is
+returns-in-Some-clause-is c =
+    let t = c.args.self.now.types.now in
+    let b = c.args.self.now.merged in
+    let is = subst (λ (o : Option (List Decl)). IfSome o (IsDefinition t c.args.ty)) c.in-Some.is c.in_ok-defined.ensures.component in
+    if-ok (DefinesComponent b None c.in-Some.component c.args.state.now c.define_component.new.self) (IsDefinitionAt t b c.define_component.new.self c.args.ty) c.define_component.result
+    (λ k h. component-at t b (written_in c.args.self.now.worlds.now) c.args.ty c.in-Some.component c.args.state.now c.define_component.new.self k c.requires.ready is h) c.define_component.ensures.defines
+
+pub type_index-requires-clause-ready : goal.type_index-requires-clause-ready
+type_index-requires-clause-ready c = plain-ready c.args.self.now.types.now c.args.self.now.merged (written_in c.args.self.now.worlds.now) c.args.state.now c.args.ty (c.in_ok-defined.ensures.plain c.in-None.is) c.requires.ready
+
+pub returns-in-None-clause-is : goal.returns-in-None-clause-is
+returns-in-None-clause-is c =
+    let t = c.args.self.now.types.now in
+    let b = c.args.self.now.merged in
+    if-ok (IsTypeIndex t b c.type_index.new.state c.args.ty) (IsDefinitionAt t b c.type_index.new.state c.args.ty) c.type_index.result
+    (λ k h. plain-at c.step_law.ensures.is_its_tree t b c.type_index.new.state c.args.ty k (c.in_ok-defined.ensures.plain c.in-None.is) h) c.type_index.ensures.is
