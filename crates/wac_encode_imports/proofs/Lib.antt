@@ -9,3 +9,11 @@ pub mod Looked
 pub mod ExportNames
 pub mod Given
 pub mod Distinct
+pub mod CalledTrees
+pub mod Members
+pub mod Placed
+pub mod Records
+pub mod Stands
+pub mod Stood
+pub mod Telling
+pub mod Unions

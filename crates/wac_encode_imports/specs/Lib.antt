@@ -1,3 +1,4 @@
 pub mod Imports
 pub mod Distinct
 pub mod private
+pub mod Told

@@ -1,3 +1,4 @@
 pub mod Classes
 pub mod Exports
 pub mod Written
+pub mod Told
