@@ -26,7 +26,7 @@ use Rattle.wac_encode_imports.specs.Imports.{HasDistinctClasses}
 
 -- what is no instance is a subtype of no instance
 
-is_item : {L : Type 0} → TypeTree L → Bool
+abbrev is_item : {L : Type 0} → TypeTree L → Bool
 is_item (instance_item t) = true
 is_item t = false
 
