@@ -2,7 +2,6 @@
 ghost use Rattle.wac_encode_imports.specs.Distinct.{DistinctClassesLaw};
 
 /// No two imports of a merge are of one class.
-#[tactic(auto, using(crate::proofs::Distinct::distinct_classes_law))]
 pub fn distinct_classes_law()
     ensures { DistinctClassesLaw }
 {}
