@@ -174,7 +174,7 @@ nothing_alike g a none nothing r =
     ap (λ (xs : List Entry). binding_class by_names (a.merge).types xs r) none ∙ sym (ap (λ (xs : List Entry). binding_class by_names g.types xs r) nothing)
 
 -- ---- so these are the ones that the root binds
-leaf_of : ℕ × List Place → Leaf
+abbrev leaf_of : ℕ × List Place → Leaf
 leaf_of b = record { out = 0; side = imported; path = position b.0 ∷ b.1 }
 
 rooted : (o : Option (ℕ × List Place)) → IsSome o ↔ IsSome (option_case o None (λ b. Some (leaf_of b)))
