@@ -7,11 +7,11 @@ use crate::tables::Row::{
 use crate::tables::Step::{
     Define, Export, Exported, Import, Instantiate, Kept, Nodes, Register, Remove, Undefined,
 };
-use crate::tables::Want::{Parts, Text, Unexportable};
-use crate::tables::{Calls, Case, Made, Row};
+use crate::tables::Want::{Fault, Parts, Unexportable};
+use crate::tables::{Calls, Case, Made, Row, Want};
 use std::process::Abort;
 use wac_graph::types::Type;
-use wac_graph::{CompositionGraph, DefineTypeError, EncodeOptions, NodeId};
+use wac_graph::{CompositionGraph, DefineTypeError, EncodeOptions, NodeId, WriteFault};
 
 /// Defines a type. Where memory was refused nothing changed: made again the call answers as if it had not been refused.
 pub fn answer(
@@ -45,7 +45,8 @@ pub fn assert_undefined(
     }
 }
 
-const NOT_YET: &str = "the graph holds something that is not written yet";
+// A resource is not bound in the type that node 0 asks for.
+const UNBOUND: Want = Fault(0, WriteFault::UnboundResource);
 
 // An enum, a list and an option of it, and a tuple of these two.
 const DIAMOND: &[Row] = &[Enumeration("x"), List(0), Optional(0), Pair(1, 2)];
@@ -111,11 +112,11 @@ pub const DEFINED: &[Case] = &[
             "0b0701000166030200",
         ]),
     },
-    // Over a handle it is not written yet.
+    // The resource of a handle must be bound.
     Case {
         rows: &[Resource, Own(0), Func(&[("x", 1)], None)],
         steps: &[Define("f", 2)],
-        want: Text(NOT_YET),
+        want: UNBOUND,
     },
     // A definition beside an import: the import stands first.
     Case {
@@ -199,7 +200,7 @@ pub const DEFINED: &[Case] = &[
             "0b0701000164030000",
         ]),
     },
-    // With a handle inside it is not written yet.
+    // So must that of a handle inside.
     Case {
         rows: &[
             Resource,
@@ -209,7 +210,7 @@ pub const DEFINED: &[Case] = &[
             Instance(Some("n:p/i"), &[("n", 3)]),
         ],
         steps: &[Define("d", 4)],
-        want: Text(NOT_YET),
+        want: UNBOUND,
     },
     // A world is written as a component type that exports a component of it under its id.
     Case {
@@ -240,7 +241,7 @@ pub const DEFINED: &[Case] = &[
             "0b0701000174030000",
         ]),
     },
-    // With a handle inside it is not written yet.
+    // So must that of a handle inside.
     Case {
         rows: &[
             Resource,
@@ -249,7 +250,7 @@ pub const DEFINED: &[Case] = &[
             Component(Some("n:p/w"), &[], &[("run", 2)]),
         ],
         steps: &[Define("t", 3)],
-        want: Text(NOT_YET),
+        want: UNBOUND,
     },
 ];
 

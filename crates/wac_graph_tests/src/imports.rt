@@ -3,8 +3,9 @@ use crate::tables::Row::{
     Bool, Byte, Component, Doubled, Enumeration, Func, Instance, Own, Resource, TypeOf,
 };
 use crate::tables::Step::Import;
-use crate::tables::Want::{Length, Parts, Text};
+use crate::tables::Want::{Fault, Length, Parts, Text};
 use crate::tables::{Case, Row};
+use wac_graph::WriteFault;
 
 const NOT_YET: &str = "the graph holds something that is not written yet";
 
@@ -178,10 +179,10 @@ pub const IMPORTS: &[Case] = &[
             "0a060100016f0400",
         ]),
     },
-    // Nor is a function type that takes a handle, as a type item.
+    // The resource of a handle must be bound.
     Case {
         rows: &[Resource, Own(0), Func(&[("x", 1)], None), TypeOf(2)],
         steps: &[Import("t", 3)],
-        want: Text(NOT_YET),
+        want: Fault(0, WriteFault::UnboundResource),
     },
 ];
