@@ -28,10 +28,7 @@ fn definition_name(types: &Types, id: InterfaceId) -> &str
 ///
 /// # Errors
 /// - `AllocError` if out of memory.
-pub fn definition_exports(
-    types: &Types,
-    id: InterfaceId,
-) -> Result<Named<ItemKind>, AllocError>
+pub fn definition_exports(types: &Types, id: InterfaceId) -> Result<Named<ItemKind>, AllocError>
     requires { HasInterface types.now id }
     ensures { IfOk result (λ n. n ≡ (id_or_empty types.now id, kind.Instance id) ∷ []) }
 {
