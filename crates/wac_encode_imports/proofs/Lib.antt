@@ -17,3 +17,4 @@ pub mod Stands
 pub mod Stood
 pub mod Telling
 pub mod Unions
+pub mod Whole

@@ -1,9 +1,8 @@
 -- What the entries of one class have under one name.
-use Rattle.std.proofs.Common.{ℕ, zero, suc, eq-eqb, ◌≡◌, ◌⊎◌, inl, inr, Bool, true, false, cond, List, [], ◌∷◌, map, length, Option, Some, None, slice_get, refl, ap, sym, ◌∙◌, subst}
+use Rattle.std.proofs.Common.{ℕ, ◌≡◌, ◌⊎◌, inl, inr, Bool, true, false, cond, List, [], ◌∷◌, map, length, Option, Some, None, slice_get, refl, ap, sym, ◌∙◌, subst}
 use Rattle.std.proofs.Math.Path.{fun_ext}
-use Rattle.std.proofs.lemmas.Bool.{false≢true}
 use Rattle.wac_types_shapes.specs.primitives.Name.{Name, same_name, find_name, option_case, first_some}
-use Rattle.wac_types_shapes.specs.primitives.Tree.{TypeTree, Tree, Leaf, Place, Side, imported, exported, position, named, absent, fresh, resource, type_equal, instance, instance_item, further_out, type_in, items_in}
+use Rattle.wac_types_shapes.specs.primitives.Tree.{TypeTree, Tree, Leaf, Place, Side, imported, exported, position, named, absent, fresh, type_equal, instance, instance_item, further_out, type_in, items_in}
 use Rattle.wac_types_shapes.specs.shapes.Kinds.{kind_type}
 use Rattle.wac_types_shapes.specs.shapes.Named.{NoNameTwice}
 use Rattle.wac_types_shapes.proofs.lemmas.shapes.Names.{find_name-at, same_name-refl, same_name-true}
@@ -257,7 +256,7 @@ module _ (c : Collection) (wf : IsWellFormed c) (es : List Entry) (at : ℕ → 
         -- a class with an instance has nothing else
 
         module _ (is : IsInstance e) where
-          each-instance : (k : ℕ) (y : Entry) → slice_get mates k ≡ Some y → IsInstance y
+          pub each-instance : (k : ℕ) (y : Entry) → slice_get mates k ≡ Some y → IsInstance y
           each-instance k y at_k =
               let w = instance-kind y.kind (instance (called_tree is.interface)) (member-held k y at_k) (subst (λ u. Agree (compared by_names c es class y.kind) u) (compared-as e is) (members-agree k j y e at_k at_j)) in
               record { id = w.0; interface = w.1; is = w.2; there = w.3 }

@@ -1,5 +1,5 @@
 -- Where the entries are imported, and where their resources are bound at the root.
-use Rattle.std.proofs.Common.{ℕ, zero, suc, ◌≡◌, ◌+◌, Bool, true, false, if◌then◌else◌, not, List, [], ◌∷◌, length, Option, Some, None, slice_get, refl, ap, sym, ◌∙◌, subst, arith}
+use Rattle.std.proofs.Common.{ℕ, zero, suc, ◌≡◌, Bool, true, false, if◌then◌else◌, not, List, [], ◌∷◌, Option, Some, None, slice_get, refl, ap, sym, ◌∙◌, arith}
 use Rattle.std.proofs.lemmas.Option.{slice_get_within}
 use Rattle.wac_types_shapes.specs.primitives.Name.{Name, same_name, option_case}
 use Rattle.wac_types_shapes.specs.primitives.Tree.{imported, Place, position}
@@ -15,12 +15,12 @@ use Rattle.wac_merge_classes.specs.terms.Merge.{IsMerge, Merged, position_in}
 use Rattle.wac_merge_classes.proofs.lemmas.entries.Canonical.{canonical-alike, class_name-asked}
 use Rattle.wac_merge_classes.proofs.lemmas.entries.ClassFacts.{class-of_same, class-sym, class-trans, one-position}
 use Rattle.wac_merge_classes.proofs.lemmas.entries.Lists.{any-at, some-at}
-use Rattle.wac_merge_classes.proofs.lemmas.terms.Found.{no_some, some_same}
+use Rattle.wac_merge_classes.proofs.lemmas.terms.Found.{at-filter, no_some, some_same}
 use Rattle.wac_merge_agreement.proofs.lemmas.agreement.OrderLaws.{order_each, order_once}
 use Rattle.wac_merge_imports.specs.unions.MergedScope.{BindsAsClasses}
 use Rattle.wac_merge_imports.proofs.lemmas.fitting.MergedBindingsClasses.{filter-has, position-is}
 use Rattle.wac_encode_imports.specs.Told.{entry_bindings}
-use Rattle.wac_encode_imports.proofs.Distinct.{IsImport, canonical-class, import-at, name-is}
+use Rattle.wac_encode_imports.proofs.Distinct.{canonical-class, import-at, name-is}
 
 -- Classes bind the same in both collections, so a resource has the same first class.
 
@@ -75,6 +75,20 @@ module _ (c : Collection) (es : List Entry) (m : Merged) (merge : IsMerge by_nam
       let first : same_class by_names es i.class (canonical by_names es e.name) ≡ true = ap (same_class by_names es i.class) (sym as_named) ∙ canonical-class c es m merge ordered i.class in
       let last = class-sym by_names es e.name (canonical by_names es e.name) (canonical-class c es m merge ordered e.name) in
       filter-has (λ (y : Entry). same_class by_names es i.class y.name) es j e at (class-trans by_names es i.class (canonical by_names es e.name) e.name first last)
+
+  -- Each of that class is imported there.
+  pub member-import : (p : ℕ) (x : Entry) (there : slice_get m.imports p ≡ Some x) (j : ℕ) (y : Entry) → slice_get (members by_names es (import-at c es m merge ordered p x there).class) j ≡ Some y
+      → (k : ℕ) × (slice_get es k ≡ Some y) × (x.name ≡ imported_as by_names es y.name)
+  member-import p x there j y at =
+      let i = import-at c es m merge ordered p x there in
+      let f = at-filter (λ (z : Entry). same_class by_names es i.class z.name) es j y at in
+      let first : is_asked es i.class ≡ true = class_name-asked es es i.class (any-at (λ (n : Name). same_name n i.class) (class_names by_names es) i.number i.class i.known (same_name-refl i.class)) in (
+        f.0,
+        f.1,
+        name-is c es m merge ordered p x there i
+            ∙ canonical-alike es i.class y.name f.2 first (asked f.0 y f.1)
+            ∙ sym (ap (λ b. if b then canonical by_names es y.name else y.name) (asked f.0 y f.1)),
+      )
 
   -- The position of an import is that of its class.
   pub position-of : (p : ℕ) (x : Entry) (there : slice_get m.imports p ≡ Some x) → position_in merge.order (import-at c es m merge ordered p x there).number ≡ p

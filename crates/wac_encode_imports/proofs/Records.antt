@@ -1,5 +1,5 @@
 -- The root is good after each record of what an import is for the entries' types.
-use Rattle.std.proofs.Common.{ℕ, ◌≡◌, ◌<◌, ◌≤◌, ◌+◌, Bool, true, false, if◌then◌else◌, List, [], ◌∷◌, length, Option, Some, None, refl, ap, sym, ◌∙◌, subst, inl, inr, arith}
+use Rattle.std.proofs.Common.{ℕ, ◌≡◌, ◌<◌, ◌≤◌, ◌+◌, Bool, true, false, if◌then◌else◌, [], ◌∷◌, Option, Some, None, refl, ap, sym, ◌∙◌, subst, inl, inr, arith}
 use Rattle.std.specs.Prelude.{◌==◌, nat_lt}
 use Rattle.std.proofs.Math.Path.{fun_ext}
 use Rattle.std.proofs.lemmas.Bool.{cases_lt, eqb-true, eq-eqb}
@@ -11,9 +11,9 @@ use Rattle.wac_types_shapes.specs.declared.shapes.component.«Type».TheVariants
 use Rattle.wac_types_collection.specs.collection.Collection.{Collection}
 use Rattle.wac_types_collection.specs.collection.Bound.{Bindings}
 use Rattle.wac_binary.specs.HasMeaning.{IsValue}
-use Rattle.wac_encode_stacks.specs.Good.{At, Good, GoodScope, IsHeld, Stands, innermost, nothing_bound, top}
+use Rattle.wac_encode_stacks.specs.Good.{Good, GoodScope, IsHeld, Stands, innermost, nothing_bound}
 use Rattle.wac_encode_stacks.specs.Listed.{calling}
-use Rattle.wac_encode_stacks.specs.Scopes.{Open, Stack, Where, at_type, bind_at, env, envs, export_at, index_at, listed, scope_of}
+use Rattle.wac_encode_stacks.specs.Scopes.{Open, Stack, Where, at_type, bind_at, envs, export_at, index_at, listed, scope_of}
 use Rattle.wac_encode_stacks.proofs.Steps.{good-called, good-export_at, good-index_at, id-equal}
 use Rattle.wac_encode_scopes.specs.declared.state.State.{State}
 use Rattle.wac_encode_scopes.specs.Books.{opened}

@@ -1,9 +1,9 @@
 -- What the imports of a merge are for the types of the entries.
-use Rattle.std.proofs.Common.{ℕ, eq-eqb, ◌≡◌, ◌+◌, ◌<◌, ◌⊎◌, inl, inr, true, false, cond, List, [], ◌∷◌, map, length, Option, Some, None, slice_get, refl, ap, sym, ◌∙◌, subst, arith}
-use Rattle.wac_types_shapes.specs.primitives.Name.{Name, find_name, option_case}
-use Rattle.wac_types_shapes.specs.primitives.Tree.{Tree, Leaf, Place, imported, position, named, fresh, resource, type_equal, instance, instance_item, taken_from, taken_at, moved}
+use Rattle.std.proofs.Common.{ℕ, eq-eqb, ◌≡◌, ◌<◌, ◌⊎◌, inl, inr, true, false, cond, List, [], ◌∷◌, map, length, Option, Some, None, slice_get, refl, ap, sym, ◌∙◌, subst, arith}
+use Rattle.std.proofs.Math.Path.{fun_ext}
+use Rattle.wac_types_shapes.specs.primitives.Name.{Name, find_name, first_some, option_case}
+use Rattle.wac_types_shapes.specs.primitives.Tree.{Tree, Leaf, Place, exported, further_out, imported, position, named, fresh, resource, type_equal, instance, taken_from}
 use Rattle.wac_types_shapes.specs.shapes.Kinds.{kind_type}
-use Rattle.wac_types_shapes.specs.shapes.Named.{NoNameTwice}
 use Rattle.wac_types_shapes.proofs.lemmas.shapes.Names.{find_name-at}
 use Rattle.wac_types_shapes.specs.declared.shapes.component.DefinedTypeId.{DefinedTypeId}
 use Rattle.wac_types_shapes.specs.declared.shapes.component.Interface.{Interface}
@@ -19,16 +19,17 @@ use Rattle.wac_types_collection.specs.collection.Collection.{Collection, IsWellF
 use Rattle.wac_types_collection.specs.collection.Held.{resolved, source_of}
 use Rattle.wac_types_collection.specs.collection.Bound.{Bindings, held_item, held_tree, is_alias, is_here, own_name}
 use Rattle.wac_types_collection.proofs.lemmas.collection.Chains.{resource_ends}
+use Rattle.wac_types_collection.proofs.lemmas.wide.Members.{at_in}
 use Rattle.wac_merge.specs.MergedPlaces.{IsRootPlace}
 use Rattle.wac_merge_classes.specs.entries.Agreement.{AllMembersAgree}
-use Rattle.wac_merge_classes.specs.entries.Binding.{binding_class, kind_binds}
+use Rattle.wac_merge_classes.specs.entries.Binding.{binding_class, class_binds, kind_binds}
 use Rattle.wac_merge_classes.specs.entries.Bindings.{AreHeld}
-use Rattle.wac_merge_classes.specs.entries.Classes.{Entry, by_names, class_names, imported_as, members, same_class}
+use Rattle.wac_merge_classes.specs.entries.Classes.{Entry, by_names, class_names, members, same_class}
 use Rattle.wac_merge_classes.specs.terms.Faults.{HasNoCircle}
 use Rattle.wac_merge_classes.specs.terms.Merge.{IsMerge, Merged, position_in}
 use Rattle.wac_merge_classes.specs.terms.Union.{merged, union_all}
 use Rattle.wac_merge_classes.proofs.lemmas.entries.Opening.{below}
-use Rattle.wac_merge_classes.proofs.lemmas.terms.Found.{at-filter, some_same}
+use Rattle.wac_merge_classes.proofs.lemmas.terms.Found.{at-filter, find_at, some_same}
 use Rattle.wac_merge_imports.specs.unions.MergedScope.{BindsAsClasses}
 use Rattle.wac_merge_imports.proofs.lemmas.fitting.FittingClasses.{first-binding}
 use Rattle.wac_merge_imports.proofs.lemmas.fitting.FittingOwn.{no-value, own-found}
@@ -36,22 +37,23 @@ use Rattle.wac_merge_imports.proofs.lemmas.fitting.FittingSteps.{binding-at}
 use Rattle.wac_binary.specs.Unfold.{Scope}
 use Rattle.wac_binary.specs.HasMeaning.{IsValue}
 use Rattle.wac_encode_faults.specs.Free.{IsFree, IsUnbound}
+use Rattle.wac_encode_faults.specs.Free as free_resources
 use Rattle.wac_encode_stacks.specs.Good.{At, IsClosed, IsHeld, Stands, nothing_bound}
 use Rattle.wac_encode_stacks.specs.Scopes.{at_type, at_export}
 use Rattle.wac_encode_stacks.proofs.Aliases.{end-held, is-its-end}
 use Rattle.wac_encode_stacks.proofs.HeldParts.{closed-carried, held-under-more}
 use Rattle.wac_encode_stacks.proofs.HeldValues.{holds-value}
-use Rattle.wac_encode_stacks.proofs.Moved.{held-here, taken}
+use Rattle.wac_encode_stacks.proofs.Moved.{changed, held-here, held-moves, on, taken}
 use Rattle.wac_encode_interfaces.specs.Imports.{RefersToImport}
 use Rattle.wac_encode_interfaces.proofs.Agreeing.{held-free}
 use Rattle.wac_encode_imports.specs.Imports.{merged_bindings}
-use Rattle.wac_encode_imports.specs.Told.{entry_bindings, HasNoUnbound}
+use Rattle.wac_encode_imports.specs.Told.{entry_bindings}
 use Rattle.wac_encode_imports.specs.private.Exports.{ExportNoNameTwice}
 use Rattle.wac_encode_imports.proofs.Binders.{instance-binds, resource-binds}
 use Rattle.wac_encode_imports.proofs.Bound.{no-some}
-use Rattle.wac_encode_imports.proofs.Distinct.{IsImport, import-at}
-use Rattle.wac_encode_imports.proofs.Members.{IsInstance, export-held, exports_of, far, inner, mates, merged-instance, own-fresh, resource-fresh, type-same, value-same}
-use Rattle.wac_encode_imports.proofs.Placed.{bound-place, entry-member, position-of, same-number}
+use Rattle.wac_encode_imports.proofs.Distinct.{import-at}
+use Rattle.wac_encode_imports.proofs.Members.{IsInstance, each-instance, export-held, exports_of, inner, merged-instance, own-fresh, resource-fresh, type-same, value-same}
+use Rattle.wac_encode_imports.proofs.Placed.{bound-place, same-number}
 use Rattle.wac_encode_imports.proofs.Stood.{at-path, fresh-export, fresh-stands, instance-stands, type-export, type-stands}
 
 module _ (c : Collection) (wf : IsWellFormed c) (once : ExportNoNameTwice c) (es : List Entry) (held : AreHeld c es) (agreed : AllMembersAgree by_names c es)
@@ -74,6 +76,11 @@ module _ (c : Collection) (wf : IsWellFormed c) (once : ExportNoNameTwice c) (es
 
     of-class : held_item m.types (merged_bindings m) imported (position p ∷ []) x.kind ≡ merged by_names c es end p class
     of-class = let i = import-at c es m merge ordered p x there in merge.items p i.number i.class x i.placed i.known there
+
+    -- The own resources of each entry of the class are bound to what the import exports under their names.
+    abbrev pub IsWhole : Type 0
+    IsWhole = (j : ℕ) (y : Entry) (i : InterfaceId) (it : Interface) → slice_get (members by_names es class) j ≡ Some y → y.kind ≡ kind.Instance i → item_at c.interfaces i.0 ≡ Some it
+        → (r : ResourceId) (n : Name) → own_name c it.uses it.exports r ≡ Some n → end r ≡ Some (at-path (position p ∷ (named n ∷ [])))
 
     module _ (w : Scope) (i : ℕ) (refers : RefersToImport m.types (merged_bindings m) w (position p) x.kind i) (j : ℕ) (e : Entry) (at_j : slice_get (members by_names es class) j ≡ Some e) where
       -- an instance
@@ -111,6 +118,53 @@ module _ (c : Collection) (wf : IsWellFormed c) (once : ExportNoNameTwice c) (es
               holds-value c wf end (val.Defined d) (taken_from imported (position p ∷ []) tree) holds told,
               value-stands n v found,
             )
+
+        -- What is bound in the instance is, taken from it, bound at the root in the end, if the instance is whole.
+
+        abbrev in_it : List Place → Leaf
+        in_it path = record { out = 0; side = exported; path = path }
+
+        further : (o : Option Leaf) → on (taken imported (position p ∷ [])) (option_case o None (λ l. Some (further_out l))) ≡ o
+        further None = refl
+        further (Some l) = refl
+
+        leaf-taken : (r : ResourceId) (o : Option Name) → ((n : Name) → o ≡ Some n → end r ≡ Some (at-path (position p ∷ (named n ∷ [])))) → (b : Option (List Place)) → ((path : List Place) → b ≡ Some path → end r ≡ Some (at-path (position p ∷ path)))
+            → on (taken imported (position p ∷ [])) (first_some (option_case o None (λ n. Some (in_it (named n ∷ [])))) (first_some (option_case b None (λ path. Some (in_it path))) (option_case (end r) None (λ l. Some (further_out l))))) ≡ end r
+        leaf-taken r (Some n) own b bound_path = sym (own n refl)
+        leaf-taken r None own (Some path) bound_path = sym (bound_path path refl)
+        leaf-taken r None own None bound_path = further (end r)
+
+        class-path : IsWhole → (r : ResourceId) (path : List Place) → class_binds by_names c es class r ≡ Some path → end r ≡ Some (at-path (position p ∷ path))
+        class-path whole r path binds =
+            let f = first-binding by_names c class (members by_names es class) r path binds in
+            let y = each-instance c wf es at class agreed held p j e at_j mate f.0 f.1 f.2 in
+            let b = instance-binds c class y.id r path (subst (λ (k : ItemKind). kind_binds by_names c class k r ≡ Some path) y.is f.3) in
+            whole f.0 f.1 y.id b.0 f.2 y.is b.1 r b.2 b.3 ∙ ap (λ (q : List Place). Some (at-path (position p ∷ q))) (sym b.4)
+
+        all-taken : IsWhole → changed (taken imported (position p ∷ [])) (inner c wf es at class it) ≡ end
+        all-taken whole = fun_ext (λ r. leaf-taken r (own_name c it.uses it.exports r) (λ n own. whole j e id it at_j is has r n own) (class_binds by_names c es class r) (λ path binds. class-path whole r path binds))
+
+        -- Then each value type has its tree at the root where the instance exports it.
+        pub whole-stands : IsWhole → (n : Name) (v : ValueType) (d : DefinedTypeId) → find_name it.exports n ≡ Some (kind.TypeItem (ty.Value v)) → value_resolved c v ≡ val.Defined d → holds_value c (val.Defined d) ≡ true → (IsUnbound c end (ty.Interface id) → ⊥)
+            → (tree : Tree) × IsHeld c end (ty.Value (val.Defined d)) tree × IsValue tree × Stands w tree (at_export i n)
+        whole-stands whole n v d found resolves holds clean =
+            let tree = held_tree c end (ty.Value v) in
+            let inside = inner c wf es at class it in
+            let same : taken_from imported (position p ∷ []) (held_tree c inside (ty.Value v)) ≡ tree =
+            held-moves c (taken imported (position p ∷ [])) inside (ty.Value v) ∙ ap (λ (k : Bindings). held_tree c k (ty.Value v)) (all-taken whole) in
+            let at_root = held-free c end (ty.Value v) (λ r free. bound-here r (own_name c it.uses it.exports r) refl (end r) refl free) in
+            let told = subst (λ (u : ValueType). IsHeld c end (ty.Value u) tree) resolves (end-held c wf end v tree at_root) in
+            (tree, told, holds-value c wf end (val.Defined d) tree holds told, subst (λ (t : Tree). Stands w t (at_export i n)) same (value-stands n v found))
+          where
+            outside : (r : ResourceId) → own_name c it.uses it.exports r ≡ None → IsFree c (ty.Value v) r → end r ≡ None → ⊥
+            outside r none free_in unbound =
+                let f = find_at it.exports n (kind.TypeItem (ty.Value v)) found in
+                clean (r, free_resources.in_export id it n (kind.TypeItem (ty.Value v)) r has (at_in it.exports f.0 (n, kind.TypeItem (ty.Value v)) f.1) none free_in, unbound)
+
+            bound-here : (r : ResourceId) (o : Option Name) → own_name c it.uses it.exports r ≡ o → (l : Option Leaf) → end r ≡ l → IsFree c (ty.Value v) r → (x : Leaf) × (end r ≡ Some x)
+            bound-here r o own (Some l) some free_in = (l, some)
+            bound-here r None own None none free_in = absurd (outside r own free_in none)
+            bound-here r (Some q) own None none free_in = (at-path (position p ∷ (named q ∷ [])), whole j e id it at_j is has r q own)
 
       -- A type item of a value type has its tree at the root.
       pub type-stands-at : (v : ValueType) (d : DefinedTypeId) → e.kind ≡ kind.TypeItem (ty.Value v) → value_resolved c v ≡ val.Defined d → holds_value c (val.Defined d) ≡ true → (IsUnbound c end (ty.Value v) → ⊥)

@@ -1,9 +1,9 @@
 -- What the index of an import refers to, by the tree of the import.
-use Rattle.std.proofs.Common.{ℕ, ◌≡◌, Bool, true, false, cond, List, [], ◌∷◌, ◌++◌, Option, Some, None, slice_get, refl, ap, sym, ◌∙◌, subst}
+use Rattle.std.proofs.Common.{ℕ, ◌≡◌, Bool, true, false, cond, List, [], ◌∷◌, Option, Some, None, refl, ap, sym, ◌∙◌, subst}
 use Rattle.std.specs.Prelude.{◌==◌, ◌&&◌}
 use Rattle.std.proofs.lemmas.Bool.{and_parts, eqb-true, false≢true}
-use Rattle.wac_types_shapes.specs.primitives.Name.{Name, same_name, option_case}
-use Rattle.wac_types_shapes.specs.primitives.Tree.{Tree, Leaf, Place, Side, imported, exported, position, named, absent, fresh, resource, type_equal, instance, instance_item, taken_from, items_in, type_in}
+use Rattle.wac_types_shapes.specs.primitives.Name.{Name, option_case}
+use Rattle.wac_types_shapes.specs.primitives.Tree.{Tree, Leaf, Place, Side, imported, exported, position, named, absent, fresh, resource, type_equal, instance, instance_item, taken_from, type_in}
 use Rattle.wac_types_shapes.proofs.lemmas.shapes.Names.{same_name-true}
 use Rattle.wac_types_shapes.specs.declared.shapes.component.InterfaceId.{InterfaceId}
 use Rattle.wac_types_shapes.specs.declared.shapes.component.ResourceId.{ResourceId}
@@ -15,8 +15,8 @@ use Rattle.wac_types_collection.specs.collection.Collection.{Collection}
 use Rattle.wac_types_collection.specs.collection.Held.{resolved}
 use Rattle.wac_types_collection.specs.collection.Bound.{Bindings, binds_here, held_item, held_tree, is_here, same_path, same_place, same_side}
 use Rattle.wac_binary.specs.Unfold.{Scope, bound_type}
-use Rattle.wac_encode_stacks.specs.Good.{At, IsHeld, Stands}
-use Rattle.wac_encode_stacks.specs.Scopes.{at_type, at_export}
+use Rattle.wac_encode_stacks.specs.Good.{At, Stands}
+use Rattle.wac_encode_stacks.specs.Scopes.{at_export}
 use Rattle.wac_encode_stacks.proofs.Moved.{held-here}
 use Rattle.wac_encode_interfaces.specs.Imports.{RefersToImport}
 

@@ -1,5 +1,5 @@
 -- What a teller's calls record is true.
-use Rattle.std.proofs.Common.{ℕ, zero, suc, if◌then◌else◌, ◌≡◌, ◌+◌, ◌<◌, inl, inr, Bool, true, false, List, [], ◌∷◌, ◌++◌, length, Option, Some, None, slice_get, Contains, refl, ap, sym, ◌∙◌, subst, arith}
+use Rattle.std.proofs.Common.{ℕ, zero, suc, if◌then◌else◌, ◌≡◌, ◌+◌, ◌<◌, ◌||◌, ◌⊎◌, inl, inr, Bool, true, false, List, [], ◌∷◌, ◌++◌, length, Option, Some, None, slice_get, Contains, refl, ap, sym, ◌∙◌, subst, arith}
 use Rattle.std.proofs.lemmas.Option.{slice_get_within}
 use Rattle.std.proofs.lemmas.Result.{on_ok_weaker}
 use Rattle.std.specs.Borrow.{Bor}
@@ -7,8 +7,8 @@ use Rattle.std.specs.Global.{Global}
 use Rattle.std.specs.Option.{MatchOption, option_copied, option_map}
 use Rattle.std.specs.Prelude.{OnOk, Result, nat_lt, string_bytes}
 use Rattle.std.specs.declared.string.String.{String}
-use Rattle.wac_types_shapes.specs.primitives.Name.{Name, find_name, same_name}
-use Rattle.wac_types_shapes.specs.primitives.Tree.{Leaf, Place, imported, position, named, resource}
+use Rattle.wac_types_shapes.specs.primitives.Name.{Name, option_case, same_name}
+use Rattle.wac_types_shapes.specs.primitives.Tree.{Place, position, named, resource}
 use Rattle.wac_types_shapes.specs.shapes.Kinds.{kind_type}
 use Rattle.wac_types_shapes.specs.shapes.Named.{named_at}
 use Rattle.wac_types_shapes.proofs.lemmas.shapes.Names.{same_name-from, same_name-true}
@@ -35,7 +35,7 @@ use Rattle.wac_types_collection.specs.collection.Bound.{Bindings}
 use Rattle.wac_binary.specs.declared.sorts.Sort.{Sort}
 use Rattle.wac_binary.specs.Unfold.{Scope}
 use Rattle.wac_encode_faults.specs.Free.{IsUnbound}
-use Rattle.wac_encode_stacks.specs.Good.{Good, Stands, innermost, nothing_bound}
+use Rattle.wac_encode_stacks.specs.Good.{Good, Stands, innermost}
 use Rattle.wac_encode_stacks.specs.Scopes.{Open, Stack, at_type, at_export, bind_at, envs, export_at, index_at, listed, scope_of}
 use Rattle.wac_encode_scopes.specs.declared.scope.Scope.{Scope as TheScope}
 use Rattle.wac_encode_scopes.specs.declared.state.State.{State}
@@ -48,12 +48,12 @@ use Rattle.wac_encode_imports.specs.declared.told.Teller.{Teller}
 use Rattle.wac_encode_interfaces.specs.Imports.{RefersToImport}
 use Rattle.wac_encode_imports.specs.Imports.{AreImported, merged_bindings}
 use Rattle.wac_encode_imports.specs.Told.{IsTold}
-use Rattle.wac_encode_imports.specs.private.Told.{BindsAll, BindsBelow, BindsOne, ChangesRecords, HasImports, HaveExports, IsDefinitionAt, IsExported, IsGood, IsImportIndex, IsTeller, IsTypeImport, KeepsGood, ReferToImports, bound_below, end_bindings}
+use Rattle.wac_encode_imports.specs.private.Told.{BindsAll, BindsBelow, BindsOne, ChangesRecords, HasImports, AreWhole, HaveExports, IsDefinitionAt, IsGood, IsImportOf, IsTeller, IsTypeImport, KeepsGood, ReferToImports, bound_below, end_bindings, told_in}
 use Rattle.wac_encode_imports.proofs.Bound.{no-some, one-some}
 use Rattle.wac_encode_imports.proofs.Members.{export-held}
-use Rattle.wac_encode_imports.proofs.Placed.{bound-place, entry-import, entry-member, unbound-place}
+use Rattle.wac_encode_imports.proofs.Placed.{bound-place, entry-import, entry-member, member-import, unbound-place}
 use Rattle.wac_encode_imports.proofs.Records.{below-all, below-next, below-none, below-unbound, bound-good, exported-good, indexed-good, none-changed, one-changed, same-scope, then-changed, unbound-good}
-use Rattle.wac_encode_imports.proofs.Stands.{IsBoundThere, bound-low, bound-there, closed-stands, type-stands-at}
+use Rattle.wac_encode_imports.proofs.Stands.{IsBoundThere, IsWhole, bound-low, bound-there, closed-stands, type-stands-at, whole-stands}
 use Rattle.wac_encode_imports.proofs.Stood.{at-path}
 
 no-empty : {A : Type 0} (n : Name) (path : List Place) → [] ≡ named n ∷ path → A
@@ -135,9 +135,9 @@ first-some (s ∷ path) o h b is = let same : s ≡ b.now = one-some s b.now (sy
 -- value types
 
 module _ (t : Teller) (s new : State) where
-  pub tells-export : (d : DefinedTypeId) (i : ℕ) (n : Name) → IsExported t d i n s → is_closed_in t.closed.now d ≡ true → RecordsHere false (export_at d (at_export i n)) s new → KeepsGood t s new
-  tells-export d i n exported closed records = record {
-    good = λ is good. let x = exported closed is in exported-good t.types.now (end_bindings t is) s new good d (at_export i n) x.0 records x.1 x.2 x.3;
+  pub tells-export : (d : DefinedTypeId) (i : ℕ) (n : Name) → IsDefinitionAt t d (at_export i n) s → RecordsHere false (export_at d (at_export i n)) s new → KeepsGood t s new
+  tells-export d i n at records = record {
+    good = λ is good. let x = at is in exported-good t.types.now (end_bindings t is) s new good d (at_export i n) x.0 records x.1 x.2 x.3;
     changes = one-changed (export_at d (at_export i n)) s new records;
   }
 
@@ -182,32 +182,70 @@ entry-interface t is e within id is_instance =
     let at = in_at t.merge.now.entries e within in
     below id.0 (length t.types.now.interfaces) (subst (λ (k : ItemKind). holds_type t.types.now (kind_type k) ≡ true) is_instance (is.held at.0 e at.2))
 
-module _ (t : Teller) (s : State) (imports : HasImports t s) (e : Entry) (within : Contains t.merge.now.entries e) (i : ℕ) (index : IsImportIndex t e i) where
+-- the definition of an item of an instance that may be recorded
+
+kept-if : (o : Option DefinedTypeId) (test : DefinedTypeId → Bool) (d : DefinedTypeId) → option_case o None (λ q. if test q then Some q else None) ≡ Some d → (o ≡ Some d) × (test d ≡ true)
+kept-if None test d h = no-some d h
+kept-if (Some q) test d h = by (test q) refl h
+  where
+    by : (b : Bool) → test q ≡ b → (if b then Some q else None) ≡ Some d → (Some q ≡ Some d) × (test d ≡ true)
+    by true is e = (e, sym (ap test (one-some q d e)) ∙ is)
+    by false is e = no-some d e
+
+pub told-none : (t : Teller) (whole : Bool) (e : Name × ItemKind) → definition_in t.types.now e ≡ None → told_in t whole e ≡ None
+told-none t whole e none = ap (λ (o : Option DefinedTypeId). option_case o None (λ d. if whole || is_closed_in t.closed.now d then Some d else None)) none
+
+pub told-some : (t : Teller) (whole : Bool) (e : Name × ItemKind) (d : DefinedTypeId) → definition_in t.types.now e ≡ Some d → (b : Bool) → (whole || is_closed_in t.closed.now d) ≡ b → told_in t whole e ≡ (if b then Some d else None)
+told-some t whole e d is b tested =
+    ap (λ (o : Option DefinedTypeId). option_case o None (λ q. if whole || is_closed_in t.closed.now q then Some q else None)) is
+    ∙ ap (λ (x : Bool). if x then Some d else None) tested
+
+either-is : (a b : Bool) → (a || b) ≡ true → (a ≡ true) ⊎ (b ≡ true)
+either-is true b h = inl refl
+either-is false b h = inr h
+
+module _ (t : Teller) (s : State) (imports : HasImports t s) (e : Entry) (within : Contains t.merge.now.entries e) (p : ℕ) (of : IsImportOf t e p) (place : Sort × ℕ) (placed : slice_get t.places.now p ≡ Some place) where
   abbrev c : Collection
   c = t.types.now
 
-  refers : RefersToImport (t.merge.now.merge).types (merged_bindings t.merge.now.merge) (innermost (stack false s)) (position index.position) (index.entry).kind i
-  refers = subst (λ (k : ℕ). RefersToImport (t.merge.now.merge).types (merged_bindings t.merge.now.merge) (innermost (stack false s)) (position index.position) (index.entry).kind k) index.index (imports index.position index.entry index.place index.there index.placed)
+  refers : RefersToImport (t.merge.now.merge).types (merged_bindings t.merge.now.merge) (innermost (stack false s)) (position p) (of.entry).kind place.1
+  refers = imports p of.entry place of.there placed
 
-  -- The instance that is imported for an entry exports the entry's value types that mention no resource.
-  pub entry-exports : (id : InterfaceId) (it : Interface) → e.kind ≡ kind.Instance id → item_at c.interfaces id.0 ≡ Some it → HaveExports t it i s
-  entry-exports id it is_instance has n k d found definition is_closed is =
+  -- If the flag of the import is set, the own resources of each entry of its class are bound to its exports.
+  whole-at : (whole : List Bool) → AreWhole t whole → slice_get whole p ≡ Some true → (is : IsTeller t)
+      → IsWhole c is.ordered is.once t.merge.now.entries is.held is.agreed t.merge.now.merge is.merged is.acyclic is.bound p of.entry of.there
+  whole-at whole are set is j y id it at_y is_y has r n own =
+      let m = member-import c t.merge.now.entries t.merge.now.merge is.merged is.acyclic p of.entry of.there j y at_y in
+      let of_y : IsImportOf t y p = record { entry = of.entry; there = of.there; named = m.2 } in
+      are.noted m.0 y m.1 p of_y set id it is_y has r n own is
+
+  -- The instance that is imported for an entry exports the entry's value types that may be recorded.
+  pub entry-exports : (whole : List Bool) → AreWhole t whole → (flag : Bool) → slice_get whole p ≡ Some flag → (id : InterfaceId) (it : Interface) → e.kind ≡ kind.Instance id → item_at c.interfaces id.0 ≡ Some it → HaveExports t flag it place.1 s
+  entry-exports whole are flag is_flag id it is_instance has n k d found told is =
+      let x = kept-if (definition_in c (n, k)) (λ q. flag || is_closed_in t.closed.now q) d told in
       let at = in_at t.merge.now.entries e within in
-      let v = definition-is c n k d definition in
+      let v = definition-is c n k d x.0 in
       let found_v = found ∙ ap Some v.1 in
       let holds = definition-held c is.ordered v.0 d v.2 (export-held c is.ordered id it n (kind.TypeItem (ty.Value v.0)) has found_v) in
-      let closed = subst (λ b. SaysClosed c d b) is_closed (is.closed d (below d.0 (length c.defined) holds)) in
-      let member = entry-member c t.merge.now.entries t.merge.now.merge is.merged is.acyclic at.0 e at.2 index.position index.entry index.there index.named in
-      closed-stands c is.ordered is.once t.merge.now.entries is.held is.agreed t.merge.now.merge is.merged is.acyclic is.bound index.position index.entry index.there (innermost (stack false s)) i refers member.0 e member.1 id it is_instance has n v.0 d found_v v.2 closed holds
+      let member = entry-member c t.merge.now.entries t.merge.now.merge is.merged is.acyclic at.0 e at.2 p of.entry of.there of.named in
+      elim (either-is flag (is_closed_in t.closed.now d) x.1) [
+        | inl set ↦
+            whole-stands c is.ordered is.once t.merge.now.entries is.held is.agreed t.merge.now.merge is.merged is.acyclic is.bound p of.entry of.there (innermost (stack false s)) place.1 refers member.0 e member.1 id it is_instance has
+            (whole-at whole are (is_flag ∙ ap Some set) is) n v.0 d found_v v.2 holds
+            (λ unbound. is.clean is.merged e within (subst (λ (q : ItemKind). IsUnbound c (end_bindings t is) (kind_type q)) (sym is_instance) unbound))
+        | inr is_closed ↦
+            closed-stands c is.ordered is.once t.merge.now.entries is.held is.agreed t.merge.now.merge is.merged is.acyclic is.bound p of.entry of.there (innermost (stack false s)) place.1 refers member.0 e member.1 id it is_instance has
+            n v.0 d found_v v.2 (subst (λ b. SaysClosed c d b) is_closed (is.closed d (below d.0 (length c.defined) holds))) holds
+      ]
 
   -- The type item that is imported for an entry names the entry's value type.
-  pub entry-type : IsTypeImport t e.kind i s
+  pub entry-type : IsTypeImport t e.kind place.1 s
   entry-type n d definition is =
       let at = in_at t.merge.now.entries e within in
       let v = definition-is c n e.kind d definition in
       let holds = definition-held c is.ordered v.0 d v.2 (subst (λ (k : ItemKind). holds_type c (kind_type k) ≡ true) v.1 (is.held at.0 e at.2)) in
-      let member = entry-member c t.merge.now.entries t.merge.now.merge is.merged is.acyclic at.0 e at.2 index.position index.entry index.there index.named in
-      type-stands-at c is.ordered is.once t.merge.now.entries is.held is.agreed t.merge.now.merge is.merged is.acyclic is.bound index.position index.entry index.there (innermost (stack false s)) i refers member.0 e member.1 v.0 d v.1 v.2 holds
+      let member = entry-member c t.merge.now.entries t.merge.now.merge is.merged is.acyclic at.0 e at.2 p of.entry of.there of.named in
+      type-stands-at c is.ordered is.once t.merge.now.entries is.held is.agreed t.merge.now.merge is.merged is.acyclic is.bound p of.entry of.there (innermost (stack false s)) place.1 refers member.0 e member.1 v.0 d v.1 v.2 holds
       (λ unbound. is.clean is.merged e within (subst (λ (k : ItemKind). IsUnbound c (end_bindings t is) (kind_type k)) (sym v.1) unbound))
 
 -- names that are found among imports
@@ -244,9 +282,9 @@ pub still-imports : (t : Teller) (s new : State) → ChangesRecords s new → Ha
 still-imports t s new x imports p e place there placed =
     subst (λ (w : Scope). RefersToImport (t.merge.now.merge).types (merged_bindings t.merge.now.merge) w (position p) e.kind place.1) (sym (same-scope s new x)) (imports p e place there placed)
 
-pub still-exports : (t : Teller) (it : Interface) (i : ℕ) (s new : State) → ChangesRecords s new → HaveExports t it i s → HaveExports t it i new
-still-exports t it i s new x exports n k d found definition is_closed is =
-    let at = exports n k d found definition is_closed is in
+pub still-exports : (t : Teller) (flag : Bool) (it : Interface) (i : ℕ) (s new : State) → ChangesRecords s new → HaveExports t flag it i s → HaveExports t flag it i new
+still-exports t flag it i s new x exports n k d found definition is =
+    let at = exports n k d found definition is in
     (at.0, at.1, at.2, subst (λ (w : Scope). Stands w at.0 (at_export i n)) (sym (same-scope s new x)) at.3)
 
 -- one step after another
@@ -321,11 +359,5 @@ module _ (t : Teller) (e : Entry) (within : Contains t.merge.now.entries e) (can
         let here : w.0 ≡ position = (let n = w.1 in omega (arith, n)) in
         ap (λ es. slice_get es position) (sym are) ∙ ap (slice_get (import_entries imports)) (sym here) ∙ w.2
 
-    pub import-low : IsTeller t → position < length t.places.now
-    import-low is =
-        let low = slice_get_within (t.merge.now.merge).imports position (record { name = canonical; kind = k.now }) import-there in
-        let counted = is.counted in
-        omega (arith, low, counted)
-
-    pub import-index : (place : Sort × ℕ) → slice_get t.places.now position ≡ Some place → IsImportIndex t e place.1
-    import-index place placed = record { position = position; entry = record { name = canonical; kind = k.now }; there = import-there; named = is_name; place = place; placed = placed; index = refl }
+    pub import-of : IsImportOf t e position
+    import-of = record { entry = record { name = canonical; kind = k.now }; there = import-there; named = is_name }

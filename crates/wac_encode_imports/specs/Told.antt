@@ -1,5 +1,5 @@
 -- What the imports of a merge are for the types of the entries' own collection.
-use Rattle.std.specs.Prelude.{ℕ, ◌≡◌, false, List, [], ◌∷◌, Contains}
+use Rattle.std.specs.Prelude.{ℕ, false, List, [], ◌∷◌, Contains}
 use Rattle.wac_types_shapes.specs.shapes.Kinds.{kind_type}
 use Rattle.wac_types_collection.specs.collection.Collection.{Collection}
 use Rattle.wac_types_collection.specs.collection.Bound.{Bindings}

@@ -1,18 +1,23 @@
 -- What is told of the entries' types; private functions alone cite this.
-use Rattle.std.specs.Prelude.{ℕ, ◌≡◌, ◌==◌, nat_lt, true, false, if◌then◌else◌, List, [], ◌∷◌, length, Option, Some, None, slice_get}
-use Rattle.wac_types_shapes.specs.primitives.Name.{Name, find_name}
-use Rattle.wac_types_shapes.specs.primitives.Tree.{position, Tree}
+use Rattle.std.specs.Prelude.{ℕ, ◌≡◌, ◌==◌, ◌<◌, ◌||◌, nat_lt, Bool, true, false, if◌then◌else◌, List, [], ◌∷◌, length, Option, Some, None, slice_get}
+use Rattle.wac_types_shapes.specs.primitives.Name.{Name, find_name, option_case}
+use Rattle.wac_types_shapes.specs.primitives.Tree.{imported, named, position, Tree}
+use Rattle.wac_types_shapes.specs.shapes.Kinds.{kind_type}
 use Rattle.wac_types_shapes.specs.declared.shapes.component.DefinedTypeId.{DefinedTypeId}
 use Rattle.wac_types_shapes.specs.declared.shapes.component.Interface.{Interface}
+use Rattle.wac_types_shapes.specs.declared.shapes.component.InterfaceId.{InterfaceId}
 use Rattle.wac_types_shapes.specs.declared.shapes.component.ItemKind.{ItemKind}
+use Rattle.wac_types_shapes.specs.declared.shapes.component.ItemKind.TheVariants as kind
 use Rattle.wac_types_shapes.specs.declared.shapes.component.ResourceId.{ResourceId}
+use Rattle.wac_types_shapes.specs.declared.shapes.component.UsedType.{UsedType}
 use Rattle.wac_types_shapes.specs.declared.shapes.component.ValueType.TheVariants as val
 use Rattle.wac_types_shapes.specs.declared.shapes.component.«Type».TheVariants as ty
-use Rattle.wac_types_collection.specs.collection.Collection.{IsWellFormed}
-use Rattle.wac_types_collection.specs.collection.Bound.{Bindings}
+use Rattle.wac_types_collection.specs.collection.Collection.{IsWellFormed, holds_type, item_at}
+use Rattle.wac_types_collection.specs.collection.Bound.{Bindings, own_name}
 use Rattle.wac_merge_classes.specs.entries.Agreement.{AllMembersAgree}
 use Rattle.wac_merge_classes.specs.entries.Bindings.{AreHeld}
 use Rattle.wac_merge_classes.specs.entries.Classes.{Entry, by_names, imported_as}
+use Rattle.wac_merge_classes.specs.entries.Places.{own_resource}
 use Rattle.wac_merge_classes.specs.terms.Faults.{HasNoCircle}
 use Rattle.wac_merge_classes.specs.terms.Merge.{IsMerge, Merged}
 use Rattle.wac_merge_imports.specs.unions.MergedScope.{BindsAsClasses}
@@ -94,27 +99,67 @@ pub record KeepsGood (t : Teller) (old new : State) : Type 0 where
   pub good : (is : IsTeller t) → IsGood t (end_bindings t is) old → IsGood t (end_bindings t is) new
   pub changes : ChangesRecords old new
 
--- The import of the entry's class has this index.
-pub record IsImportIndex (t : Teller) (e : Entry) (i : ℕ) : Type 0 where
-  pub position : ℕ
+-- The import of the entry's class is at this position.
+pub record IsImportOf (t : Teller) (e : Entry) (p : ℕ) : Type 0 where
   pub entry : Entry
-  pub there : slice_get (t.merge.now.merge).imports position ≡ Some entry
+  pub there : slice_get (t.merge.now.merge).imports p ≡ Some entry
   pub named : entry.name ≡ imported_as by_names t.merge.now.entries e.name
-  pub place : Sort × ℕ
-  pub placed : slice_get t.places.now position ≡ Some place
-  pub index : place.1 ≡ i
+
+-- The resource is bound in the end to what the import exports under the name.
+abbrev pub IsExport : Teller → ℕ → Name → ResourceId → Type 0
+IsExport t p n r = (is : IsTeller t) → end_bindings t is r ≡ Some (record { out = 0; side = imported; path = position p ∷ named n ∷ [] })
+
+-- The item's own resource, if it has one, is bound to the import's export of that name.
+abbrev pub BindsItem : Teller → ℕ → List (Name × UsedType) → Name × ItemKind → Type 0
+BindsItem t p uses e = (r : ResourceId) → own_resource t.types.now uses e ≡ Some r → IsExport t p e.0 r
+
+-- Those of the first n exports are.
+abbrev pub BindsItems : Teller → ℕ → Interface → ℕ → Type 0
+BindsItems t p it n = (j : ℕ) (e : Name × ItemKind) → j < n → slice_get it.exports j ≡ Some e → BindsItem t p it.uses e
+
+-- The own resources of the interface are bound to the import's exports of their names.
+abbrev pub BindsOwn : Teller → ℕ → Interface → Type 0
+BindsOwn t p it = (r : ResourceId) (n : Name) → own_name t.types.now it.uses it.exports r ≡ Some n → IsExport t p n r
+
+-- Those of an instance are.
+abbrev pub BindsKind : Teller → ℕ → ItemKind → Type 0
+BindsKind t p k = (id : InterfaceId) (it : Interface) → k ≡ kind.Instance id → item_at t.types.now.interfaces id.0 ≡ Some it → BindsOwn t p it
+
+-- The exports are of the collection.
+abbrev pub AreHeldExports : Teller → Interface → Type 0
+AreHeldExports t it = (j : ℕ) (e : Name × ItemKind) → slice_get it.exports j ≡ Some e → holds_type t.types.now (kind_type e.1) ≡ true
+
+-- If the flag of the import of the entry's class is set, the import binds the own resources of the entry.
+abbrev pub IsNoted : Teller → Entry → List Bool → Type 0
+IsNoted t e whole = (p : ℕ) → IsImportOf t e p → slice_get whole p ≡ Some true → BindsKind t p e.kind
+
+-- The step notes this of an entry. It sets no flag.
+pub record Notes (t : Teller) (e : Entry) (old new : List Bool) : Type 0 where
+  pub counted : length new ≡ length old
+  pub noted : IsNoted t e new
+  pub kept : (p : ℕ) → slice_get new p ≡ Some true → slice_get old p ≡ Some true
+
+-- Each import has a flag, and this is noted of the first n entries.
+pub record AreWholeFor (t : Teller) (n : ℕ) (whole : List Bool) : Type 0 where
+  pub counted : length whole ≡ length t.places.now
+  pub noted : (j : ℕ) (e : Entry) → j < n → slice_get t.merge.now.entries j ≡ Some e → IsNoted t e whole
+
+-- Each import has a flag, and this is noted of all entries.
+pub record AreWhole (t : Teller) (whole : List Bool) : Type 0 where
+  pub counted : length whole ≡ length t.places.now
+  pub noted : (j : ℕ) (e : Entry) → slice_get t.merge.now.entries j ≡ Some e → IsNoted t e whole
 
 -- The definition's tree at the root is at this place.
 abbrev pub IsDefinitionAt : Teller → DefinedTypeId → Where → State → Type 0
 IsDefinitionAt t d w s = (is : IsTeller t) → (tree : Tree) × IsHeld t.types.now (end_bindings t is) (ty.Value (val.Defined d)) tree × IsValue tree × Stands (innermost (stack false s)) tree w
 
--- An instance exports the definition, if that mentions no resource.
-abbrev pub IsExported : Teller → DefinedTypeId → ℕ → Name → State → Type 0
-IsExported t d i n s = is_closed_in t.closed.now d ≡ true → IsDefinitionAt t d (at_export i n) s
+-- The definition of an item of an instance, if the instance is whole or the definition mentions no resource.
+abbrev pub told_in : Teller → Bool → Name × ItemKind → Option DefinedTypeId
+told_in t whole e = option_case (definition_in t.types.now e) None (λ d. if whole || is_closed_in t.closed.now d then Some d else None)
 
--- An instance exports each such value type of the interface.
-abbrev pub HaveExports : Teller → Interface → ℕ → State → Type 0
-HaveExports t it i s = (n : Name) (k : ItemKind) (d : DefinedTypeId) → find_name it.exports n ≡ Some k → definition_in t.types.now (n, k) ≡ Some d → IsExported t d i n s
+-- An instance exports each such definition of the interface.
+abbrev pub HaveExports : Teller → Bool → Interface → ℕ → State → Type 0
+HaveExports t whole it i s = (n : Name) (k : ItemKind) (d : DefinedTypeId) → find_name it.exports n ≡ Some k → told_in t whole (n, k) ≡ Some d → IsDefinitionAt t d (at_export i n) s
 
 -- The type index refers to the definition of a type item.
 abbrev pub IsTypeImport : Teller → ItemKind → ℕ → State → Type 0

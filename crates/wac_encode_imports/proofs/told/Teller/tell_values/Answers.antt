@@ -11,7 +11,7 @@ tell_value-requires c = λ d is.
     let it = c.args.interface.now in
     let n = c.entry_at.result.0.now in
     let k = c.entry_at.result.1.now in
-    still-exports c.args.self.now it c.args.index c.args.state.now c.loop-i.state c.loop-i.invariant.changes c.requires n k d (find_name-at it.exports c.loop-i.i n k c.law.ensures c.entry_at.ensures) (sym (c.definition_in-definition.ensures n) ∙ is)
+    still-exports c.args.self.now c.args.whole it c.args.index c.args.state.now c.loop-i.state c.loop-i.invariant.changes c.requires n k d (find_name-at it.exports c.loop-i.i n k c.law.ensures c.entry_at.ensures) (sym (c.told_in-definition.ensures n) ∙ is)
 
 pub loop-i-preserved : goal.loop-i-preserved
 loop-i-preserved c = keeps-then c.args.self.now c.args.state.now c.loop-i.state c.tell_value.new.state c.loop-i.invariant c.in_ok-tell_value.ensures
