@@ -33,17 +33,18 @@ use wac_merge_classes::entries::bindings::Bindings;
 use wac_merge_classes::entries::classes::Classes;
 use wac_merge_classes::entries::entry::Entry;
 use wac_merge_classes::terms::fault::MergeFault;
-use wac_merge_imports::unions::bound::class_binds;
+use wac_merge_imports::unions::bound::BoundNames;
 use wac_merge_imports::unions::merged::Merged;
 use wac_merge_tables::tables::nodes::Nodes;
 use wac_types_collection::{ItemKind, Named, ResourceId, Type, Types};
 
-/// The classes of entries, what the classes bind, and the merge.
+/// The classes of entries, what the classes bind, the merge, and the names under which the classes bind resources.
 #[derive(Drop)]
 struct Finished {
     classes: Classes,
     bindings: Bindings,
     merged: Merged,
+    names: BoundNames,
 }
 
 /// The entries of a merge, in order, and the result of the merge once it is finished.
@@ -70,12 +71,13 @@ impl Model for TypeAggregator {
     ghost use Rattle.std.specs.Prelude.{is_some, IfSome};
     ghost use Rattle.wac_types_shapes.specs.primitives.Name.{option_case};
     ghost use Rattle.wac_merge.specs.Aggregate.{Aggregate, AreKnown, nothing};
+    ghost use Rattle.wac_merge_imports.specs.private.unions.BoundNames.{AreBoundNames};
 
     ghost Value = { Aggregate };
 
     ghost view = { λ a. record { entries = a.entries.items; is_finished = is_some a.finished; merge = option_case a.finished nothing (λ f. f.merged) } };
 
-    ghost invariant = { λ a. IfSome a.finished (λ f. AreKnown f.merged a.entries.items f.classes.numbers.items f.classes.positions.items f.classes.names f.bindings) };
+    ghost invariant = { λ a. IfSome a.finished (λ f. AreKnown f.merged a.entries.items f.classes.numbers.items f.classes.positions.items f.classes.names f.bindings × AreBoundNames f.merged.types a.entries.items f.names) };
 }
 
 impl TypeAggregator {
@@ -158,6 +160,7 @@ impl TypeAggregator {
         let bindings = Bindings::new(alloc, types, asked, &classes)?;
         let order = check(alloc, types, asked, &classes, &bindings)?;
         let merged = Merged::new(alloc, types, asked, &classes, &bindings, order.as_slice())?;
+        let names = BoundNames::new(alloc, types, asked, &classes, &bindings)?;
         Ok(TypeAggregator {
             alloc,
             entries,
@@ -165,6 +168,7 @@ impl TypeAggregator {
                 classes,
                 bindings,
                 merged,
+                names,
             }),
         })
     }
@@ -238,14 +242,10 @@ impl TypeAggregator {
         let Some(finished) = &self.finished else {
             unreachable!()
         };
-        class_binds(
-            &finished.merged.types,
-            self.entries.as_slice(),
-            &finished.classes,
-            &finished.bindings,
-            id,
-            name,
-        )
+        match finished.classes.number(id) {
+            Some(number) => finished.names.contains(number, name),
+            None => false,
+        }
     }
 
     /// Returns the own resource that the interface of the import with this id exports under a name.

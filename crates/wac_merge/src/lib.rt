@@ -17,6 +17,7 @@
 //! Each entry keeps its name. The classes keep one more copy of each name, and a key for each class.
 //! Finding the classes reads each name a few times, and with it the greatest name that its class has so far.
 //! A finished merge shares the items of the entries' collection: it takes a pointer and a count for each.
+//! It keeps the names under which classes bind resources, so looking up a resource takes as long as the two names.
 #![tactic(auto)]
 
 mod aggregator;

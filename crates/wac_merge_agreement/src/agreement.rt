@@ -4,9 +4,10 @@
 //! it. They find the classes that each class depends on, and the order of the classes.
 
 pub mod apart;
-pub mod closed;
 pub mod compared;
 pub mod flags;
+pub mod marks;
 pub mod order;
 pub mod reach;
 pub mod rests;
+pub mod worlds;

@@ -1,4 +1,5 @@
-pub mod Closed
+pub mod Marking
+pub mod Unmarked
 pub mod Searching
 pub mod Leading
 pub mod Descending

@@ -2,7 +2,8 @@ pub mod Shapes
 pub mod Levels
 pub mod Reach
 pub mod ReachSteps
-pub mod Closed
+pub mod Marks
+pub mod Worlds
 pub mod Compared
 pub mod Resting
 pub mod Order

@@ -1,16 +1,17 @@
 //! Entries as items of the table of types, and the first two that disagree.
 ghost use Rattle.std.specs.Prelude.{◌≡◌, ◌<◌, true, length, map, Some, None, IfOk, OnOk, slice_get, string_bytes};
-ghost use Rattle.std.specs.List.{All};
 ghost use Rattle.std.specs.Option.{IfNone, MatchOption};
 ghost use Rattle.wac_types_collection.specs.collection.Collection.{holds_type};
 ghost use Rattle.wac_types_shapes.specs.shapes.Kinds.{kind_type};
 ghost use Rattle.wac_types_shapes.specs.primitives.Name.{Name};
+ghost use Rattle.wac_types_shapes.specs.declared.shapes.component.«Type».TheVariants as ty;
 ghost use Rattle.wac_merge_classes.specs.entries.Agreement.{AllMembersAgree, joined};
 ghost use Rattle.wac_merge_classes.specs.entries.Bindings.{AreBindings, AreHeld};
 ghost use Rattle.wac_merge_classes.specs.entries.Classes.{AreClasses, by_names, class_names};
 ghost use Rattle.wac_merge_trees.specs.private.coding.Coding.{IsGrown};
 ghost use Rattle.wac_merge_trees.specs.private.coding.Listings.{AreKnown};
-ghost use Rattle.wac_merge_agreement.specs.private.agreement.Closed.{HasNumberToo, IsClosed};
+ghost use Rattle.wac_merge_agreement.specs.private.agreement.Worlds.{AreWorlds, HasNumberToo, HasUnmarkedToo};
+ghost use Rattle.wac_merge_agreement.specs.private.agreement.Marks.{AreMarks};
 ghost use Rattle.wac_merge_agreement.specs.private.agreement.Compared.{AreCompared, IsItemOf};
 ghost use Rattle.wac_merge_trees.specs.private.coding.CallsView.{AreNamed};
 ghost use Rattle.wac_merge_classes.specs.terms.Faults.{Disagrees};
@@ -19,8 +20,10 @@ ghost use Rattle.wac_merge_tables.specs.private.tables.NodeViews.{item_view};
 
 use crate::agreeing::agreement::first_disagreement;
 use crate::agreement::apart::path_apart;
-use crate::agreement::closed::closed_worlds;
+use crate::agreement::flags::flag_of;
+use crate::agreement::marks::mark_through;
 use crate::agreement::reach::type_of;
+use crate::agreement::worlds::nested_worlds;
 use std::alloc::{AllocError, Global};
 use wac_merge_classes::entries::bindings::Bindings;
 use wac_merge_classes::entries::classes::Classes;
@@ -127,75 +130,105 @@ fn put_number(known: &mut Vec<Option<usize>>, id: WorldId, number: usize) -> Res
     Ok(())
 }
 
-/// Puts a world into the table, unless its number is known, and records its number.
+/// Records the number of a world unless it is marked.
+fn put_unmarked(
+    known: &mut Vec<Option<usize>>,
+    marks: &[bool],
+    id: WorldId,
+    number: usize,
+) -> Result<(), AllocError>
+    ensures { OnOk result (HasUnmarkedToo marks.now known.old.items id number known.new.items) }
+{
+    if flag_of(number, marks) {
+        return Ok(());
+    }
+    put_number(known, id, number)
+}
+
+/// Puts a world into the table, unless its number is known. Records its number if it is the same in each scope.
 fn number_world<'a>(
-    alloc: Global,
     memo: &mut Memo,
     nodes: &mut Nodes<'a>,
     asked: &Asked<'a, '_>,
     known: &mut Vec<Option<usize>>,
+    marks: &mut Vec<bool>,
     class: usize,
     id: WorldId,
 ) -> Result<(), AllocError>
-    requires closed { IsClosed asked.now.types.now id }
+    requires held { holds_type asked.now.types.now (ty.World id) ≡ true }
     requires known { AreKnown nodes.old asked.now.types.now known.old.items }
+    requires marks { AreMarks nodes.old marks.old.items }
     requires bindings { AreBindings asked.now.types.now asked.now.entries.now asked.now.bindings.now }
     requires class { class < length (class_names by_names asked.now.entries.now) }
     ensures grown { IsGrown nodes.old nodes.new }
     ensures known { OnOk result (AreKnown nodes.new asked.now.types.now known.new.items) }
+    ensures marks { OnOk result (AreMarks nodes.new marks.new.items) }
 {
     match known_number(known.as_slice(), Type::World(id)) {
         Some(_) => Ok(()),
         None => {
+            let alloc = asked.types.allocator();
             let kind = ItemKind::TypeItem(Type::World(id));
             let item = entry_item(alloc, memo, nodes, asked, known.as_slice(), class, kind)?;
-            put_number(known, id, type_of(item))
+            let number = type_of(item);
+            mark_through(nodes, marks, number)?;
+            put_unmarked(known, marks.as_slice(), id, number)
         }
     }
 }
 
-/// Puts worlds into the table, unless their numbers are known, and records their numbers.
+/// Puts worlds into the table, unless their numbers are known, up to the first that is not the same in each scope.
+/// Records the numbers of those before it.
 fn number_all<'a>(
-    alloc: Global,
     memo: &mut Memo,
     nodes: &mut Nodes<'a>,
     asked: &Asked<'a, '_>,
     known: &mut Vec<Option<usize>>,
+    marks: &mut Vec<bool>,
     class: usize,
     worlds: &[WorldId],
 ) -> Result<(), AllocError>
-    requires closed { All (IsClosed asked.now.types.now) worlds.now }
+    requires worlds { AreWorlds asked.now.types.now worlds.now }
     requires known { AreKnown nodes.old asked.now.types.now known.old.items }
+    requires marks { AreMarks nodes.old marks.old.items }
     requires bindings { AreBindings asked.now.types.now asked.now.entries.now asked.now.bindings.now }
     requires class { class < length (class_names by_names asked.now.entries.now) }
     ensures grown { IsGrown nodes.old nodes.new }
     ensures known { OnOk result (AreKnown nodes.new asked.now.types.now known.new.items) }
+    ensures marks { OnOk result (AreMarks nodes.new marks.new.items) }
 {
     for i in 0..worlds.len() {
-        number_world(alloc, memo, nodes, asked, known, class, worlds[i])?;
+        number_world(memo, nodes, asked, known, marks, class, worlds[i])?;
+        // The worlds around one that is not the same in each scope mostly are not either.
+        if known_number(known.as_slice(), Type::World(worlds[i])).is_none() {
+            return Ok(());
+        }
     }
     Ok(())
 }
 
-/// Puts the worlds into the table that an entry mentions and that are the same in each of its scopes.
+/// Puts the worlds into the table that an entry mentions, and records the numbers of those that are the same in each of
+/// its scopes.
 fn number_worlds<'a>(
-    alloc: Global,
     memo: &mut Memo,
     nodes: &mut Nodes<'a>,
     asked: &Asked<'a, '_>,
     known: &mut Vec<Option<usize>>,
+    marks: &mut Vec<bool>,
     class: usize,
     kind: ItemKind,
 ) -> Result<(), AllocError>
     requires held { holds_type asked.now.types.now (kind_type kind) ≡ true }
     requires known { AreKnown nodes.old asked.now.types.now known.old.items }
+    requires marks { AreMarks nodes.old marks.old.items }
     requires bindings { AreBindings asked.now.types.now asked.now.entries.now asked.now.bindings.now }
     requires class { class < length (class_names by_names asked.now.entries.now) }
     ensures grown { IsGrown nodes.old nodes.new }
     ensures known { OnOk result (AreKnown nodes.new asked.now.types.now known.new.items) }
+    ensures marks { OnOk result (AreMarks nodes.new marks.new.items) }
 {
-    let worlds = closed_worlds(asked.types, kind)?;
-    number_all(alloc, memo, nodes, asked, known, class, worlds.as_slice())
+    let worlds = nested_worlds(asked.types, kind)?;
+    number_all(memo, nodes, asked, known, marks, class, worlds.as_slice())
 }
 
 /// Returns the item of each entry in the table.
@@ -225,11 +258,14 @@ pub fn entry_items<'a>(
     let numbers = classes.numbers();
     let mut memo = Memo::new(alloc);
     let mut known = Vec::new(alloc);
+    let mut marks = Vec::new(alloc);
     let mut items = Vec::new(alloc);
     for i in 0..entries.len() {
         let kind = entries[i].kind();
         let class = numbers[i];
-        number_worlds(alloc, &mut memo, nodes, &asked, &mut known, class, kind)?;
+        number_worlds(
+            &mut memo, nodes, &asked, &mut known, &mut marks, class, kind,
+        )?;
         let worlds = known.as_slice();
         items.push(entry_item(alloc, &mut memo, nodes, &asked, worlds, class, kind)?)?;
     }

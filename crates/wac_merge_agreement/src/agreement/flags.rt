@@ -96,7 +96,7 @@ fn any_of(numbers: &[usize], flags: &[bool]) -> bool
 }
 
 /// Returns whether the type of an item has its flag.
-fn any_item(items: &[(&str, Item)], flags: &[bool]) -> bool
+pub fn any_item(items: &[(&str, Item)], flags: &[bool]) -> bool
     ensures { result ≡ list_any (flag_of flags.now) (types_of (listed items.now)) }
 {
     for item in items {
@@ -108,7 +108,7 @@ fn any_item(items: &[(&str, Item)], flags: &[bool]) -> bool
 }
 
 /// Returns whether a node mentions, outside of components, a node with its flag.
-fn any_part(node: &Node, flags: &[bool]) -> bool
+pub fn any_part(node: &Node, flags: &[bool]) -> bool
     ensures { result ≡ list_any (flag_of flags.now) (parts (node_view node.now)) }
 {
     match node {

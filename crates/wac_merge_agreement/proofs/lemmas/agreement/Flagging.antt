@@ -40,12 +40,12 @@ any_optional_then f None rest = refl
 any_optional_then f (Some n) rest = ap (λ b. b || list_any f rest) (sym (or_false (f n)))
 
 -- ---- a flag more
-flag_before : (fs : List Bool) (x : Bool) (i : ℕ) → i < length fs → flag_of (fs ++ x ∷ []) i ≡ flag_of fs i
+pub flag_before : (fs : List Bool) (x : Bool) (i : ℕ) → i < length fs → flag_of (fs ++ x ∷ []) i ≡ flag_of fs i
 flag_before [] x i low = absurd (omega (arith, low))
 flag_before (f ∷ fs) x zero low = refl
 flag_before (f ∷ fs) x (suc i) low = flag_before fs x i (omega (arith, low))
 
-flag_last : (fs : List Bool) (x : Bool) → flag_of (fs ++ x ∷ []) (length fs) ≡ x
+pub flag_last : (fs : List Bool) (x : Bool) → flag_of (fs ++ x ∷ []) (length fs) ≡ x
 flag_last [] x = refl
 flag_last (f ∷ fs) x = flag_last fs x
 

@@ -9,6 +9,8 @@ use Rattle.wac_merge_classes.specs.terms.NoDisagreement.{HasNoDisagreement}
 use Rattle.wac_merge_classes.specs.declared.terms.fault.MergeFault.{MergeFault}
 use Rattle.wac_merge_classes.specs.declared.terms.fault.MergeFault.TheVariants.{OutOfMemory}
 use Rattle.wac_merge_unions.specs.uses.KeptUses.{KeepsUses}
+use Rattle.wac_merge_imports.specs.private.unions.BoundNames.{AreBoundNames}
+use Rattle.wac_merge_imports.proofs.lemmas.unions.BoundNames.{names-kept}
 use Rattle.wac_merge_imports.specs.unions.EntryFaults.{HasFaultsOfEntries}
 use Rattle.wac_merge.proofs.BoundLookups.{bindings-kept}
 use Rattle.wac_merge.proofs.FaultLemmas.{exit_cause, exit_refused, names_fault, no_fault, refused_for}
@@ -49,6 +51,11 @@ new-requires-3-clause-held c =
     let same : c.as_slice-asked.result.now ≡ c.args.self.entries = c.as_slice-asked.ensures.value ∙ ap (λ (a : Aggregate). a.entries) c.self.view_is in
     subst (λ (es : List Entry). AreHeld c.args.types.now es) (sym same) c.requires
 
+pub new-requires-4-clause-held : goal.new-requires-4-clause-held
+new-requires-4-clause-held c =
+    let same : c.as_slice-asked.result.now ≡ c.args.self.entries = c.as_slice-asked.ensures.value ∙ ap (λ (a : Aggregate). a.entries) c.self.view_is in
+    subst (λ (es : List Entry). AreHeld c.args.types.now es) (sym same) c.requires
+
 pub new-requires-3-clause-each : goal.new-requires-3-clause-each
 new-requires-3-clause-each c =
     subst (λ (o : List ℕ). (k : ℕ) → (Contains o k ↔ k < length (class_names by_names c.as_slice-asked.result.now))) (sym c.as_slice.ensures.value) c.in_ok-order.ensures.each
@@ -76,6 +83,14 @@ returns-in_err-merged-clause-fault c =
 pub returns-in_err-merged-clause-refused : goal.returns-in_err-merged-clause-refused
 returns-in_err-merged-clause-refused c = λ fault has.
     exit_refused (λ e. (fault_of e ≡ Some fault) ⊎ (e ≡ OutOfMemory)) c.from_residual-in_err-merged.result OutOfMemory c.from_residual-in_err-merged.ensures.1 (inr refl)
+
+pub returns-in_err-names-clause-fault : goal.returns-in_err-names-clause-fault
+returns-in_err-names-clause-fault c =
+    exit_cause (λ e. IfSome (fault_of e) (HasFault by_names c.args.types.now c.args.self.entries)) c.from_residual-in_err-names.result OutOfMemory c.from_residual-in_err-names.ensures.1 tt
+
+pub returns-in_err-names-clause-refused : goal.returns-in_err-names-clause-refused
+returns-in_err-names-clause-refused c = λ fault has.
+    exit_refused (λ e. (fault_of e ≡ Some fault) ⊎ (e ≡ OutOfMemory)) c.from_residual-in_err-names.result OutOfMemory c.from_residual-in_err-names.ensures.1 (inr refl)
 
 pub returns-clause-uses : goal.returns-clause-uses
 returns-clause-uses c =
@@ -105,9 +120,13 @@ invariant_of-result c =
     let m = c.in_ok-merged.merged in
     let k = c.in_ok-classes.classes in
     let b = c.in_ok-bindings.bindings in
-    subst (λ (xs : List Entry). AreKnown m xs k.numbers.items k.positions.items k.names b) c.as_slice-asked.ensures.value (record {
-      held = c.in_ok-merged.ensures.asked;
-      classes = c.in_ok-classes.ensures;
-      bindings = bindings-kept c.args.types.now m.types c.as_slice-asked.result.now c.in_ok-merged.ensures.bound.same b c.in_ok-bindings.ensures;
-      imported = each-imported c.args.types.now c.as_slice-asked.result.now m c.in_ok-merged.ensures.merged;
-    })
+    let names = c.in_ok-names.names in (
+      subst (λ (xs : List Entry). AreKnown m xs k.numbers.items k.positions.items k.names b) c.as_slice-asked.ensures.value (record {
+        held = c.in_ok-merged.ensures.asked;
+        classes = c.in_ok-classes.ensures;
+        bindings = bindings-kept c.args.types.now m.types c.as_slice-asked.result.now c.in_ok-merged.ensures.bound.same b c.in_ok-bindings.ensures;
+        imported = each-imported c.args.types.now c.as_slice-asked.result.now m c.in_ok-merged.ensures.merged;
+      }),
+      subst (λ (xs : List Entry). AreBoundNames m.types xs names) c.as_slice-asked.ensures.value
+          (names-kept c.args.types.now m.types c.as_slice-asked.result.now names c.in_ok-merged.ensures.bound.same c.in_ok-names.ensures),
+    )

@@ -4,6 +4,7 @@ use Rattle.wac_types_collection.specs.subtyping.CalledViews.{path_view}
 use Rattle.wac_types_shapes.specs.primitives.Name.{Name, option_case}
 use Rattle.wac_merge_classes.specs.entries.Classes.{Entry, by_names}
 use Rattle.wac_merge_classes.specs.terms.Merge.{Merged, import_entries}
+use Rattle.wac_merge_imports.specs.private.unions.BoundNames.{AreBoundNames}
 use Rattle.wac_merge.specs.Aggregate.{Aggregate, AreKnown, nothing}
 use Rattle.wac_merge.specs.MergedPlaces.{IsRootPlace}
 use Rattle.wac_merge.specs.declared.aggregator.Finished.{Finished}
@@ -17,7 +18,7 @@ bounds-positions-class c =
     let k = f.classes in
     let number : ℕ = c.in_ok-class.class in
     let known : AreKnown f.merged es k.numbers.items k.positions.items k.names f.bindings =
-    subst (λ o. IfSome o (λ (x : Finished). AreKnown x.merged es x.classes.numbers.items x.classes.positions.items x.classes.names x.bindings)) c.in-Some.is c.self.invariant in
+    (subst (λ o. IfSome o (λ (x : Finished). AreKnown x.merged es x.classes.numbers.items x.classes.positions.items x.classes.names x.bindings × AreBoundNames x.merged.types es x.names)) c.in-Some.is c.self.invariant).0 in
     let told : Tells c.first.result f.bindings c.args.resource = subst (λ (x : Finished). Tells c.first.result x.bindings c.args.resource) c.finished.view_is c.first.ensures in
     let found = first-found c.first.result f.bindings c.args.resource number c.in_ok-class.path told c.in_ok-class.was in
     let same : c.positions.result.now ≡ k.positions.items = subst (λ (x : Finished). c.positions.result.now ≡ x.classes.positions.items) c.finished.view_is c.positions.ensures in
@@ -32,7 +33,7 @@ offset_bounds-positions-class c =
     let k = f.classes in
     let number : ℕ = c.in_ok-class.class in
     let known : AreKnown f.merged es k.numbers.items k.positions.items k.names f.bindings =
-    subst (λ o. IfSome o (λ (x : Finished). AreKnown x.merged es x.classes.numbers.items x.classes.positions.items x.classes.names x.bindings)) c.in-Some.is c.self.invariant in
+    (subst (λ o. IfSome o (λ (x : Finished). AreKnown x.merged es x.classes.numbers.items x.classes.positions.items x.classes.names x.bindings × AreBoundNames x.merged.types es x.names)) c.in-Some.is c.self.invariant).0 in
     let told : Tells c.first.result f.bindings c.args.resource = subst (λ (x : Finished). Tells c.first.result x.bindings c.args.resource) c.finished.view_is c.first.ensures in
     let found = first-found c.first.result f.bindings c.args.resource number c.in_ok-class.path told c.in_ok-class.was in
     let same : c.positions.result.now ≡ k.positions.items = subst (λ (x : Finished). c.positions.result.now ≡ x.classes.positions.items) c.finished.view_is c.positions.ensures in
@@ -47,7 +48,7 @@ index-requires c =
     let k = f.classes in
     let number : ℕ = c.in_ok-class.class in
     let known : AreKnown f.merged es k.numbers.items k.positions.items k.names f.bindings =
-    subst (λ o. IfSome o (λ (x : Finished). AreKnown x.merged es x.classes.numbers.items x.classes.positions.items x.classes.names x.bindings)) c.in-Some.is c.self.invariant in
+    (subst (λ o. IfSome o (λ (x : Finished). AreKnown x.merged es x.classes.numbers.items x.classes.positions.items x.classes.names x.bindings × AreBoundNames x.merged.types es x.names)) c.in-Some.is c.self.invariant).0 in
     let told : Tells c.first.result f.bindings c.args.resource = subst (λ (x : Finished). Tells c.first.result x.bindings c.args.resource) c.finished.view_is c.first.ensures in
     let found = first-found c.first.result f.bindings c.args.resource number c.in_ok-class.path told c.in_ok-class.was in
     let same : c.positions.result.now ≡ k.positions.items = subst (λ (x : Finished). c.positions.result.now ≡ x.classes.positions.items) c.finished.view_is c.positions.ensures in
@@ -65,7 +66,7 @@ unreachable-requires-in-None c =
     let k = f.classes in
     let number : ℕ = c.in_ok-class.class in
     let known : AreKnown f.merged es k.numbers.items k.positions.items k.names f.bindings =
-    subst (λ o. IfSome o (λ (x : Finished). AreKnown x.merged es x.classes.numbers.items x.classes.positions.items x.classes.names x.bindings)) c.in-Some.is c.self.invariant in
+    (subst (λ o. IfSome o (λ (x : Finished). AreKnown x.merged es x.classes.numbers.items x.classes.positions.items x.classes.names x.bindings × AreBoundNames x.merged.types es x.names)) c.in-Some.is c.self.invariant).0 in
     let told : Tells c.first.result f.bindings c.args.resource = subst (λ (x : Finished). Tells c.first.result x.bindings c.args.resource) c.finished.view_is c.first.ensures in
     let found = first-found c.first.result f.bindings c.args.resource number c.in_ok-class.path told c.in_ok-class.was in
     let same : c.positions.result.now ≡ k.positions.items = subst (λ (x : Finished). c.positions.result.now ≡ x.classes.positions.items) c.finished.view_is c.positions.ensures in
@@ -89,7 +90,7 @@ returns c =
     let k = f.classes in
     let number : ℕ = c.in_ok-class.class in
     let known : AreKnown f.merged es k.numbers.items k.positions.items k.names f.bindings =
-    subst (λ o. IfSome o (λ (x : Finished). AreKnown x.merged es x.classes.numbers.items x.classes.positions.items x.classes.names x.bindings)) c.in-Some.is c.self.invariant in
+    (subst (λ o. IfSome o (λ (x : Finished). AreKnown x.merged es x.classes.numbers.items x.classes.positions.items x.classes.names x.bindings × AreBoundNames x.merged.types es x.names)) c.in-Some.is c.self.invariant).0 in
     let told : Tells c.first.result f.bindings c.args.resource = subst (λ (x : Finished). Tells c.first.result x.bindings c.args.resource) c.finished.view_is c.first.ensures in
     let found = first-found c.first.result f.bindings c.args.resource number c.in_ok-class.path told c.in_ok-class.was in
     let same : c.positions.result.now ≡ k.positions.items = subst (λ (x : Finished). c.positions.result.now ≡ x.classes.positions.items) c.finished.view_is c.positions.ensures in

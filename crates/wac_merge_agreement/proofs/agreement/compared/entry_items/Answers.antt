@@ -9,6 +9,7 @@ use Rattle.wac_merge_tables.specs.private.tables.NodeViews.{item_view}
 use Rattle.wac_merge_tables.specs.declared.tables.nodes.Item.{Item as AnItem}
 use Rattle.wac_merge_trees.proofs.lemmas.coding.CodingGrowth.{grown_not, grown_twice}
 use Rattle.wac_merge_trees.proofs.lemmas.coding.OpenedItems.{known-grown}
+use Rattle.wac_merge_agreement.proofs.lemmas.agreement.Marking.{marks_grown, no_marks}
 use Rattle.wac_merge_agreement.proofs.lemmas.agreement.Sources.{compared_next, under_own_name}
 use Rattle.wac_merge_agreement.proofs.agreement.compared.entry_items.Goals as goal
 
@@ -18,6 +19,7 @@ loop-i-init c = record {
   grown = grown_not c.args.nodes.now;
   are = subst (λ (l : List AnItem). AreCompared c.args.nodes.now c.args.types.now c.args.entries.now (map item_view l)) (sym c.new-items.ensures.items) (λ i e x at found. absurd (no_some x found));
   known = subst (λ (l : List (Option ℕ)). AreKnown c.args.nodes.now c.args.types.now l) (sym c.new-known.ensures.items) (λ w n at m. absurd (no_some n at));
+  marks = no_marks c.args.nodes.now _ c.new-marks.ensures.items;
 }
 
 pub entry_item-requires-clause-known : goal.entry_item-requires-clause-known
@@ -64,4 +66,5 @@ loop-i-preserved c =
       grown = grown_twice c.args.nodes.now old ns c.loop-i.invariant.grown grown;
       are = subst (λ (l : List AnItem). AreCompared ns types es (map item_view l)) (sym pushed) (compared_next types es old ns xs i e x grown c.loop-i.invariant.counted at c.loop-i.invariant.are is);
       known = known-grown mid ns types c.number_worlds.new.known.items c.in_ok-entry_item.ensures.grown c.in_ok-number_worlds.ensures.known;
+      marks = marks_grown mid ns c.number_worlds.new.marks.items c.in_ok-entry_item.ensures.grown c.in_ok-number_worlds.ensures.marks;
     }

@@ -1,5 +1,5 @@
 use Rattle.std.proofs.Common.{refl}
-use Rattle.wac_merge_agreement.proofs.lemmas.agreement.Closed.{number_pushed, number_set}
+use Rattle.wac_merge_agreement.proofs.lemmas.agreement.Unmarked.{number_pushed, number_set}
 use Rattle.wac_merge_agreement.proofs.agreement.compared.put_number.Goals as goal
 
 pub loop-known-init : goal.loop-known-init

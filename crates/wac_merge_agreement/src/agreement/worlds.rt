@@ -1,39 +1,16 @@
-//! The worlds that an entry mentions and that are the same in each of its scopes.
+//! The worlds that an entry mentions.
 ghost use Rattle.std.specs.Prelude.{◌≡◌, List, true, IfOk, OnOk};
-ghost use Rattle.std.specs.List.{All, list_any};
 ghost use Rattle.wac_types_shapes.specs.shapes.Kinds.{kind_type};
 ghost use Rattle.wac_types_shapes.specs.declared.shapes.component.«Type».{«Type» as AnyType};
 ghost use Rattle.wac_types_collection.specs.collection.Collection.{holds_type};
 ghost use Rattle.wac_types_collection.specs.reach.Reach.{IsIn};
-ghost use Rattle.wac_merge_agreement.specs.private.agreement.Closed.{AreAmong, IsClosed, is_resource};
+ghost use Rattle.wac_merge_agreement.specs.private.agreement.Worlds.{AreAmong, AreWorlds};
 
 use std::alloc::{AllocError, Global};
 use wac_merge_classes::entries::scopes::Opener;
 use wac_merge_trees::coding::listing::listed_kinds;
 use wac_types_collection::subtyping::laws::trees_are_whole;
 use wac_types_collection::{ItemKind, Named, Reached, Type, Types, WorldId};
-
-/// Returns whether a type is a resource.
-fn is_resource(ty: Type) -> bool
-    ensures { result ≡ is_resource ty }
-{
-    match ty {
-        Type::Resource(_) => true,
-        _ => false,
-    }
-}
-
-/// Returns whether a resource is among these types.
-fn has_resource(found: &[Type]) -> bool
-    ensures { result ≡ list_any is_resource found.now }
-{
-    for ty in found {
-        if is_resource(*ty) {
-            return true;
-        }
-    }
-    false
-}
 
 /// Appends a type if it is a world.
 fn put_world(worlds: &mut Vec<WorldId>, ty: Type) -> Result<(), AllocError>
@@ -85,13 +62,14 @@ fn is_nested(types: &Types, kind: ItemKind) -> bool
     }
 }
 
-/// Returns the worlds that an item reaches if it reaches no resource. A world comes after the worlds that it reaches.
+/// Returns the worlds that an item reaches, if one of its own items has the type of an interface or world. A world comes
+/// after the worlds that it reaches.
 ///
 /// # Errors
 /// - [`AllocError`] if out of memory.
-pub fn closed_worlds(types: &Types, kind: ItemKind) -> Result<Vec<WorldId>, AllocError>
+pub fn nested_worlds(types: &Types, kind: ItemKind) -> Result<Vec<WorldId>, AllocError>
     requires { holds_type types.now (kind_type kind) ≡ true }
-    ensures { IfOk result (λ worlds. All (IsClosed types.now) worlds.items) }
+    ensures { IfOk result (λ worlds. AreWorlds types.now worlds.items) }
 {
     let alloc = types.allocator();
     if !is_nested(types, kind) {
@@ -99,9 +77,5 @@ pub fn closed_worlds(types: &Types, kind: ItemKind) -> Result<Vec<WorldId>, Allo
     }
     let mut reached = Reached::new(alloc);
     reached.reach_from(types, kind.ty())?;
-    let found = reached.as_slice();
-    if has_resource(found) {
-        return Ok(Vec::new(alloc));
-    }
-    worlds_among(alloc, found)
+    worlds_among(alloc, reached.as_slice())
 }

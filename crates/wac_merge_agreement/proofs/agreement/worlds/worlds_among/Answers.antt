@@ -4,9 +4,9 @@ use Rattle.std.proofs.lemmas.List.Sorted.{All-permutation}
 use Rattle.std.proofs.lemmas.List.Elements.{All-nil}
 use Rattle.wac_types_collection.specs.reach.Reach.{IsIn}
 use Rattle.wac_types_shapes.specs.declared.shapes.component.«Type».TheVariants as ty
-use Rattle.wac_merge_agreement.specs.private.agreement.Closed.{AreAmong}
-use Rattle.wac_merge_agreement.proofs.lemmas.agreement.Closed.{at_in}
-use Rattle.wac_merge_agreement.proofs.agreement.closed.worlds_among.Goals as goal
+use Rattle.wac_merge_agreement.specs.private.agreement.Worlds.{AreAmong}
+use Rattle.wac_merge_agreement.proofs.lemmas.agreement.Unmarked.{at_in}
+use Rattle.wac_merge_agreement.proofs.agreement.worlds.worlds_among.Goals as goal
 
 pub loop-i-init : goal.loop-i-init
 loop-i-init c = subst (AreAmong c.args.found.now) (sym c.new-worlds.ensures.items) (All-nil (λ w. IsIn (ty.World w) c.args.found.now))

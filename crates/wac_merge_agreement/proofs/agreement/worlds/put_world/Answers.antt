@@ -3,8 +3,8 @@ use Rattle.std.proofs.lemmas.List.Elements.{All-push}
 use Rattle.wac_types_collection.specs.reach.Reach.{IsIn}
 use Rattle.wac_types_shapes.specs.declared.shapes.component.«Type».{«Type» as AnyType}
 use Rattle.wac_types_shapes.specs.declared.shapes.component.«Type».TheVariants as ty
-use Rattle.wac_merge_agreement.specs.private.agreement.Closed.{AreAmong}
-use Rattle.wac_merge_agreement.proofs.agreement.closed.put_world.Goals as goal
+use Rattle.wac_merge_agreement.specs.private.agreement.Worlds.{AreAmong}
+use Rattle.wac_merge_agreement.proofs.agreement.worlds.put_world.Goals as goal
 
 pub returns-in_ok-push-in-World : goal.returns-in_ok-push-in-World
 returns-in_ok-push-in-World c = λ ts there among.

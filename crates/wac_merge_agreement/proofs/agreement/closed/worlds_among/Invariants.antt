@@ -1,5 +1,0 @@
-use Rattle.wac_merge_agreement.specs.private.agreement.Closed.{AreAmong}
-use Rattle.wac_merge_agreement.proofs.agreement.closed.worlds_among.Given as goal
-
-abbrev pub invariant-loop-i : goal.invariant-loop-i
-invariant-loop-i l = AreAmong l.found l.worlds.items
