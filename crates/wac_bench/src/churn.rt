@@ -41,15 +41,6 @@ fn remove(graph: &mut Graph, triple: Triple) -> Option<()> {
     graph.remove(triple.taker)
 }
 
-/// Makes a triple for each name.
-fn make_all(graph: &mut Graph, packages: Packages, names: &[String]) -> Result<Vec<Triple>> {
-    let mut triples = Vec::new(graph.alloc);
-    for name in names {
-        triples.push(refused(make(graph, packages, name.as_str()))?)?;
-    }
-    Ok(triples)
-}
-
 /// Removes every other triple and then makes each again.
 fn turn(
     graph: &mut Graph,
@@ -80,7 +71,10 @@ pub fn churn(graph: &mut Graph, count: u64, last: Step) -> Result<()> {
         return Ok(());
     }
     let packages = [giver, taker];
-    let mut triples = make_all(graph, packages, &names)?;
+    let mut triples = Vec::new(graph.alloc);
+    for name in &names {
+        triples.push(refused(make(graph, packages, name.as_str()))?)?;
+    }
     if last == Step::Make {
         return Ok(());
     }

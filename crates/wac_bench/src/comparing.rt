@@ -1,37 +1,21 @@
 //! Items of two collections that are added and compared.
 
 use crate::graph::Graph;
-use crate::types::{BOOL, numbered, record, tuple, tuples};
+use crate::types::{BOOL, tuple, tuples};
 use crate::workloads::Step;
 use anyhow::{Result, bail};
 use std::alloc::Global;
-use wac_graph::types::{Interface, ItemKind, Named, SubtypeChecker, Types, ValueType};
+use wac_graph::types::{ItemKind, SubtypeChecker, Types, ValueType};
 
 /// What is compared, by a function of this module or of `types`.
 #[derive(Clone, Copy)]
-pub enum Sort {
+pub enum Items {
     Tuples,
-    Functions,
     Sharing,
 }
 
 /// How many levels of equal tuples there are.
 const LEVELS: u64 = 16;
-
-/// Adds an interface of functions, each over two records of its own.
-fn functions(graph: &mut Graph, count: u64) -> Result<ItemKind> {
-    let mut exports = Named::new(graph.alloc);
-    for number in 0..count {
-        let x = record(graph)?;
-        let y = record(graph)?;
-        let kind = graph.function(&[("x", x), ("y", y)], Some(BOOL))?;
-        let name = numbered(graph.alloc, "f", number)?;
-        exports.insert(graph.alloc, name.as_str(), kind)?;
-    }
-    let (id, uses) = (None, Named::new(graph.alloc));
-    let interface = graph.interface(Interface { id, uses, exports })?;
-    Ok(ItemKind::Instance(interface))
-}
 
 /// Adds for each type of a level a tuple of it and of the type `step` places after it.
 fn above(
@@ -44,12 +28,8 @@ fn above(
     for (place, a) in level.iter().enumerate() {
         let after = place.wrapping_add(step).checked_rem(level.len());
         let b = level.get(after.unwrap_or(place)).unwrap_or(a);
-        let parts = if is_crossed {
-            [*a, *b, *a, *b]
-        } else {
-            [*a, *a, *b, *b]
-        };
-        next.push(tuple(graph, &parts)?)?;
+        let (c, d) = if is_crossed { (b, a) } else { (a, b) };
+        next.push(tuple(graph, &[*a, *c, *d, *b])?)?;
     }
     Ok(next)
 }
@@ -69,11 +49,10 @@ fn sharing(graph: &mut Graph, count: u64, is_crossed: bool) -> Result<ItemKind> 
 }
 
 /// Adds an item.
-fn add(graph: &mut Graph, sort: Sort, count: u64, is_crossed: bool) -> Result<ItemKind> {
-    match sort {
-        Sort::Tuples => Ok(ItemKind::Value(tuples(graph, count)?)),
-        Sort::Functions => functions(graph, count),
-        Sort::Sharing => sharing(graph, count, is_crossed),
+fn add(graph: &mut Graph, items: Items, count: u64, is_crossed: bool) -> Result<ItemKind> {
+    match items {
+        Items::Tuples => Ok(ItemKind::Value(tuples(graph, count)?)),
+        Items::Sharing => sharing(graph, count, is_crossed),
     }
 }
 
@@ -90,14 +69,14 @@ fn compare(first: &Types, a: ItemKind, second: &Types, b: ItemKind) -> Result<us
 }
 
 /// Adds two items and compares them, up to a step. Returns 1 if the first is a subtype of the second, else zero.
-pub fn take(alloc: Global, sort: Sort, count: u64, last: Step) -> Result<usize> {
+pub fn take(alloc: Global, items: Items, count: u64, last: Step) -> Result<usize> {
     let mut first = Graph::new(alloc);
     let mut second = Graph::new(alloc);
     if last == Step::Prepare {
         return Ok(0);
     }
-    let a = add(&mut first, sort, count, false)?;
-    let b = add(&mut second, sort, count, true)?;
+    let a = add(&mut first, items, count, false)?;
+    let b = add(&mut second, items, count, true)?;
     if last == Step::Measure {
         compare(first.types(), a, second.types(), b)
     } else {

@@ -1,16 +1,17 @@
-//! Graphs of types that are made of each other: defined, or imported by one import.
+//! Values that are made of each other, and resources that interfaces use from each other.
 
 use crate::graph::{Graph, refused};
-use crate::types::{BOOL, numbered, tuples};
+use crate::types::{BOOL, all_numbered, functions, numbered, tuple, tuples};
 use anyhow::Result;
-use wac_graph::types::{DefinedType, Interface, ItemKind, Record, Type, ValueType, WorldId};
+use wac_graph::types::{
+    DefinedType, Interface, InterfaceId, ItemKind, Record, Resource, ResourceId, Type, ValueType,
+};
 
 /// Imports a function over tuples that each hold the one before twice.
 pub fn shared(graph: &mut Graph, count: u64) -> Result<()> {
     let ty = tuples(graph, count)?;
     let kind = graph.function(&[("x", ty)], None)?;
-    let _node = refused(graph.import("f", kind))?;
-    Ok(())
+    graph.import("f", kind)
 }
 
 /// Adds the record of a number, with one field, and defines it.
@@ -18,68 +19,86 @@ fn define_record(graph: &mut Graph, number: u64, field: ValueType) -> Result<Val
     let record = Record::new(graph.alloc, &[("f", field)])?;
     let ty = graph.defined(DefinedType::Record(record))?;
     let name = numbered(graph.alloc, "r", number)?;
-    let _node = refused(graph.define(name.as_str(), Type::Value(ty)))?;
+    graph.define(name.as_str(), Type::Value(ty))?;
     Ok(ty)
 }
 
-/// Defines records, each with one field of the record before.
+/// Defines records, each with one field of the record before. Each depends on all before it, by about `count` edges together.
 pub fn defining(graph: &mut Graph, count: u64) -> Result<()> {
     let mut field = BOOL;
-    for number in 0..count {
+    for number in 0..count.saturating_mul(2).isqrt() {
         field = define_record(graph, number, field)?;
     }
     Ok(())
 }
 
-/// Adds a world that exports an item, and also imports it if it `has_imports`.
-fn around(graph: &mut Graph, item: (&str, ItemKind), has_imports: bool) -> Result<WorldId> {
-    if has_imports {
-        graph.world(&[item], &[item])
-    } else {
-        graph.world(&[], &[item])
-    }
+/// Adds a resource, as an item.
+fn add_resource(graph: &mut Graph, resource: Resource) -> Result<(ResourceId, ItemKind)> {
+    let id = graph.resource(resource)?;
+    Ok((id, ItemKind::TypeItem(Type::Resource(id))))
 }
 
-/// Imports a component of worlds, each a type export of the next, and also a type import if each `has_imports`.
-pub fn worlds(graph: &mut Graph, count: u64, has_imports: bool) -> Result<()> {
-    let function = graph.function(&[], None)?;
-    let mut world = around(graph, ("f", function), has_imports)?;
-    for _ in 1..count {
-        let item = ItemKind::TypeItem(Type::World(world));
-        world = around(graph, ("w", item), has_imports)?;
+/// Imports a component of a world that imports resources, and functions over one type that is made of handles to them all.
+pub fn handles(graph: &mut Graph, count: u64) -> Result<()> {
+    let names = all_numbered(graph.alloc, "r", count)?;
+    let mut resources = Vec::new(graph.alloc);
+    let mut ty = BOOL;
+    for name in &names {
+        let resource = Resource::new(graph.alloc, name.as_str())?;
+        let (id, item) = add_resource(graph, resource)?;
+        ty = tuple(graph, &[ty, ValueType::Own(id)])?;
+        resources.push((name.as_str(), item))?;
     }
-    let _node = refused(graph.import("c", ItemKind::Component(world)))?;
-    Ok(())
+    let interface = graph.instance(Some("n:p/i"), &resources)?;
+    let mut imports = functions(graph, &names, &[("x", ty)])?;
+    imports.push(("n:p/i", interface))?;
+    let component = graph.component(&imports, &[])?;
+    graph.import("c", component)
 }
 
-/// Imports a component of worlds and interfaces by turns. Each world has the interface before as a type import and a type
-/// export, and each interface has the world before as a type export.
-pub fn turns(graph: &mut Graph, count: u64) -> Result<()> {
-    let function = graph.function(&[], None)?;
-    let mut world = around(graph, ("f", function), true)?;
-    for _ in 1..count {
-        let item = ItemKind::TypeItem(Type::World(world));
-        let interface = Interface::new(graph.alloc, None, &[("w", item)])?;
-        let interface = graph.interface(interface)?;
-        world = around(
-            graph,
-            ("i", ItemKind::TypeItem(Type::Interface(interface))),
-            true,
-        )?;
+/// An interface, and the name and the id of a resource that it exports.
+type Owner<'a> = (InterfaceId, &'a str, ResourceId);
+
+/// Adds an interface with a resource of its own and functions over it. It uses the resource of the interface before.
+fn add_owner<'a>(
+    graph: &mut Graph,
+    id: &str,
+    name: &'a str,
+    before: Option<Owner<'a>>,
+) -> Result<Owner<'a>> {
+    let mut uses = Vec::new(graph.alloc);
+    let mut exports = Vec::new(graph.alloc);
+    let mut params = Vec::new(graph.alloc);
+    if let Some((interface, used, resource)) = before {
+        let alias = Resource::alias(graph.alloc, used, Some(interface), resource)?;
+        let (alias, item) = add_resource(graph, alias)?;
+        uses.push((used, interface, None))?;
+        exports.push((used, item))?;
+        params.push(("x", ValueType::Borrow(alias)))?;
     }
-    let _node = refused(graph.import("c", ItemKind::Component(world)))?;
-    Ok(())
+    let resource = Resource::new(graph.alloc, name)?;
+    let (resource, item) = add_resource(graph, resource)?;
+    let own = ValueType::Own(resource);
+    params.push(("y", own))?;
+    exports.push((name, item))?;
+    exports.push(("make", graph.function(&[], Some(own))?))?;
+    exports.push(("take", graph.function(&params, None)?))?;
+    let interface = Interface::with_uses(graph.alloc, Some(id), &uses, &exports)?;
+    Ok((graph.interface(interface)?, name, resource))
 }
 
-/// Imports an interface of levels. Each level lists two interfaces, which both list the level below.
-pub fn listed(graph: &mut Graph, count: u64) -> Result<()> {
-    let function = graph.function(&[], None)?;
-    let mut level = graph.instance(None, &[("f", function)])?;
-    for _ in 0..count {
-        let a = graph.instance(None, &[("below", level)])?;
-        let b = graph.instance(None, &[("below", level), ("f", function)])?;
-        level = graph.instance(None, &[("a", a), ("b", b)])?;
+/// Makes an instance of a package that imports interfaces. Each uses the resource of the one before.
+pub fn resources(graph: &mut Graph, count: u64) -> Result<()> {
+    let ids = all_numbered(graph.alloc, "n:r/i", count)?;
+    let names = all_numbered(graph.alloc, "r", count)?;
+    let mut imports = Vec::new(graph.alloc);
+    let mut before = None;
+    for (id, name) in ids.iter().zip(&names) {
+        let owner = add_owner(graph, id.as_str(), name.as_str(), before)?;
+        imports.push((id.as_str(), ItemKind::Instance(owner.0)))?;
+        before = Some(owner);
     }
-    let _node = refused(graph.import("i", level))?;
+    let package = graph.register("n:user", &imports, &[])?;
+    let _instance = refused(graph.instantiate(package))?;
     Ok(())
 }

@@ -4,7 +4,7 @@ use anyhow::{Result, bail};
 use std::alloc::Global;
 use wac_graph::types::{
     DefinedType, FuncType, Interface, InterfaceId, ItemKind, Resource, ResourceId, Type, Types,
-    ValueType, World, WorldId,
+    ValueType, World,
 };
 use wac_graph::{CompositionGraph, EncodeOptions, NodeId, PackageId, plug};
 
@@ -63,20 +63,20 @@ impl Graph {
         Ok(self.graph.add_interface(interface)?)
     }
 
-    /// Adds an interface that uses no other.
+    /// Adds an interface that uses no other, as an instance of it.
     pub fn instance(&mut self, id: Option<&str>, exports: &[(&str, ItemKind)]) -> Result<ItemKind> {
         let interface = Interface::new(self.alloc, id, exports)?;
         Ok(ItemKind::Instance(self.interface(interface)?))
     }
 
-    /// Adds a world.
-    pub fn world(
+    /// Adds a world, as a component of it.
+    pub fn component(
         &mut self,
         imports: &[(&str, ItemKind)],
         exports: &[(&str, ItemKind)],
-    ) -> Result<WorldId> {
+    ) -> Result<ItemKind> {
         let world = World::new(self.alloc, None, imports, exports)?;
-        Ok(self.graph.add_world(world)?)
+        Ok(ItemKind::Component(self.graph.add_world(world)?))
     }
 
     /// Registers an empty component of a new world.
@@ -94,19 +94,21 @@ impl Graph {
     }
 
     /// Imports an item.
-    pub fn import(&mut self, name: &str, kind: ItemKind) -> Option<NodeId> {
+    pub fn import(&mut self, name: &str, kind: ItemKind) -> Result<()> {
         if !self.graph.types().contains(kind.ty()) {
-            return None;
+            bail!("an item is not in the collection");
         }
-        self.graph.import(name, kind).ok()
+        let _node = self.graph.import(name, kind)?;
+        Ok(())
     }
 
     /// Defines a type.
-    pub fn define(&mut self, name: &str, ty: Type) -> Option<NodeId> {
+    pub fn define(&mut self, name: &str, ty: Type) -> Result<()> {
         if !self.graph.types().contains(ty) {
-            return None;
+            bail!("a type is not in the collection");
         }
-        self.graph.define_type(name, ty).ok()
+        let _node = self.graph.define_type(name, ty)?;
+        Ok(())
     }
 
     /// Makes an instance of a package.
@@ -173,9 +175,12 @@ impl Graph {
     }
 
     /// Encodes the graph, its outer names unvalidated. Returns the number of bytes.
-    pub fn encode(&self) -> Result<usize> {
-        let mut options = EncodeOptions::default();
-        options.validate = false;
+    pub fn encode(&self, define_components: bool) -> Result<usize> {
+        let options = EncodeOptions {
+            define_components,
+            validate: false,
+            processor: None,
+        };
         Ok(self.graph.encode(options)?.len())
     }
 }

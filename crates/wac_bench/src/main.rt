@@ -9,10 +9,8 @@ mod churn;
 mod comparing;
 mod deep;
 mod graph;
-mod graphs;
-mod merging;
+mod levels;
 mod nodes;
-mod texts;
 mod types;
 mod workloads;
 
@@ -42,10 +40,8 @@ fn show(rt: &HostRuntime) -> Result<()> {
 /// Does the steps of a workload up to one. Returns whether there are such a workload and step.
 fn take(rt: &HostRuntime, word: &str, count: &str, step: &str) -> Result<bool> {
     let found = WORKLOADS.iter().find(|(of, _, _)| *of == word);
-    let (Some((_, sort, _)), Some(step)) = (found, Step::of_word(step)) else {
-        return Ok(false);
-    };
-    let Ok(count) = count.parse::<u64>() else {
+    let asked = (found, Step::of_word(step), count.parse::<u64>());
+    let (Some((_, sort, _)), Some(step), Ok(count)) = asked else {
         return Ok(false);
     };
     let _counted = sort.take(rt.alloc(), count, step)?;

@@ -1,7 +1,7 @@
 //! Graphs of packages, instances and aliases.
 
 use crate::graph::{Graph, refused};
-use crate::types::{BOOL, STRING, U32, all_numbered, numbered, records, versioned};
+use crate::types::{STRING, U32, all_numbered, functions, numbered, records};
 use crate::workloads::Step;
 use anyhow::Result;
 use wac_graph::types::{ItemKind, ValueType};
@@ -13,25 +13,15 @@ const ARGUMENTS: u64 = 8;
 /// The parameters of the functions that are exported.
 const PARAMS: &[(&str, ValueType)] = &[("x", U32), ("y", STRING)];
 
-/// Adds a function type for each name.
-fn functions<'a>(graph: &mut Graph, names: &'a [String]) -> Result<Vec<(&'a str, ItemKind)>> {
-    let mut items = Vec::new(graph.alloc);
-    for name in names {
-        let kind = graph.function(PARAMS, Some(BOOL))?;
-        items.push((name.as_str(), kind))?;
-    }
-    Ok(items)
-}
-
 /// Registers a package with an export under each name.
 fn giver(graph: &mut Graph, names: &[String]) -> Result<PackageId> {
-    let exports = functions(graph, names)?;
+    let exports = functions(graph, names, PARAMS)?;
     graph.register("n:giver", &[], &exports)
 }
 
 /// Registers a package with an import under each name, and the export `run`.
 fn taker(graph: &mut Graph, names: &[String]) -> Result<PackageId> {
-    let imports = functions(graph, names)?;
+    let imports = functions(graph, names, PARAMS)?;
     let run = graph.function(&[], None)?;
     graph.register("n:taker", &imports, &[("run", run)])
 }
@@ -118,9 +108,10 @@ pub fn plug(graph: &mut Graph, count: u64, last: Step) -> Result<()> {
     graph.plug(giver, taker)
 }
 
-/// Registers the package of a number, which imports an interface of its own, and makes an instance.
+/// Registers the package of a number, which imports an interface of its own, four to a track, and makes an instance.
 fn import_own(graph: &mut Graph, number: u64) -> Result<()> {
-    let id = versioned(graph.alloc, number)?;
+    let (track, minor) = (number / 4, number % 4);
+    let id = format!(in graph.alloc; "n:w/i{track}@1.{minor}.0")?;
     let kind = records(graph, id.as_str())?;
     let name = numbered(graph.alloc, "n:c", number)?;
     let package = graph.register(name.as_str(), &[(id.as_str(), kind)], &[])?;

@@ -4,7 +4,7 @@ use crate::graph::Graph;
 use anyhow::Result;
 use std::alloc::{AllocError, Global};
 use wac_graph::types::{
-    DefinedType, Interface, ItemKind, Named, PrimitiveType, Record, Text, Type, ValueType,
+    DefinedType, Interface, ItemKind, Named, PrimitiveType, Record, Text, Type, ValueType, Variant,
 };
 
 /// How many functions an interface over a record exports.
@@ -31,7 +31,7 @@ pub fn tuples(graph: &mut Graph, count: u64) -> Result<ValueType> {
 }
 
 /// Adds a list, an option, and a record with fields of them.
-pub fn record(graph: &mut Graph) -> Result<ValueType> {
+fn record(graph: &mut Graph) -> Result<ValueType> {
     let list = graph.defined(DefinedType::List(ValueType::Primitive(PrimitiveType::U8)))?;
     let option = graph.defined(DefinedType::Option(ValueType::Primitive(PrimitiveType::U64)))?;
     let fields = [("a", U32), ("b", STRING), ("c", list), ("d", option)];
@@ -39,39 +39,64 @@ pub fn record(graph: &mut Graph) -> Result<ValueType> {
     graph.defined(DefinedType::Record(record))
 }
 
-/// Adds a function over a list of a type, and inserts it as an export.
+/// Adds a list of a type, and a variant with it.
+fn variant(graph: &mut Graph, ty: ValueType) -> Result<ValueType> {
+    let list = graph.defined(DefinedType::List(ty))?;
+    let (number, text, list) = (Some(U32), Some(STRING), Some(list));
+    let cases = [
+        ("none", None),
+        ("num", number),
+        ("text", text),
+        ("recs", list),
+    ];
+    let variant = Variant::new(graph.alloc, &cases)?;
+    graph.defined(DefinedType::Variant(variant))
+}
+
+/// Adds a function type for each name.
+pub fn functions<'a>(
+    graph: &mut Graph,
+    names: &'a [String],
+    params: &[(&str, ValueType)],
+) -> Result<Vec<(&'a str, ItemKind)>> {
+    let mut items = Vec::new(graph.alloc);
+    for name in names {
+        let kind = graph.function(params, Some(BOOL))?;
+        items.push((name.as_str(), kind))?;
+    }
+    Ok(items)
+}
+
+/// Adds a function over a record and a list of a variant, and inserts it as an export.
 fn insert_function(
     graph: &mut Graph,
     exports: &mut Named<ItemKind>,
     number: u64,
-    ty: ValueType,
+    (record, variant): (ValueType, ValueType),
 ) -> Result<()> {
-    let list = graph.defined(DefinedType::List(ty))?;
-    let option = graph.defined(DefinedType::Option(ty))?;
-    let kind = graph.function(&[("x", ty), ("y", list)], Some(option))?;
+    let list = graph.defined(DefinedType::List(variant))?;
+    let option = graph.defined(DefinedType::Option(record))?;
+    let kind = graph.function(&[("x", record), ("y", list)], Some(option))?;
     let name = numbered(graph.alloc, "f", number)?;
     exports.insert(graph.alloc, name.as_str(), kind)?;
     Ok(())
 }
 
-/// Adds an interface of a record and of functions over it.
+/// Adds an interface of a record, of a variant and of functions over both.
 pub fn records(graph: &mut Graph, id: &str) -> Result<ItemKind> {
     let mut exports = Named::new(graph.alloc);
-    let ty = record(graph)?;
-    exports.insert(graph.alloc, "rec", ItemKind::TypeItem(Type::Value(ty)))?;
+    let record = record(graph)?;
+    let variant = variant(graph, record)?;
+    for (name, ty) in [("rec", record), ("var", variant)] {
+        exports.insert(graph.alloc, name, ItemKind::TypeItem(Type::Value(ty)))?;
+    }
     for number in 0..FUNCTIONS {
-        insert_function(graph, &mut exports, number, ty)?;
+        insert_function(graph, &mut exports, number, (record, variant))?;
     }
     let id = Some(Text::new(graph.alloc, id)?);
     let uses = Named::new(graph.alloc);
     let interface = graph.interface(Interface { id, uses, exports })?;
     Ok(ItemKind::Instance(interface))
-}
-
-/// The name of a version on a track: four to each.
-pub fn versioned(alloc: Global, number: u64) -> Result<String, AllocError> {
-    let (track, minor) = (number / 4, number % 4);
-    format!(in alloc; "n:w/i{track}@1.{minor}.0")
 }
 
 /// A text with a number after it.

@@ -1,18 +1,32 @@
 //! The workloads, and their steps.
 
-use crate::comparing::{self, Sort as Items};
-use crate::{graphs, merging, texts};
+use crate::churn::churn;
+use crate::comparing::{self, Items};
+use crate::deep::{defining, handles, resources, shared};
+use crate::graph::Graph;
+use crate::levels::{Levels, import_levels, places};
+use crate::nodes::{aliases, chain, fan, plug, wide};
 use anyhow::Result;
 use std::alloc::Global;
 
-/// What is measured.
+/// What is measured: a graph that is made and encoded, or items that are compared.
 #[derive(Clone, Copy)]
 pub enum Sort {
-    Graph(graphs::Sort),
+    Chain,
+    Fan,
+    Aliases,
+    Plug,
+    Churn,
+    Wide,
+    Shared,
+    Defining,
+    Handles,
+    Resources,
+    /// The same, but the package is imported.
+    Referred,
+    Levels(Levels),
+    Places,
     Comparing(Items),
-    Merging,
-    Names,
-    Writing,
 }
 
 /// A step. A workload does all up to one.
@@ -24,30 +38,33 @@ pub enum Step {
     Make,
     /// Removes a part and makes it again.
     Turn,
-    /// Encodes, compares, merges, reads or writes it.
+    /// Encodes or compares it.
     Measure,
 }
 
 /// The workloads: a word, what it measures, and a small count.
 pub const WORKLOADS: &[(&str, Sort, u64)] = &[
-    ("chain", Sort::Graph(graphs::Sort::Chain), 10),
-    ("fan", Sort::Graph(graphs::Sort::Fan), 10),
-    ("aliases", Sort::Graph(graphs::Sort::Aliases), 10),
-    ("plug", Sort::Graph(graphs::Sort::Plug), 10),
-    ("shared", Sort::Graph(graphs::Sort::Shared), 40),
-    ("churn", Sort::Graph(graphs::Sort::Churn), 10),
-    ("wide", Sort::Graph(graphs::Sort::Wide), 10),
-    ("defining", Sort::Graph(graphs::Sort::Defining), 10),
-    ("sides", Sort::Graph(graphs::Sort::Sides), 3),
-    ("turns", Sort::Graph(graphs::Sort::Turns), 3),
-    ("nested", Sort::Graph(graphs::Sort::Nested), 3),
-    ("listed", Sort::Graph(graphs::Sort::Listed), 3),
+    ("chain", Sort::Chain, 10),
+    ("fan", Sort::Fan, 10),
+    ("aliases", Sort::Aliases, 10),
+    ("plug", Sort::Plug, 10),
+    ("churn", Sort::Churn, 10),
+    ("wide", Sort::Wide, 10),
+    ("shared", Sort::Shared, 40),
+    ("defining", Sort::Defining, 50),
+    ("handles", Sort::Handles, 10),
+    ("resources", Sort::Resources, 10),
+    ("referred", Sort::Referred, 10),
+    ("deep", Sort::Levels(Levels::Deep), 4),
+    ("doubled", Sort::Levels(Levels::Doubled), 4),
+    ("listed", Sort::Levels(Levels::Listed), 4),
+    ("nested", Sort::Levels(Levels::Nested), 4),
+    ("sides", Sort::Levels(Levels::Sides), 4),
+    ("owned", Sort::Levels(Levels::Owned), 4),
+    ("turns", Sort::Levels(Levels::Turns), 4),
+    ("places", Sort::Places, 4),
     ("comparing-tuples", Sort::Comparing(Items::Tuples), 60),
-    ("comparing-functions", Sort::Comparing(Items::Functions), 60),
     ("comparing-sharing", Sort::Comparing(Items::Sharing), 60),
-    ("merging", Sort::Merging, 50),
-    ("names", Sort::Names, 100),
-    ("writing", Sort::Writing, 100),
 ];
 
 impl Step {
@@ -57,21 +74,44 @@ impl Step {
             "prepared" => Some(Step::Prepare),
             "made" | "added" => Some(Step::Make),
             "turned" => Some(Step::Turn),
-            "encoded" | "compared" | "merged" | "read" | "written" => Some(Step::Measure),
+            "encoded" | "compared" => Some(Step::Measure),
             _ => None,
         }
     }
 }
 
+/// Makes a graph, up to a step. One whose parts are not counted is given them first.
+fn make(graph: &mut Graph, sort: Sort, count: u64, last: Step) -> Result<()> {
+    match sort {
+        Sort::Aliases => aliases(graph, count, last),
+        Sort::Plug => plug(graph, count, last),
+        Sort::Churn => churn(graph, count, last),
+        _ if last == Step::Prepare => Ok(()),
+        Sort::Chain => chain(graph, count),
+        Sort::Fan => fan(graph, count),
+        Sort::Wide => wide(graph, count),
+        Sort::Shared => shared(graph, count),
+        Sort::Defining => defining(graph, count),
+        Sort::Handles => handles(graph, count),
+        Sort::Resources | Sort::Referred => resources(graph, count),
+        Sort::Levels(levels) => import_levels(graph, levels, count),
+        Sort::Places => places(graph, count),
+        Sort::Comparing(_) => Ok(()),
+    }
+}
+
 impl Sort {
-    /// Does the steps up to one. Returns the number of bytes, of subtypes, of merged imports or of names if all are done, else zero.
+    /// Does the steps up to one. Returns the number of bytes or of subtypes if all are done, else zero.
     pub fn take(self, alloc: Global, count: u64, last: Step) -> Result<usize> {
-        match self {
-            Sort::Graph(sort) => graphs::take(alloc, sort, count, last),
-            Sort::Comparing(sort) => comparing::take(alloc, sort, count, last),
-            Sort::Merging => merging::take(alloc, count, last),
-            Sort::Names => texts::names(alloc, count, last),
-            Sort::Writing => texts::writing(alloc, count, last),
+        if let Sort::Comparing(items) = self {
+            return comparing::take(alloc, items, count, last);
+        }
+        let mut graph = Graph::new(alloc);
+        make(&mut graph, self, count, last)?;
+        if last == Step::Measure {
+            graph.encode(!matches!(self, Sort::Referred))
+        } else {
+            Ok(0)
         }
     }
 }

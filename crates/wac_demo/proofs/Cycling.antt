@@ -16,7 +16,7 @@ use Rattle.wac_graph_model.proofs.lemmas.nodes.StaysLemmas.{argument-stays}
 use Rattle.wac_merge_classes.specs.declared.terms.fault.MergeFault.TheVariants as merge
 use Rattle.wac_graph_model.specs.declared.causes.errors.EncodeError.{EncodeError}
 use Rattle.wac_graph_model.specs.declared.causes.errors.EncodeError.TheVariants as error
-use Rattle.wac_graph_model.specs.causes.Cause.{Cause, cycle, CauseKind, a_cycle, a_conflict, a_disagreement, a_circle, a_type_fault, unwritten, an_invalid_name, rank, IsFirstKind, Stands, cause_of, AnswersFor}
+use Rattle.wac_graph_model.specs.causes.Cause.{Cause, cycle, CauseKind, a_cycle, a_conflict, a_disagreement, a_circle, a_type_fault, an_invalid_name, rank, IsFirstKind, Stands, cause_of, AnswersFor}
 use Rattle.wac_graph_model.proofs.lemmas.causes.StandsLemmas.{stands_cycle}
 use Rattle.wac_demo.specs.Composed.{IsInstanceOf, IsEmptyPackage, IsItsOwnArgument, RefusesCycle}
 use Rattle.wac_demo.proofs.Following.{instance-later, instance-there, there-is}
@@ -59,7 +59,6 @@ module _ (g : Graph) (o : EncodeOptions) (n : NodeId) (on : IsOnCycle g.edges n)
     named cause s (inr (inl is)) = cc
     named cause s (inr (inr is)) = no_other an_invalid_name (omega arith) (subst (IsFirstKind g o) is.0 s.0)
   cycle_answer error.OutOfMemory stands answers = inr refl
-  cycle_answer error.NotYet stands answers = absurd (no_other unwritten (omega arith) stands.0)
   cycle_answer (error.ValidationFailure fault) stands answers = absurd (no_other an_invalid_name (omega arith) stands.0)
 
 -- a node that is its own argument is on a cycle

@@ -3,4 +3,5 @@ mod Following
 mod Lines
 mod Passing
 mod Plugging
+mod Taking
 mod Weakening

@@ -7,7 +7,7 @@ use Rattle.wac_binary.specs.Bytes.{bytes_of}
 use Rattle.wac_graph_model.specs.declared.nodes.options.EncodeOptions.{EncodeOptions}
 use Rattle.wac_graph_model.specs.nodes.Graph.{Graph}
 use Rattle.wac_graph_model.specs.meaning.Means.{Means}
-use Rattle.wac_demo.specs.Composed.{AreDefault, Compose, IsComposed, IsPrecedence, of_empty, of_processor, of_function, of_readme, of_plug, cycle_word, precedence_word}
+use Rattle.wac_demo.specs.Composed.{AreDefault, Compose, IsComposed, IsPrecedence, of_empty, of_processor, of_function, of_readme, of_plug, of_resource, of_dependency, cycle_word, precedence_word}
 use Rattle.wac_demo.specs.Printed.{hex_line, passed_line, IsPrinted, one_line, of_precedence, Prints}
 
 -- items that mean such a graph with such options compose it
@@ -43,6 +43,8 @@ cycle_none word bytes (of_processor is _) e = other_word word _ is refl e
 cycle_none word bytes (of_function is _) e = other_word word _ is refl e
 cycle_none word bytes (of_readme is _) e = other_word word _ is refl e
 cycle_none word bytes (of_plug is _) e = other_word word _ is refl e
+cycle_none word bytes (of_resource is _) e = other_word word _ is refl e
+cycle_none word bytes (of_dependency is _) e = other_word word _ is refl e
 
 pub cycle_unprinted : (word text : List ℕ) → IsPrinted word text → word ≡ cycle_word → ⊥
 cycle_unprinted word text (one_line bytes composed _) e = cycle_none word bytes composed e

@@ -1,6 +1,11 @@
 -- The compositions.
-use Rattle.std.specs.Prelude.{◌≡◌, ℕ, List, [], Some, None, IsSomeAnd, true, false, codes, ◌⊎◌}
+use Rattle.std.specs.Prelude.{◌≡◌, ℕ, List, [], ◌∷◌, Option, Some, None, IsSomeAnd, true, false, codes, ◌⊎◌}
 use Rattle.wac_types_shapes.specs.primitives.Name.{Name}
+use Rattle.wac_types_shapes.specs.keys.Key.{VersionParts}
+use Rattle.wac_types_shapes.specs.declared.shapes.component.InterfaceId.{InterfaceId}
+use Rattle.wac_types_shapes.specs.declared.shapes.component.ResourceId.{ResourceId}
+use Rattle.wac_types_shapes.specs.declared.shapes.component.«Type».TheVariants as ty
+use Rattle.wac_types_shapes.specs.declared.shapes.component.ValueType.TheVariants as val
 use Rattle.wac_types_collection.specs.collection.Collection.{Collection, item_at, world_imports, world_exports}
 use Rattle.wac_types_collection.specs.collection.Package.{PackageParts}
 use Rattle.wac_types_shapes.specs.declared.shapes.component.ItemKind.{ItemKind}
@@ -61,10 +66,17 @@ IsPlugged g = IsPluggedInto g (codes "my:plug") (codes "a") (codes "my:socket") 
 abbrev pub IsPrecedence : Graph → Type 0
 IsPrecedence g = IsPluggedInto g (codes "my:first") (codes "a") (codes "my:socket") (codes "run")
 
--- The package has this name, no version, these imports and exports, and the bytes of an empty component.
+-- The package has this name and version, these imports and exports, and the bytes of an empty component.
+abbrev pub HasPackageParts : Collection → PackageParts → Name → Option VersionParts → List (Name × ItemKind) → List (Name × ItemKind) → Type 0
+HasPackageParts types p name version imports exports =
+    (p.name ≡ name) × (p.version ≡ version) × (p.bytes ≡ preamble) × (world_imports types p.world ≡ imports) × (world_exports types p.world ≡ exports)
+
+-- The same for the package with an id; then without a version.
+abbrev pub IsPackageOf : Graph → PackageId → Name → Option VersionParts → List (Name × ItemKind) → List (Name × ItemKind) → Type 0
+IsPackageOf g id name version imports exports = IsSomeAnd (package_at g id) (λ p. HasPackageParts g.types p name version imports exports)
+
 abbrev pub IsEmptyPackage : Graph → PackageId → Name → List (Name × ItemKind) → List (Name × ItemKind) → Type 0
-IsEmptyPackage g id name imports exports =
-    IsSomeAnd (package_at g id) (λ p. (p.name ≡ name) × (p.version ≡ None) × (p.bytes ≡ preamble) × (world_imports g.types p.world ≡ imports) × (world_exports g.types p.world ≡ exports))
+IsEmptyPackage g id name imports exports = IsPackageOf g id name None imports exports
 
 -- The item is a function without parameters and result.
 abbrev pub IsPlainFunction : Collection → ItemKind → Type 0
@@ -79,6 +91,30 @@ PassesFunction g imported exported name =
 -- The composition `function`: the import `x` is exported as `y`, and its node is named `n`.
 abbrev pub IsFunction : Graph → Type 0
 IsFunction g = PassesFunction g (codes "x") (codes "y") (codes "n")
+
+-- The item is a function that takes this resource as its own under this name, and has no result.
+abbrev pub TakesResource : Collection → ResourceId → Name → ItemKind → Type 0
+TakesResource types r name (kind.Func f) = item_at types.funcs f.0 ≡ Some (record { params = (name, val.Own r) ∷ []; result = None; is_async = false })
+TakesResource types r name _ = ⊥
+
+-- The composition `resource`: the interface `n:p/i` is imported. It exports a resource `r` and a function `f` that takes one as `x`.
+abbrev pub IsResourceImport : Graph → Type 0
+IsResourceImport g =
+    (n : NodeId) × (i : InterfaceId) × (r : ResourceId) × (f : ItemKind)
+    × IsSomeAnd (node_at g n) (λ node. (node.kind ≡ import (codes "n:p/i")) × (node.item_kind ≡ kind.Instance i))
+    × IsSomeAnd (item_at g.types.interfaces i.0) (λ it. (it.id ≡ Some (codes "n:p/i")) × (it.uses ≡ []) × (it.exports ≡ (codes "r", kind.TypeItem (ty.Resource r)) ∷ (codes "f", f) ∷ []))
+    × (item_at g.types.resources r.0 ≡ Some (record { name = codes "r"; alias = None }))
+    × TakesResource g.types r (codes "x") f
+
+-- The options are the default ones, but packages are imported.
+abbrev pub ImportPackages : EncodeOptions → Type 0
+ImportPackages options = (options.define_components ≡ false) × (options.validate ≡ true) × (options.processor ≡ None)
+
+-- The composition `dependency`: an instance of `foo:bar` in version 1.0.0, which imports and exports nothing.
+abbrev pub IsImportedPackage : Graph → Type 0
+IsImportedPackage g =
+    (n : NodeId) × (id : PackageId) × (p : PackageParts)
+    × (node_at g n ≡ Some (instance_node id p)) × (package_at g id ≡ Some p) × HasPackageParts g.types p (codes "foo:bar") (Some (1, 0, 0, [], [])) [] []
 
 -- An instance of the package is its own argument for this import.
 abbrev pub IsItsOwnArgument : Graph → Name → Name → Type 0
@@ -111,12 +147,18 @@ cycle_word = codes "cycle"
 abbrev pub function_word : List ℕ
 function_word = codes "function"
 
+abbrev pub resource_word : List ℕ
+resource_word = codes "resource"
+
+abbrev pub dependency_word : List ℕ
+dependency_word = codes "dependency"
+
 abbrev pub precedence_word : List ℕ
 precedence_word = codes "precedence"
 
 -- The word has a composition.
 abbrev pub IsWord : List ℕ → Type 0
-IsWord word = (word ≡ empty_word) ⊎ ((word ≡ processor_word) ⊎ ((word ≡ function_word) ⊎ ((word ≡ readme_word) ⊎ ((word ≡ cycle_word) ⊎ ((word ≡ plug_word) ⊎ (word ≡ precedence_word))))))
+IsWord word = (word ≡ empty_word) ⊎ ((word ≡ processor_word) ⊎ ((word ≡ function_word) ⊎ ((word ≡ readme_word) ⊎ ((word ≡ cycle_word) ⊎ ((word ≡ plug_word) ⊎ ((word ≡ resource_word) ⊎ ((word ≡ dependency_word) ⊎ (word ≡ precedence_word))))))))
 
 -- The bytes are those of the word's composition, if its line alone is printed; `cycle` has none.
 pub data IsComposed (word bytes : List ℕ) : Type 0 where
@@ -125,3 +167,5 @@ pub data IsComposed (word bytes : List ℕ) : Type 0 where
   of_function : word ≡ function_word → Compose bytes AreDefault IsFunction → IsComposed word bytes
   of_readme : word ≡ readme_word → Compose bytes AreDefault IsReadme → IsComposed word bytes
   of_plug : word ≡ plug_word → Compose bytes AreDefault IsPlugged → IsComposed word bytes
+  of_resource : word ≡ resource_word → Compose bytes AreDefault IsResourceImport → IsComposed word bytes
+  of_dependency : word ≡ dependency_word → Compose bytes ImportPackages IsImportedPackage → IsComposed word bytes

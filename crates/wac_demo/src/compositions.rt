@@ -4,7 +4,7 @@ ghost use Rattle.std.specs.Prelude.{◌≡◌, ℕ, Some, IsSome, codes, IfOk, I
 ghost use Rattle.wac_types_shapes.specs.shapes.Named.{named_pairs};
 ghost use Rattle.wac_graph_model.specs.nodes.Graph.{Graph, package_at};
 ghost use Rattle.wac_graph_model.specs.nodes.Steps.{IsEmpty};
-ghost use Rattle.wac_demo.specs.Composed.{AreDefault, Compose, IsCycle, IsFunction, IsReadme, IsPlugged, IsPrecedence, IsPlainFunction, IsEmptyPackage, NameProcessor, RefusesCycle};
+ghost use Rattle.wac_demo.specs.Composed.{AreDefault, Compose, IsCycle, IsFunction, IsReadme, IsPlugged, IsPrecedence, IsPlainFunction, IsEmptyPackage, IsImportedPackage, ImportPackages, IsResourceImport, NameProcessor, RefusesCycle};
 ghost use Rattle.wac_graph_model.specs.nodes.Stays.{Stays};
 ghost use Rattle.wac_graph.specs.declared.plugs.precedence.PassedOver.{PassedOver as AMatch};
 ghost use Rattle.wac_graph.specs.plugs.Precedence.{named_by};
@@ -12,8 +12,9 @@ ghost use Rattle.wac_demo.specs.Printed.{passed_line as line_of_second};
 ghost use Rattle.wac_demo.specs.private.Lines.{match_line, lines_of};
 
 use anyhow::Result;
+use semver::Version;
 use std::alloc::Global;
-use wac_graph::types::{FuncType, Interface, ItemKind, World};
+use wac_graph::types::{FuncType, Interface, ItemKind, Resource, Type, ValueType, World};
 use wac_graph::{
     CompositionGraph, EncodeError, EncodeOptions, PackageId, PassedOver, Processor, plug,
 };
@@ -69,6 +70,43 @@ pub fn readme(alloc: Global) -> Result<Vec<u8>>
     let taker = graph.instantiate(second)?;
     graph.set_instantiation_argument(taker, "b", a)?;
     Ok(graph.encode(EncodeOptions::default())?)
+}
+
+/// Encodes an import of an interface with a resource and a function that takes one.
+pub fn resource(alloc: Global) -> Result<Vec<u8>>
+    ensures { IfOk result (λ bytes. Compose bytes.items AreDefault IsResourceImport) }
+{
+    let mut graph = CompositionGraph::new(alloc);
+    let plain = Resource::new(alloc, "r")?;
+    let r = graph.add_resource(plain)?;
+    let taker = FuncType::new(alloc, &[("x", ValueType::Own(r))], None, false)?;
+    let f = graph.add_func_type(taker)?;
+    let items = [
+        ("r", ItemKind::TypeItem(Type::Resource(r))),
+        ("f", ItemKind::Func(f)),
+    ];
+    let interface = Interface::new(alloc, Some("n:p/i"), &items)?;
+    let id = graph.add_interface(interface)?;
+    graph.import("n:p/i", ItemKind::Instance(id))?;
+    Ok(graph.encode(EncodeOptions::default())?)
+}
+
+/// Encodes an instance of a package that is imported.
+pub fn dependency(alloc: Global) -> Result<Vec<u8>>
+    ensures { IfOk result (λ bytes. Compose bytes.items ImportPackages IsImportedPackage) }
+{
+    let mut graph = CompositionGraph::new(alloc);
+    let nothing = World::new(alloc, None, &[], &[])?;
+    let world = graph.add_world(nothing)?;
+    let bytes = Vec::from_array(alloc, EMPTY_COMPONENT)?;
+    let version = Version::new(1, 0, 0);
+    let package = graph.new_package("foo:bar", Some(&version), bytes, world)?;
+    let id = graph.register_package(package)?;
+    graph.instantiate(id)?;
+    Ok(graph.encode(EncodeOptions {
+        define_components: false,
+        ..EncodeOptions::default()
+    })?)
 }
 
 /// Tries to encode an instance that is its own argument, which is an error.

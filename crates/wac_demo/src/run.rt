@@ -5,7 +5,9 @@ ghost use Rattle.anyhow.specs.Error.{error_message};
 ghost use Rattle.wac_demo.specs.Composed.{AreDefault, Compose, IsPrecedence, IsWord, cycle_word};
 ghost use Rattle.wac_demo.specs.Printed.{hex_line, line_of, passed_line, unknown_line, IsPrinted, Prints};
 
-use crate::compositions::{cycle, empty, passed, plugged, precedence, processor, readme};
+use crate::compositions::{
+    cycle, dependency, empty, passed, plugged, precedence, processor, readme, resource,
+};
 use anyhow::{Error, Result};
 use std::alloc::Global;
 use std::io::Write;
@@ -76,6 +78,8 @@ fn compose(alloc: Global, word: &str) -> Option<Result<String>>
         "readme" => Some(line(alloc, readme(alloc))),
         "cycle" => Some(line(alloc, cycle(alloc))),
         "plug" => Some(line(alloc, plugged(alloc))),
+        "resource" => Some(line(alloc, resource(alloc))),
+        "dependency" => Some(line(alloc, dependency(alloc))),
         "precedence" => Some(precedence_lines(alloc)),
         _ => None,
     }

@@ -24,6 +24,12 @@ const PROCESSOR: &str =
 const FUNCTION: &str =
     "0061736d0d000100070501400001000a060100017801000b070100017901000000160e636f6d706f6e656e742d6e616d650105010100016e\n";
 
+const RESOURCE: &str =
+    "0061736d0d000100071a01420404000172030101690001400101780101000400016601020a0a0100056e3a702f690500\n";
+
+const DEPENDENCY: &str =
+    "0061736d0d00010007030141000a25010020756e6c6f636b65642d6465703d3c666f6f3a626172407b3e3d312e302e307d3e0400050401000000\n";
+
 const CYCLE: &str = "the graph contains a cycle and cannot be encoded\n";
 
 const UNKNOWN: &str = "unknown composition\n";
@@ -36,6 +42,8 @@ const WORDS: &[(&str, &str, u8)] = &[
     ("readme", README, 0),
     ("cycle", CYCLE, 1),
     ("plug", PLUG, 0),
+    ("resource", RESOURCE, 0),
+    ("dependency", DEPENDENCY, 0),
     ("precedence", PRECEDENCE, 0),
     ("", UNKNOWN, 2),
     ("Readme", UNKNOWN, 2),

@@ -1,6 +1,7 @@
-pub mod Worlds
-pub mod Listing
-pub mod Items
-pub mod Instances
-pub mod Levels
-pub mod Plans
+pub mod Root
+pub mod Lending
+pub mod Named
+pub mod Errors
+pub mod Told
+pub mod Imported
+pub mod private

@@ -1,5 +1,5 @@
 -- The component types of definitions: what they import and export is of the collection.
-use Rattle.std.proofs.Common.{ℕ, ◌<◌, nat_lt, arith, true, List, [], ◌∷◌, length, Contains, ◌≡◌, refl, ap, sym, ◌∙◌, subst}
+use Rattle.std.proofs.Common.{ℕ, ◌<◌, nat_lt, arith, true, List, [], ◌∷◌, length, Contains, ◌≡◌, ap, sym, ◌∙◌, subst}
 use Rattle.wac_types_shapes.specs.primitives.Name.{Name}
 use Rattle.wac_types_shapes.specs.shapes.Kinds.{kind_type}
 use Rattle.wac_types_shapes.specs.declared.shapes.component.InterfaceId.{InterfaceId}

@@ -1,5 +1,5 @@
 -- Interfaces that are used have ids, and so have the additional imports of definitions.
-use Rattle.std.proofs.Common.{ℕ, zero, suc, ◌<◌, ◌&&◌, Bool, true, false, List, [], ◌∷◌, ◌++◌, length, Contains, Option, Some, None, ◌≡◌, inl, inr, refl, sym, ◌∙◌, subst, arith, slice_get}
+use Rattle.std.proofs.Common.{ℕ, zero, suc, ◌<◌, ◌&&◌, Bool, true, false, List, [], ◌∷◌, ◌++◌, length, Contains, Option, Some, None, ◌≡◌, inl, inr, refl, sym, subst, arith, slice_get}
 use Rattle.std.specs.Prelude.{is_some}
 use Rattle.std.specs.List.{list_all}
 use Rattle.wac_types_shapes.specs.primitives.Name.{Name, option_case, first_some}
@@ -12,13 +12,13 @@ use Rattle.wac_types_shapes.specs.declared.shapes.component.WorldId.{WorldId}
 use Rattle.wac_types_collection.specs.declared.collection.collection.Held.{Held}
 use Rattle.wac_types_collection.specs.declared.collection.collection.AddTypeError.{AddTypeError}
 use Rattle.wac_types_collection.specs.declared.collection.collection.AddTypeError.TheVariants as fault
-use Rattle.wac_types_collection.specs.collection.Collection.{Collection, IsWellFormed, HasInterface, size, item_of, item_at, interface_mentions, world_mentions}
+use Rattle.wac_types_collection.specs.collection.Collection.{Collection, IsWellFormed, size, item_of, item_at, interface_mentions, world_mentions}
 use Rattle.wac_types_collection.specs.collection.Uses.{IsSound, is_used_by_id, used_by_id, are_there, listed_as_used, named_right, unless, mention_fault, uses_fault}
-use Rattle.wac_types_collection.specs.wide.Wide.{AreThere, interface_uses, used_interfaces, instances_of, wide_uses, wide_uses_of_items, UsesWidely, by_itself, by_instance, with_each, each_once}
+use Rattle.wac_types_collection.specs.wide.Wide.{AreThere, interface_uses, used_interfaces, instances_of, wide_uses, wide_uses_of_items, UsesWidely, by_itself, by_instance, each_once}
 use Rattle.wac_types_collection.proofs.lemmas.wide.Members.{in_none, in_one, in_parts, in_either, in_map, map_in, flat_in}
 use Rattle.wac_types_collection.proofs.lemmas.wide.Once.{each_only}
 use Rattle.wac_types_collection.proofs.lemmas.wide.Wide.{wide_law}
-use Rattle.wac_encode_faults.specs.Ids.{HasInterfaceId, HaveIds}
+use Rattle.wac_encode_faults.specs.private.Ids.{HasInterfaceId, HaveIds}
 use Rattle.wac_encode_faults.specs.Sides.{listed_interfaces, reached_to, reached, without, needed_by_imports, needed_by_exports, unlisted}
 use Rattle.wac_encode_faults.proofs.Needed.{unknown_in}
 

@@ -1,5 +1,4 @@
 pub mod Sides
-pub mod Ids
 pub mod Free
 pub mod Cycle
 pub mod Faults

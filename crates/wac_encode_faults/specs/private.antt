@@ -5,3 +5,4 @@ pub mod Owners
 pub mod Roots
 pub mod Sets
 pub mod Binding
+pub mod Ids

@@ -4,7 +4,7 @@ ghost use Rattle.wac_types_shapes.specs.declared.shapes.component.World.{World a
 ghost use Rattle.wac_types_shapes.specs.declared.shapes.component.«Type».TheVariants as ty;
 ghost use Rattle.wac_types_collection.specs.collection.Collection.{HasInterface, item_at, holds_type};
 ghost use Rattle.wac_types_collection.specs.wide.Wide.{AreThere, with_each, each_once, wide_uses as wide_uses_of, wide_uses_of_items as wide_uses_of_all, used_interfaces};
-ghost use Rattle.wac_encode_faults.specs.Ids.{HaveIds};
+ghost use Rattle.wac_encode_faults.specs.private.Ids.{HaveIds};
 ghost use Rattle.wac_encode_faults.specs.Sides.{listed_interfaces, needed_by_imports, needed_by_exports, reached, without, unlisted};
 ghost use Rattle.wac_encode_faults.specs.private.Search.{AreHeld};
 

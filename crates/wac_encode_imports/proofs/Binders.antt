@@ -18,7 +18,7 @@ use Rattle.wac_merge_classes.specs.entries.Classes.{Entry, by_names, class_names
 use Rattle.wac_merge_classes.specs.terms.Merge.{Merged}
 use Rattle.wac_merge_imports.proofs.lemmas.fitting.FittingSteps.{binding-at}
 use Rattle.wac_merge_imports.proofs.lemmas.fitting.MergedBindingsClasses.{alone-binds, class-at}
-use Rattle.wac_encode_imports.specs.Imports.{merged_bindings, HasDistinctClasses}
+use Rattle.wac_encode_imports.specs.private.Imports.{merged_bindings, HasDistinctClasses}
 use Rattle.wac_encode_imports.specs.private.Written.{begins_below, is_bound_at}
 use Rattle.wac_encode_imports.proofs.Bound.{true-false, no-some, one-some}
 

@@ -8,7 +8,7 @@ use Rattle.wac_types_shapes.specs.declared.shapes.component.ResourceId.{Resource
 use Rattle.wac_types_collection.specs.collection.Bound.{Bindings}
 use Rattle.wac_merge_classes.specs.terms.Merge.{Merged}
 use Rattle.wac_encode_stacks.specs.Good.{Extends, nothing_bound}
-use Rattle.wac_encode_imports.specs.Imports.{merged_bindings}
+use Rattle.wac_encode_imports.specs.private.Imports.{merged_bindings}
 use Rattle.wac_encode_imports.specs.private.Written.{begins_at, begins_below, is_bound_at, is_bound_below, bound_before}
 
 pub true-false : {A : Type 0} → (b : Bool) → b ≡ true → b ≡ false → A

@@ -21,8 +21,8 @@ use Rattle.wac_merge_classes.proofs.lemmas.terms.Found.{one_some}
 use Rattle.wac_merge_agreement.proofs.lemmas.agreement.OrderLaws.{order_each, order_once}
 use Rattle.wac_types_collection.proofs.lemmas.wide.Members.{at_in}
 use Rattle.wac_merge_imports.proofs.lemmas.fitting.MergedBindingsClasses.{filter-at, filter-has, newest-has}
-use Rattle.wac_encode_imports.specs.Distinct.{DistinctClassesLaw}
-use Rattle.wac_encode_imports.specs.Imports.{HasDistinctClasses}
+use Rattle.wac_encode_imports.specs.private.Distinct.{DistinctClassesLaw}
+use Rattle.wac_encode_imports.specs.private.Imports.{HasDistinctClasses}
 
 -- what is no instance is a subtype of no instance
 

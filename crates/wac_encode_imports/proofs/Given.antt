@@ -15,7 +15,7 @@ use Rattle.wac_merge_classes.proofs.lemmas.terms.Found.{get_map}
 use Rattle.wac_encode_faults.specs.Faults as faults
 use Rattle.wac_encode_interfaces.specs.Ready.{IsClean}
 use Rattle.wac_encode_interfaces.specs.Worlds.{Worlds, HaveWorlds}
-use Rattle.wac_encode_imports.specs.Imports.{HasNoImportFault}
+use Rattle.wac_encode_imports.specs.private.Imports.{HasNoImportFault}
 use Rattle.wac_encode_imports.specs.private.Written.{AreCleanImports, HaveImportWorlds}
 use Rattle.wac_encode_imports.proofs.Bound.{no-some, one-some}
 use Rattle.wac_encode_imports.proofs.Steps.{entry-there}

@@ -11,6 +11,7 @@ pub mod Given
 pub mod Distinct
 pub mod CalledTrees
 pub mod Members
+pub mod ModuleTypes
 pub mod Placed
 pub mod Records
 pub mod Stands

@@ -19,8 +19,8 @@ use Rattle.wac_merge_classes.specs.entries.Binding.{binding_class}
 use Rattle.wac_merge_classes.specs.entries.Bindings.{AreBindings, ClassBindings, first_in}
 use Rattle.wac_merge_classes.specs.entries.Classes.{by_names}
 use Rattle.wac_merge_classes.specs.terms.Merge.{Merged}
-use Rattle.wac_encode_scopes.specs.Telling.{is_one_of}
-use Rattle.wac_encode_imports.specs.Imports.{merged_bindings}
+use Rattle.wac_encode_scopes.specs.private.Telling.{is_one_of}
+use Rattle.wac_encode_imports.specs.private.Imports.{merged_bindings}
 use Rattle.wac_encode_imports.specs.private.Classes.{first_of, is_class, is_first_of, is_that}
 use Rattle.wac_encode_imports.specs.private.Written.{is_bound_at}
 use Rattle.wac_encode_imports.proofs.Bound.{true-false, bool-of, no-some}

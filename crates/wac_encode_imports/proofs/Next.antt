@@ -33,14 +33,14 @@ use Rattle.wac_encode_scopes.specs.Books.{opened}
 use Rattle.wac_encode_scopes.specs.Contents.{content_of, count_of}
 use Rattle.wac_encode_scopes.specs.Roots.{ImportsResource, and_import, items_of}
 use Rattle.wac_encode_scopes.specs.States.{outward, stack, RecordsHere}
-use Rattle.wac_encode_scopes.specs.Telling.{MayBind, TellsInstance, with_own_names}
+use Rattle.wac_encode_scopes.specs.private.Telling.{MayBind, TellsInstance, with_own_names}
 use Rattle.wac_encode_scopes.proofs.Added.{adds-none}
 use Rattle.wac_encode_scopes.proofs.Stepped.{same-as, same-stack}
 use Rattle.wac_encode_interfaces.specs.FreeTrees.{TreesByFree}
 use Rattle.wac_encode_interfaces.specs.Imports.{ImportsBeside, ImportsOf, ImportsTree, RefersToImport, next_place}
 use Rattle.wac_encode_interfaces.specs.Worlds.{Worlds}
 use Rattle.wac_encode_interfaces.proofs.Adding.{grown-on}
-use Rattle.wac_encode_imports.specs.Imports.{merged_bindings, import_tree}
+use Rattle.wac_encode_imports.specs.private.Imports.{merged_bindings, import_tree}
 use Rattle.wac_encode_imports.specs.private.Classes.{interface_of, resource_of}
 use Rattle.wac_encode_imports.specs.private.Written.{is_bound_at, bound_before, AreWritten, AreWritable, Brings}
 use Rattle.wac_encode_imports.proofs.Binders.{binder-here, instance-binds, resource-binds}

@@ -19,7 +19,7 @@ use Rattle.wac_merge_classes.proofs.lemmas.terms.Found.{at-filter, no_some, some
 use Rattle.wac_merge_agreement.proofs.lemmas.agreement.OrderLaws.{order_each, order_once}
 use Rattle.wac_merge_imports.specs.unions.MergedScope.{BindsAsClasses}
 use Rattle.wac_merge_imports.proofs.lemmas.fitting.MergedBindingsClasses.{filter-has, position-is}
-use Rattle.wac_encode_imports.specs.Told.{entry_bindings}
+use Rattle.wac_encode_imports.specs.private.ToldGraph.{entry_bindings}
 use Rattle.wac_encode_imports.proofs.Distinct.{canonical-class, import-at, name-is}
 
 -- Classes bind the same in both collections, so a resource has the same first class.

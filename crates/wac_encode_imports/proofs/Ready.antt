@@ -32,7 +32,7 @@ use Rattle.wac_encode_interfaces.specs.FreeTrees.{TreesByFree}
 use Rattle.wac_encode_interfaces.specs.Imports.{IsImportReady}
 use Rattle.wac_encode_interfaces.specs.Worlds.{Worlds}
 use Rattle.wac_encode_interfaces.proofs.Items.{free-not-own}
-use Rattle.wac_encode_imports.specs.Imports.{merged_bindings}
+use Rattle.wac_encode_imports.specs.private.Imports.{merged_bindings}
 use Rattle.wac_encode_imports.specs.private.Written.{begins_at as begins_with, begins_below, is_bound_at, is_bound_below, bound_before, AreWritten, AreWritable}
 use Rattle.wac_encode_imports.specs.private.Classes.{interface_of, resource_of}
 use Rattle.wac_encode_imports.proofs.Bound.{true-false, bool-of, no-some, one-some, earlier}

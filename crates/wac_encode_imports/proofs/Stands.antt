@@ -46,8 +46,8 @@ use Rattle.wac_encode_stacks.proofs.HeldValues.{holds-value}
 use Rattle.wac_encode_stacks.proofs.Moved.{changed, held-here, held-moves, on, taken}
 use Rattle.wac_encode_interfaces.specs.Imports.{RefersToImport}
 use Rattle.wac_encode_interfaces.proofs.Agreeing.{held-free}
-use Rattle.wac_encode_imports.specs.Imports.{merged_bindings}
-use Rattle.wac_encode_imports.specs.Told.{entry_bindings}
+use Rattle.wac_encode_imports.specs.private.Imports.{merged_bindings}
+use Rattle.wac_encode_imports.specs.private.ToldGraph.{entry_bindings}
 use Rattle.wac_encode_imports.specs.private.Exports.{ExportNoNameTwice}
 use Rattle.wac_encode_imports.proofs.Binders.{instance-binds, resource-binds}
 use Rattle.wac_encode_imports.proofs.Bound.{no-some}

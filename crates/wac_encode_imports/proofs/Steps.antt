@@ -20,7 +20,7 @@ use Rattle.wac_binary.specs.Meaning.{meaning}
 use Rattle.wac_binary.specs.Unfold.{Scope}
 use Rattle.wac_encode_stacks.specs.Beside.{GoesOnBeside, all_written_as}
 use Rattle.wac_encode_stacks.specs.Good.{At, Good, Extends, Keeps, Onward, innermost, nothing_bound}
-use Rattle.wac_encode_stacks.specs.HeldParts.{HeldUnderMore}
+use Rattle.wac_encode_stacks.specs.private.HeldParts.{HeldUnderMore}
 use Rattle.wac_encode_stacks.specs.Instances.{ListsImport}
 use Rattle.wac_encode_scopes.specs.declared.encodable.Encodable.{Encodable}
 use Rattle.wac_encode_scopes.specs.declared.encodable.Encodable.TheVariants.{Builder, Instance, Component}
@@ -30,7 +30,7 @@ use Rattle.wac_encode_scopes.specs.Roots.{IsRoot, items_of, and_import}
 use Rattle.wac_encode_scopes.specs.States.{stack}
 use Rattle.wac_encode_scopes.proofs.Stepped.{same-stack}
 use Rattle.wac_encode_interfaces.specs.Imports.{RefersToImport, import_sort, next_place}
-use Rattle.wac_encode_imports.specs.Imports.{merged_bindings, import_tree, HasDistinctClasses, AreImported, ImportsFirst, IsImportedAt, IsImportOrType}
+use Rattle.wac_encode_imports.specs.private.Imports.{merged_bindings, import_tree, HasDistinctClasses, AreImported, ImportsFirst, IsImportedAt, IsImportOrType}
 use Rattle.wac_encode_imports.specs.private.Written.{bound_before, AreWritten, Brings}
 use Rattle.wac_encode_imports.proofs.Binders.{binder-low}
 use Rattle.wac_encode_imports.proofs.Bound.{no-some, one-some, none-bound, bound-more, all-bound}

@@ -43,11 +43,11 @@ use Rattle.wac_encode_scopes.specs.Books.{opened}
 use Rattle.wac_encode_scopes.specs.Closed.{SaysClosed, is_closed_in}
 use Rattle.wac_encode_scopes.specs.Contents.{content_of}
 use Rattle.wac_encode_scopes.specs.States.{RecordsHere, outward, stack}
-use Rattle.wac_encode_scopes.specs.Telling.{definition_in, definition_of}
+use Rattle.wac_encode_scopes.specs.private.Telling.{definition_in, definition_of}
 use Rattle.wac_encode_imports.specs.declared.told.Teller.{Teller}
 use Rattle.wac_encode_interfaces.specs.Imports.{RefersToImport}
-use Rattle.wac_encode_imports.specs.Imports.{AreImported, merged_bindings}
-use Rattle.wac_encode_imports.specs.Told.{IsTold}
+use Rattle.wac_encode_imports.specs.private.Imports.{AreImported, merged_bindings}
+use Rattle.wac_encode_imports.specs.private.ToldGraph.{IsTold}
 use Rattle.wac_encode_imports.specs.private.Told.{BindsAll, BindsBelow, BindsOne, ChangesRecords, HasImports, AreWhole, HaveExports, IsDefinitionAt, IsGood, IsImportOf, IsTeller, IsTypeImport, KeepsGood, ReferToImports, bound_below, end_bindings, told_in}
 use Rattle.wac_encode_imports.proofs.Bound.{no-some, one-some}
 use Rattle.wac_encode_imports.proofs.Members.{export-held}

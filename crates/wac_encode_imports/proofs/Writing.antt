@@ -23,12 +23,12 @@ use Rattle.wac_encode_scopes.specs.Closed.{AreClosedTypes}
 use Rattle.wac_encode_scopes.specs.Contents.{count_of}
 use Rattle.wac_encode_scopes.specs.Roots.{ImportsResource, and_import}
 use Rattle.wac_encode_scopes.specs.States.{RecordsHere}
-use Rattle.wac_encode_scopes.specs.Telling.{TellsInstance}
+use Rattle.wac_encode_scopes.specs.private.Telling.{TellsInstance}
 use Rattle.wac_encode_interfaces.specs.FreeTrees.{TreesByFree}
 use Rattle.wac_encode_interfaces.specs.Imports.{ImportsBeside, ImportsOf, IsImportReady}
 use Rattle.wac_encode_interfaces.specs.Worlds.{written_in}
 use Rattle.wac_encode_imports.specs.declared.import.ImportWriter.{ImportWriter}
-use Rattle.wac_encode_imports.specs.Imports.{merged_bindings}
+use Rattle.wac_encode_imports.specs.private.Imports.{merged_bindings}
 use Rattle.wac_encode_imports.specs.private.Classes.{interface_of, is_class, is_first_of, resource_of}
 use Rattle.wac_encode_imports.specs.private.Written.{is_bound_at, Brings, IsImportWriter, MayFollow, MayWrite, WritesImport}
 use Rattle.wac_encode_imports.proofs.Bound.{no-some, one-some}

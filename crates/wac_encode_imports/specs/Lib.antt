@@ -1,4 +1,1 @@
-pub mod Imports
-pub mod Distinct
 pub mod private
-pub mod Told

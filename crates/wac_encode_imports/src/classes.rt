@@ -7,7 +7,7 @@ ghost use Rattle.wac_types_shapes.specs.declared.shapes.component.ResourceId.{Re
 ghost use Rattle.wac_types_collection.specs.collection.Collection.{HasInterface, item_at};
 ghost use Rattle.wac_merge_classes.specs.entries.Bindings.{AreBindings, AreHeld, first_in};
 ghost use Rattle.wac_merge_classes.specs.terms.Merge.{import_entries};
-ghost use Rattle.wac_encode_scopes.specs.Telling.{is_one_of};
+ghost use Rattle.wac_encode_scopes.specs.private.Telling.{is_one_of};
 ghost use Rattle.wac_encode_imports.specs.private.Classes.{is_class, first_of, is_first_of, is_that};
 
 use indexmap::IndexSet;

@@ -1,6 +1,6 @@
 //! One import of a merge.
 
-ghost use Rattle.std.specs.Prelude.{◌≡◌, false, None, Some, IfOk};
+ghost use Rattle.std.specs.Prelude.{◌≡◌, false, None, Some, IfOk, OnOk};
 ghost use Rattle.wac_types_shapes.specs.declared.shapes.component.ItemKind.TheVariants as kind_of;
 ghost use Rattle.wac_types_shapes.specs.declared.shapes.component.ResourceId.{ResourceId as AResource};
 ghost use Rattle.wac_types_shapes.specs.declared.shapes.component.«Type».TheVariants as ty_of;
@@ -8,19 +8,22 @@ ghost use Rattle.wac_types_collection.specs.collection.Held.{resolved};
 ghost use Rattle.wac_merge_classes.specs.entries.Bindings.{AreBindings};
 ghost use Rattle.wac_merge_classes.specs.terms.Merge.{Merged as AMerge};
 ghost use Rattle.wac_encode_scopes.specs.Closed.{AreClosedTypes};
+ghost use Rattle.wac_encode_interfaces.specs.Imports.{module_type_of};
 ghost use Rattle.wac_encode_interfaces.specs.Worlds.{AreWorldTypes, written_in};
-ghost use Rattle.wac_encode_imports.specs.Imports.{merged_bindings};
+ghost use Rattle.wac_encode_imports.specs.private.Imports.{merged_bindings};
 ghost use Rattle.wac_encode_imports.specs.private.Classes.{interface_of, resource_of};
+ghost use Rattle.wac_encode_imports.specs.private.Modules.{AreModulesAt, module_index};
 ghost use Rattle.wac_encode_imports.specs.private.Written.{is_bound_at, AreWritable, IsImportWriter, MayWrite, WritesImport};
 
 use crate::classes::{first_resources, is_first};
+use crate::modules::ModuleIndexes;
 use wac_binary::BinaryFault;
 use wac_encode_interfaces::laws::free_law;
 use wac_encode_interfaces::{TypeWriter, WorldTypes};
 use wac_encode_scopes::{ClosedTypes, State};
 use wac_encode_stacks::{instance_law, root_law};
 use wac_merge_classes::entries::bindings::Bindings;
-use wac_types_collection::{InterfaceId, ItemKind, ResourceId, Type, Types};
+use wac_types_collection::{InterfaceId, ItemKind, ModuleTypeId, ResourceId, Type, Types};
 
 /// Returns the interface of an instance.
 fn instance_in(item: ItemKind) -> Option<InterfaceId>
@@ -38,6 +41,16 @@ fn resource_in(item: ItemKind) -> Option<ResourceId>
 {
     match item {
         ItemKind::TypeItem(Type::Resource(id)) => Some(id),
+        _ => None,
+    }
+}
+
+/// Returns the type of a core module.
+fn module_in(item: ItemKind) -> Option<ModuleTypeId>
+    ensures { result ≡ module_type_of item }
+{
+    match item {
+        ItemKind::Module(id) => Some(id),
         _ => None,
     }
 }
@@ -96,7 +109,7 @@ impl<'a> ImportWriter<'a> {
         Ok(index)
     }
 
-    /// Adds the import of an item that binds no resource.
+    /// Adds the import of an item that is no core module and binds no resource.
     fn import_other(
         &self,
         state: &mut State,
@@ -104,6 +117,7 @@ impl<'a> ImportWriter<'a> {
         name: &str,
         item: ItemKind,
     ) -> Result<u32, BinaryFault>
+        requires no_module { module_type_of item ≡ None }
         requires plain { interface_of item ≡ None }
         requires other { (m : AMerge) → IsImportWriter self.now m → (r : AResource) → resource_of item ≡ Some r → is_bound_at position (merged_bindings m (resolved m.types r)) ≡ false }
         requires next { MayWrite self.now position name.now item state.old }
@@ -136,15 +150,38 @@ impl<'a> ImportWriter<'a> {
         self.import_other(state, position, name, item)
     }
 
-    /// Adds the import at this position. Returns its index in the index space of its sort.
-    pub(crate) fn import(
+    /// Adds the import of a core module. Its type is written before its first import.
+    fn import_module(
+        &self,
+        state: &mut State,
+        modules: &mut ModuleIndexes,
+        position: usize,
+        name: &str,
+        id: ModuleTypeId,
+    ) -> Result<u32, BinaryFault>
+        requires next { MayWrite self.now position name.now (kind_of.Module id) state.old }
+        requires known { AreModulesAt self.now state.old (module_index modules.old) }
+        ensures written { IfOk result (WritesImport self.now position name.now (kind_of.Module id) state.old state.new) }
+        ensures known { OnOk result (AreModulesAt self.now state.new (module_index modules.new)) }
+    {
+        self.types.law(); // proof only
+        free_law();
+        let known = modules.get(id);
+        let (index, core_type) = self.writer.import_module(state, name, id, known)?;
+        modules.insert(id, core_type)?;
+        Ok(index)
+    }
+
+    /// Adds the import of an item that is no core module.
+    fn import_plain(
         &self,
         state: &mut State,
         position: usize,
         name: &str,
         item: ItemKind,
     ) -> Result<u32, BinaryFault>
-        requires { MayWrite self.now position name.now item state.old }
+        requires no_module { module_type_of item ≡ None }
+        requires next { MayWrite self.now position name.now item state.old }
         ensures { IfOk result (WritesImport self.now position name.now item state.old state.new) }
     {
         if let Some(interface) = instance_in(item) {
@@ -154,5 +191,27 @@ impl<'a> ImportWriter<'a> {
             return self.import_resource(state, position, name, resource);
         }
         self.import_other(state, position, name, item)
+    }
+
+    /// Adds the import at this position. Returns its index in the index space of its sort.
+    ///
+    /// `modules` are the core module types that are written in the root.
+    pub(crate) fn import(
+        &self,
+        state: &mut State,
+        modules: &mut ModuleIndexes,
+        position: usize,
+        name: &str,
+        item: ItemKind,
+    ) -> Result<u32, BinaryFault>
+        requires next { MayWrite self.now position name.now item state.old }
+        requires known { AreModulesAt self.now state.old (module_index modules.old) }
+        ensures written { IfOk result (WritesImport self.now position name.now item state.old state.new) }
+        ensures known { OnOk result (AreModulesAt self.now state.new (module_index modules.new)) }
+    {
+        if let Some(id) = module_in(item) {
+            return self.import_module(state, modules, position, name, id);
+        }
+        self.import_plain(state, position, name, item)
     }
 }

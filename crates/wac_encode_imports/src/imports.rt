@@ -9,12 +9,13 @@ ghost use Rattle.wac_merge.specs.MergedPlaces.{MentionsBefore};
 ghost use Rattle.wac_encode_scopes.specs.Closed.{AreClosedTypes};
 ghost use Rattle.wac_encode_interfaces.specs.Imports.{import_sort};
 ghost use Rattle.wac_encode_interfaces.specs.Worlds.{AreWorldTypes, written_in};
-ghost use Rattle.wac_encode_imports.specs.Imports.{HasDistinctClasses, AreImported, HasNoImportFault};
+ghost use Rattle.wac_encode_imports.specs.private.Imports.{HasDistinctClasses, AreImported, HasNoImportFault};
 ghost use Rattle.wac_encode_imports.specs.private.Exports.{ExportNoNameTwice};
 ghost use Rattle.wac_encode_imports.specs.private.Written.{merge_of, AreCleanImports, HaveImportWorlds, IsImportWriter};
 
 use crate::classes::import_bindings;
 use crate::import::ImportWriter;
+use crate::modules::ModuleIndexes;
 use std::alloc::{AllocError, Global};
 use wac_binary::{BinaryFault, Sort};
 use wac_encode_interfaces::{WorldTypes, world_types};
@@ -96,10 +97,11 @@ fn write_all(
     root_law();
     let alloc = writer.types.allocator();
     let mut state = State::root(alloc);
+    let mut modules = ModuleIndexes::new(alloc);
     let mut places = Vec::new(alloc);
     for i in 0..imports.len() {
         let (name, item) = imports.entry_at(i);
-        let index = writer.import(&mut state, i, name, *item)?;
+        let index = writer.import(&mut state, &mut modules, i, name, *item)?;
         places.push((sort_of(*item), index))?;
     }
     Ok(WrittenImports { state, places })

@@ -9,6 +9,7 @@ mod classes;
 mod import;
 mod imports;
 pub mod laws;
+mod modules;
 mod told;
 
 pub use imports::{WrittenImports, write_imports};

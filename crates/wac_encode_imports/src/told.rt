@@ -15,10 +15,10 @@ ghost use Rattle.wac_merge_classes.specs.terms.Faults.{HasNoCircle};
 ghost use Rattle.wac_merge_classes.specs.terms.Merge.{IsMerge};
 ghost use Rattle.wac_merge_imports.specs.unions.MergedScope.{BindsAsClasses};
 ghost use Rattle.wac_encode_scopes.specs.Closed.{is_closed_in};
-ghost use Rattle.wac_encode_scopes.specs.Telling.{definition_in};
+ghost use Rattle.wac_encode_scopes.specs.private.Telling.{definition_in};
 ghost use Rattle.wac_encode_stacks.specs.Scopes.{at_export};
-ghost use Rattle.wac_encode_imports.specs.Imports.{AreImported};
-ghost use Rattle.wac_encode_imports.specs.Told.{HasNoUnbound, IsTold};
+ghost use Rattle.wac_encode_imports.specs.private.Imports.{AreImported};
+ghost use Rattle.wac_encode_imports.specs.private.ToldGraph.{HasNoUnbound, IsTold};
 ghost use Rattle.wac_encode_imports.specs.private.Told.{AreHeldExports, AreWhole, BindsAll, BindsItem, BindsKind, BindsOne, BindsOwn, HasImports, HaveExports, IsDefinitionAt, IsExport, IsImportOf, IsTeller, IsTypeImport, KeepsGood, Notes, told_in};
 
 use crate::imports::exports_law;

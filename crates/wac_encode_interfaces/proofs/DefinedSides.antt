@@ -14,7 +14,7 @@ use Rattle.wac_types_collection.specs.collection.Collection.{Collection, IsWellF
 use Rattle.wac_types_collection.specs.wide.Wide.{each_once, wide_uses}
 use Rattle.wac_types_collection.proofs.lemmas.wide.Members.{in_none, in_one, in_flat, flat_in}
 use Rattle.wac_encode_faults.specs.Faults.{IsDefinedFault}
-use Rattle.wac_encode_faults.specs.Ids.{HaveIds}
+use Rattle.wac_encode_faults.specs.private.Ids.{HaveIds}
 use Rattle.wac_encode_faults.specs.Sides.{Sides, under_id, reached, unlisted, id_or_empty, interface_sides, completed_sides, defined_sides}
 use Rattle.wac_encode_interfaces.specs.declared.sides.Sides.{Sides as GivenSides}
 use Rattle.wac_encode_interfaces.specs.Definitions.{HaveWorldsInside, AreDefinitionRoots}

@@ -24,19 +24,21 @@ use Rattle.wac_encode_scopes.specs.declared.encodable.Encodable.TheVariants.{Bui
 use Rattle.wac_encode_scopes.specs.declared.scope.Scope.{Scope}
 use Rattle.wac_encode_scopes.specs.declared.state.State.{State}
 use Rattle.wac_encode_scopes.specs.Contents.{AddsTypes, HasSide, IsInstanceType}
-use Rattle.wac_encode_scopes.specs.Interfaces.{BeginsInterface}
+use Rattle.wac_encode_scopes.specs.private.Interfaces.{BeginsInterface}
 use Rattle.wac_encode_scopes.specs.Listing.{Closes, ClosesInto, IsNonempty}
 use Rattle.wac_encode_scopes.specs.States.{stack, Goes, IsRecordedAt}
 use Rattle.wac_encode_scopes.proofs.Stepped.{goes-both}
 use Rattle.wac_encode_stacks.proofs.Unfolded.{held_item}
 use Rattle.wac_encode_values.proofs.Waiting.{unit, effort, waits-less}
-use Rattle.wac_encode_order.specs.Interfaces.{comes_later}
+use Rattle.wac_encode_order.specs.private.Interfaces.{comes_later}
+use Rattle.wac_encode_interfaces.specs.Refused.{KeepsScopes}
 use Rattle.wac_encode_interfaces.specs.Trees.{IsInterfaceHeld}
 use Rattle.wac_encode_interfaces.specs.Ready.{IsInterfaceAt, IsInterfaceReady}
 use Rattle.wac_encode_interfaces.specs.Items.{AddsBeside, AddsItem, HasInterfaceOf}
 use Rattle.wac_encode_interfaces.specs.Worlds.{Worlds}
 use Rattle.wac_encode_interfaces.specs.declared.level.Level.{Level}
 use Rattle.wac_encode_interfaces.specs.private.Nests.{IsLevel, IsNewLevel, IsNextItem, following, listed_items, WaitsFor, IsNest, Nest, IsUnderWay, KeepsLevels, IsClosedInto, IsEnded, HasNext}
+use Rattle.wac_encode_interfaces.proofs.Refused.{keeps-none as scopes-none, keeps-both as scopes-both}
 use Rattle.wac_encode_interfaces.proofs.Nests.{one-interface, goes-on, nest-first, nest-inner, nest-exported, nest-closed, nest-ended}
 use Rattle.wac_encode_interfaces.proofs.Shown.{shown, contains-at, all-listed, unlisted, unbound}
 use Rattle.wac_encode_interfaces.proofs.TypesTree.{exports-held}
@@ -207,18 +209,20 @@ pub record Filling (c : Collection) (b : Bool) (old : State) (first : Level) (no
   pub keeps : KeepsLevels c b old first now l
   pub same : l.interface ≡ first.interface
   pub further : first.next ≤ l.next
+  pub kept : KeepsScopes old now
 
 pub filling-none : (c : Collection) (b : Bool) (s : State) (l : Level) → Filling c b s l s l
-filling-none c b s l = record { keeps = keeps-none c b s l; same = refl; further = omega arith }
+filling-none c b s l = record { keeps = keeps-none c b s l; same = refl; further = omega arith; kept = scopes-none s }
 
-pub filling-on : (c : Collection) (b : Bool) (old s t : State) (first l m : Level) → Filling c b old first s l → KeepsLevels c b s l t m → m ≡ following l → Filling c b old first t m
-filling-on c b old s t first l m f keeps is = record {
+pub filling-on : (c : Collection) (b : Bool) (old s t : State) (first l m : Level) → Filling c b old first s l → KeepsLevels c b s l t m → m ≡ following l → KeepsScopes s t → Filling c b old first t m
+filling-on c b old s t first l m f keeps is kept = record {
   keeps = keeps-both c b old s t first l m f.keeps keeps;
   same = ap (λ (k : Level). k.interface) is ∙ f.same;
   further =
       let next : m.next ≡ suc l.next = ap (λ (k : Level). k.next) is in
       let before = f.further in
       omega (arith, next, before);
+  kept = scopes-both old s t f.kept kept;
 }
 
 pub filling-less : (l m : Level) → m ≡ following l → l.next < length l.order.items → length m.order.items - m.next < length l.order.items - l.next

@@ -2,18 +2,16 @@
 use Rattle.std.proofs.Common.{◌≡◌, Option, Some, None, inl, inr, refl}
 use Rattle.wac_types_shapes.specs.primitives.Tree.{Leaf}
 use Rattle.wac_types_shapes.specs.shapes.Kinds.{kind_type}
-use Rattle.wac_types_shapes.specs.declared.shapes.component.ResourceId.{ResourceId}
-use Rattle.wac_types_shapes.specs.declared.shapes.component.ItemKind.{ItemKind}
 use Rattle.wac_types_shapes.specs.declared.shapes.component.«Type».{«Type» as AnyType}
 use Rattle.wac_types_collection.specs.collection.Collection.{Collection}
 use Rattle.wac_types_collection.specs.collection.Bound.{Bindings}
 use Rattle.wac_encode_faults.specs.declared.fault.WriteFault.{WriteFault}
 use Rattle.wac_encode_faults.specs.declared.fault.WriteFault.TheVariants as fault
 use Rattle.wac_encode_faults.specs.declared.faults.Role.TheVariants as role
-use Rattle.wac_encode_faults.specs.Faults.{IsLowest, HasFault, IsImportFault, IsDefinedFault, import_fault, definition_fault}
-use Rattle.wac_encode_faults.specs.Free.{IsFree, IsUnbound}
+use Rattle.wac_encode_faults.specs.Faults.{IsImportFault, IsDefinedFault, import_fault, definition_fault}
+use Rattle.wac_encode_faults.specs.Free.{IsUnbound}
 use Rattle.wac_encode_faults.specs.Sides.{Sides, defined_sides}
-use Rattle.wac_encode_interfaces.specs.Clean.{BindsFree, AreCleanOrBound, IsCleanImport, IsCleanDefinition, IsImportOfNoFault, IsDefinitionOfNoFault}
+use Rattle.wac_encode_interfaces.specs.Clean.{BindsFree, AreCleanOrBound, IsImportOfNoFault, IsDefinitionOfNoFault}
 
 never-some : (o : Option WriteFault) → ((f : WriteFault) → o ≡ Some f → ⊥) → o ≡ None
 never-some None h = refl

@@ -23,14 +23,14 @@ use Rattle.wac_binary.specs.Indexes.{space, described_sort}
 use Rattle.wac_binary.specs.Items.{Item, ModuleDecl, core_type, type_item, alias_item, export_alias, outer_alias}
 use Rattle.wac_binary.specs.Meaning.{Root, start, read, read_all, meaning}
 use Rattle.wac_binary.specs.Unfold.{Scope, module_tree, described_item}
-use Rattle.wac_modules.specs.Declarations.{MeansModule}
+use Rattle.wac_modules.specs.private.Declarations.{MeansModule}
 use Rattle.wac_encode_stacks.specs.Scopes.{Open, envs, scope_of}
 use Rattle.wac_encode_stacks.specs.Beside.{all_written_as}
 use Rattle.wac_encode_stacks.specs.Brought.{GoodOnce}
 use Rattle.wac_encode_stacks.specs.Good.{At, Good, IsHeld, Keeps, innermost, top}
 use Rattle.wac_encode_stacks.specs.Instances.{ListsImport}
 use Rattle.wac_encode_stacks.specs.Laws.{Follows, IsItsTree}
-use Rattle.wac_encode_stacks.specs.Modules.{HoldsModule}
+use Rattle.wac_encode_stacks.specs.private.Modules.{HoldsModule}
 use Rattle.wac_encode_stacks.proofs.Grow.{at-type_at}
 use Rattle.wac_encode_scopes.specs.declared.encodable.Encodable.{Encodable}
 use Rattle.wac_encode_scopes.specs.declared.encodable.Encodable.TheVariants.{Builder, Instance, Component}
@@ -44,12 +44,12 @@ use Rattle.wac_encode_scopes.specs.States.{outward, stack, Goes, IsTypeAt, Keeps
 use Rattle.wac_encode_values.specs.Values.{IsReady}
 use Rattle.wac_encode_faults.specs.Faults.{import_fault, listed_fault}
 use Rattle.wac_encode_faults.specs.declared.fault.WriteFault.TheVariants as fault
-use Rattle.wac_encode_interfaces.specs.Imports.{DescribesImport, ImportsBeside, ImportsOf, IsImportReady, IsModuleAt, RefersToImport, import_sort, next_place}
+use Rattle.wac_encode_interfaces.specs.Imports.{DescribesImport, ImportsBeside, ImportsOf, IsImportReady, IsModuleAt, RefersToImport, import_sort, module_type_of, next_place}
 use Rattle.wac_encode_interfaces.specs.Items.{DescribesItem, HasInterfaceOf, IsItemReady}
 use Rattle.wac_encode_interfaces.specs.Ready.{IsClean, IsInterfaceReady}
 use Rattle.wac_encode_interfaces.specs.Worlds.{Worlds}
 use Rattle.wac_encode_interfaces.specs.private.Names.{NamesType}
-use Rattle.wac_encode_interfaces.specs.private.Sorts.{component_world, module_type_of}
+use Rattle.wac_encode_interfaces.specs.private.Sorts.{component_world}
 use Rattle.wac_encode_interfaces.proofs.Adding.{of-item}
 use Rattle.wac_encode_interfaces.proofs.Besides.{Long, same-items, listed-other, as-twice, long-same, long-outward}
 
@@ -63,9 +63,9 @@ module-there c b x ds old new k [] good means defines = absurd good
 module-there c b x ds old new k (m ∷ ms) good means defines = (defines means.meaning c b).1 m ms good
 
 pub module-at : HoldsModule → (c : Collection) (b : Bool) (i : ModuleTypeId) (x : ModuleType) (ds : List ModuleDecl) (old new : State) (k : ℕ) → item_at c.modules i.0 ≡ Some x → IsReady c b old (ty.Module i) → MeansModule x ds → DefinesModuleType ds old new k → IsModuleAt c b new i k
-module-at holds c b i x ds old new k at ready means defines ns good = (
+module-at holds c b i x ds old new k at ready means defines = (
   held_module_tree x,
-  holds c (top ns) i x at,
+  λ m. holds c m i x at,
   tt,
   subst (λ (t : Tree). At ((innermost (stack b new)).core_types) k t) means.tree (module-there c b x ds old new k ready.0 ready.1 means defines),
 )
@@ -120,14 +120,6 @@ described-component c b s (kind.Instance j) w i is h = let wrong : None ≡ Some
 described-component c b s (kind.Module m) w i is h = let wrong : None ≡ Some w = is in cc
 described-component c b s (kind.Value v) w i is h = let wrong : None ≡ Some w = is in cc
 
-pub described-module : (c : Collection) (b : Bool) (s : State) (k : ItemKind) (m : ModuleTypeId) (i : ℕ) → module_type_of k ≡ Some m → IsModuleAt c b s m i → DescribesImport c b s k (e.CoreModule i)
-described-module c b s (kind.Module x) m i is h = let same : x ≡ m = cc in (i, refl, subst (λ (y : ModuleTypeId). IsModuleAt c b s y i) (sym same) h)
-described-module c b s (kind.TypeItem a) m i is h = let wrong : None ≡ Some m = is in cc
-described-module c b s (kind.Func f) m i is h = let wrong : None ≡ Some m = is in cc
-described-module c b s (kind.Instance j) m i is h = let wrong : None ≡ Some m = is in cc
-described-module c b s (kind.Component w) m i is h = let wrong : None ≡ Some m = is in cc
-described-module c b s (kind.Value v) m i is h = let wrong : None ≡ Some m = is in cc
-
 pub component-is : (k : ItemKind) (w : WorldId) → component_world k ≡ Some w → k ≡ kind.Component w
 component-is (kind.Component v) w is = let same : v ≡ w = cc in ap kind.Component same
 component-is (kind.TypeItem a) w is = let wrong : None ≡ Some w = is in cc
@@ -135,14 +127,6 @@ component-is (kind.Func f) w is = let wrong : None ≡ Some w = is in cc
 component-is (kind.Instance j) w is = let wrong : None ≡ Some w = is in cc
 component-is (kind.Module m) w is = let wrong : None ≡ Some w = is in cc
 component-is (kind.Value v) w is = let wrong : None ≡ Some w = is in cc
-
-pub module-is : (k : ItemKind) (m : ModuleTypeId) → module_type_of k ≡ Some m → k ≡ kind.Module m
-module-is (kind.Module x) m is = let same : x ≡ m = cc in ap kind.Module same
-module-is (kind.TypeItem a) m is = let wrong : None ≡ Some m = is in cc
-module-is (kind.Func f) m is = let wrong : None ≡ Some m = is in cc
-module-is (kind.Instance j) m is = let wrong : None ≡ Some m = is in cc
-module-is (kind.Component w) m is = let wrong : None ≡ Some m = is in cc
-module-is (kind.Value v) m is = let wrong : None ≡ Some m = is in cc
 
 -- the tree that a description says
 
@@ -184,10 +168,10 @@ describes-import tree c b s (kind.Component w) d p h ms good not_here =
       sorted = ap described_sort h.1;
     }
 describes-import tree c b s (kind.Module k) d p h ms good not_here =
-    let at = h.2 ms good in
+    let at = h.2 in
     record {
       says = subst (λ (x : Description). Describes (innermost (stack b s)) x (module_item (held_tree c (top ms) (ty.Module k)))) (sym h.1)
-          (subst (λ (t : Tree). Describes (innermost (stack b s)) (e.CoreModule h.0) (module_item t)) (sym (tree c (top ms) (ty.Module k) at.0 at.1)) (at.2, at.3));
+          (subst (λ (t : Tree). Describes (innermost (stack b s)) (e.CoreModule h.0) (module_item t)) (sym (tree c (top ms) (ty.Module k) at.0 (at.1 (top ms)))) (at.2, at.3));
       sorted = ap described_sort h.1;
     }
 describes-import tree c b s (kind.Value v) d p h ms good not_here = absurd h
@@ -334,3 +318,21 @@ imported-beside c b n k f old described listed new d i goes says keeps content i
       sorted = sort-of c b described k d says;
       index = index;
     }
+
+-- a core module
+
+-- The core type index keeps its meaning where the scopes have only grown.
+module-kept : (c : Collection) (b : Bool) (old new : State) (k : ModuleTypeId) (i : ℕ) → Keeps (innermost (stack b old)) (innermost (stack b new)) → IsModuleAt c b old k i → IsModuleAt c b new k i
+module-kept c b old new k i keeps h = (h.0, h.1, h.2, keeps.core_types i h.0 h.3)
+
+-- It has it after the import too.
+pub module-after : (c : Collection) (b : Bool) (old described listed : State) (k : ModuleTypeId) (i j : ℕ) → IsReady c b old (ty.Module k) → Goes c b old described → IsModuleAt c b described k i → ImportsItem (e.CoreModule i) described listed j
+    → IsModuleAt c b listed k i
+module-after c b old described listed k i j ready goes h imports = by ready.0 ready.1
+  where
+    by : (ms : List Bindings) → Good c ms (stack b old) → IsModuleAt c b listed k i
+    by [] good = absurd good
+    by (m ∷ ms) good =
+        let on = goes.onward (m ∷ ms) good in
+        let step = imports c b m ms (module_item h.0) on.0 (h.2, h.3) in
+        module-kept c b described listed k i (step.0).1.0.keeps h

@@ -35,7 +35,7 @@ use Rattle.wac_encode_scopes.specs.Books.{opened}
 use Rattle.wac_encode_scopes.specs.Components.{IsComponentType}
 use Rattle.wac_encode_scopes.specs.Contents.{AddsTypes, and_item}
 use Rattle.wac_encode_scopes.specs.States.{outward, stack, AllAddTypes, Goes}
-use Rattle.wac_encode_scopes.specs.Telling.{is_one_of, with_own_names, MayBind, TellsInstance}
+use Rattle.wac_encode_scopes.specs.private.Telling.{is_one_of, with_own_names, MayBind, TellsInstance}
 use Rattle.wac_encode_values.specs.Values.{IsReady}
 use Rattle.wac_encode_faults.specs.declared.fault.WriteFault.{WriteFault}
 use Rattle.wac_encode_faults.specs.Faults.{listed_fault, of_items, of_additional}

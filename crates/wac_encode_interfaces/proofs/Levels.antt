@@ -21,7 +21,7 @@ use Rattle.wac_encode_scopes.specs.declared.state.State.{State}
 use Rattle.wac_encode_scopes.specs.Contents.{AddsTypes, IsTypeDecl, declarations_of, and_item, and_type, content_of}
 use Rattle.wac_encode_scopes.specs.Books.{opened, book_of, recorded}
 use Rattle.wac_encode_scopes.specs.States.{outward, stack, Goes, AllAddTypes}
-use Rattle.wac_encode_scopes.specs.Interfaces.{BeginsInterface, own_items, fresh_exports}
+use Rattle.wac_encode_scopes.specs.private.Interfaces.{BeginsInterface, own_items, fresh_exports}
 use Rattle.wac_encode_scopes.specs.Listing.{ClosesInto}
 use Rattle.wac_encode_scopes.proofs.Added.{adds-none, adds-def, adds-both}
 use Rattle.wac_encode_scopes.proofs.Stepped.{same-as, same-stack}

@@ -30,3 +30,5 @@ pub mod Importing
 pub mod ByFree
 pub mod DefinedSides
 pub mod Definitions
+pub mod Refused
+pub mod Leaves

@@ -15,7 +15,7 @@ use Rattle.wac_encode_stacks.specs.Good.{Kept, Grown, Good, Onward, top}
 use Rattle.wac_encode_stacks.specs.Listed.{AreListed, IsItem, IsUnder, ListsOneMore}
 use Rattle.wac_encode_scopes.specs.declared.state.State.{State}
 use Rattle.wac_encode_scopes.specs.Books.{opened}
-use Rattle.wac_encode_scopes.specs.Interfaces.{BeginsInterface, own_items}
+use Rattle.wac_encode_scopes.specs.private.Interfaces.{BeginsInterface, own_items}
 use Rattle.wac_encode_scopes.specs.Listing.{Closes, ClosesInto}
 use Rattle.wac_encode_scopes.specs.States.{outward, stack, Goes}
 use Rattle.wac_encode_interfaces.specs.declared.level.Level.{Level}

@@ -16,7 +16,7 @@ use Rattle.wac_types_shapes.specs.declared.shapes.component.«Type».TheVariants
 use Rattle.wac_types_collection.specs.collection.Collection.{Collection}
 use Rattle.wac_types_collection.specs.collection.Bound.{is_alias, lists_own, own_name}
 use Rattle.wac_types_collection.proofs.lemmas.wide.Members.{in_first, in_rest}
-use Rattle.wac_encode_scopes.specs.Telling.{is_one_of}
+use Rattle.wac_encode_scopes.specs.private.Telling.{is_one_of}
 use Rattle.wac_encode_faults.specs.Cycle.{owner_of}
 use Rattle.wac_encode_interfaces.specs.private.Parts.{is_number, is_owned, owned_in, is_that}
 use Rattle.wac_encode_interfaces.proofs.Bound.{true-false, one-some, no-some, both-true, true-both, any-in, in-any}

@@ -18,7 +18,7 @@ use Rattle.wac_types_collection.proofs.lemmas.collection.Growth.{type_within}
 use Rattle.wac_types_collection.proofs.lemmas.collection.Steady.{found_before, within}
 use Rattle.wac_encode_stacks.specs.Scopes.{How, Stack, env, envs}
 use Rattle.wac_encode_stacks.specs.Good.{Good, Holds, top}
-use Rattle.wac_encode_stacks.specs.HeldParts.{HoldsItems}
+use Rattle.wac_encode_stacks.specs.private.HeldParts.{HoldsItems}
 use Rattle.wac_encode_stacks.specs.Listed.{FreshInInterface}
 use Rattle.wac_encode_stacks.proofs.Unfolded.{held_item, all_right}
 use Rattle.wac_encode_scopes.specs.declared.state.State.{State}

@@ -11,7 +11,7 @@ use Rattle.wac_edges.specs.cycles.Cycles.{IsStep, Path, step, further, HasNoCycl
 use Rattle.wac_edges.specs.private.cycles.Numbers.{Has}
 use Rattle.wac_edges.proofs.lemmas.cycles.Numbers.{has_head, has_tail, has_split}
 use Rattle.wac_edges.proofs.lemmas.cycles.StepLemmas.{has_none}
-use Rattle.wac_encode_order.specs.SideOrder.{IsSideOrder}
+use Rattle.wac_encode_order.specs.private.SideOrder.{IsSideOrder}
 use Rattle.wac_encode_interfaces.specs.private.Ordered.{AddsMoved, AreMoved, IsOrdered}
 use Rattle.wac_encode_interfaces.proofs.Bound.{one-some}
 use Rattle.wac_encode_interfaces.proofs.Arranging.{ordered-after, ordered-among}

@@ -11,7 +11,7 @@ use Rattle.wac_types_shapes.specs.declared.shapes.component.«Type».TheVariants
 use Rattle.wac_types_collection.specs.collection.Collection.{Collection, IsWellFormed, holds_type, interface_exports}
 use Rattle.wac_types_collection.proofs.lemmas.wide.Members.{in_none, in_first, in_one, in_left, in_right, in_either, in_flat, flat_in}
 use Rattle.wac_encode_faults.specs.Sides.{under_id}
-use Rattle.wac_encode_faults.specs.Ids.{HasInterfaceId, HaveIds}
+use Rattle.wac_encode_faults.specs.private.Ids.{HasInterfaceId, HaveIds}
 use Rattle.wac_encode_faults.specs.Faults.{IsListed, IsSidesFault}
 use Rattle.wac_encode_interfaces.specs.declared.sides.Sides.{Sides as GivenSides}
 use Rattle.wac_encode_interfaces.specs.Given.{sides_of, AreHeldSides, HaveSidesWorlds}

@@ -19,8 +19,8 @@ use Rattle.wac_types_collection.specs.collection.Collection.{Collection}
 use Rattle.wac_types_collection.specs.collection.Held.{resolved}
 use Rattle.wac_types_collection.specs.collection.Bound.{Bindings, is_alias, lists_own, own_name, lists_type, inside_interface, binds_here}
 use Rattle.wac_encode_stacks.specs.Listed.{FreshInInterface}
-use Rattle.wac_encode_scopes.specs.Interfaces.{own_in, own_item, own_items}
-use Rattle.wac_encode_order.specs.Interfaces.{lists_own_resource, comes_later, is_later_at}
+use Rattle.wac_encode_scopes.specs.private.Interfaces.{own_in, own_item, own_items}
+use Rattle.wac_encode_order.specs.private.Interfaces.{lists_own_resource, comes_later, is_later_at}
 use Rattle.wac_encode_interfaces.specs.declared.level.Level.{Level}
 use Rattle.wac_encode_interfaces.specs.private.Nests.{IsLevel, IsNextItem, IsEnded, items_at, listed_items}
 use Rattle.wac_encode_interfaces.proofs.Nests.{one-interface}

@@ -23,7 +23,7 @@ use Rattle.wac_encode_stacks.specs.Instances.{ShowsWhole, taken_leaf}
 use Rattle.wac_encode_stacks.specs.Brought.{GoodOnce}
 use Rattle.wac_encode_scopes.specs.declared.state.State.{State}
 use Rattle.wac_encode_scopes.specs.States.{stack, AllAddTypes, Goes, RecordsHere}
-use Rattle.wac_encode_scopes.specs.Telling.{is_one_of, with_own_names, TellsInstance}
+use Rattle.wac_encode_scopes.specs.private.Telling.{is_one_of, with_own_names, TellsInstance}
 use Rattle.wac_encode_interfaces.specs.Items.{AddsItem, RefersToItem}
 use Rattle.wac_encode_interfaces.specs.Worlds.{Worlds}
 use Rattle.wac_encode_interfaces.specs.declared.level.Level.{Level}

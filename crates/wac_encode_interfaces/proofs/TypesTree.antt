@@ -15,7 +15,7 @@ use Rattle.wac_types_collection.specs.collection.Collection.{Collection, IsWellF
 use Rattle.wac_types_collection.specs.collection.Held.{items_under, item_tree}
 use Rattle.wac_types_collection.specs.collection.Bound.{Bindings, own_name, lists_type, inside_interface, binds_here, held_tree, held_item}
 use Rattle.wac_encode_stacks.specs.Good.{Carries, Holds, IsHeld}
-use Rattle.wac_encode_stacks.specs.HeldParts.{HoldsItems}
+use Rattle.wac_encode_stacks.specs.private.HeldParts.{HoldsItems}
 use Rattle.wac_encode_stacks.specs.Listed.{IsItem, IsUnder, AreListed, HoldsInterface}
 use Rattle.wac_encode_stacks.proofs.Moved.{on, changed, own_leaf, held-moves, moved-moved, moved-id, carries-inside}
 use Rattle.wac_encode_stacks.proofs.Whole.{items-found, here-inside}

@@ -25,7 +25,7 @@ use Rattle.wac_encode_scopes.specs.Components.{IsComponentType}
 use Rattle.wac_encode_scopes.specs.Contents.{HasSide, and_item}
 use Rattle.wac_encode_scopes.specs.Listing.{ListsResource}
 use Rattle.wac_encode_scopes.specs.States.{AllAddTypes, Goes, IsRecordedAt}
-use Rattle.wac_encode_scopes.specs.Telling.{is_one_of, TellsInstance}
+use Rattle.wac_encode_scopes.specs.private.Telling.{is_one_of, TellsInstance}
 use Rattle.wac_encode_stacks.specs.Scopes.{How}
 use Rattle.wac_encode_faults.specs.Faults.{of_items, IsFaultInside}
 use Rattle.wac_encode_faults.specs.Sides.{Sides, export_bindings}

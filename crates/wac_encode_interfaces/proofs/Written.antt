@@ -26,7 +26,7 @@ use Rattle.wac_encode_stacks.specs.Scopes.{How, Indexed}
 use Rattle.wac_encode_stacks.specs.Good.{Good, At, IsHeld, top, innermost}
 use Rattle.wac_encode_stacks.specs.Laws.{StandsRecorded, IsItsTree}
 use Rattle.wac_encode_stacks.specs.Brought.{GoodOnce}
-use Rattle.wac_encode_stacks.specs.HeldParts.{ResourceIsBound}
+use Rattle.wac_encode_stacks.specs.private.HeldParts.{ResourceIsBound}
 use Rattle.wac_encode_stacks.proofs.Aliases.{end-held}
 use Rattle.wac_encode_stacks.proofs.Values.{primitive-held, resource-held}
 use Rattle.wac_encode_scopes.specs.declared.state.State.{State}

@@ -1,5 +1,5 @@
 -- Items that the root imports.
-use Rattle.std.specs.Prelude.{ℕ, ◌≡◌, Bool, true, false, not, List, [], ◌∷◌, ◌++◌, None}
+use Rattle.std.specs.Prelude.{ℕ, ◌≡◌, Bool, true, false, not, List, [], ◌∷◌, ◌++◌, Option, Some, None}
 use Rattle.wac_types_shapes.specs.primitives.Name.{Name}
 use Rattle.wac_types_shapes.specs.primitives.Tree.{imported, Place, Tree}
 use Rattle.wac_types_shapes.specs.shapes.Kinds.{kind_type}
@@ -17,7 +17,7 @@ use Rattle.wac_binary.specs.Indexes.{space, described_sort}
 use Rattle.wac_binary.specs.Meaning.{meaning}
 use Rattle.wac_binary.specs.HasMeaning.{IsModule}
 use Rattle.wac_binary.specs.Unfold.{Scope}
-use Rattle.wac_encode_stacks.specs.Good.{At, Good, innermost, top, IsHeld, Onward}
+use Rattle.wac_encode_stacks.specs.Good.{At, Good, innermost, IsHeld, Onward}
 use Rattle.wac_encode_stacks.specs.Beside.{all_written_as}
 use Rattle.wac_encode_stacks.specs.Instances.{position_of}
 use Rattle.wac_encode_scopes.specs.declared.encodable.Encodable.{Encodable}
@@ -40,10 +40,14 @@ pub record IsImportReady (c : Collection) (b : Bool) (ws : Worlds) (s : State) (
   pub clean : IsClean c (kind_type k)
   pub worlds : HaveWorlds c ws (kind_type k)
 
--- The core type index in the innermost scope refers to the type of the core module, under all bindings under which the
--- scopes are good.
+-- The type of a core module.
+abbrev pub module_type_of : ItemKind → Option ModuleTypeId
+module_type_of (kind.Module m) = Some m
+module_type_of k = None
+
+-- The core type index in the innermost scope refers to the type of the core module, under all bindings.
 abbrev pub IsModuleAt : Collection → Bool → State → ModuleTypeId → ℕ → Type 0
-IsModuleAt c b s k i = (ms : List Bindings) → Good c ms (stack b s) → (t : Tree) × IsHeld c (top ms) (ty.Module k) t × IsModule t × At ((innermost (stack b s)).core_types) i t
+IsModuleAt c b s k i = (t : Tree) × ((m : Bindings) → IsHeld c m (ty.Module k) t) × IsModule t × At ((innermost (stack b s)).core_types) i t
 
 -- The description of the item as an import has an index in the innermost scope that refers to the item's type.
 abbrev pub DescribesImport : Collection → Bool → State → ItemKind → Description → Type 0

@@ -9,4 +9,6 @@ pub mod Clean
 pub mod Given
 pub mod WorldTrees
 pub mod Definitions
+pub mod Refused
+pub mod Leaves
 pub mod private

@@ -6,7 +6,7 @@ ghost use Rattle.wac_types_shapes.specs.declared.shapes.component.«Type».{«Ty
 ghost use Rattle.wac_types_shapes.specs.declared.shapes.component.«Type».TheVariants as ty_of;
 ghost use Rattle.wac_types_collection.specs.collection.Collection.{holds_type};
 ghost use Rattle.wac_encode_scopes.specs.Closed.{AreClosedTypes};
-ghost use Rattle.wac_encode_faults.specs.Ids.{HaveIds};
+ghost use Rattle.wac_encode_faults.specs.private.Ids.{HaveIds};
 ghost use Rattle.wac_encode_interfaces.specs.Given.{sides_of, AreHeldSides, HaveSidesWorlds};
 ghost use Rattle.wac_encode_interfaces.specs.Ready.{AreSidesClean, IsClean};
 ghost use Rattle.wac_encode_interfaces.specs.Worlds.{AreWorldTypes, HaveWorlds, written_in};

@@ -1,5 +1,5 @@
 //! Component types.
-ghost use Rattle.std.specs.Prelude.{◌≡◌, ◌≤◌, ◌<◌, ◌+◌, ◌^◌, ◌∷◌, ◌++◌, [], ℕ, true, false, Some, None, IfOk, OnOk, Contains, length, slice_get};
+ghost use Rattle.std.specs.Prelude.{◌≡◌, ◌≤◌, ◌<◌, ◌+◌, ◌^◌, ◌∷◌, ◌++◌, [], ℕ, true, false, Some, None, IfOk, OnOk, OnErr, Contains, length, slice_get};
 ghost use Rattle.wac_types_shapes.specs.primitives.Name.{Name as AnyName};
 ghost use Rattle.wac_types_shapes.specs.primitives.Tree.{imported, exported};
 ghost use Rattle.wac_types_shapes.specs.shapes.Kinds.{kind_type};
@@ -20,6 +20,7 @@ ghost use Rattle.wac_encode_interfaces.specs.Items.{HasInterfaceOf};
 ghost use Rattle.wac_encode_faults.specs.Trees.{sides_tree};
 ghost use Rattle.wac_encode_interfaces.specs.Given.{sides_of, AreHeldItems, AreHeldSides, HaveSidesWorlds};
 ghost use Rattle.wac_encode_interfaces.specs.Ready.{AreSidesClean, IsInterfaceReady};
+ghost use Rattle.wac_encode_interfaces.specs.Refused.{KeepsScopes};
 ghost use Rattle.wac_encode_interfaces.specs.Worlds.{HaveInterfaceWorlds, written_in};
 ghost use Rattle.wac_encode_interfaces.specs.Writers.{IsWriter};
 ghost use Rattle.wac_encode_interfaces.specs.private.Written.{side_item, is_bound_at, IsItemOf, IsWritten};
@@ -110,6 +111,7 @@ impl<'a> TypeWriter<'a> {
         requires worlds { (i : AnInterfaceId) → kind_type item ≡ ty_of.Interface i → HaveInterfaceWorlds self.now.types.now (written_in self.now.worlds.now) false i }
         ensures goes { OnOk result (Goes self.now.types.now self.now.merged state.old state.new) }
         ensures has { OnOk result (HasInterfaceOf self.now.merged state.new item) }
+        ensures refused { OnErr result (KeepsScopes state.old state.new) }
     {
         still_law();
         match interface_in(item.ty()) {

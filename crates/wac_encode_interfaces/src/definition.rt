@@ -3,7 +3,7 @@ ghost use Rattle.std.specs.Prelude.{◌≡◌, true, None, IfOk, IfSome, OnOk};
 ghost use Rattle.wac_types_shapes.specs.declared.shapes.component.«Type».TheVariants as ty_of;
 ghost use Rattle.wac_types_collection.specs.collection.Collection.{HasInterface, holds_type};
 ghost use Rattle.wac_encode_scopes.specs.Components.{ComponentHasMeaning, component_tree};
-ghost use Rattle.wac_encode_scopes.specs.States.{Goes};
+ghost use Rattle.wac_encode_scopes.specs.States.{AllAddTypes, Goes};
 ghost use Rattle.wac_encode_interfaces.specs.Definitions.{HaveDefinedWorlds, IsDefinable, IsDefinitionAt};
 ghost use Rattle.wac_encode_interfaces.specs.Worlds.{written_in};
 ghost use Rattle.wac_encode_interfaces.specs.Writers.{IsWriter};
@@ -114,12 +114,13 @@ impl<'a> TypeWriter<'a> {
     /// - `TooLarge` if the content of a scope would not fit 32-bit sizes.
     /// - `OutOfMemory`.
     ///
-    /// After an error the scopes must be dropped.
+    /// After an error the scopes have what they had, and perhaps types after it. They must be dropped.
     pub fn definition(&self, state: &mut State, ty: Type) -> Result<u32, BinaryFault>
         requires writer { IsWriter self.now }
         requires ready { IsDefinable self.now.types.now self.now.merged (written_in self.now.worlds.now) state.old ty }
         ensures goes { OnOk result (Goes self.now.types.now self.now.merged state.old state.new) }
         ensures is { IfOk result (IsDefinitionAt self.now.types.now self.now.merged state.new ty) }
+        ensures types { AllAddTypes state.old state.new }
     {
         step_law();
         let defined = self.definition_component(ty)?;

@@ -1,20 +1,22 @@
 //! Items that the root imports.
 
-ghost use Rattle.std.specs.Prelude.{◌≡◌, true, IfOk, OnOk};
+ghost use Rattle.std.specs.Prelude.{◌≡◌, true, None, IfOk, IfSome, OnOk, OnErr};
+ghost use Rattle.wac_types_shapes.specs.declared.shapes.component.ItemKind.TheVariants as kind_of;
 ghost use Rattle.wac_types_shapes.specs.declared.shapes.component.«Type».TheVariants as ty_of;
 ghost use Rattle.wac_types_collection.specs.collection.Collection.{holds_type};
 ghost use Rattle.wac_encode_scopes.specs.Roots.{IsRoot};
-ghost use Rattle.wac_encode_scopes.specs.States.{Goes};
+ghost use Rattle.wac_encode_scopes.specs.States.{AllAddTypes, Goes};
 ghost use Rattle.wac_encode_values.specs.Values.{IsReady};
-ghost use Rattle.wac_encode_interfaces.specs.Imports.{DescribesImport, ImportsBeside, ImportsOf, IsImportReady, IsModuleAt};
+ghost use Rattle.wac_encode_interfaces.specs.Imports.{DescribesImport, ImportsBeside, ImportsOf, IsImportReady, IsModuleAt, module_type_of};
+ghost use Rattle.wac_encode_interfaces.specs.Refused.{KeepsScopes};
 ghost use Rattle.wac_encode_interfaces.specs.Worlds.{written_in};
 ghost use Rattle.wac_encode_interfaces.specs.Writers.{IsWriter};
-ghost use Rattle.wac_encode_interfaces.specs.private.Sorts.{component_world, module_type_of};
+ghost use Rattle.wac_encode_interfaces.specs.private.Sorts.{component_world};
 
 use crate::writer::TypeWriter;
 use wac_binary::{BinaryFault, Description};
 use wac_encode_scopes::State;
-use wac_encode_stacks::{bringing_law, module_law, root_law, step_law};
+use wac_encode_stacks::{bringing_law, module_law, root_law, step_law, still_law};
 use wac_modules::module_type;
 use wac_types_collection::{ItemKind, ModuleTypeId, WorldId};
 
@@ -28,57 +30,94 @@ fn world_in(item: ItemKind) -> Option<WorldId>
     }
 }
 
-/// Returns the type of a core module.
-fn module_in(item: ItemKind) -> Option<ModuleTypeId>
-    ensures { result ≡ module_type_of item }
-{
-    match item {
-        ItemKind::Module(id) => Some(id),
-        _ => None,
-    }
-}
-
 impl<'a> TypeWriter<'a> {
-    /// Writes the type of a core module into the innermost scope. Returns its core type index.
-    fn core_module(&self, state: &mut State, id: ModuleTypeId) -> Result<u32, BinaryFault>
+    /// Returns the core type index of a core module's type in the innermost scope. The type is written there, unless `known`
+    /// is its index.
+    fn core_module(
+        &self,
+        state: &mut State,
+        id: ModuleTypeId,
+        known: Option<u32>,
+    ) -> Result<u32, BinaryFault>
         requires held { holds_type self.now.types.now (ty_of.Module id) ≡ true }
         requires ready { IsReady self.now.types.now self.now.merged state.old (ty_of.Module id) }
+        requires known { IfSome known (IsModuleAt self.now.types.now self.now.merged state.old id) }
         ensures goes { OnOk result (Goes self.now.types.now self.now.merged state.old state.new) }
         ensures is { IfOk result (IsModuleAt self.now.types.now self.now.merged state.new id) }
+        ensures types { AllAddTypes state.old state.new }
     {
+        still_law();
         module_law();
+        if let Some(core_type) = known {
+            return Ok(core_type);
+        }
         let written = module_type(self.types.allocator(), &self.types[id])?;
         state.define_module(&written)
     }
 
-    /// Writes the type of an import. Returns the import's description.
+    /// Writes the type of an import, which is no core module. Returns the import's description.
     fn describe_import(&self, state: &mut State, item: ItemKind) -> Result<Description, BinaryFault>
         requires writer { IsWriter self.now }
+        requires no_module { module_type_of item ≡ None }
         requires ready { IsImportReady self.now.types.now self.now.merged (written_in self.now.worlds.now) state.old item }
         ensures goes { OnOk result (Goes self.now.types.now self.now.merged state.old state.new) }
         ensures describes { IfOk result (DescribesImport self.now.types.now self.now.merged state.new item) }
+        ensures refused { OnErr result (KeepsScopes state.old state.new) }
     {
         step_law();
         if let Some(world) = world_in(item) {
             let index = self.world(state, world)?;
             return Ok(Description::Component(index));
         }
-        if let Some(id) = module_in(item) {
-            let index = self.core_module(state, id)?;
-            return Ok(Description::CoreModule(index));
-        }
         self.write_interface_of(state, item)?;
         self.describe(state, item)
     }
 
-    /// Adds an import to the innermost scope, the root, after its type. The item is no fresh resource. Returns its index in
-    /// the index space of its sort.
+    /// Adds an import of a core module to the innermost scope, the root. Returns its index, and the core type index of its
+    /// type.
+    ///
+    /// The type is written before it, unless it has the core type index `known` already.
+    ///
+    /// # Errors
+    /// - `TooLarge` if the component would not fit 32-bit sizes.
+    /// - `OutOfMemory`.
+    ///
+    /// After an error the root has what it had, and perhaps types after it. The scopes must be dropped.
+    pub fn import_module(
+        &self,
+        state: &mut State,
+        name: &str,
+        id: ModuleTypeId,
+        known: Option<u32>,
+    ) -> Result<(u32, u32), BinaryFault>
+        requires root { IsRoot state.old.here.content }
+        requires ready { IsImportReady self.now.types.now self.now.merged (written_in self.now.worlds.now) state.old (kind_of.Module id) }
+        requires known { IfSome known (IsModuleAt self.now.types.now self.now.merged state.old id) }
+        ensures imports { IfOk result (λ r. ImportsOf self.now.types.now self.now.merged name.now (kind_of.Module id) state.old state.new r.0) }
+        ensures beside { IfOk result (λ r. ImportsBeside self.now.merged name.now (kind_of.Module id) r.0 state.old state.new) }
+        ensures known { IfOk result (λ r. IsModuleAt self.now.types.now self.now.merged state.new id r.1) }
+        ensures refused { OnErr result (KeepsScopes state.old state.new) }
+    {
+        bringing_law();
+        root_law();
+        step_law();
+        still_law();
+        let core_type = self.core_module(state, id, known)?;
+        let index = state.import(name, Description::CoreModule(core_type))?;
+        Ok((index, core_type))
+    }
+
+    /// Adds an import to the innermost scope, the root, after its type. The item is no fresh resource and no core module.
+    /// Returns its index in the index space of its sort.
     ///
     /// The type of a type item is recorded at the index, unless an earlier item of the same type is.
     ///
     /// # Errors
     /// - `TooLarge` if the component would not fit 32-bit sizes.
     /// - `OutOfMemory`.
+    ///
+    /// After an error the root has what it had, and perhaps more after it. Instance types may still be open inside it. The
+    /// scopes must be dropped.
     pub fn import_item(
         &self,
         state: &mut State,
@@ -87,9 +126,11 @@ impl<'a> TypeWriter<'a> {
     ) -> Result<u32, BinaryFault>
         requires writer { IsWriter self.now }
         requires root { IsRoot state.old.here.content }
+        requires no_module { module_type_of item ≡ None }
         requires ready { IsImportReady self.now.types.now self.now.merged (written_in self.now.worlds.now) state.old item }
         ensures imports { IfOk result (ImportsOf self.now.types.now self.now.merged name.now item state.old state.new) }
         ensures beside { IfOk result (λ i. ImportsBeside self.now.merged name.now item i state.old state.new) }
+        ensures refused { OnErr result (KeepsScopes state.old state.new) }
     {
         bringing_law();
         root_law();

@@ -1,5 +1,5 @@
 //! Instances of component types.
-ghost use Rattle.std.specs.Prelude.{◌≡◌, ◌||◌, false, Some, IfOk, OnOk, slice_get};
+ghost use Rattle.std.specs.Prelude.{◌≡◌, ◌||◌, false, Some, IfOk, OnOk, OnErr, slice_get};
 ghost use Rattle.std.specs.List.{list_any};
 ghost use Rattle.wac_types_shapes.specs.declared.shapes.component.ResourceId.{ResourceId as AnyResource};
 ghost use Rattle.wac_types_shapes.specs.declared.shapes.component.Interface.{Interface as AnInterface};
@@ -10,9 +10,10 @@ ghost use Rattle.wac_encode_scopes.specs.Components.{IsComponentType};
 ghost use Rattle.wac_encode_scopes.specs.Contents.{side_of};
 ghost use Rattle.wac_encode_stacks.specs.Scopes.{How as AnyHow};
 ghost use Rattle.wac_encode_scopes.specs.States.{Goes, IsRecordedAt};
-ghost use Rattle.wac_encode_scopes.specs.Telling.{is_one_of};
+ghost use Rattle.wac_encode_scopes.specs.private.Telling.{is_one_of};
 ghost use Rattle.wac_encode_faults.specs.Cycle.{numbered_items};
 ghost use Rattle.wac_encode_interfaces.specs.Ready.{IsInterfaceAt, IsInterfaceReady};
+ghost use Rattle.wac_encode_interfaces.specs.Refused.{KeepsScopes};
 ghost use Rattle.wac_encode_interfaces.specs.Worlds.{HaveInterfaceWorlds, written_in};
 ghost use Rattle.wac_encode_interfaces.specs.Writers.{IsWriter};
 ghost use Rattle.wac_encode_interfaces.specs.private.Written.{side_item, IsItemOf};
@@ -104,6 +105,7 @@ impl<'a> TypeWriter<'a> {
         ensures goes { OnOk result (Goes self.now.types.now self.now.merged state.old state.new) }
         ensures is { IfOk result (IsInterfaceAt self.now.types.now self.now.merged state.new types_only interface) }
         ensures recorded { IfOk result (λ k. types_only ≡ false → (how : AnyHow) × IsRecordedAt self.now.merged state.new (ty_of.Interface interface) how k) }
+        ensures refused { OnErr result (KeepsScopes state.old state.new) }
     {
         step_law();
         still_law();

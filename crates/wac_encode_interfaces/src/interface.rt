@@ -1,6 +1,6 @@
 //! Interfaces inside interfaces, level by level.
 
-ghost use Rattle.std.specs.Prelude.{◌≡◌, ◌<◌, ◌≤◌, ◌+◌, ◌^◌, Bool, false, true, length, List, None, Some, IfOk, IfSome, OnOk};
+ghost use Rattle.std.specs.Prelude.{◌≡◌, ◌<◌, ◌≤◌, ◌+◌, ◌^◌, Bool, false, true, length, List, None, Some, IfOk, IfSome, OnOk, OnErr};
 ghost use Rattle.wac_types_shapes.specs.declared.shapes.component.Interface.{Interface as AnInterface};
 ghost use Rattle.wac_types_shapes.specs.declared.shapes.component.InterfaceId.{InterfaceId as AnId};
 ghost use Rattle.wac_types_shapes.specs.declared.shapes.component.«Type».TheVariants as ty_of;
@@ -8,10 +8,11 @@ ghost use Rattle.wac_types_shapes.specs.shapes.Kinds.{kind_type};
 ghost use Rattle.wac_types_collection.specs.collection.Collection.{HasInterface, holds_type, item_at};
 ghost use Rattle.wac_encode_stacks.specs.Scopes.{How as AnyHow};
 ghost use Rattle.wac_encode_scopes.specs.declared.state.State.{State as AState};
-ghost use Rattle.wac_encode_scopes.specs.Interfaces.{BeginsInterface};
-ghost use Rattle.wac_encode_scopes.specs.States.{Goes, IsRecordedAt};
+ghost use Rattle.wac_encode_scopes.specs.private.Interfaces.{BeginsInterface};
+ghost use Rattle.wac_encode_scopes.specs.States.{AllAddTypes, Goes, IsRecordedAt};
 ghost use Rattle.wac_encode_interfaces.specs.declared.level.Level.{Level as ALevel};
 ghost use Rattle.wac_encode_interfaces.specs.Ready.{IsInterfaceAt, IsInterfaceReady};
+ghost use Rattle.wac_encode_interfaces.specs.Refused.{AreStillOpen, KeepsScopes};
 ghost use Rattle.wac_encode_interfaces.specs.Worlds.{HaveInterfaceWorlds, written_in};
 ghost use Rattle.wac_encode_interfaces.specs.Writers.{IsWriter};
 ghost use Rattle.wac_encode_interfaces.specs.private.Names.{HasInstance};
@@ -63,6 +64,7 @@ impl<'a> TypeWriter<'a> {
         ensures begins { OnOk result ((it : AnInterface) → item_at self.now.types.now.interfaces interface.0 ≡ Some it → BeginsInterface self.now.types.now self.now.merged it state.old state.new) }
         ensures fresh { IfOk result (IsNewLevel interface types_only) }
         ensures level { IfOk result (IsLevel self.now.types.now) }
+        ensures kept { KeepsScopes state.old state.new }
     {
         state.open_interface(self.types, self.merged, interface)?;
         let order = interface_order(self.types, interface, types_only)?;
@@ -100,6 +102,7 @@ impl<'a> TypeWriter<'a> {
         requires held { holds_type self.now.types.now (kind_type item) ≡ true }
         requires there { HasInstance self.now.types.now self.now.merged state.old item index }
         ensures goes { OnOk result (Goes self.now.types.now self.now.merged state.old state.new) }
+        ensures types { AllAddTypes state.old state.new }
     {
         self.types.law(); // proof only
         instance_law();
@@ -120,6 +123,7 @@ impl<'a> TypeWriter<'a> {
         requires small { level.old.next + 1 < 2 ^ 64 }
         ensures keeps { OnOk result (KeepsLevels self.now.types.now self.now.merged state.old level.old state.new level.new) }
         ensures level { OnOk result (level.new ≡ following level.old) }
+        ensures kept { KeepsScopes state.old state.new }
     {
         self.types.law(); // proof only
         part_law();
@@ -141,6 +145,7 @@ impl<'a> TypeWriter<'a> {
         ensures filled { IfOk result (IsFilled self.now.types.now level.new) }
         ensures same { OnOk result (level.new.interface ≡ level.old.interface) }
         ensures further { OnOk result (level.old.next ≤ level.new.next) }
+        ensures kept { KeepsScopes state.old state.new }
     {
         'items: while level.next < level.order.len() {
             if let Some(inside) = self.missing(state, level) {
@@ -159,6 +164,7 @@ impl<'a> TypeWriter<'a> {
         ensures closed { IfOk result (λ k. (i : AnId) (types_only : Bool) (old : AState) (ks : List ALevel) → Nest self.now.types.now self.now.merged i types_only old level.now ks state.old → IsInterfaceReady self.now.types.now self.now.merged old types_only i
             → IsClosedInto self.now.types.now self.now.merged i types_only old ks state.new k) }
         ensures recorded { IfOk result (λ k. level.now.types_only ≡ false → (how : AnyHow) × IsRecordedAt self.now.merged state.new (ty_of.Interface level.now.interface) how k) }
+        ensures refused { OnErr result (AreStillOpen state.old.around.items state.new) }
     {
         self.types.law(); // proof only
         step_law();
@@ -186,7 +192,8 @@ impl<'a> TypeWriter<'a> {
     /// - `TooLarge` if the content of a scope would not fit 32-bit sizes.
     /// - `OutOfMemory`.
     ///
-    /// After an error the scopes must be dropped.
+    /// After an error the scopes have what they had, and perhaps types after it. Instance types may still be open inside
+    /// them. They must be dropped.
     pub fn interface(
         &self,
         state: &mut State,
@@ -200,6 +207,7 @@ impl<'a> TypeWriter<'a> {
         ensures goes { OnOk result (Goes self.now.types.now self.now.merged state.old state.new) }
         ensures is { IfOk result (IsInterfaceAt self.now.types.now self.now.merged state.new types_only interface) }
         ensures recorded { IfOk result (λ k. types_only ≡ false → (how : AnyHow) × IsRecordedAt self.now.merged state.new (ty_of.Interface interface) how k) }
+        ensures refused { OnErr result (KeepsScopes state.old state.new) }
     {
         self.types.law(); // proof only
         let mut waiting = Vec::new(self.types.allocator());

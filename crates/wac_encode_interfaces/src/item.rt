@@ -7,10 +7,11 @@ ghost use Rattle.wac_types_shapes.specs.declared.shapes.component.«Type».TheVa
 ghost use Rattle.wac_types_collection.specs.collection.Collection.{holds_type};
 ghost use Rattle.wac_encode_stacks.specs.Scopes.{Open};
 ghost use Rattle.wac_encode_scopes.specs.Contents.{HasSide, side_of};
-ghost use Rattle.wac_encode_scopes.specs.States.{Goes, IsTypeAt, RecordsHere};
+ghost use Rattle.wac_encode_scopes.specs.States.{AllAddTypes, Goes, IsTypeAt, RecordsHere};
 ghost use Rattle.wac_encode_values.specs.Values.{IsReady};
 ghost use Rattle.wac_encode_interfaces.specs.Worlds.{HaveWorlds, written_in};
 ghost use Rattle.wac_encode_interfaces.specs.Items.{AddsBeside, AddsItem, DescribesItem, IsItemReady, IsTypeIndex};
+ghost use Rattle.wac_encode_interfaces.specs.Refused.{KeepsScopes};
 ghost use Rattle.wac_encode_interfaces.specs.Writers.{IsWriter};
 ghost use Rattle.wac_encode_interfaces.specs.private.Names.{NamesType, recorded_type};
 
@@ -27,6 +28,7 @@ impl<'a> TypeWriter<'a> {
         requires written { HaveWorlds self.now.types.now (written_in self.now.worlds.now) (ty_of.World world) }
         ensures goes { OnOk result (Goes self.now.types.now self.now.merged state.old state.new) }
         ensures is { IfOk result (IsTypeAt self.now.types.now self.now.merged state.new (ty_of.World world)) }
+        ensures types { AllAddTypes state.old state.new }
     {
         step_law();
         still_law();
@@ -44,6 +46,7 @@ impl<'a> TypeWriter<'a> {
         requires { IsReady self.now.types.now self.now.merged state.old (ty_of.Value (val.Primitive primitive)) }
         ensures goes { OnOk result (Goes self.now.types.now self.now.merged state.old state.new) }
         ensures is { IfOk result (IsTypeAt self.now.types.now self.now.merged state.new (ty_of.Value (val.Primitive primitive))) }
+        ensures types { AllAddTypes state.old state.new }
     {
         step_law();
         still_law();
@@ -61,6 +64,7 @@ impl<'a> TypeWriter<'a> {
         requires ready { IsReady self.now.types.now self.now.merged state.old (ty_of.Value value) }
         ensures goes { OnOk result (Goes self.now.types.now self.now.merged state.old state.new) }
         ensures is { IfOk result (IsTypeAt self.now.types.now self.now.merged state.new (ty_of.Value value)) }
+        ensures types { AllAddTypes state.old state.new }
     {
         step_law();
         bringing_law();
@@ -78,6 +82,7 @@ impl<'a> TypeWriter<'a> {
         requires ready { IsItemReady self.now.types.now self.now.merged (written_in self.now.worlds.now) state.old (kind_of.TypeItem ty) }
         ensures goes { OnOk result (Goes self.now.types.now self.now.merged state.old state.new) }
         ensures is { IfOk result (IsTypeIndex self.now.types.now self.now.merged state.new ty) }
+        ensures types { AllAddTypes state.old state.new }
     {
         self.types.law(); // proof only
         step_law();
@@ -109,6 +114,7 @@ impl<'a> TypeWriter<'a> {
         requires ready { IsItemReady self.now.types.now self.now.merged (written_in self.now.worlds.now) state.old item }
         ensures goes { OnOk result (Goes self.now.types.now self.now.merged state.old state.new) }
         ensures describes { IfOk result (DescribesItem self.now.types.now self.now.merged state.new item) }
+        ensures types { AllAddTypes state.old state.new }
     {
         let ty = item.ty();
         let index = self.type_index(state, ty)?;
@@ -145,6 +151,7 @@ impl<'a> TypeWriter<'a> {
     ) -> Result<(), BinaryFault>
         ensures goes { OnOk result (NamesType self.now.types.now self.now.merged state.old item index → Goes self.now.types.now self.now.merged state.old state.new) }
         ensures records { OnOk result ((f : Open → Open) × RecordsHere self.now.merged f state.old state.new) }
+        ensures types { AllAddTypes state.old state.new }
     {
         self.types.law(); // proof only
         still_law();
@@ -172,6 +179,7 @@ impl<'a> TypeWriter<'a> {
         requires ready { IsItemReady self.now.types.now self.now.merged (written_in self.now.worlds.now) state.old item }
         ensures adds { IfOk result (AddsItem self.now.types.now self.now.merged (side_of side) name.now item state.old state.new) }
         ensures beside { OnOk result (AddsBeside self.now.merged (side_of side) name.now state.old state.new) }
+        ensures kept { KeepsScopes state.old state.new }
     {
         bringing_law();
         let description = self.describe(state, item)?;

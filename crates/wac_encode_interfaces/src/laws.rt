@@ -3,6 +3,7 @@
 //! Each function does nothing. Its contract is a law that a caller cites by a call (docs/PROOFS.md, 'Laws').
 ghost use Rattle.wac_encode_interfaces.specs.Clean.{IsDefinitionOfNoFault, IsImportOfNoFault};
 ghost use Rattle.wac_encode_interfaces.specs.FreeTrees.{TreesByFree};
+ghost use Rattle.wac_encode_interfaces.specs.Leaves.{LeavesByFree};
 ghost use Rattle.wac_encode_interfaces.specs.WorldTrees.{IsTreeOfItsSides};
 
 /// The tree of a world is the tree of the component type with its sides.
@@ -21,7 +22,13 @@ pub fn definition_law()
     ensures { IsDefinitionOfNoFault }
 {}
 
-/// The tree of a type depends on its free resources alone.
+/// A type has a tree under bindings if and only if they have each of its free resources, on which the tree depends alone.
 pub fn free_law()
     ensures { TreesByFree }
+{}
+
+/// The free resources of a type are those to which the recursion of its tree gives no leaf when nothing outside is bound.
+#[tactic(auto, using(crate::proofs::Leaves::leaves_by_free))]
+pub fn leaf_law()
+    ensures { LeavesByFree }
 {}

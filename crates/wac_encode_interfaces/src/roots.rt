@@ -4,7 +4,7 @@ ghost use Rattle.std.specs.List.{flat_map};
 ghost use Rattle.wac_types_shapes.specs.declared.shapes.component.«Type».TheVariants as ty_of;
 ghost use Rattle.wac_types_collection.specs.collection.Collection.{HasInterface, holds_type};
 ghost use Rattle.wac_types_collection.specs.wide.Wide.{AreThere};
-ghost use Rattle.wac_encode_faults.specs.Ids.{HaveIds};
+ghost use Rattle.wac_encode_faults.specs.private.Ids.{HaveIds};
 ghost use Rattle.wac_encode_interfaces.specs.Definitions.{AreDefinitionRoots};
 ghost use Rattle.wac_encode_interfaces.specs.Given.{sides_of, AreHeldSides};
 ghost use Rattle.wac_encode_interfaces.specs.private.Defined.{AreDefinedRoots, AreSideRoots};

@@ -3,7 +3,7 @@ use Rattle.std.proofs.Common.{◌≡◌, ℕ, zero, suc, ◌≤◌, List, [], �
 use Rattle.std.specs.Prelude.{◌↔◌}
 use Rattle.std.proofs.lemmas.Option.{get_or_from_slice_get, slice_get_read, slice_get_within}
 use Rattle.wac_edges.specs.cycles.Cycles.{Path, step, further}
-use Rattle.wac_encode_order.specs.Arranged.{Arranges, done, there, new, Selects, none, takes, leaves}
+use Rattle.wac_encode_order.specs.private.Arranged.{Arranges, done, there, new, Selects, none, takes, leaves}
 use Rattle.wac_encode_order.specs.private.Arranging.{IsOnce}
 use Rattle.wac_encode_order.proofs.KeySets.{In}
 

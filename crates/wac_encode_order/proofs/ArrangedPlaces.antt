@@ -10,7 +10,7 @@ use Rattle.std.proofs.lemmas.Bool.{cases_eq}
 use Rattle.std.proofs.lemmas.Cmp.{ranked}
 use Rattle.std.proofs.lemmas.Map.Keys.{sorted_head, sorted_tail}
 use Rattle.std.proofs.lemmas.Option.{get_or_from_slice_get, slice_get-get_or, slice_get_within}
-use Rattle.wac_encode_order.specs.Arranged.{Selects, none, takes, leaves}
+use Rattle.wac_encode_order.specs.private.Arranged.{Selects, none, takes, leaves}
 use Rattle.wac_edges.specs.private.cycles.Numbers.{AreBelow, Has}
 use Rattle.wac_encode_order.specs.private.Arranging.{IsOnce, AreAll, AreRanks}
 use Rattle.wac_encode_order.specs.private.Arranging.{with_all}

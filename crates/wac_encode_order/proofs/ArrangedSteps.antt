@@ -7,7 +7,7 @@ use Rattle.std.proofs.lemmas.Option.{get_or_from_slice_get, slice_get-get_or, sl
 use Rattle.wac_types_shapes.proofs.lemmas.shapes.Names.{take_at}
 use Rattle.wac_encode_order.specs.declared.arranged.Step.{Step}
 use Rattle.wac_encode_order.specs.declared.arranged.Step.TheVariants.{Open, Place}
-use Rattle.wac_encode_order.specs.Arranged.{Arranges, done, there, new, Selects}
+use Rattle.wac_encode_order.specs.private.Arranged.{Arranges, done, there, new, Selects}
 use Rattle.wac_edges.specs.cycles.Cycles.{Path, step, further, IsStep, AreWithin, HasNoCycle}
 use Rattle.wac_edges.specs.private.cycles.Numbers.{AreBelow, Has}
 use Rattle.wac_edges.specs.private.cycles.CycleSearch.{is_reached}

@@ -11,7 +11,7 @@ use Rattle.wac_types_collection.specs.collection.Collection.{Collection, IsWellF
 use Rattle.wac_edges.specs.declared.node.NodeId.{NodeId}
 use Rattle.wac_edges.specs.Edge.{node_number, is_left}
 use Rattle.wac_edges.specs.Order.{Edges, Writes}
-use Rattle.wac_encode_order.specs.TypeItems.{Reaches, Takes}
+use Rattle.wac_encode_order.specs.private.TypeItems.{Reaches, Takes}
 use Rattle.wac_encode_order.specs.private.Graph.{AreReached, is_set, flags, items_of}
 use Rattle.wac_encode_order.proofs.Taking.{AreExact, IsClosed, takes}
 

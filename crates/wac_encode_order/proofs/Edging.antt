@@ -16,7 +16,7 @@ use Rattle.wac_edges.specs.declared.node.NodeId.{NodeId}
 use Rattle.wac_edges.specs.Edge.{edge_cmp}
 use Rattle.wac_edges.specs.Order.{Edges, IsEdge}
 use Rattle.wac_edges.proofs.EdgeLemmas.{edge_cmp_total, exact_edges, same_node}
-use Rattle.wac_encode_order.specs.TypeItems.{made_of, NamesAt, IsFirstName, IsTypeItemAt}
+use Rattle.wac_encode_order.specs.private.TypeItems.{made_of, NamesAt, IsFirstName, IsTypeItemAt}
 use Rattle.wac_encode_order.specs.private.Graph.{Adds, Below, IsFirst, IsSource, IsPartOf, TypeComesAfter, ItemComesAfter, ComesBefore}
 use Rattle.wac_encode_order.proofs.Lists.{some-is, within, below-or-last}
 

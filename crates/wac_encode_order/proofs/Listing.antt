@@ -12,8 +12,8 @@ use Rattle.wac_types_shapes.specs.declared.shapes.component.«Type».TheVariants
 use Rattle.wac_types_collection.specs.collection.Bound.{lists_type}
 use Rattle.wac_types_collection.specs.collection.Collection.{Collection, IsWellFormed, HasInterface, item_at, kind_types}
 use Rattle.wac_types_collection.specs.reach.Reach.{IsIn}
-use Rattle.wac_encode_order.specs.TypeItems.{Reaches, Takes}
-use Rattle.wac_encode_order.specs.Interfaces.{lists_other_type, is_other_type_at, others_from, IsInterfaceOrder}
+use Rattle.wac_encode_order.specs.private.TypeItems.{Reaches, Takes}
+use Rattle.wac_encode_order.specs.private.Interfaces.{lists_other_type, is_other_type_at, others_from, IsInterfaceOrder}
 use Rattle.wac_encode_order.specs.private.Graph.{AreHeld, is_set}
 use Rattle.wac_encode_order.proofs.Searching.{part-held}
 

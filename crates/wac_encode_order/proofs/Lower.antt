@@ -20,7 +20,7 @@ use Rattle.wac_types_collection.specs.subtyping.Ranks.{rank_of_held}
 use Rattle.wac_types_collection.specs.reach.Reach.{IsIn}
 use Rattle.wac_types_collection.proofs.lemmas.reach.Lists.{in_right}
 use Rattle.wac_types_collection.proofs.lemmas.subtyping.Unfolding.{before_rank}
-use Rattle.wac_encode_order.specs.TypeItems.{made_of}
+use Rattle.wac_encode_order.specs.private.TypeItems.{made_of}
 
 -- The height of a type.
 abbrev pub height : Collection → AnyType → ℕ

@@ -14,8 +14,8 @@ use Rattle.wac_types_collection.specs.collection.Aliases.{type_resolved}
 use Rattle.wac_types_collection.specs.collection.Held.{resolved}
 use Rattle.wac_types_collection.specs.reach.Reach.{IsIn}
 use Rattle.wac_types_collection.specs.collection.Bound.{lists_type}
-use Rattle.wac_encode_order.specs.TypeItems.{made_of, IsMadeOf, at_once, further, Reaches, IsNext, Takes}
-use Rattle.wac_encode_order.specs.SideOrder.{is_type_at, lists_resource, is_resource_at, ReachesType, positions_of}
+use Rattle.wac_encode_order.specs.private.TypeItems.{made_of, IsMadeOf, at_once, further, Reaches, IsNext, Takes}
+use Rattle.wac_encode_order.specs.private.SideOrder.{is_type_at, lists_resource, is_resource_at, ReachesType, positions_of}
 use Rattle.wac_encode_order.specs.private.Graph.{is_set}
 use Rattle.wac_encode_order.specs.private.Merging.{lists_plain_type, taken_below, rest_from, merged}
 use Rattle.wac_encode_order.proofs.Lists.{some-is}

@@ -14,7 +14,7 @@ use Rattle.wac_types_shapes.specs.declared.shapes.component.«Type».TheVariants
 use Rattle.wac_types_collection.specs.collection.Collection.{Collection}
 use Rattle.wac_types_collection.specs.collection.Aliases.{type_resolved}
 use Rattle.wac_types_collection.specs.reach.Reach.{IsIn}
-use Rattle.wac_encode_order.specs.TypeItems.{with_id, named_type, NamesAt, IsTypeItemAt}
+use Rattle.wac_encode_order.specs.private.TypeItems.{with_id, named_type, NamesAt, IsTypeItemAt}
 use Rattle.wac_encode_order.specs.private.Graph.{AreReached, IsFirst, AreNamed, listed_type}
 use Rattle.wac_encode_order.proofs.Lists.{some-is, within, there-is, below-or-last, second-is}
 

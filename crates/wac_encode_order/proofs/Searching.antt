@@ -16,7 +16,7 @@ use Rattle.wac_types_collection.specs.private.reach.Found.{with_all}
 use Rattle.wac_types_collection.proofs.lemmas.collection.Ends.{end_is_held, resource_end_is_held}
 use Rattle.wac_types_collection.proofs.lemmas.reach.Lists.{in_right, in_at, at_in, all_old, all_new, all_only, all_grown}
 use Rattle.wac_types_collection.proofs.lemmas.reach.Reaching.{mentioned_held}
-use Rattle.wac_encode_order.specs.TypeItems.{made_of, IsTypeItemAt}
+use Rattle.wac_encode_order.specs.private.TypeItems.{made_of, IsTypeItemAt}
 use Rattle.wac_encode_order.specs.private.Graph.{AllHeld, HaveItems, AreReached}
 use Rattle.wac_encode_order.proofs.Lists.{within, below-or-last}
 

@@ -9,9 +9,9 @@ use Rattle.wac_types_shapes.specs.declared.shapes.component.ItemKind.TheVariants
 use Rattle.wac_types_collection.specs.collection.Collection.{Collection}
 use Rattle.wac_types_collection.specs.collection.Bound.{lists_type}
 use Rattle.wac_edges.specs.cycles.Cycles.{Path}
-use Rattle.wac_encode_order.specs.TypeItems.{Takes}
-use Rattle.wac_encode_order.specs.Arranged.{Arranges}
-use Rattle.wac_encode_order.specs.SideOrder.{ReachesType, lists_instance, lists_rest, is_type_at, positions_of, counted_from, grouped, AreGroups}
+use Rattle.wac_encode_order.specs.private.TypeItems.{Takes}
+use Rattle.wac_encode_order.specs.private.Arranged.{Arranges}
+use Rattle.wac_encode_order.specs.private.SideOrder.{ReachesType, lists_instance, lists_rest, is_type_at, positions_of, counted_from, grouped, AreGroups}
 use Rattle.wac_encode_order.specs.private.Arranging.{AreAll, IsOnce}
 use Rattle.wac_encode_order.proofs.Lists.{some-is, within, there-is}
 use Rattle.wac_encode_order.proofs.KeySets.{In}

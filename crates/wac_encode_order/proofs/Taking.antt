@@ -15,7 +15,7 @@ use Rattle.wac_edges.specs.declared.node.NodeId.{NodeId}
 use Rattle.wac_edges.specs.Edge.{node_number, IsBlocked, IsFree}
 use Rattle.wac_edges.specs.Order.{Edges, IsEdge, IsLowestReady, without, Writes, Leads, IsOnCycle}
 use Rattle.wac_edges.proofs.EdgeLemmas.{same_node}
-use Rattle.wac_encode_order.specs.TypeItems.{made_of, IsMadeOf, at_once, further, IsTypeItemAt, Reaches, IsNext, Takes}
+use Rattle.wac_encode_order.specs.private.TypeItems.{made_of, IsMadeOf, at_once, further, IsTypeItemAt, Reaches, IsNext, Takes}
 use Rattle.wac_encode_order.specs.private.Graph.{AreReached, IsSource, IsPartOf, ComesBefore, items_of}
 use Rattle.wac_encode_order.proofs.Lists.{some-is, within, beyond}
 use Rattle.wac_encode_order.proofs.Lower.{height, part-lower}

@@ -1,5 +1,1 @@
-pub mod TypeItems
-pub mod Interfaces
-pub mod Arranged
-pub mod SideOrder
 pub mod private

@@ -7,7 +7,7 @@ ghost use Rattle.std.specs.BTreeSet as set;
 ghost use Rattle.std.specs.Ordering.{nat_cmp};
 ghost use Rattle.wac_edges.specs.private.cycles.Numbers.{AreBelow, Has};
 ghost use Rattle.wac_edges.specs.cycles.Cycles.{AreWithin, HasNoCycle, IsStep};
-ghost use Rattle.wac_encode_order.specs.Arranged.{Arranges, Selects};
+ghost use Rattle.wac_encode_order.specs.private.Arranged.{Arranges, Selects};
 ghost use Rattle.wac_encode_order.specs.private.Arranging.{AreAll, AreRanks, IsOnce, openings, with_all};
 
 use std::alloc::{AllocError, Global};

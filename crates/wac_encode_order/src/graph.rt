@@ -4,7 +4,7 @@ ghost use Rattle.std.specs.Option.{unwrap_or};
 ghost use Rattle.wac_types_shapes.specs.declared.shapes.component.«Type».{«Type» as AnyType};
 ghost use Rattle.wac_types_collection.specs.collection.Aliases.{type_resolved};
 ghost use Rattle.wac_types_collection.specs.reach.Reach.{IsIn};
-ghost use Rattle.wac_encode_order.specs.TypeItems.{named_type, with_id};
+ghost use Rattle.wac_encode_order.specs.private.TypeItems.{named_type, with_id};
 ghost use Rattle.wac_encode_order.specs.private.Graph.{Adds, AreNamed, AreReached, Below, IsPartOf, IsSource, ItemComesAfter, TypeComesAfter, flags};
 
 use crate::parts::{listed_type, parts_of, resolve, type_at};

@@ -5,7 +5,7 @@ ghost use Rattle.wac_types_shapes.specs.shapes.Kinds.{kind_type};
 ghost use Rattle.wac_types_shapes.specs.declared.shapes.component.Interface.{Interface as AnInterface};
 ghost use Rattle.wac_types_collection.specs.collection.Bound.{is_alias as is_alias_of, lists_type};
 ghost use Rattle.wac_types_collection.specs.collection.Collection.{HasInterface, HasResource, holds_type, item_at};
-ghost use Rattle.wac_encode_order.specs.Interfaces.{IsInterfaceOrder, is_later_at, lists_own_resource, lists_other_type, others_from};
+ghost use Rattle.wac_encode_order.specs.private.Interfaces.{IsInterfaceOrder, is_later_at, lists_own_resource, lists_other_type, others_from};
 ghost use Rattle.wac_encode_order.specs.private.Graph.{AreHeld};
 
 use crate::type_items::order_chosen;

@@ -4,7 +4,7 @@ ghost use Rattle.wac_types_shapes.specs.declared.shapes.component.«Type».TheVa
 ghost use Rattle.wac_types_collection.specs.collection.Collection.{seconds, and_maybe, case_values, value_types, func_mentions, defined_mentions, kind_types, holds_type};
 ghost use Rattle.wac_types_collection.specs.collection.Aliases.{handle_resolved, type_resolved};
 ghost use Rattle.wac_types_collection.specs.reach.Reach.{mentions};
-ghost use Rattle.wac_encode_order.specs.TypeItems.{made_of};
+ghost use Rattle.wac_encode_order.specs.private.TypeItems.{made_of};
 ghost use Rattle.wac_encode_order.specs.private.Graph.{listed_type as type_of};
 
 use std::alloc::AllocError;

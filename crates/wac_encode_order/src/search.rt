@@ -3,7 +3,7 @@ ghost use Rattle.std.specs.Prelude.{◌≡◌, true, length, map, IfOk, OnOk};
 ghost use Rattle.wac_types_collection.specs.collection.Collection.{holds_type};
 ghost use Rattle.wac_types_collection.specs.collection.Aliases.{type_resolved};
 ghost use Rattle.wac_types_collection.specs.private.reach.Found.{with_all};
-ghost use Rattle.wac_encode_order.specs.TypeItems.{made_of};
+ghost use Rattle.wac_encode_order.specs.private.TypeItems.{made_of};
 ghost use Rattle.wac_encode_order.specs.private.Graph.{AreHeld, AllHeld, AreReached, HaveItems};
 
 use crate::parts::{listed_type, parts_of, resolve};

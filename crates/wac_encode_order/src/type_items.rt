@@ -1,6 +1,6 @@
 //! The order of type items.
 ghost use Rattle.std.specs.Prelude.{◌≡◌, ◌+◌, ◌<◌, ◌^◌, IfOk, length};
-ghost use Rattle.wac_encode_order.specs.TypeItems.{Reaches, Takes};
+ghost use Rattle.wac_encode_order.specs.private.TypeItems.{Reaches, Takes};
 ghost use Rattle.wac_encode_order.specs.private.Graph.{AreHeld, AreReached, is_set, items_of};
 
 use crate::graph::Graph;

@@ -23,7 +23,7 @@ use Rattle.wac_encode_stacks.specs.Laws.{Adds, RecordsType, Follows, DefinesPrim
 use Rattle.wac_types_shapes.specs.primitives.Tree.{primitive}
 use Rattle.wac_types_shapes.specs.declared.primitives.component.PrimitiveType.{PrimitiveType}
 use Rattle.wac_encode_stacks.specs.Listed.{declaring, ClosesComponent}
-use Rattle.wac_encode_stacks.specs.Modules.{and_module, module_count, with_module, DefinesModule}
+use Rattle.wac_encode_stacks.specs.private.Modules.{and_module, module_count, with_module, DefinesModule}
 use Rattle.wac_encode_scopes.proofs.Added.{adds-def}
 use Rattle.wac_encode_scopes.proofs.Opened.{book-kept, opened-def}
 use Rattle.wac_encode_scopes.proofs.Stepped.{Added, goes-here}

@@ -19,7 +19,7 @@ use Rattle.wac_encode_stacks.specs.Good.{IsClosed, nothing_bound}
 use Rattle.wac_encode_stacks.proofs.Moved.{held-here, moved-defined}
 use Rattle.wac_encode_stacks.proofs.Unfolded.{defined_same}
 use Rattle.wac_encode_stacks.proofs.Values.{held_value, defined-step, primitive-held}
-use Rattle.wac_encode_scopes.specs.Parts.{parts}
+use Rattle.wac_encode_scopes.specs.private.Parts.{parts}
 use Rattle.wac_encode_scopes.specs.Closed.{bit_at, SaysClosed}
 use Rattle.wac_encode_scopes.specs.private.Bits.{value_bit, part_bit, SaysParts}
 use Rattle.wac_encode_scopes.proofs.PartLists.{in-parts, part-below, somes-parts, somes}

@@ -24,7 +24,7 @@ use Rattle.wac_encode_stacks.specs.Scopes.{Content, declarations, root, Open, St
 use Rattle.wac_encode_stacks.specs.Good.{At, Good, nothing_bound, innermost, Stands, Onward, top}
 use Rattle.wac_encode_stacks.specs.Laws.{Adds}
 use Rattle.wac_encode_stacks.specs.Listed.{side_decl, IsNewName, Lists, ListsEqual, ListsFunc, ListsInstance, ListsComponent, ListsModule, ClosesInstance, OpensWorld, calling, listed_leaf, RecordsNoType, ListsFresh, ListsOwn, BindsMore}
-use Rattle.wac_encode_stacks.specs.Inside.{StartsRoot}
+use Rattle.wac_encode_stacks.specs.private.Inside.{StartsRoot}
 use Rattle.wac_encode_scopes.proofs.Outward.{outward-append}
 use Rattle.wac_types_shapes.specs.declared.shapes.component.ResourceId.{ResourceId}
 use Rattle.wac_encode_scopes.proofs.Stepped.{bound-there}

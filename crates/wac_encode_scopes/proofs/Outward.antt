@@ -11,7 +11,7 @@ use Rattle.wac_encode_scopes.specs.Books.{opened}
 use Rattle.wac_encode_scopes.specs.States.{outward, IsPlace}
 use Rattle.wac_encode_stacks.specs.Scopes.{Where, Open, Stack, next_type, at_type, at_export}
 use Rattle.wac_encode_stacks.specs.Parts.{IsReached}
-use Rattle.wac_encode_stacks.specs.Inside.{changed_at, next_type_at}
+use Rattle.wac_encode_stacks.specs.private.Inside.{changed_at, next_type_at}
 use Rattle.wac_encode_scopes.specs.private.Steps.{export_of}
 
 pub outward-append : (b : Bool) (xs ys : List Scope) → outward b (xs ++ ys) ≡ outward b ys ++ outward b xs

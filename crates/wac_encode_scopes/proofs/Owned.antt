@@ -39,7 +39,7 @@ use Rattle.wac_encode_scopes.specs.Books.{opened}
 use Rattle.wac_encode_scopes.specs.States.{stack}
 use Rattle.wac_encode_scopes.proofs.Opened.{one-more}
 use Rattle.wac_encode_stacks.specs.Listed.{AreListed, IsUnder, IsNewName, declaring, Lists, calling, listed_leaf, RecordsNoType, ListsOwn, ListsOneMore, called_inside, OpensInterface, CallsOneMore, CallsNoMore, CallsAll, FreshInInterface, CallsOwn}
-use Rattle.wac_encode_scopes.specs.Interfaces.{own_in, own_item, own_items, fresh_exports, BindsNone, BindsOne, RecordsOwn, BeginsInterface}
+use Rattle.wac_encode_scopes.specs.private.Interfaces.{own_in, own_item, own_items, fresh_exports, BindsNone, BindsOne, RecordsOwn, BeginsInterface}
 use Rattle.wac_encode_scopes.specs.private.Steps.{and_fresh, with_fresh, with_own_in, with_own, exporting, OwnIsBound}
 
 and-parts : (a b : Bool) → (a && b) ≡ true → (a ≡ true) × (b ≡ true)

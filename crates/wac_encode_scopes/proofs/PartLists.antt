@@ -11,7 +11,7 @@ use Rattle.wac_types_shapes.specs.declared.shapes.component.ValueType.TheVariant
 use Rattle.wac_types_collection.specs.declared.collection.collection.Held.{Held}
 use Rattle.wac_types_collection.specs.collection.Collection.{Collection, IsWellFormed, IsPartBelow, and_maybe, case_values, seconds, defined_values, item_at, item_of, size}
 use Rattle.wac_types_collection.specs.collection.Aliases.{aliased, value_resolved, value_resolved_in}
-use Rattle.wac_encode_scopes.specs.Parts.{parts, some_of, second_of, some_second_of}
+use Rattle.wac_encode_scopes.specs.private.Parts.{parts, some_of, second_of, some_second_of}
 
 -- the parts that there are
 abbrev pub somes : List (Option ValueType) → List ValueType

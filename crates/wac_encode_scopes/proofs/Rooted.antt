@@ -29,7 +29,7 @@ use Rattle.wac_encode_stacks.specs.Good.{Good, Onward}
 use Rattle.wac_encode_stacks.specs.Laws.{Adds}
 use Rattle.wac_encode_stacks.specs.Listed.{calling}
 use Rattle.wac_encode_stacks.specs.Instances.{position_of, import_leaf, ImportsInstance, ImportsType, ImportsFresh, ImportsFunc, ImportsModule, ImportsComponent}
-use Rattle.wac_encode_stacks.specs.Inside.{RootGoesOn}
+use Rattle.wac_encode_stacks.specs.private.Inside.{RootGoesOn}
 use Rattle.wac_encode_scopes.proofs.Opened.{book-kept}
 
 module _ (type_law : ImportsType) (func : ImportsFunc) (inst : ImportsInstance) (comp : ImportsComponent) (mod_ : ImportsModule) where

@@ -14,7 +14,7 @@ use Rattle.wac_encode_scopes.specs.States.{outward, stack, AllAddTypes, Goes, Go
 use Rattle.wac_encode_scopes.specs.private.Steps.{Records, ScopeChanges, StateChanges, settled, settled_from}
 use Rattle.wac_encode_stacks.specs.Scopes.{Content, Open, Stack, Where, at_type, at_export, next_type, with_alias_of, bind_at, How, defined, index_at, with_def}
 use Rattle.wac_encode_stacks.specs.Beside.{SameWritten, written_as, all_written_as}
-use Rattle.wac_encode_stacks.specs.Inside.{changed_at, aliased_there, next_type_at, brought, SettlesThere, HasIndexAround, HasIndexHere}
+use Rattle.wac_encode_stacks.specs.private.Inside.{changed_at, aliased_there, next_type_at, brought, SettlesThere, HasIndexAround, HasIndexHere}
 use Rattle.wac_encode_scopes.proofs.Added.{adds-none, adds-both}
 use Rattle.wac_encode_scopes.proofs.Outward.{changed-there, set-outward, split-at}
 use Rattle.std.proofs.lemmas.Bool.{eq-eqb}

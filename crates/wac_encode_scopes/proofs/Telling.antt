@@ -41,8 +41,8 @@ use Rattle.wac_encode_scopes.specs.declared.state.State.{State}
 use Rattle.wac_encode_scopes.specs.Books.{opened}
 use Rattle.wac_encode_scopes.specs.States.{outward, stack, named_in}
 use Rattle.wac_encode_scopes.specs.Closed.{AreClosedTypes, SaysClosed, is_closed_in}
-use Rattle.wac_encode_scopes.specs.Interfaces.{own_in}
-use Rattle.wac_encode_scopes.specs.Telling.{with_own_names, all_own, definition_of, definition_in, binding_own, exporting_values, telling, MayBind, TellsInstance}
+use Rattle.wac_encode_scopes.specs.private.Interfaces.{own_in}
+use Rattle.wac_encode_scopes.specs.private.Telling.{with_own_names, all_own, definition_of, definition_in, binding_own, exporting_values, telling, MayBind, TellsInstance}
 use Rattle.wac_encode_scopes.specs.private.Steps.{ScopeChanges, that_passes, bound_to, told_to}
 use Rattle.wac_encode_scopes.proofs.Owned.{own-some, own-listed, own-at, own-before, own-found, at-below}
 use Rattle.wac_encode_scopes.proofs.Told.{none-more, other-more, mine-more, none-told, binding-none, binding-more, exporting-more, exporting-none}

@@ -16,8 +16,8 @@ use Rattle.wac_types_collection.specs.collection.Bound.{lists_own, own_name}
 use Rattle.wac_types_collection.specs.collection.Uses.{named_right}
 use Rattle.wac_encode_stacks.specs.Scopes.{Where, at_type, at_export, How, defined, brought, listed, Indexed, Open, export_at}
 use Rattle.wac_encode_scopes.specs.States.{named_by, named_of, named_in}
-use Rattle.wac_encode_scopes.specs.Interfaces.{own_in}
-use Rattle.wac_encode_scopes.specs.Telling.{with_own_names, definition_in, value_name, with_values, binding_own, exporting_values}
+use Rattle.wac_encode_scopes.specs.private.Interfaces.{own_in}
+use Rattle.wac_encode_scopes.specs.private.Telling.{with_own_names, definition_in, value_name, with_values, binding_own, exporting_values}
 use Rattle.wac_encode_scopes.specs.private.Steps.{that_passes, bound_to, told_to}
 use Rattle.wac_encode_scopes.proofs.Types.{eqb-swap}
 use Rattle.wac_encode_scopes.proofs.Owned.{own-lists, own-none, own-append, own-before, same-id}

@@ -2,11 +2,8 @@ pub mod Contents
 pub mod Books
 pub mod States
 pub mod Listing
-pub mod Parts
 pub mod Closed
-pub mod Interfaces
 pub mod Components
 pub mod Roots
 pub mod Lending
-pub mod Telling
 pub mod private

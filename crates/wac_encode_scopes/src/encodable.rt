@@ -7,7 +7,7 @@ ghost use Rattle.wac_binary.specs.Items.{value_def, instance_def, component_def,
 ghost use Rattle.wac_binary.specs.Indexes.{space, described_sort};
 ghost use Rattle.wac_binary.specs.Views.{defined_of, func_of};
 ghost use Rattle.wac_encode_stacks.specs.Scopes.{type_count};
-ghost use Rattle.wac_encode_stacks.specs.Modules.{module_count};
+ghost use Rattle.wac_encode_stacks.specs.private.Modules.{module_count};
 ghost use Rattle.wac_encode_scopes.specs.Roots.{IsRoot, items_of, and_import};
 ghost use Rattle.wac_encode_scopes.specs.Lending.{LendsContent};
 ghost use Rattle.wac_encode_scopes.specs.private.Steps.{and_core_type};

@@ -7,8 +7,8 @@ ghost use Rattle.wac_types_shapes.specs.declared.shapes.component.Interface.{Int
 ghost use Rattle.wac_types_collection.specs.collection.Collection.{HasInterface, item_at};
 ghost use Rattle.wac_encode_scopes.specs.Closed.{AreClosedTypes, is_closed_in};
 ghost use Rattle.wac_encode_scopes.specs.States.{AllAddTypes, RecordsHere};
-ghost use Rattle.wac_encode_scopes.specs.Interfaces.{own_in};
-ghost use Rattle.wac_encode_scopes.specs.Telling.{is_one_of, all_own, definition_in, binding_own, exporting_values, telling, TellsInstance};
+ghost use Rattle.wac_encode_scopes.specs.private.Interfaces.{own_in};
+ghost use Rattle.wac_encode_scopes.specs.private.Telling.{is_one_of, all_own, definition_in, binding_own, exporting_values, telling, TellsInstance};
 ghost use Rattle.wac_encode_scopes.specs.private.Steps.{ScopeChanges, that_passes, bound_to, told_to};
 
 use crate::book::Place;

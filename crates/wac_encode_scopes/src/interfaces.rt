@@ -9,7 +9,7 @@ ghost use Rattle.wac_encode_scopes.specs.declared.encodable.Encodable.TheVariant
 ghost use Rattle.wac_encode_scopes.specs.Contents.{IsInstanceType};
 ghost use Rattle.wac_encode_scopes.specs.Books.{opened};
 ghost use Rattle.wac_encode_scopes.specs.Listing.{IsSame};
-ghost use Rattle.wac_encode_scopes.specs.Interfaces.{own_in, own_items, fresh_exports, BindsNone, BindsOne, BeginsInterface};
+ghost use Rattle.wac_encode_scopes.specs.private.Interfaces.{own_in, own_items, fresh_exports, BindsNone, BindsOne, BeginsInterface};
 ghost use Rattle.wac_encode_scopes.specs.private.Steps.{with_own_in, with_own, exporting, OwnIsBound};
 
 use crate::scope::Scope;

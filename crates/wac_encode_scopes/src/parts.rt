@@ -2,7 +2,7 @@
 
 ghost use Rattle.std.specs.Prelude.{◌≡◌, ◌+◌, ◌<◌, ◌^◌, ◌∷◌, [], map, slice_get};
 ghost use Rattle.std.specs.Option.{OnSome};
-ghost use Rattle.wac_encode_scopes.specs.Parts.{parts, some_of, second_of, some_second_of};
+ghost use Rattle.wac_encode_scopes.specs.private.Parts.{parts, some_of, second_of, some_second_of};
 
 use wac_types_collection::{DefinedType, Named, Sequence, ValueType};
 

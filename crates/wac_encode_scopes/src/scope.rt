@@ -17,7 +17,7 @@ ghost use Rattle.wac_encode_scopes.specs.Books.{where_of, how_of, maybe_indexed,
 ghost use Rattle.wac_encode_scopes.specs.private.Steps.{ScopeChanges, IsExported, aliased_from, settled, settled_value, with_fresh, with_fresh_import, and_core_type, export_of, empty_scope, either};
 ghost use Rattle.wac_encode_scopes.specs.Roots.{IsRoot, items_of, and_import};
 ghost use Rattle.wac_encode_scopes.specs.Lending.{LendsScope};
-ghost use Rattle.wac_encode_stacks.specs.Modules.{module_count};
+ghost use Rattle.wac_encode_stacks.specs.private.Modules.{module_count};
 
 use crate::book::{Book, Entry, How, Place};
 use crate::encodable::Encodable;

@@ -22,7 +22,7 @@ ghost use Rattle.wac_encode_scopes.specs.Contents.{HasSide, IsInstanceType, side
 ghost use Rattle.wac_encode_scopes.specs.Books.{opened, how_of};
 ghost use Rattle.wac_encode_scopes.specs.Listing.{ListsItem, ListsResource, BindsExport, BindsType, MayTell, Opens, Closes, ClosesInto, IsSame, IsNonempty};
 ghost use Rattle.wac_encode_stacks.specs.Parts.{IsReached};
-ghost use Rattle.wac_encode_stacks.specs.Inside.{next_type_at};
+ghost use Rattle.wac_encode_stacks.specs.private.Inside.{next_type_at};
 ghost use Rattle.wac_encode_scopes.specs.States.{stack, RecordsHere, KeepsRecords, named_in, IsNamedAt, Crosses, AllAddTypes, Goes, GoesForAll, SaysWritten, SaysWrittenFunc, IsRecordedAt, IsTypeAt, IsBound, IsResourceAt, IsPlace};
 ghost use Rattle.wac_encode_scopes.specs.private.Steps.{StateChanges, settled, settled_value};
 

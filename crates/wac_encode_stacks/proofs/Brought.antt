@@ -15,7 +15,7 @@ use Rattle.wac_binary.specs.HasMeaning.{IsValue, IsFunction, IsInstance, IsCompo
 use Rattle.wac_encode_stacks.specs.private.Reads.{Reads}
 use Rattle.wac_encode_stacks.specs.Scopes.{Where, at_type, at_export, brought, Open, Stack, env, envs, with_alias_of}
 use Rattle.wac_encode_stacks.specs.Good.{Stands, IsHeld, IsOf, Carries, seen_inside, Good, top, GoodScope}
-use Rattle.wac_encode_stacks.specs.Inside.{changed_at}
+use Rattle.wac_encode_stacks.specs.private.Inside.{changed_at}
 use Rattle.wac_encode_stacks.specs.Brought.{bindings_at, AllPass, MayCross, GoodOnce, FindsOrUnbound, KnowsType, KnowsExport, aliased_value, SettlesValueThere, BringsFrom, StillPass}
 use Rattle.wac_encode_stacks.proofs.Moved.{ap2}
 use Rattle.wac_encode_stacks.proofs.Meant.{value-type}

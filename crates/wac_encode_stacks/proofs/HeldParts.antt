@@ -23,7 +23,7 @@ use Rattle.wac_types_collection.specs.collection.Bound.{Bindings, own_name, insi
 use Rattle.wac_binary.specs.HasMeaning.{IsValue, IsResource}
 use Rattle.wac_encode_stacks.specs.Good.{IsHeld, IsClosed, Carries}
 use Rattle.wac_encode_stacks.specs.Listed.{IsItem}
-use Rattle.wac_encode_stacks.specs.HeldParts.{HeldCarried, HeldFurtherIn, HeldUnderMore, HoldsAll, HoldsParts, HoldsFuncParts, HoldsItems, HandlesAreBound, ResourceIsBound}
+use Rattle.wac_encode_stacks.specs.private.HeldParts.{HeldCarried, HeldFurtherIn, HeldUnderMore, HoldsAll, HoldsParts, HoldsFuncParts, HoldsItems, HandlesAreBound, ResourceIsBound}
 use Rattle.wac_encode_stacks.proofs.Moved.{on, changed, own_leaf, held-here, held-moves, moved-moved, moved-defined, moved-func}
 use Rattle.wac_encode_stacks.proofs.Values.{held_value, defined-step, func-step}
 use Rattle.wac_encode_stacks.proofs.HeldValues.{value-moved, called_somehow, still-called, own-value, borrow-value}

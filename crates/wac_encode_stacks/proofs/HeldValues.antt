@@ -16,7 +16,7 @@ use Rattle.wac_types_collection.specs.collection.Held.{resolved}
 use Rattle.wac_types_collection.specs.collection.Bound.{Bindings, held_tree}
 use Rattle.wac_binary.specs.HasMeaning.{IsValue}
 use Rattle.wac_encode_stacks.specs.Good.{IsHeld, Carries}
-use Rattle.wac_encode_stacks.specs.HeldParts.{HoldsValue}
+use Rattle.wac_encode_stacks.specs.private.HeldParts.{HoldsValue}
 use Rattle.wac_encode_stacks.proofs.Unfolded.{type_before, value_more}
 use Rattle.wac_encode_stacks.proofs.Values.{primitive-held, defined-step}
 

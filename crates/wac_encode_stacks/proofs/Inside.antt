@@ -11,7 +11,7 @@ use Rattle.wac_encode_stacks.specs.private.Reads.{Reads}
 use Rattle.wac_encode_stacks.specs.Scopes.{Where, at_type, at_export, Open, env, envs, root, next_type, with_alias_of, bind_at}
 use Rattle.wac_encode_stacks.specs.Good.{Keeps, top}
 use Rattle.wac_encode_stacks.specs.Instances.{holding}
-use Rattle.wac_encode_stacks.specs.Inside.{ByStep, ByItem, ByBoth, KeepsIs, changed_at, aliased_there, SettlesThere, HasIndexHere, HasIndexAround, StartsRoot, RootGoesOn}
+use Rattle.wac_encode_stacks.specs.private.Inside.{ByStep, ByItem, ByBoth, KeepsIs, changed_at, aliased_there, SettlesThere, HasIndexHere, HasIndexAround, StartsRoot, RootGoesOn}
 use Rattle.wac_encode_stacks.proofs.Grow.{grows-keeps, grown-refl, grown-trans, keeps-trans, good-pushed}
 use Rattle.wac_encode_stacks.proofs.Steps.{outer-onward}
 use Rattle.wac_encode_stacks.proofs.Values.{is-keeps}

@@ -13,7 +13,7 @@ use Rattle.wac_binary.specs.HasMeaning.{ModuleHasMeaning}
 use Rattle.wac_encode_stacks.proofs.Meant.{steady}
 use Rattle.wac_encode_stacks.specs.Scopes.{Content, declarations, root, ContentHasMeaning, env, envs, scope_of}
 use Rattle.wac_encode_stacks.specs.Good.{At, Keeps, Kept, is_bottom, top}
-use Rattle.wac_encode_stacks.specs.Modules.{and_module, module_count, with_module, DefinesModule, HoldsModule}
+use Rattle.wac_encode_stacks.specs.private.Modules.{and_module, module_count, with_module, DefinesModule, HoldsModule}
 use Rattle.wac_encode_stacks.proofs.Grow.{at-append, at-last, under-refl, Gives, good-pushed}
 use Rattle.wac_encode_stacks.proofs.Steps.{IsSteady, top-onward}
 

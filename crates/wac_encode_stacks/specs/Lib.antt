@@ -4,9 +4,6 @@ pub mod Parts
 pub mod Laws
 pub mod Listed
 pub mod Instances
-pub mod Inside
 pub mod Brought
-pub mod HeldParts
-pub mod Modules
 pub mod Beside
 pub mod private

@@ -1,1 +1,4 @@
 pub mod Reads
+pub mod HeldParts
+pub mod Inside
+pub mod Modules

@@ -1,7 +1,6 @@
-pub mod StillOpen
-pub mod Saying
-pub mod Added
-pub mod lemmas
 pub mod OpenScopes
 pub mod RootItems
+pub mod RootDefinitions
+pub mod RootMerges
 pub mod WorldDefinitions
+pub mod HandWritten

@@ -1,3 +1,4 @@
-pub mod examples
 pub mod Stacks
 pub mod Opened
+pub mod Merged
+pub mod ByHand

@@ -1,24 +1,21 @@
-//! Tests of open scopes, of the writers of types, of worlds and of the root, of a root that is written by hand, of the imports
-//! of a merge, and of the faults of items, through what they make public.
+//! Tests of the encoder: of open scopes, of the writers of types, of roots with imports and definitions, and of the faults of
+//! items, through what they make public.
 #![tactic(auto)]
 
 #[cfg(test)]
+mod by_hand;
+#[cfg(test)]
 mod component_types;
 #[cfg(test)]
-mod definitions;
-mod examples;
+mod defined;
+#[cfg(test)]
+mod depth;
 #[cfg(test)]
 mod faults;
 #[cfg(test)]
-mod imports;
-#[cfg(test)]
-mod interfaces;
-#[cfg(test)]
-mod merges;
+mod merged;
 #[cfg(test)]
 mod modules;
-#[cfg(test)]
-mod nested;
 #[cfg(test)]
 mod opened;
 #[cfg(test)]
@@ -26,12 +23,6 @@ mod roots;
 #[cfg(test)]
 mod rows;
 #[cfg(test)]
-mod scopes;
-#[cfg(test)]
 mod stacks;
 #[cfg(test)]
-mod states;
-#[cfg(test)]
-mod values;
-#[cfg(test)]
-mod worlds;
+mod tables;

@@ -1,157 +1,147 @@
-//! Types and imports that are written at the root.
-ghost use Rattle.std.specs.Prelude.{OnOk};
-ghost use Rattle.wac_scopes.specs.Contents.{IsRoot};
+//! Roots: what a component imports and defines, and its bytes.
 
-use crate::rows::Row::{Alias, Enumeration, Func};
-use crate::rows::{Items, component};
-use std::alloc::Global;
+use crate::defined::define_all;
+use crate::merged::import_merge;
+use crate::opened::import_all;
+use crate::rows::{Items, assert_row};
+use crate::tables::{RootRow, definitions, inside, merges, names, resources, sorts, told};
 use std::process::Abort;
-use wac_binary::{ComponentBuilder, EntityType, MemoryType, ModuleType, Sort};
-use wac_encode::{TypeEncoder, Worlds};
-use wac_root::RootEncoder;
-use wac_scopes::{Encodable, EncodeFault, Scope};
-use wac_types_shapes::{DefinedTypeId, Type};
+use wac_encode_scopes::{ClosedTypes, State};
 
-const FUNCTION: &[u8] = &[
-    0x00, 0x61, 0x73, 0x6d, 0x0d, 0x00, 0x01, 0x00, // the preamble
-    0x07, 0x05, 0x01, 0x40, 0x00, 0x01, 0x00, // a function type without parameters
-    0x0a, 0x06, 0x01, 0x00, 0x01, 0x78, 0x01, 0x00, // the import
-    0x0b, 0x07, 0x01, 0x00, 0x01, 0x79, 0x01, 0x00, 0x00, // the export
-];
-
-const ITEMS: &[u8] = &[
-    0x00, 0x61, 0x73, 0x6d, 0x0d, 0x00, 0x01, 0x00, // the preamble
-    0x07, 0x05, 0x01, 0x6d, 0x01, 0x01, 0x61, // the enum
-    0x0a, 0x07, 0x01, 0x00, 0x01, 0x74, 0x03, 0x00, 0x00, // a type item that equals it
-    0x07, 0x08, 0x01, 0x40, 0x01, 0x01, 0x78, 0x01, 0x01, 0x00, // a function type over the item's own index
-    0x0a, 0x06, 0x01, 0x00, 0x01, 0x66, 0x01, 0x02, // a function
-];
-
-const MODULE: &[u8] = &[
-    0x00, 0x61, 0x73, 0x6d, 0x0d, 0x00, 0x01, 0x00, // the preamble
-    0x03, 0x14, 0x01, 0x50, 0x03, // a core module type of three declarations
-    0x01, 0x60, 0x00, 0x00, // a function type
-    0x00, 0x01, 0x6d, 0x01, 0x66, 0x00, 0x00, // the import of a function
-    0x03, 0x01, 0x65, 0x02, 0x00, 0x01, // the export of a memory
-    0x0a, 0x07, 0x01, 0x00, 0x01, 0x6b, 0x00, 0x11, 0x00, // the import
-];
-
-// A root in which nothing is written.
-fn new_root(alloc: Global) -> Scope
-    ensures { IsRoot result.content }
-{
-    Scope::new(alloc, Encodable::Builder(ComponentBuilder::new(alloc)))
+// The bytes of a component that imports items one by one, of types of the merged collection or of the graph's own.
+fn imported(rt: &impl Abort, items: &Items, merged: bool, row: &RootRow) -> Vec<u8> {
+    let closed = ClosedTypes::new(&items.types).expect(rt, "the closed definitions");
+    let mut state = State::root(items.types.allocator());
+    import_all(rt, items, &closed, merged, &mut state, row.imports);
+    define_all(rt, items, &closed, merged, &mut state, row.definitions);
+    state.into_builder().into_bytes().expect(rt, "bytes")
 }
 
-// Writes a value type.
-fn write(rt: &impl Abort, items: &Items, root: &mut Scope, place: usize) -> Result<(), EncodeFault>
-    requires { IsRoot root.old.content }
-    ensures { OnOk result (IsRoot root.new.content) }
-{
-    let value = items.value(rt, place);
-    assert!(rt; items.types.contains(Type::Value(value)));
-    let worlds = Worlds::new(items.types.allocator());
-    TypeEncoder::new(&items.types, &worlds).value_type(root, value)?;
-    Ok(())
+// The bytes of a component that imports items as a merge.
+fn merged(rt: &impl Abort, items: &Items, row: &RootRow) -> Vec<u8> {
+    let closed = ClosedTypes::new(&items.types).expect(rt, "the closed definitions");
+    let mut state = import_merge(rt, items, row.imports);
+    define_all(rt, items, &closed, false, &mut state, row.definitions);
+    state.into_builder().into_bytes().expect(rt, "bytes")
 }
 
-// Imports a type item that equals the definition at an index, and answers its own index.
-fn import_value(
-    root: &mut Scope,
-    name: &str,
-    id: DefinedTypeId,
-    index: u32,
-) -> Result<u32, EncodeFault>
-    requires { IsRoot root.old.content }
-    ensures { OnOk result (IsRoot root.new.content) }
-{
-    root.import_value(name, id, index)
+// Each is written so, its items one by one.
+fn assert_imported(rt: &(impl Abort + AllocGlobal), rows: &[RootRow]) {
+    for row in rows {
+        let items = Items::new(rt, rt.alloc(), row.rows);
+        let bytes = imported(rt, &items, true, row);
+        assert_row(rt, bytes.as_slice().get(8..) == Some(row.want), row.name);
+        let bytes = imported(rt, &items, false, row);
+        assert_row(rt, bytes.as_slice().get(8..) == Some(row.want), row.name);
+    }
 }
 
-// Imports a function, and answers its index.
-fn import_func(
-    rt: &impl Abort,
-    items: &Items,
-    root: &mut Scope,
-    name: &str,
-    place: usize,
-) -> Result<u32, EncodeFault>
-    requires { IsRoot root.old.content }
-{
-    let f = items.func(rt, place);
-    assert!(rt; items.types.contains(Type::Func(f)));
-    let worlds = Worlds::new(items.types.allocator());
-    RootEncoder::new(&items.types, &worlds).import_func(root, name, f)
+// Each is written so, its items as a merge.
+fn assert_merged(rt: &(impl Abort + AllocGlobal), rows: &[RootRow]) {
+    for row in rows {
+        let items = Items::new(rt, rt.alloc(), row.rows);
+        let bytes = merged(rt, &items, row);
+        assert_row(rt, bytes.as_slice().get(8..) == Some(row.want), row.name);
+    }
 }
 
-// The root's component has these bytes.
-fn assert_written(rt: &impl Abort, builder: ComponentBuilder, want: &[u8]) {
-    assert!(rt; builder.finish().expect(rt, "bytes").as_slice() == want);
+// Each is written so, its items one by one and as a merge.
+fn assert_written(rt: &(impl Abort + AllocGlobal), rows: &[RootRow]) {
+    assert_imported(rt, rows);
+    assert_merged(rt, rows);
 }
 
-// A function without parameters is imported, and exported again.
 #[test]
-fn imports_a_function(rt: HostRuntime) {
-    let items = Items::new(&rt, rt.alloc(), &[Func(&[], None)]);
-    let mut root = new_root(rt.alloc());
-    assert!(rt; import_func(&rt, &items, &mut root, "x", 0) == Ok(0));
-    let mut builder = component(&rt, root);
-    builder.export("y", Sort::Func, 0).expect(&rt, "an export");
-    assert_written(&rt, builder, FUNCTION);
+fn own_and_used_resources_are_written(rt: HostRuntime) {
+    assert_written(&rt, resources::RESOURCES);
 }
 
-// An enum, its type item, and a function over an alias of it, which takes the item's index.
 #[test]
-fn imports_a_named_type(rt: HostRuntime) {
-    let rows = [Enumeration("a"), Alias(0), Func(&[("x", 1)], None)];
-    let items = Items::new(&rt, rt.alloc(), &rows);
-    let mut root = new_root(rt.alloc());
-    write(&rt, &items, &mut root, 1).expect(&rt, "a type");
-    let named = import_value(&mut root, "t", items.definition_id(&rt, 0), 0);
-    assert!(rt; named.expect(&rt, "an import") == 1);
-    assert!(rt; import_func(&rt, &items, &mut root, "f", 2) == Ok(0));
-    assert_written(&rt, component(&rt, root), ITEMS);
+fn resources_are_bound_scope_by_scope(rt: HostRuntime) {
+    assert_written(&rt, resources::BOUND);
 }
 
-// A core module that imports a function and exports a memory.
-fn module(rt: &impl Abort, alloc: Global) -> ModuleType {
-    let mut module = ModuleType::new(alloc);
-    let f = module.func(&[], &[]).expect(rt, "a function type");
-    let imported = module.import("m", "f", EntityType::Function(f));
-    imported.expect(rt, "an import");
-    let memory = MemoryType {
-        minimum: 1,
-        maximum: None,
-        memory64: false,
-        shared: false,
-        page_size_log2: None,
-    };
-    let exported = module.export("e", EntityType::Memory(memory));
-    exported.expect(rt, "an export");
-    module
-}
-
-// Writes that module's type.
-fn define_module(root: &mut Scope, module: &ModuleType) -> Result<u32, EncodeFault>
-    requires { IsRoot root.old.content }
-    ensures { OnOk result (IsRoot root.new.content) }
-{
-    root.define_module(module)
-}
-
-// Imports the module whose type stands at an index.
-fn import_module(root: &mut Scope, name: &str, index: u32) -> Result<u32, EncodeFault>
-    requires { IsRoot root.old.content }
-{
-    root.import_module(name, index)
-}
-
-// The core module is imported.
 #[test]
-fn imports_a_module(rt: HostRuntime) {
-    let module = module(&rt, rt.alloc());
-    let mut root = new_root(rt.alloc());
-    let index = define_module(&mut root, &module).expect(&rt, "an index");
-    assert!(rt; import_module(&mut root, "k", index) == Ok(0));
-    assert_written(&rt, component(&rt, root), MODULE);
+fn types_are_taken_by_their_names(rt: HostRuntime) {
+    assert_written(&rt, names::NAMES);
+}
+
+#[test]
+fn types_are_taken_from_the_instances_that_export_them(rt: HostRuntime) {
+    assert_written(&rt, names::LISTED);
+}
+
+#[test]
+fn type_items_name_types_for_functions(rt: HostRuntime) {
+    assert_written(&rt, names::FUNCTIONS);
+}
+
+#[test]
+fn type_items_come_in_order(rt: HostRuntime) {
+    assert_written(&rt, names::ORDERED);
+}
+
+#[test]
+fn instances_inside_are_written(rt: HostRuntime) {
+    assert_written(&rt, inside::INSIDE);
+}
+
+#[test]
+fn interfaces_and_worlds_inside_are_written(rt: HostRuntime) {
+    assert_written(&rt, inside::DEEP);
+}
+
+#[test]
+fn types_are_written_once(rt: HostRuntime) {
+    assert_imported(&rt, inside::ONCE);
+}
+
+#[test]
+fn each_sort_of_item_is_imported_after_its_type(rt: HostRuntime) {
+    assert_written(&rt, sorts::SORTS);
+}
+
+#[test]
+fn components_are_imported(rt: HostRuntime) {
+    assert_written(&rt, sorts::COMPONENTS);
+}
+
+#[test]
+fn types_and_interfaces_are_defined(rt: HostRuntime) {
+    assert_written(&rt, definitions::DEFINITIONS);
+}
+
+#[test]
+fn worlds_are_defined(rt: HostRuntime) {
+    assert_written(&rt, definitions::WORLDS);
+}
+
+#[test]
+fn instances_of_a_merge_are_imported(rt: HostRuntime) {
+    assert_merged(&rt, merges::OWN);
+}
+
+#[test]
+fn resources_of_a_merge_are_imported(rt: HostRuntime) {
+    assert_merged(&rt, merges::MERGED_RESOURCES);
+}
+
+#[test]
+fn imports_of_a_merge_come_in_order(rt: HostRuntime) {
+    assert_merged(&rt, merges::MERGED_SORTS);
+}
+
+#[test]
+fn core_modules_of_a_merge_are_imported(rt: HostRuntime) {
+    assert_merged(&rt, merges::MODULES);
+}
+
+#[test]
+fn definitions_take_imports(rt: HostRuntime) {
+    assert_merged(&rt, told::TOLD);
+}
+
+#[test]
+fn definitions_take_exports_of_merged_instances(rt: HostRuntime) {
+    assert_merged(&rt, told::ALIASED);
 }

@@ -3,8 +3,6 @@
 use crate::modules::{Extern, core_module};
 use std::alloc::Global;
 use std::process::Abort;
-use wac_binary::ComponentBuilder;
-use wac_scopes::{Encodable, Scope};
 use wac_types_collection::Types;
 use wac_types_shapes::{
     DefinedType, DefinedTypeId, Enum, FuncType, FuncTypeId, Interface, InterfaceId, ItemKind,
@@ -75,14 +73,6 @@ pub struct Items {
 /// What a row of a table says is true.
 pub fn assert_row(rt: &impl Abort, holds: bool, name: &str) {
     assert!(rt; holds, "{name}");
-}
-
-/// The component whose root this is.
-pub fn component(rt: &impl Abort, root: Scope) -> ComponentBuilder {
-    match root.into_content() {
-        Encodable::Builder(builder) => builder,
-        _ => panic!(rt; "no component"),
-    }
 }
 
 fn value_item(value: ValueType) -> ItemKind {

@@ -22,7 +22,7 @@ use Rattle.wac_encode_stacks.specs.Good.{Good, top, innermost}
 use Rattle.wac_encode_stacks.specs.Parts.{MaybeIs, AreValues, AreFields, AreCases, IsWritten}
 use Rattle.wac_encode_scopes.specs.declared.state.State.{State}
 use Rattle.wac_encode_scopes.specs.States.{stack, SaysWritten}
-use Rattle.wac_encode_scopes.specs.Parts.{parts, some_of, second_of, some_second_of}
+use Rattle.wac_encode_scopes.specs.private.Parts.{parts, some_of, second_of, some_second_of}
 use Rattle.wac_encode_values.specs.private.Parts.{MaybeWrittenAs, AreParts, IsMadeOf, IsPresent, ArePresent, IsPlain, IsText, IsFieldName, IsCaseName, IsValue, IsFieldValue, IsCaseValue}
 
 -- lists that go together

@@ -14,9 +14,9 @@ use Rattle.wac_types_collection.specs.declared.collection.collection.Held.{Held}
 use Rattle.wac_types_collection.specs.collection.Collection.{Collection, IsWellFormed, IsBefore, and_maybe, seconds, func_values, defined_values, value_types, item_at, item_of, holds_value}
 use Rattle.wac_types_collection.proofs.lemmas.collection.Growth.{value_within}
 use Rattle.wac_encode_stacks.specs.Good.{Holds, top}
-use Rattle.wac_encode_stacks.specs.HeldParts.{HoldsParts, HoldsFuncParts}
+use Rattle.wac_encode_stacks.specs.private.HeldParts.{HoldsParts, HoldsFuncParts}
 use Rattle.wac_encode_scopes.specs.declared.state.State.{State}
-use Rattle.wac_encode_scopes.specs.Parts.{parts}
+use Rattle.wac_encode_scopes.specs.private.Parts.{parts}
 use Rattle.wac_encode_scopes.proofs.PartLists.{part-in}
 use Rattle.wac_encode_values.specs.Values.{IsReady}
 use Rattle.wac_encode_values.specs.private.Parts.{IsPartReady, AreReady}

@@ -12,10 +12,10 @@ use Rattle.wac_types_collection.specs.collection.Collection.{Collection, IsWellF
 use Rattle.wac_binary.specs.declared.types.ComponentValType.{ComponentValType}
 use Rattle.wac_encode_stacks.specs.Laws.{StaysIs, IsItsEnd, Follows}
 use Rattle.wac_encode_stacks.specs.Brought.{GoodOnce}
-use Rattle.wac_encode_stacks.specs.HeldParts.{HoldsParts}
+use Rattle.wac_encode_stacks.specs.private.HeldParts.{HoldsParts}
 use Rattle.wac_encode_scopes.specs.declared.state.State.{State}
 use Rattle.wac_encode_scopes.specs.States.{Goes}
-use Rattle.wac_encode_scopes.specs.Parts.{parts}
+use Rattle.wac_encode_scopes.specs.private.Parts.{parts}
 use Rattle.wac_encode_scopes.proofs.PartLists.{part-end-below}
 use Rattle.wac_encode_values.specs.Values.{IsWrittenAs}
 use Rattle.wac_encode_values.specs.private.Parts.{MaybeWrittenAs, CanBegin, WaitsFor, IsPartReady, AreFirstParts, AreParts, AreWaiting, IsAdded, IsFilled}

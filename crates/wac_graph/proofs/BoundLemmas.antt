@@ -14,22 +14,21 @@ use Rattle.wac_types_shapes.specs.declared.shapes.component.ItemKind.{ItemKind}
 use Rattle.wac_types_shapes.specs.declared.shapes.component.ItemKind.TheVariants as kind
 use Rattle.wac_types_shapes.specs.declared.shapes.component.ResourceId.{ResourceId}
 use Rattle.wac_types_shapes.specs.declared.shapes.component.«Type».TheVariants as ty
-use Rattle.wac_types_collection.specs.collection.Collection.{Collection, IsKeptBy, IsWellFormed, interface_exports, item_at}
+use Rattle.wac_types_collection.specs.collection.Collection.{Collection, interface_exports, item_at}
 use Rattle.wac_merge_classes.specs.entries.Binding.{binding_class, binding_from, class_binds, kind_binds}
-use Rattle.wac_merge_classes.specs.entries.Bindings.{AreHeld}
 use Rattle.wac_merge_classes.specs.entries.Classes.{Entry, by_names, class_names, members, same_class}
 use Rattle.wac_merge_classes.proofs.lemmas.terms.Found.{no_some, some_same}
 use Rattle.wac_merge_imports.proofs.lemmas.fitting.FittingClasses.{first-binding, instance-binds, whole-binds}
 use Rattle.wac_merge_imports.proofs.lemmas.fitting.FittingOwn.{own-found}
 use Rattle.wac_merge_imports.proofs.lemmas.fitting.FittingSteps.{binding-at}
 use Rattle.wac_merge_imports.proofs.lemmas.fitting.MergedBindingsClasses.{filter-at}
-use Rattle.wac_merge_imports.proofs.lemmas.unions.KeptBindings.{binds-kept}
+use Rattle.wac_merge_imports.specs.unions.MergedScope.{BindsAsClasses}
 use Rattle.wac_merge.specs.Aggregate.{Aggregate}
 use Rattle.wac_encode_faults.proofs.FreeParts.{inserted_law}
 use Rattle.wac_graph_model.specs.nodes.Graph.{Graph}
 use Rattle.wac_graph_model.specs.nodes.OuterImports.{outer_entries}
 use Rattle.wac_graph_model.specs.causes.TypeFaults.{class_bindings}
-use Rattle.wac_graph.specs.private.Bound.{AddsResources, AreBound, BindsAlike, IsBoundIn, IsListedBefore, IsListedBy, IsResourceUnder, ListsResource, item_resource}
+use Rattle.wac_graph.specs.private.Bound.{AddsResources, AreBound, IsBoundIn, IsListedBefore, IsListedBy, IsResourceUnder, ListsResource, item_resource}
 
 -- ---- one resource
 pub one_bound : (a : Aggregate) (old now : List ResourceId) (q : ResourceId) → now ≡ insert_key (IdEq.ghosts).eq old q → IsBoundIn a q → AddsResources (λ r. (q ≡ r) × IsBoundIn a r) old now
@@ -156,22 +155,14 @@ bound_is_listed c es r some = by (binding_class by_names c es r) refl some where
       (p.1, f.1, p.2, kind_lists c w.class r (f.1).kind b.1 f.3)
 
 -- ---- over the merged types the classes bind the same
-pub binding_kept : (c m : Collection) → IsWellFormed c → IsKeptBy c m → (es : List Entry) → AreHeld c es → (r : ResourceId) → binding_class by_names m es r ≡ binding_class by_names c es r
-binding_kept c m wf kept es held r = from 0 (class_names by_names es) where
+binding_alike : (c m : Collection) (es : List Entry) → ((class : Name) (r : ResourceId) → class_binds by_names m es class r ≡ class_binds by_names c es class r) → (r : ResourceId) → binding_class by_names m es r ≡ binding_class by_names c es r
+binding_alike c m es same r = from 0 (class_names by_names es) where
   from : (k : ℕ) (classes : List Name) → binding_from by_names m es k classes r ≡ binding_from by_names c es k classes r
   from k [] = refl
   from k (class ∷ rest) =
-      let here = binds-kept c m wf kept es held class r in
+      let here = same class r in
       let more = from (suc k) rest in
       λ i. option_case (here i) (more i) (λ path. Some (k, path))
-
-pub merge_alike : (g : Graph) (a : Aggregate) (es : List Entry) → IsWellFormed g.types → IsKeptBy g.types (a.merge).types → a.entries ≡ es → es ≡ outer_entries g → AreHeld g.types es → BindsAlike g a
-merge_alike g a es wf kept same are held r =
-    ap (λ (xs : List Entry). binding_class by_names (a.merge).types xs r) same ∙ binding_kept g.types (a.merge).types wf kept es held r ∙ ap (λ (xs : List Entry). binding_class by_names g.types xs r) are
-
-pub nothing_alike : (g : Graph) (a : Aggregate) → a.entries ≡ [] → outer_entries g ≡ [] → BindsAlike g a
-nothing_alike g a none nothing r =
-    ap (λ (xs : List Entry). binding_class by_names (a.merge).types xs r) none ∙ sym (ap (λ (xs : List Entry). binding_class by_names g.types xs r) nothing)
 
 -- ---- so these are the ones that the root binds
 abbrev leaf_of : ℕ × List Place → Leaf
@@ -181,15 +172,17 @@ rooted : (o : Option (ℕ × List Place)) → IsSome o ↔ IsSome (option_case o
 rooted None = (λ h. h, λ h. h)
 rooted (Some b) = (λ h. refl, λ h. refl)
 
-pub all_bound : (g : Graph) (a : Aggregate) (es : List Entry) (empty now : List ResourceId) → BindsAlike g a → es ≡ a.entries → a.entries ≡ outer_entries g → empty ≡ []
+pub all_bound : (g : Graph) (a : Aggregate) (es : List Entry) (empty now : List ResourceId) → BindsAsClasses by_names g.types (outer_entries g) a.merge → es ≡ a.entries → a.entries ≡ outer_entries g → empty ≡ []
     → AddsResources (λ r. IsListedBy (ImportLists g.types) es r × IsBoundIn a r) empty now → AreBound g now
-all_bound g a es empty now alike same are none added r =
+all_bound g a es empty now binds same are none added r =
+    let alike : binding_class by_names (a.merge).types a.entries r ≡ binding_class by_names g.types (outer_entries g) r =
+    ap (λ (xs : List Entry). binding_class by_names (a.merge).types xs r) are ∙ binding_alike g.types (a.merge).types (outer_entries g) binds.same r in
     let class = binding_class by_names g.types (outer_entries g) r in
     let root = rooted class in (
-      λ h. root.0 (elim ((added r).0 h) [ inl w ↦ absurd (in_nothing (subst (λ l. Contains l r) none w)) | inr w ↦ subst IsSome (alike r) w.1 ]),
+      λ h. root.0 (elim ((added r).0 h) [ inl w ↦ absurd (in_nothing (subst (λ l. Contains l r) none w)) | inr w ↦ subst IsSome alike w.1 ]),
       λ h.
           let some : IsSome class = root.1 h in
-          (added r).1 (inr (subst (λ (xs : List Entry). IsListedBy (ImportLists g.types) xs r) (sym (same ∙ are)) (bound_is_listed g.types (outer_entries g) r some), subst IsSome (sym (alike r)) some)),
+          (added r).1 (inr (subst (λ (xs : List Entry). IsListedBy (ImportLists g.types) xs r) (sym (same ∙ are)) (bound_is_listed g.types (outer_entries g) r some), subst IsSome (sym alike) some)),
     )
   where
     in_nothing : Contains [] r → ⊥

@@ -6,6 +6,7 @@ mod NothingLemmas
 mod OpenLemmas
 mod PositionLemmas
 mod BoundLemmas
+mod BeginLemmas
 pub mod ConflictFreeLemmas
 pub mod WantedAskedLemmas
 pub mod lemmas

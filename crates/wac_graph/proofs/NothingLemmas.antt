@@ -1,5 +1,5 @@
 -- No entries have a merge, whatever types there are, and it is the same over all of them.
-use Rattle.std.proofs.Common.{◌≡◌, ℕ, List, [], map, Some, ap, sym, refl, subst, ◌∙◌}
+use Rattle.std.proofs.Common.{◌≡◌, ◌<◌, ℕ, List, [], map, Some, ap, sym, refl, subst, ◌∙◌, arith}
 use Rattle.std.specs.Prelude.{slice_get}
 use Rattle.wac_edges.specs.cycles.Cycles.{Path, step, further}
 use Rattle.wac_types_shapes.specs.primitives.Name.{Name}
@@ -10,6 +10,13 @@ use Rattle.wac_merge_classes.specs.terms.ClassOrder.{RestsOn, by_use, by_resourc
 use Rattle.wac_merge_classes.specs.terms.Merge.{Merged, IsMerge, names_behind}
 use Rattle.wac_merge_unions.specs.uses.United.{listed_by}
 use Rattle.wac_merge_classes.specs.terms.NoDisagreement.{HasNoDisagreement}
+use Rattle.wac_types_shapes.specs.declared.shapes.component.ItemKind.{ItemKind}
+use Rattle.wac_merge_classes.specs.entries.Agreement.{AllMembersAgree}
+use Rattle.wac_merge_imports.specs.unions.EntryFaults.{HasEntryWith, HasFaultsOfEntries}
+use Rattle.wac_merge_imports.specs.unions.MergedScope.{BindsAsClasses}
+use Rattle.wac_merge.specs.Aggregate.{Aggregate}
+use Rattle.wac_merge.specs.MergedPlaces.{MentionsBefore}
+use Rattle.wac_graph.specs.private.Kept.{KeepsImports}
 use Rattle.wac_merge.specs.Listed.{AreListedInOrder, Unites, as_import, inside, united_interfaces}
 use Rattle.wac_merge_classes.specs.terms.Faults.{HasNoCircle}
 use Rattle.wac_merge_agreement.proofs.lemmas.agreement.OrderLaws.{arranges_alike}
@@ -84,3 +91,33 @@ pub lists_nothing : (g : Graph) (d : Collection) (es : List Entry) (m : Merged) 
 lists_nothing g d es m none are h =
     let same : outer_entries g ≡ [] = ap to_merge none in
     subst (λ (l : List Entry). AreListedInOrder by_names g.types l m) (sym same) (nothing_listed g.types d m (subst (λ (l : List Entry). AreListedInOrder by_names d l m) are h))
+
+-- no class binds anything, no import has a fault, and all members agree
+none_among : (x : Entry) (Has : ItemKind → Type 0) → HasEntryWith by_names [] x Has → ⊥
+none_among x Has h = let low : (h.1).0 < 0 = (h.1).1 in omega (arith, low)
+
+nothing_binds : (c : Collection) (m : Merged) → BindsAsClasses by_names c [] m
+nothing_binds c m = record { binds = λ k class n at. absurd (no_class k class at); same = λ class r. refl }
+
+nothing_fails : (c d : Collection) (m : Merged) → HasFaultsOfEntries by_names d [] m → HasFaultsOfEntries by_names c [] m
+nothing_fails c d m h = record {
+  own = λ p x f at is. absurd (none_among x _ (h.own p x f at is));
+  unbound = λ p x at is. absurd (none_among x _ (h.unbound p x at is));
+  inside = λ p x f at is. absurd (none_among x _ (h.inside p x f at is));
+}
+
+pub keeps_nothing : (g : Graph) (d : Collection) (es : List Entry) (a : Aggregate) → asked_entries g ≡ [] → es ≡ [] → MentionsBefore by_names a.merge → HasFaultsOfEntries by_names d es a.merge → KeepsImports g a
+keeps_nothing g d es a none are before h =
+    let same : outer_entries g ≡ [] = ap to_merge none in record {
+      binds = subst (λ (l : List Entry). BindsAsClasses by_names g.types l a.merge) (sym same) (nothing_binds g.types a.merge);
+      before = before;
+      faults = subst (λ (l : List Entry). HasFaultsOfEntries by_names g.types l a.merge) (sym same) (nothing_fails g.types d a.merge (subst (λ (l : List Entry). HasFaultsOfEntries by_names d l a.merge) are h));
+    }
+
+pub nothing_agrees : (g : Graph) → asked_entries g ≡ [] → AllMembersAgree by_names g.types (outer_entries g)
+nothing_agrees g none =
+    let same : outer_entries g ≡ [] = ap to_merge none in
+    subst (λ (l : List Entry). AllMembersAgree by_names g.types l) (sym same) (λ class i j e f at. absurd (nothing i e at))
+  where
+    nothing : (k : ℕ) (e : Entry) → slice_get [] k ≡ Some e → ⊥
+    nothing k e at = cc

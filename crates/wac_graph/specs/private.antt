@@ -2,3 +2,4 @@ pub mod plugs
 pub mod Inside
 pub mod Left
 pub mod Bound
+pub mod Kept

@@ -1,6 +1,7 @@
 //! The resources that classes of a graph's imports bind.
 ghost use Rattle.std.specs.Prelude.{◌≡◌, true, IfOk, OnOk, Some};
-ghost use Rattle.wac_graph.specs.private.Bound.{AddsResources, AreBound, BindsAlike, IsBoundIn, IsListedBy, IsResourceUnder, ListsResource, item_resource as item_resource_of};
+ghost use Rattle.wac_graph.specs.private.Bound.{AddsResources, AreBound, IsBoundIn, IsListedBy, IsResourceUnder, ListsResource, item_resource as item_resource_of};
+ghost use Rattle.wac_graph.specs.private.Kept.{KeepsImports};
 ghost use Rattle.wac_graph_encode.specs.private.places.Places.{IsMergedFor};
 ghost use Rattle.wac_types_collection.specs.collection.Collection.{holds_type};
 ghost use Rattle.wac_types_shapes.specs.shapes.Kinds.{kind_type};
@@ -97,7 +98,7 @@ impl CompositionGraph {
         merge: &TypeAggregator,
     ) -> Result<IndexSet<ResourceId>, AllocError>
         requires merged { IsMergedFor self.now merge.now }
-        requires alike { BindsAlike self.now merge.now }
+        requires kept { KeepsImports self.now merge.now }
         ensures { IfOk result (λ bound. AreBound self.now bound.keys) }
     {
         self.law(); // proof only

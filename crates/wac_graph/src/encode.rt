@@ -1,30 +1,26 @@
 //! Encoding a graph as a component.
-ghost use Rattle.std.specs.Prelude.{◌≡◌, true, false, IsSomeAnd, IsTrue, OnOk, IfOk, IfErr, IfSome, List};
+ghost use Rattle.std.specs.Prelude.{◌≡◌, Bool, IsTrue, OnOk, IfOk, IfErr, IfSome, List, None};
 ghost use Rattle.wac_binary.specs.Bytes.{bytes_of};
 ghost use Rattle.wac_binary.specs.Fits.{Fits};
 ghost use Rattle.wac_binary.specs.Items.{Item as AnItem};
+ghost use Rattle.wac_encode_imports.specs.private.Imports.{AreImported};
+ghost use Rattle.wac_graph.specs.private.Kept.{KeepsImports};
 ghost use Rattle.wac_graph_model.specs.meaning.Means.{Means};
-ghost use Rattle.wac_graph_model.specs.private.meaning.Beginning.{Begins};
-ghost use Rattle.wac_graph_model.specs.private.meaning.MergedImports.{merged_imports};
 ghost use Rattle.wac_graph_encode.specs.private.places.Places.{IsMergedFor, ArePlaced};
 ghost use Rattle.std.specs.Result.{IsErrAnd};
-ghost use Rattle.wac_graph_model.specs.causes.Cause.{AnswersFor, Cause, CauseKind, cause_of, HasMerge, HasNoConflict, Occurs, Stands};
+ghost use Rattle.wac_graph_model.specs.causes.Cause.{AnswersFor, Cause, CauseKind, cause_of, HasMerge, Occurs, Stands};
 ghost use Rattle.wac_graph_model.specs.causes.OuterNames.{export_names, import_names};
-ghost use Rattle.wac_graph_model.specs.causes.NotYet.{AllDefinable, AllImportable, IsNotYet};
 ghost use Rattle.wac_graph_model.specs.causes.TypeFaults.{HasNoTypeFault};
-ghost use Rattle.wac_edges.specs.Order.{IsAcyclic};
-ghost use Rattle.wac_edges.specs.declared.node.NodeId.{NodeId as AnId};
-ghost use Rattle.wac_graph_model.specs.nodes.Graph.{node_at, definition};
-ghost use Rattle.wac_graph_model.specs.declared.nodes.options.EncodeOptions.{EncodeOptions as Asked};
 ghost use Rattle.wac_names.specs.validation.Valid.{AreValid};
-ghost use Rattle.wac_graph_reader.specs.private.writing.Refused.{IsRefusedBefore};
 
 use crate::graph::CompositionGraph;
-use wac_binary::ComponentBuilder;
-use wac_graph_encode::{ImportPlaces, WrittenImports, write};
+use wac_encode_imports::laws::distinct_classes_law;
+use wac_encode_imports::{WrittenImports, write_imports};
+use wac_encode_scopes::State;
+use wac_graph_encode::{ImportPlaces, write};
 use wac_graph_model::{EncodeError, EncodeOptions};
 use wac_merge::TypeAggregator;
-use wac_merge::laws::{class_laws, fault_law, order_law};
+use wac_merge::laws::{class_laws, fault_law, import_fault_law, order_law};
 
 impl CompositionGraph {
     /// Encodes the graph as one component and returns its bytes.
@@ -33,7 +29,7 @@ impl CompositionGraph {
     ///
     /// 1. The imports: one for each class of the graph's imports, under its canonical name and with its merged type.
     /// 2. The nodes except imports, the lowest number first among those whose edge sources are written.
-    ///    A package's component is written at its first use, and a definition is exported under its first name.
+    ///    A package is embedded or imported at its first use, and a definition is exported under its first name.
     /// 3. The other exports, in the order in which they were added.
     /// 4. The names of nodes and the processor, in custom sections.
     ///
@@ -50,7 +46,6 @@ impl CompositionGraph {
     /// - [`ExplicitImportMergeConflict`](EncodeError::ExplicitImportMergeConflict) if an import node does.
     /// - [`ImportsUseEachOther`](EncodeError::ImportsUseEachOther) if imports depend on each other in a cycle.
     /// - [`TypeNotWritable`](EncodeError::TypeNotWritable) if a type that a node needs has a fault.
-    /// - [`NotYet`](EncodeError::NotYet) if an import or definition is not supported, or `define_components` is false.
     /// - [`TooLarge`](EncodeError::TooLarge) if an index, a count or a size does not fit 32 bits.
     /// - [`ValidationFailure`](EncodeError::ValidationFailure) if `validate` is set and a name of an import or export
     ///   is invalid or clashes with another.
@@ -75,51 +70,39 @@ impl CompositionGraph {
         self.check_conflicts()?;
         let (merge, entries) = self.merged(ordered.open.as_slice())?;
         self.check_types(&merge, entries, ordered.defined, options.define_components)?;
-        let (root, imports) = self.begin(options.define_components, ordered.defined, merge)?;
+        let (state, imports) = self.begin(merge)?;
         let bytes = write(
             &reader,
-            root,
+            state,
             &imports,
             &ordered.order,
             ordered.named,
-            ordered.defined,
             options,
         )?;
-        self.check_names(&imports.merge, &ordered.order, options.validate)?;
+        self.check_names(
+            &imports.merge,
+            &ordered.order,
+            options.define_components,
+            options.validate,
+        )?;
         Ok(bytes)
     }
 
-    /// Writes the merged imports. Returns the component with them and the place of each import.
-    ///
-    /// `defined` says whether any node is a definition.
-    fn begin(
-        &self,
-        define_components: bool,
-        defined: bool,
-        merge: TypeAggregator,
-    ) -> Result<(ComponentBuilder, ImportPlaces), EncodeError>
-        requires acyclic { IsAcyclic self.now.edges }
-        requires apart { HasNoConflict self.now }
-        requires merges { HasMerge self.now }
-        requires writable { HasNoTypeFault self.now define_components }
+    /// Writes the merged imports. Returns the root with them, and the place of each.
+    fn begin(&self, merge: TypeAggregator) -> Result<(State, ImportPlaces), EncodeError>
         requires merged { IsMergedFor self.now merge }
-        requires definitions { defined ≡ false → (n : AnId) → IsSomeAnd (node_at self.now n) (λ node. node.kind ≡ definition) → ⊥ }
-        ensures begins { IfOk result (λ b. Begins (merged_imports b.1.merge.merge) b.1.places.items b.0) }
+        requires kept { KeepsImports self.now merge }
+        requires merges { HasMerge self.now }
+        requires writable { (define_components : Bool) × HasNoTypeFault self.now define_components }
+        ensures imported { IfOk result (λ b. AreImported b.1.merge.merge b.1.places.items b.0) }
         ensures placed { IfOk result (λ b. ArePlaced self.now b.1) }
-        ensures definable { OnOk result (AllDefinable self.now) }
-        ensures importable { OnOk result (AllImportable self.now) }
-        ensures written { OnOk result ((o : Asked) → o.define_components ≡ define_components → IsNotYet self.now o → ⊥) }
-        ensures defined { OnOk result (define_components ≡ true) }
-        ensures refused { IfErr result (λ e. (o : Asked) → o.define_components ≡ define_components → IsRefusedBefore self.now o e) }
+        ensures kept { IfOk result (λ b. KeepsImports self.now b.1.merge) }
+        ensures fault { IfErr result (λ e. cause_of e ≡ None) }
     {
-        class_laws(); // proof only
-        order_law(); // proof only
-        if !define_components || !self.are_definable(defined)? {
-            return Err(EncodeError::NotYet);
-        }
-        match self.written_imports(&merge)? {
-            Some(WrittenImports { root, places }) => Ok((root, ImportPlaces { merge, places })),
-            None => Err(EncodeError::NotYet),
-        }
+        distinct_classes_law(); // proof only
+        import_fault_law(); // proof only
+        self.law(); // proof only
+        let WrittenImports { state, places } = write_imports(&merge)?;
+        Ok((state, ImportPlaces { merge, places }))
     }
 }

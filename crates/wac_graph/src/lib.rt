@@ -36,7 +36,6 @@ mod checking;
 mod clones;
 mod conflicts;
 mod defining;
-mod definitions;
 mod encode;
 mod graph;
 mod imports;
@@ -52,7 +51,6 @@ mod removing;
 mod validating;
 mod wanted;
 mod wiring;
-mod writing;
 
 pub use crate::plugs::{PassedOver, PlugError, PlugFault};
 pub use arguments_of::Arguments;

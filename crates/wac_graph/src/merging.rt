@@ -2,15 +2,17 @@
 ghost use Rattle.std.specs.Prelude.{◌≡◌, [], map, IfErr, IfOk, OnOk, string_bytes};
 ghost use Rattle.std.specs.List.{AllByRecursion};
 ghost use Rattle.wac_merge.specs.Aggregate.{IsFault};
+ghost use Rattle.wac_merge_classes.specs.entries.Agreement.{AllMembersAgree};
 ghost use Rattle.wac_merge_classes.specs.entries.Classes.{by_names};
 ghost use Rattle.wac_merge_classes.specs.terms.Faults.{Disagrees};
 ghost use Rattle.wac_graph_model.specs.causes.Cause.{HasMerge, HasNoConflict};
 ghost use Rattle.wac_graph_model.specs.nodes.Entries.{asked_entries, to_merge};
+ghost use Rattle.wac_graph_model.specs.nodes.OuterImports.{outer_entries};
 ghost use Rattle.wac_graph_fields.specs.private.EntriesLeft.{entry_view, IsHeldKind};
 ghost use Rattle.wac_edges.specs.Order.{IsAcyclic};
 ghost use Rattle.wac_graph_model.specs.private.causes.Search.{IsRefused};
 ghost use Rattle.wac_graph_encode.specs.private.places.Places.{IsMergedFor};
-ghost use Rattle.wac_graph.specs.private.Bound.{BindsAlike};
+ghost use Rattle.wac_graph.specs.private.Kept.{KeepsImports};
 ghost use Rattle.wac_graph_reader.specs.private.reading.Seen.{open_numbers};
 ghost use Rattle.wac_graph_model.specs.declared.nodes.options.EncodeOptions.{EncodeOptions as Asked};
 
@@ -35,7 +37,8 @@ impl CompositionGraph {
         requires acyclic { IsAcyclic self.now.edges }
         requires apart { HasNoConflict self.now }
         ensures merged { IfOk result (λ a. IsMergedFor self.now a.0) }
-        ensures alike { IfOk result (λ a. BindsAlike self.now a.0) }
+        ensures kept { IfOk result (λ a. KeepsImports self.now a.0) }
+        ensures agreed { OnOk result (AllMembersAgree by_names self.now.types (outer_entries self.now)) }
         ensures asked { IfOk result (λ a. map entry_view a.1.items ≡ asked_entries self.now) }
         ensures merges { OnOk result (HasMerge self.now) }
         ensures refused { IfErr result (λ e. (o : Asked) → IsRefused self.now o e) }
@@ -64,7 +67,8 @@ impl CompositionGraph {
     fn merged_nothing(&self) -> Result<TypeAggregator, EncodeError>
         requires { asked_entries self.now ≡ [] }
         ensures merged { IfOk result (IsMergedFor self.now) }
-        ensures alike { IfOk result (BindsAlike self.now) }
+        ensures kept { IfOk result (KeepsImports self.now) }
+        ensures agreed { AllMembersAgree by_names self.now.types (outer_entries self.now) }
         ensures merges { HasMerge self.now }
         ensures refused { IfErr result (λ e. e ≡ EncodeError.OutOfMemory) }
     {

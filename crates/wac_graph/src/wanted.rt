@@ -12,7 +12,8 @@ ghost use Rattle.wac_graph_model.specs.nodes.Graph.{node_at, definition, instant
 ghost use Rattle.wac_graph_model.specs.nodes.Nodes.{kind_of};
 ghost use Rattle.wac_graph_model.specs.declared.nodes.options.EncodeOptions.{EncodeOptions as Asked};
 ghost use Rattle.wac_encode_faults.specs.Faults.{IsLowest};
-ghost use Rattle.wac_graph.specs.private.Bound.{AreBound, BindsAlike};
+ghost use Rattle.wac_graph.specs.private.Bound.{AreBound};
+ghost use Rattle.wac_graph.specs.private.Kept.{KeepsImports};
 ghost use Rattle.wac_graph_encode.specs.private.places.Places.{IsMergedFor};
 
 use crate::graph::CompositionGraph;
@@ -36,7 +37,7 @@ impl CompositionGraph {
         define_components: bool,
     ) -> Result<(), EncodeError>
         requires merged { IsMergedFor self.now merge.now }
-        requires alike { BindsAlike self.now merge.now }
+        requires kept { KeepsImports self.now merge.now }
         requires asked { map entry_view entries.items ≡ asked_entries self.now }
         requires definitions { defined ≡ false → (n : AnId) → IsSomeAnd (node_at self.now n) (λ node. node.kind ≡ definition) → ⊥ }
         requires acyclic { IsAcyclic self.now.edges }

@@ -1,3 +1,2 @@
-pub mod importing
 pub mod places
 pub mod encoding

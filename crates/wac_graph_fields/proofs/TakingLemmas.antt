@@ -240,7 +240,7 @@ module _ (a : Fields) (id : NodeId) (nodes : Slab Node) (before after : Node) (h
           definitions = λ n node at is.
               let (y, had_y, same_kind, same_first, same_item) = was_first first n node at in
               let d = v.sound.definitions n y had_y (sym same_kind ∙ is) in
-              record { defined = d.defined; name = d.name; typed = same_item ∙ d.typed; named = same_first ∙ d.named };
+              record { defined = d.defined; name = d.name; typed = same_item ∙ d.typed; no_resource = d.no_resource; named = same_first ∙ d.named };
           vacant = v.sound.vacant;
           vacant_once = v.sound.vacant_once;
         }

@@ -1,4 +1,3 @@
-pub mod NotYet
 pub mod TypeFaults
 pub mod OuterNames
 pub mod Cause

@@ -8,5 +8,6 @@ pub mod reading;
 pub mod writing;
 
 pub use reading::{
-    Components, Encoder, GraphReader, Ordered, package_in_slots, sort_of, write_processor,
+    Components, Encoder, GraphReader, Ordered, dependency_name, package_in_slots, sort_of,
+    write_processor,
 };

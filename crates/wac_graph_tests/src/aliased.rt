@@ -1,8 +1,9 @@
 // Value types that an imported instance lists, where other imports are made of them.
-use crate::tables::Case;
 use crate::tables::Row::{Enumeration, Func, Instance, Using};
 use crate::tables::Step::Import;
 use crate::tables::Want::Parts;
+use crate::tables::{Case, assert_answers};
+use wac_graph::EncodeOptions;
 
 const TAKEN: &[&str] = &[
     "070f014202", // an instance type of two declarations
@@ -28,8 +29,8 @@ const BROUGHT_IN: &[&str] = &[
     "0a0a0100056e3a702f690502", // an instance of it
 ];
 
-/// Imports that are made of what another lists.
-pub const ALIASED: &[Case] = &[
+// Imports that are made of what another lists.
+const ALIASED: &[Case] = &[
     // A function takes an enum that an interface lists; both are imported, the function by the lower node.
     Case {
         rows: &[
@@ -46,9 +47,14 @@ pub const ALIASED: &[Case] = &[
             Enumeration("a"),
             Func(&[("x", 0)], None),
             Instance(Some("n:p/j"), &[("t", 0)]),
-            Using(Some("n:p/i"), ("t", 2), &[("t", 0), ("f", 1)]),
+            Using(Some("n:p/i"), &[("t", 2, "t")], &[("t", 0), ("f", 1)]),
         ],
         steps: &[Import("n:p/j", 2), Import("n:p/i", 3)],
         want: Parts(BROUGHT_IN),
     },
 ];
+
+#[test]
+fn imports_go_by_what_others_list(rt: HostRuntime) {
+    assert_answers(&rt, ALIASED, EncodeOptions::default());
+}

@@ -12,7 +12,7 @@ use wac_graph::types::{
 };
 use wac_graph::{
     CompositionGraph, EncodeError, EncodeOptions, MergeFault, NodeId, NodeKind, PackageId,
-    Processor, ValidationFault,
+    Processor,
 };
 use wac_graph_model::inner::slot_of;
 
@@ -516,20 +516,6 @@ impl Bench {
         }
     }
 
-    // What is wrong with names.
-    fn invalid(&self, rt: &impl Abort, fault: &ValidationFault) -> String {
-        let text = match fault {
-            ValidationFault::BadName { name } => format!(in self.alloc; "BadName `{name}`"),
-            ValidationFault::Clash { first, second } => {
-                format!(in self.alloc; "Clash `{first}`, `{second}`")
-            }
-            ValidationFault::NotExportable { name } => {
-                format!(in self.alloc; "NotExportable `{name}`")
-            }
-        };
-        text.expect(rt, "a text")
-    }
-
     // What a refusal names: the node of a cycle, or the import, the instantiation, its package and the name, or an import
     // that cannot be merged, the nodes that ask for it and the export that differs, or one of a circle, or names.
     fn cause(&self, rt: &impl Abort, error: &EncodeError) -> String {
@@ -557,7 +543,9 @@ impl Bench {
                 other,
             } => format!(in alloc; "{import}, {node}, {other}"),
             EncodeError::ImportsUseEachOther { import } => format!(in alloc; "{import}"),
-            EncodeError::ValidationFailure { source } => return self.invalid(rt, source),
+            EncodeError::ValidationFailure { source } => {
+                return parts::invalid(rt, alloc, source);
+            }
             _ => return String::new(alloc),
         };
         text.expect(rt, "a text")

@@ -2,13 +2,13 @@
 use crate::parts::{assert_displayed, define, encode};
 use crate::tables::Row::{
     Alias, Bool, Component, Enumeration, Func, Instance, List, Optional, Own, Pair, Record,
-    Resource, TypeOf,
+    Resource, TypeOf, Using,
 };
 use crate::tables::Step::{
     Define, Export, Exported, Import, Instantiate, Kept, Nodes, Register, Remove, Undefined,
 };
-use crate::tables::Want::{Fault, Parts, Unexportable};
-use crate::tables::{Calls, Case, Made, Row, Want};
+use crate::tables::Want::{Fault, Invalid, Parts};
+use crate::tables::{Calls, Case, Made, Row, Want, assert_answers};
 use std::process::Abort;
 use wac_graph::types::Type;
 use wac_graph::{CompositionGraph, DefineTypeError, EncodeOptions, NodeId, WriteFault};
@@ -61,13 +61,13 @@ const INTERFACE: &[Row] = &[
 const INTERFACE_TYPE: &str =
     "072a014102014204016d0101610400017403000001400101780101000400016601020400056e3a702f690500";
 
-/// Definitions that are encoded.
-pub const DEFINED: &[Case] = &[
+// Definitions that are encoded.
+const DEFINED: &[Case] = &[
     // A name that may not be exported is refused.
     Case {
         rows: &[Bool],
         steps: &[Define("url=<u>", 0)],
-        want: Unexportable("url=<u>"),
+        want: Invalid("NotExportable `url=<u>`"),
     },
     // Each definition stands behind those that it is made of, and a later one goes by the export's index.
     Case {
@@ -253,6 +253,88 @@ pub const DEFINED: &[Case] = &[
         want: UNBOUND,
     },
 ];
+
+// Definitions that use.
+const USING: &[Case] = &[
+    // An interface imports what it uses, cut to its types, under its id.
+    Case {
+        rows: &[
+            Enumeration("a"),
+            Func(&[], None),
+            Instance(Some("n:p/j"), &[("t", 0), ("g", 1)]),
+            Using(Some("n:p/i"), &[("t", 2, "t")], &[("t", 0)]),
+        ],
+        steps: &[Define("d", 3)],
+        want: Parts(&[
+            "073b014105", // a component type of five declarations
+            "014202016d01016104000174030000", // an instance type that lists the enumeration alone
+            "0300056e3a702f6a0500", // `n:p/j` is imported
+            "020300000174", // its enumeration
+            "014202020302010104000174030000", // an instance type that lists that
+            "0400056e3a702f690502", // `n:p/i` is exported
+            "0b0701000164030000",
+        ]),
+    },
+    // So does a world that exports it alone, where what the world imports uses it.
+    Case {
+        rows: &[
+            Enumeration("a"),
+            Func(&[], None),
+            Instance(Some("n:p/j"), &[("t", 0), ("g", 1)]),
+            Using(Some("n:p/i"), &[("t", 2, "t")], &[("t", 0)]),
+            Component(Some("n:p/w"), &[("n:p/i", 3)], &[("n:p/j", 2)]),
+        ],
+        steps: &[Define("d", 4)],
+        want: Parts(&[
+            "076c014102", // a component type of two declarations
+            "014107", // the world's component type, of seven
+            "014202016d01016104000174030000",
+            "0300056e3a702f6a0500", // `n:p/j` is imported, without its function
+            "020300000174", // its enumeration
+            "014202020302010104000174030000",
+            "0300056e3a702f690502", // `n:p/i` is imported
+            "014204020302010104000174030000", // an instance type that lists the enumeration
+            "0140000100040001670102", // and the function
+            "0400056e3a702f6a0503", // `n:p/j` is exported
+            "0400056e3a702f770400", // the world is exported
+            "0b0701000164030000",
+        ]),
+    },
+    // An interface imports what an instance in it uses.
+    Case {
+        rows: &[
+            Resource,
+            Instance(Some("n:p/k"), &[("r", 0)]),
+            Own(0),
+            Func(&[("x", 2)], None),
+            Using(None, &[("r", 1, "r")], &[("f", 3)]),
+            Instance(Some("n:p/i"), &[("j", 4)]),
+        ],
+        steps: &[Define("d", 5)],
+        want: Parts(&[
+            "0748014105", // a component type of five declarations
+            "014201040001720301",
+            "0300056e3a702f6b0500", // `n:p/k` is imported
+            "020300000172", // its resource
+            "0142020142", // an instance type in another
+            "0402030202010169000140010178010100",
+            "040001660102",
+            "0400016a0500",
+            "0400056e3a702f690502", // `n:p/i` is exported
+            "0b0701000164030000",
+        ]),
+    },
+];
+
+#[test]
+fn definitions_are_encoded(rt: HostRuntime) {
+    assert_answers(&rt, DEFINED, EncodeOptions::default());
+}
+
+#[test]
+fn definitions_import_what_they_use(rt: HostRuntime) {
+    assert_answers(&rt, USING, EncodeOptions::default());
+}
 
 /// Definitions that are made, refused and removed.
 pub const CALLS: &[Calls] = &[

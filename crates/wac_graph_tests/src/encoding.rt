@@ -8,8 +8,6 @@ use super::bench::Item::{Empty, Exporting, ExportingTelling, Other, Plain, Telli
 use super::bench::{How, Rows, assert_tables};
 use wac_graph::EncodeOptions;
 
-const NOT_YET: &str = "the graph holds something that is not written yet";
-
 const CONTAINS_CYCLE: &str = "the graph contains a cycle and cannot be encoded";
 
 const IMPORT_CONFLICT: &str =
@@ -152,6 +150,37 @@ const IMPORT_CIRCLE: Rows = &[
     ),
     (Instantiate(0), "0"),
     (Instantiate(1), "1"),
+];
+
+// Three packages of which each imports an interface that uses one of the next's, in another version.
+const CIRCLE_OF_THREE: Rows = &[
+    (
+        Register(
+            "my:first",
+            &[("a:b/x@1.0.0", Using("a:b/x@1.0.0", "t", "a:b/y@1.0.0"))],
+            &[],
+        ),
+        "",
+    ),
+    (
+        Register(
+            "my:second",
+            &[("a:b/y@1.1.0", Using("a:b/y@1.1.0", "v", "a:b/z@1.0.0"))],
+            &[],
+        ),
+        "",
+    ),
+    (
+        Register(
+            "my:third",
+            &[("a:b/z@1.1.0", Using("a:b/z@1.1.0", "u", "a:b/x@1.1.0"))],
+            &[],
+        ),
+        "",
+    ),
+    (Instantiate(0), "0"),
+    (Instantiate(1), "1"),
+    (Instantiate(2), "2"),
 ];
 
 // A second package, whose instance is given the function `a` of an instance of the first, and what is refused it.
@@ -309,7 +338,10 @@ const ENCODED: &[(Rows, Rows)] = &[
             (Described(1), "alias, function, my:package1, no name, x"),
             (Exported("x"), "1"),
             (Exported("a"), "none"),
-            (Encode(How::Imported), NOT_YET),
+            (
+                Encode(How::Imported),
+                "0061736d0d000100070e01410201400001000400016101000a1f01001a756e6c6f636b65642d6465703d3c6d793a7061636b616765313e040005040100000006060101000001610b0701000178010000",
+            ),
         ],
     ),
     (
@@ -430,6 +462,7 @@ const MERGED: &[(Rows, Rows)] = &[
 const ASKED_FOR: &[(Rows, Rows)] = &[
     (EXPLICIT_MERGE, &[(Refusal, "a:b/c@0.2.1, 1, 0")]),
     (IMPORT_CIRCLE, &[(Refusal, "a:b/y@1.1.0")]),
+    (CIRCLE_OF_THREE, &[(Refusal, "a:b/y@1.1.0")]),
     (TAKEN, &[(Asked, "b: function; ")]),
     (
         ASKED,

@@ -110,6 +110,62 @@ const BOTH: &str =
 const INSTANCES: &str =
     "04080061736d0d0001000512010000010b613a622f6340302e322e30050004080061736d0d0001000512010001010b613a622f6340302e322e330500";
 
+// Names of two functions that are imported.
+const CLASHES: &[(Rows, Rows)] = &[
+    // Names of imports clash where their labels differ in case alone.
+    (
+        &[(Import("a", Plain), "0"), (Import("A", Plain), "1")],
+        &[
+            (Refusal, "Clash `a`, `A`"),
+            (
+                Encode(How::Unchecked),
+                "0061736d0d000100070501400001000a06010001610100070501400001000a06010001410101",
+            ),
+        ],
+    ),
+    (
+        &[
+            (Import("a", Plain), "0"),
+            (Import("[constructor]a", Plain), "1"),
+        ],
+        &[
+            (Refusal, ""),
+            (
+                Encode(How::Unchecked),
+                "0061736d0d000100070501400001000a06010001610100070501400001000a1301000e5b636f6e7374727563746f725d610101",
+            ),
+        ],
+    ),
+    // A method and a static function of one name clash.
+    (
+        &[
+            (Import("[method]a.b", Plain), "0"),
+            (Import("[static]a.b", Plain), "1"),
+        ],
+        &[(Refusal, "Clash `[method]a.b`, `[static]a.b`")],
+    ),
+    (
+        &[
+            (Import("[constructor]a", Plain), "0"),
+            (Import("[constructor]A", Plain), "1"),
+        ],
+        &[(Refusal, "Clash `[constructor]a`, `[constructor]A`")],
+    ),
+    // Names of interfaces do not.
+    (
+        &[(Import("a:b/c", Plain), "0"), (Import("a:b/C", Plain), "1")],
+        &[(
+            Sections(&[
+                "07050140000100",
+                "0a0a010005613a622f630100",
+                "07050140000100",
+                "0a0a010005613a622f430101",
+            ]),
+            "",
+        )],
+    ),
+];
+
 // What is asked of a graph after calls: the sections that `encode` answers behind the preamble, and others.
 const TABLES: &[(Rows, Rows)] = &[
     (
@@ -257,33 +313,14 @@ const TABLES: &[(Rows, Rows)] = &[
             ),
         ],
     ),
-    // Names of imports clash where their labels differ in case alone.
-    (
-        &[(Import("a", Plain), "0"), (Import("A", Plain), "1")],
-        &[
-            (Refusal, "Clash `a`, `A`"),
-            (
-                Encode(How::Unchecked),
-                "0061736d0d000100070501400001000a06010001610100070501400001000a06010001410101",
-            ),
-        ],
-    ),
-    (
-        &[
-            (Import("a", Plain), "0"),
-            (Import("[constructor]a", Plain), "1"),
-        ],
-        &[
-            (Refusal, ""),
-            (
-                Encode(How::Unchecked),
-                "0061736d0d000100070501400001000a06010001610100070501400001000a1301000e5b636f6e7374727563746f725d610101",
-            ),
-        ],
-    ),
 ];
 
 #[test]
 fn imports_are_written(rt: HostRuntime) {
     assert_tables(&rt, TABLES);
+}
+
+#[test]
+fn names_of_imports_are_validated(rt: HostRuntime) {
+    assert_tables(&rt, CLASHES);
 }

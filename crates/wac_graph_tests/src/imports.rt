@@ -3,11 +3,9 @@ use crate::tables::Row::{
     Bool, Byte, Component, Doubled, Enumeration, Func, Instance, Own, Resource, TypeOf,
 };
 use crate::tables::Step::Import;
-use crate::tables::Want::{Fault, Length, Parts, Text};
-use crate::tables::{Case, Row};
-use wac_graph::WriteFault;
-
-const NOT_YET: &str = "the graph holds something that is not written yet";
+use crate::tables::Want::{Fault, Length, Parts};
+use crate::tables::{Case, Row, assert_answers};
+use wac_graph::{EncodeOptions, WriteFault};
 
 // A world that imports a function, an interface that lists its type twice, and a world that imports and exports it.
 const TWO_ITEMS: &[Row] = &[
@@ -18,8 +16,8 @@ const TWO_ITEMS: &[Row] = &[
     Component(None, &[("v", 2)], &[("w", 2)]),
 ];
 
-/// Imports of types, and what is written of them.
-pub const IMPORTS: &[Case] = &[
+// Imports of types, and what is written of them.
+const IMPORTS: &[Case] = &[
     // An interface of an enum and a function that takes it.
     Case {
         rows: &[
@@ -53,11 +51,11 @@ pub const IMPORTS: &[Case] = &[
             "0a06010001660102",
         ]),
     },
-    // A function type as a type item: what it takes is written in it, and another such import has the same type.
+    // A function type as a type item: what it takes is written in it, and another such import equals the first.
     Case {
         rows: &[Byte, Func(&[("x", 0)], None), TypeOf(1)],
         steps: &[Import("t", 2), Import("u", 2)],
-        want: Parts(&["070801400101787d0100", "0a0d02000174030000000175030000"]),
+        want: Parts(&["070801400101787d0100", "0a0d02000174030000000175030001"]),
     },
     // The instance type of an instance in an instance is written before it, in that of the outer one.
     Case {
@@ -118,13 +116,17 @@ pub const IMPORTS: &[Case] = &[
         steps: &[Import("f", 2)],
         want: Length(187),
     },
-    // Resources are not imported yet.
+];
+
+// Imports of what has resources in it.
+const RESOURCES: &[Case] = &[
+    // A resource is imported as a fresh one.
     Case {
         rows: &[Resource],
         steps: &[Import("r", 0)],
-        want: Text(NOT_YET),
+        want: Parts(&["0a06010001720301"]),
     },
-    // Nor are they inside an instance in an instance.
+    // So it is exported by an instance in an instance.
     Case {
         rows: &[
             Resource,
@@ -132,9 +134,12 @@ pub const IMPORTS: &[Case] = &[
             Instance(None, &[("i", 1)]),
         ],
         steps: &[Import("o", 2)],
-        want: Text(NOT_YET),
+        want: Parts(&[
+            "0712014202014201040001720301040001690500",
+            "0a060100016f0500",
+        ]),
     },
-    // Nor in an interface that an instance lists as a type item.
+    // So it is in an interface that an instance lists as a type item.
     Case {
         rows: &[
             Resource,
@@ -143,9 +148,12 @@ pub const IMPORTS: &[Case] = &[
             Instance(None, &[("i", 2)]),
         ],
         steps: &[Import("o", 3)],
-        want: Text(NOT_YET),
+        want: Parts(&[
+            "071301420201420104000172030104000169030000",
+            "0a060100016f0500",
+        ]),
     },
-    // Nor in a world that it does.
+    // So it is in a world that it does.
     Case {
         rows: &[
             Resource,
@@ -154,8 +162,21 @@ pub const IMPORTS: &[Case] = &[
             Instance(None, &[("w", 2)]),
         ],
         steps: &[Import("o", 3)],
-        want: Text(NOT_YET),
+        want: Parts(&[
+            "071301420201410104000172030104000177030000",
+            "0a060100016f0500",
+        ]),
     },
+    // The resource of a handle must be bound.
+    Case {
+        rows: &[Resource, Own(0), Func(&[("x", 1)], None), TypeOf(2)],
+        steps: &[Import("t", 3)],
+        want: Fault(0, WriteFault::UnboundResource),
+    },
+];
+
+// Imports of what lists worlds.
+const WORLDS: &[Case] = &[
     // Two type items of one world, in an instance and in the world of a component: its component type is written once in each.
     Case {
         rows: TWO_ITEMS,
@@ -164,7 +185,7 @@ pub const IMPORTS: &[Case] = &[
             "071f014203", // an instance type of three declarations
             "0141020140000100030001660100", // the component type
             "04000176030000", // `v` equals it
-            "04000177030000", // `w` does
+            "04000177030001", // `w` equals that
             "0a060100016f0500",
         ]),
     },
@@ -175,14 +196,23 @@ pub const IMPORTS: &[Case] = &[
             "071f014103", // a component type of three declarations
             "0141020140000100030001660100", // the one inside
             "03000176030000", // `v` equals it
-            "04000177030000", // `w` does
+            "04000177030001", // `w` equals that
             "0a060100016f0400",
         ]),
     },
-    // The resource of a handle must be bound.
-    Case {
-        rows: &[Resource, Own(0), Func(&[("x", 1)], None), TypeOf(2)],
-        steps: &[Import("t", 3)],
-        want: Fault(0, WriteFault::UnboundResource),
-    },
 ];
+
+#[test]
+fn types_are_imported(rt: HostRuntime) {
+    assert_answers(&rt, IMPORTS, EncodeOptions::default());
+}
+
+#[test]
+fn resources_in_types_are_imported(rt: HostRuntime) {
+    assert_answers(&rt, RESOURCES, EncodeOptions::default());
+}
+
+#[test]
+fn worlds_in_types_are_imported(rt: HostRuntime) {
+    assert_answers(&rt, WORLDS, EncodeOptions::default());
+}

@@ -12,6 +12,8 @@ mod bench;
 #[cfg(test)]
 mod defining;
 #[cfg(test)]
+mod dependencies;
+#[cfg(test)]
 mod encoding;
 mod examples;
 #[cfg(test)]
@@ -36,6 +38,8 @@ mod redefined;
 mod refused;
 #[cfg(test)]
 mod removal;
+#[cfg(test)]
+mod resources;
 #[cfg(test)]
 mod tables;
 #[cfg(test)]

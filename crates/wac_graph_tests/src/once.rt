@@ -1,14 +1,15 @@
 // Types that more than one import is of, and that are written once.
-use crate::tables::Case;
 use crate::tables::Row::{Func, Instance};
 use crate::tables::Step::Import;
 use crate::tables::Want::Parts;
+use crate::tables::{Case, assert_answers};
+use wac_graph::EncodeOptions;
 
 // The type of an instance that exports a function `f`.
 const INSTANCE: &str = "070e0142020140000100040001660100";
 
-/// Imports that share a type, and others.
-pub const ONCE: &[Case] = &[
+// Imports that share a type, and others.
+const ONCE: &[Case] = &[
     // Import nodes of one function type share it.
     Case {
         rows: &[Func(&[], None)],
@@ -44,3 +45,8 @@ pub const ONCE: &[Case] = &[
         want: Parts(&[INSTANCE, "0a06010001780500", INSTANCE, "0a06010001790501"]),
     },
 ];
+
+#[test]
+fn types_are_written_once(rt: HostRuntime) {
+    assert_answers(&rt, ONCE, EncodeOptions::default());
+}

@@ -1,6 +1,6 @@
 // What the graphs of tests are made of. What a graph is asked is called here, each call in one function.
 use semver::Version;
-use std::alloc::AllocError;
+use std::alloc::{AllocError, Global};
 use std::fmt::Display;
 use std::process::Abort;
 use wac_graph::types::{
@@ -10,6 +10,7 @@ use wac_graph::types::{
 use wac_graph::{
     CompositionGraph, DefineTypeError, EncodeError, EncodeOptions, ExportError, ImportError,
     InstantiationArgumentError, NodeId, PackageId, RegisterPackageError, UnexportError,
+    ValidationFault,
 };
 
 // A component with nothing in it: the eight bytes of the preamble alone.
@@ -24,6 +25,18 @@ pub fn assert_row(rt: &impl Abort, holds: bool, what: &str) {
 pub fn assert_displayed<T: Display>(rt: &(impl Abort + AllocGlobal), value: &T, want: &str) {
     let text = format!(in rt.alloc(); "{value}").expect(rt, want);
     assert_row(rt, text.as_str() == want, want);
+}
+
+/// What is wrong with names.
+pub fn invalid(rt: &impl Abort, alloc: Global, fault: &ValidationFault) -> String {
+    let text = match fault {
+        ValidationFault::BadName { name } => format!(in alloc; "BadName `{name}`"),
+        ValidationFault::Clash { first, second } => {
+            format!(in alloc; "Clash `{first}`, `{second}`")
+        }
+        ValidationFault::NotExportable { name } => { format!(in alloc; "NotExportable `{name}`") }
+    };
+    text.expect(rt, "a text")
 }
 
 /// A function of a new type.

@@ -127,13 +127,13 @@ fn plugged(
 
 // Registers the packages of a row.
 fn registered(rt: &(impl Abort + AllocGlobal), made: &mut Made, row: &Plugging) -> Packages {
-    let first = made.registered(rt, "my:plug0", &[], row.first);
+    let first = made.registered(rt, ("my:plug0", None), &[], row.first);
     let second = match row.second {
         Second::Absent => None,
         Second::Same => Some(first),
-        Second::Other(exports) => Some(made.registered(rt, "my:plug1", &[], exports)),
+        Second::Other(exports) => Some(made.registered(rt, ("my:plug1", None), &[], exports)),
     };
-    let socket = made.registered(rt, "my:socket", row.imports, row.exports);
+    let socket = made.registered(rt, ("my:socket", None), row.imports, row.exports);
     (first, second, socket)
 }
 

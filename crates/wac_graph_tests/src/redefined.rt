@@ -1,8 +1,9 @@
 // Definitions that an imported instance lists, and of what is made of these.
-use crate::tables::Case;
 use crate::tables::Row::{Alias, Enumeration, Func, Instance, List, Pair};
 use crate::tables::Step::{Define, Import};
 use crate::tables::Want::Parts;
+use crate::tables::{Case, assert_answers};
+use wac_graph::EncodeOptions;
 
 // An instance type that lists an enum as `t`.
 const LISTS_T: &str = "070f014202016d01016104000174030000";
@@ -16,8 +17,8 @@ const ALIASES_T: &str = "0606010300000174";
 // The type item `t` of an enum.
 const IMPORTS_T: &str = "0a0701000174030000";
 
-/// Definitions of types that imports have.
-pub const REDEFINED: &[Case] = &[
+// Definitions of types that imports have.
+const REDEFINED: &[Case] = &[
     // A list of an enum that is imported as a type item goes by the import's index.
     Case {
         rows: &[Enumeration("x"), List(0)],
@@ -219,3 +220,8 @@ pub const REDEFINED: &[Case] = &[
         want: Parts(&[LISTS_T, IMPORTS_I]),
     },
 ];
+
+#[test]
+fn definitions_go_by_what_imports_list(rt: HostRuntime) {
+    assert_answers(&rt, REDEFINED, EncodeOptions::default());
+}

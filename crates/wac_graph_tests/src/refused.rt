@@ -3,7 +3,7 @@ use crate::tables::Row::{
     Component, Enumeration, Func, Instance, Module, Own, Resource, TypeOf, Using,
 };
 use crate::tables::Step::{Define, Import, Instantiate, Register};
-use crate::tables::Want::{Fault, Text};
+use crate::tables::Want::{Fault, Text, Written};
 use crate::tables::{Made, Row, Step, Want, assert_encoded_with};
 use std::process::Abort;
 use wac_graph::{EncodeOptions, WriteFault};
@@ -15,8 +15,6 @@ struct Asked {
     define_components: bool,
     want: Want,
 }
-
-const NOT_YET: Want = Text("the graph holds something that is not written yet");
 
 const UNBOUND: Want = Fault(0, WriteFault::UnboundResource);
 
@@ -66,14 +64,14 @@ const ROOT: &[Asked] = &[
             Instantiate,
         ],
         define_components: true,
-        want: NOT_YET,
+        want: Written,
     },
     // So does one that is imported later, and a definition sees it.
     Asked {
         rows: LABELS,
         steps: &[Define("d", 3), Import("n:p/i", 1)],
         define_components: true,
-        want: NOT_YET,
+        want: Written,
     },
     // A definition without an id is looked into, too.
     Asked {
@@ -105,7 +103,7 @@ const INSIDE: &[Asked] = &[
         rows: LABELS,
         steps: &[Import("c", 5)],
         define_components: true,
-        want: NOT_YET,
+        want: Written,
     },
     // An instance beside binds nothing in an instance type.
     Asked {
@@ -119,7 +117,7 @@ const INSIDE: &[Asked] = &[
         rows: LABELS,
         steps: &[Import("i", 6), Import("n:p/i", 1)],
         define_components: true,
-        want: NOT_YET,
+        want: Written,
     },
 ];
 
@@ -141,11 +139,11 @@ const CROSSED: &[Row] = &[
 const THREE: &[Row] = &[
     Enumeration("a"),
     Instance(Some("a:b/y@1.0.0"), &[("t", 0)]),
-    Using(Some("a:b/x@1.0.0"), ("t", 1), &[]),
+    Using(Some("a:b/x@1.0.0"), &[("t", 1, "t")], &[]),
     Instance(Some("a:b/z@1.0.0"), &[("v", 0)]),
-    Using(Some("a:b/y@1.1.0"), ("v", 3), &[]),
+    Using(Some("a:b/y@1.1.0"), &[("v", 3, "v")], &[]),
     Instance(Some("a:b/x@1.1.0"), &[("u", 0)]),
-    Using(Some("a:b/z@1.1.0"), ("u", 5), &[]),
+    Using(Some("a:b/z@1.1.0"), &[("u", 5, "u")], &[]),
 ];
 
 const CYCLE: Want = Fault(0, WriteFault::TypesUseEachOther);
@@ -187,9 +185,9 @@ const CYCLES: &[Asked] = &[
 const LISTED: &[Row] = &[
     Enumeration("a"),
     Instance(Some("n:p/j"), &[("t", 0)]),
-    Using(Some("n:p/i"), ("t", 1), &[("t", 0)]),
+    Using(Some("n:p/i"), &[("t", 1, "t")], &[("t", 0)]),
     Component(Some("n:p/w"), &[("n:p/i", 2)], &[("n:p/j", 1)]),
-    Using(Some("n:p/j"), ("t", 1), &[]),
+    Using(Some("n:p/j"), &[("t", 1, "t")], &[]),
     Component(None, &[], &[("n:p/j", 4)]),
 ];
 
@@ -206,7 +204,7 @@ const DEPENDENCIES: &[Asked] = &[
         rows: LISTED,
         steps: &[Register(&[("n:p/i", 2), ("n:p/j", 1)]), Instantiate],
         define_components: false,
-        want: NOT_YET,
+        want: Written,
     },
     // What a world exports does not serve its imports.
     Asked {
@@ -220,7 +218,7 @@ const DEPENDENCIES: &[Asked] = &[
         rows: LISTED,
         steps: &[Define("d", 3)],
         define_components: true,
-        want: NOT_YET,
+        want: Written,
     },
     // The very interface counts, and not its id.
     Asked {
@@ -237,7 +235,7 @@ const NESTED: &[Row] = &[
     Instance(Some("n:p/k"), &[("r", 0)]),
     Own(0),
     Func(&[("x", 2)], None),
-    Using(None, ("r", 1), &[("f", 3)]),
+    Using(None, &[("r", 1, "r")], &[("f", 3)]),
     Instance(Some("n:p/i"), &[("j", 4)]),
 ];
 
@@ -246,7 +244,7 @@ const NESTED_VALUE: &[Row] = &[
     Enumeration("a"),
     Instance(Some("n:p/k"), &[("r", 0)]),
     Func(&[("x", 0)], None),
-    Using(None, ("r", 1), &[("f", 2)]),
+    Using(None, &[("r", 1, "r")], &[("f", 2)]),
     Instance(Some("n:p/i"), &[("j", 3)]),
 ];
 
@@ -256,7 +254,7 @@ const CUT: &[Row] = &[
     Module,
     TypeOf(1),
     Instance(Some("n:p/j"), &[("t", 0), ("m", 2)]),
-    Using(Some("n:p/i"), ("t", 3), &[]),
+    Using(Some("n:p/i"), &[("t", 3, "t")], &[]),
 ];
 
 // Uses of nested instances, and of additional imports.
@@ -266,7 +264,7 @@ const USES: &[Asked] = &[
         rows: NESTED,
         steps: &[Import("n:p/i", 5)],
         define_components: true,
-        want: NOT_YET,
+        want: Written,
     },
     // A component type imports it itself.
     Asked {

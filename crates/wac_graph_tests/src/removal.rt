@@ -1,7 +1,7 @@
 // Nodes that are removed, and what goes with them.
 use super::bench::Call::{
     Alias, Asked, Encode, Export, Exported, Has, Import, Instantiate, Refusal, Register, Remove,
-    Satisfied, Set, Unexport, Unset,
+    Satisfied, Sections, Set, Unexport, Unset,
 };
 use super::bench::Item::{Empty, Exporting, Plain};
 use super::bench::{How, Rows, assert_tables};
@@ -85,6 +85,17 @@ const IMPORT: Rows = &[
     ),
 ];
 
+// An instance that was an argument of two instances of one package, under one name.
+const SHARED: Rows = &[
+    (Register("my:package", &[("i", Empty)], &[]), ""),
+    (Instantiate(0), "0"),
+    (Instantiate(0), "1"),
+    (Import("y", Empty), "2"),
+    (Set(0, "i", 2), ""),
+    (Set(1, "i", 2), ""),
+    (Remove(2), ""),
+];
+
 // Node 0 is given one of two instances that are each other's arguments; a node that was given one is removed, and its number
 // used again.
 const RING: Rows = &[
@@ -138,6 +149,22 @@ const TABLES: &[(Rows, Rows)] = &[
     // An argument that is removed, or whose instance is, is asked for.
     (ARGUMENT, &[(Asked, "b: function; b: function; ")]),
     (BEHIND, &[(Asked, "b: function; ")]),
+    // One import serves all that ask for it.
+    (
+        SHARED,
+        &[
+            (Asked, "i: instance; i: instance; "),
+            (
+                Sections(&[
+                    "0703014200",
+                    "0a06010001690500",
+                    "04080061736d0d000100",
+                    "050f020000010169050000000101690500",
+                ]),
+                "",
+            ),
+        ],
+    ),
     // A cycle is named after a removal.
     (RING, &[(Refusal, "1")]),
 ];

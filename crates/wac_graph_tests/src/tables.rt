@@ -1,25 +1,25 @@
 // Types and calls on a graph as the rows of a table, and what `encode` answers then.
-use crate::aliased::ALIASED;
-use crate::defining::{CALLS, DEFINED, answer, assert_undefined};
-use crate::imports::IMPORTS;
-use crate::once::ONCE;
+use crate::defining::{CALLS, answer, assert_undefined};
 use crate::parts::{self, assert_displayed, assert_row, encode, export, import, instantiate};
-use crate::redefined::REDEFINED;
-use crate::writable::{DEPENDENCIES, WRITABLE};
+use semver::Version;
 use std::alloc::Global;
 use std::process::Abort;
 use wac_graph::types::{
     DefinedType, Enum, InterfaceId, ItemKind, ModuleType, PrimitiveType, Record, Resource,
     ResourceId, Type, ValueType,
 };
-use wac_graph::{
-    CompositionGraph, EncodeError, EncodeOptions, NodeId, PackageId, ValidationFault, WriteFault,
-};
+use wac_graph::{CompositionGraph, EncodeError, EncodeOptions, NodeId, PackageId, WriteFault};
 
 const PREAMBLE: &str = "0061736d0d000100";
 
 /// A name, and the place of what it is of.
 pub type Item = (&'static str, usize);
+
+/// The name of a used type, the place of the instance that exports it, and its name there.
+pub type Use = (&'static str, usize, &'static str);
+
+/// The name of a package, and the first number of its version.
+pub type Key = (&'static str, Option<u64>);
 
 /// An item that a row adds to those before it, each of which it means by its place.
 #[derive(Clone, Copy)]
@@ -46,12 +46,14 @@ pub enum Row {
     Record(usize),
     // A new resource.
     Resource,
+    // An alias of a resource.
+    AliasOf(usize),
     // The type of a handle to a resource.
     Own(usize),
     // A function of these parameters, and of what it gives.
     Func(&'static [Item], Option<usize>),
-    // An instance of an interface of this id, which uses a type of the first name of an instance, and lists these.
-    Using(Option<&'static str>, Item, &'static [Item]),
+    // An instance of an interface of this id, which uses and lists these.
+    Using(Option<&'static str>, &'static [Use], &'static [Item]),
     // An instance of an interface of this id, which lists these.
     Instance(Option<&'static str>, &'static [Item]),
     // A component of a world of this id, which imports and exports these.
@@ -81,7 +83,9 @@ pub enum Step {
     Export(usize, &'static str),
     // Registers the package `my:package` with these imports.
     Register(&'static [Item]),
-    // Makes an instance of the package.
+    // Registers a package of this key with these imports.
+    RegisterAs(Key, &'static [Item]),
+    // Makes an instance of the package that was registered last.
     Instantiate,
     // A node is given this argument, a node.
     Set(usize, &'static str, usize),
@@ -94,12 +98,14 @@ pub enum Want {
     Parts(&'static [&'static str]),
     // So many bytes.
     Length(usize),
+    // Bytes, and no refusal.
+    Written,
     // A refusal with this text.
     Text(&'static str),
     // A refusal of the type that this node asks for.
     Fault(usize, WriteFault),
-    // A refusal of this name, which may not be exported.
-    Unexportable(&'static str),
+    // A refusal of names, and which.
+    Invalid(&'static str),
 }
 
 /// Items, calls on a graph of their types, and what `encode` answers.
@@ -183,11 +189,12 @@ impl Made {
             Row::Byte => value_item(ValueType::Primitive(PrimitiveType::U8)),
             Row::Value => ItemKind::Value(ValueType::Primitive(PrimitiveType::Bool)),
             Row::Doubled(of, levels) => self.doubled(rt, of, levels),
-            Row::Resource => self.new_resource(rt),
+            Row::Resource => self.new_resource(rt, None),
+            Row::AliasOf(of) => self.new_resource(rt, Some(of)),
             Row::Own(of) => value_item(ValueType::Own(self.resource(rt, of))),
             Row::Func(params, returned) => self.function(rt, params, returned),
-            Row::Using(id, used, items) => self.using(rt, id, used, items),
-            Row::Instance(id, items) => self.instance(rt, id, items),
+            Row::Using(id, uses, items) => self.instance(rt, id, uses, items),
+            Row::Instance(id, items) => self.instance(rt, id, &[], items),
             Row::Component(id, imports, exports) => self.component(rt, id, imports, exports),
             Row::Module => {
                 let module = ModuleType::new(self.alloc());
@@ -234,8 +241,13 @@ impl Made {
         value_item(value)
     }
 
-    fn new_resource(&mut self, rt: &impl Abort) -> ItemKind {
-        let resource = Resource::new(self.alloc(), "r").expect(rt, "a resource");
+    // A resource `r`, or an alias of the resource at a place.
+    fn new_resource(&mut self, rt: &impl Abort, source: Option<usize>) -> ItemKind {
+        let resource = match source {
+            Some(of) => Resource::alias(self.alloc(), "r", None, self.resource(rt, of)),
+            None => Resource::new(self.alloc(), "r"),
+        };
+        let resource = resource.expect(rt, "a resource");
         ItemKind::TypeItem(Type::Resource(self.graph.add_resource(resource).expect(rt, "its id")))
     }
 
@@ -268,15 +280,30 @@ impl Made {
         named
     }
 
-    fn instance(&mut self, rt: &impl Abort, id: Option<&str>, items: &[Item]) -> ItemKind {
-        let items = self.named(rt, items);
-        parts::instance(rt, &mut self.graph, id, &[], &items)
+    fn used(
+        &self,
+        rt: &impl Abort,
+        uses: &[Use],
+    ) -> Vec<(&'static str, InterfaceId, Option<&'static str>)> {
+        let mut used = Vec::new(self.alloc());
+        for (name, place, there) in uses {
+            let of = self.interface(rt, *place);
+            used.push((*name, of, Some(*there)))
+                .expect(rt, "room for a use");
+        }
+        used
     }
 
-    fn using(&mut self, rt: &impl Abort, id: Option<&str>, used: Item, items: &[Item]) -> ItemKind {
-        let of = self.interface(rt, used.1);
+    fn instance(
+        &mut self,
+        rt: &impl Abort,
+        id: Option<&str>,
+        uses: &[Use],
+        items: &[Item],
+    ) -> ItemKind {
+        let uses = self.used(rt, uses);
         let items = self.named(rt, items);
-        parts::instance(rt, &mut self.graph, id, &[(used.0, of, None)], &items)
+        parts::instance(rt, &mut self.graph, id, &uses, &items)
     }
 
     fn component(
@@ -302,7 +329,10 @@ impl Made {
                 export(rt, &mut self.graph, NodeId(node), name).expect(rt, "an export");
             }
             Step::Register(imports) => {
-                self.package = Some(self.registered(rt, "my:package", imports, &[]));
+                self.package = Some(self.registered(rt, ("my:package", None), imports, &[]));
+            }
+            Step::RegisterAs(key, imports) => {
+                self.package = Some(self.registered(rt, key, imports, &[]));
             }
             Step::Instantiate => {
                 let package = self.package.expect(rt, "a package");
@@ -350,16 +380,19 @@ impl Made {
     pub fn registered(
         &mut self,
         rt: &impl Abort,
-        name: &str,
+        key: Key,
         imports: &[Item],
         exports: &[Item],
     ) -> PackageId {
+        let (name, major) = key;
+        let version = match major {
+            Some(major) => Some(Version::new(major, 0, 0)),
+            None => None,
+        };
+        let key = (name, version.as_ref());
         let imports = self.named(rt, imports);
         let exports = self.named(rt, exports);
-        parts::register(rt, &mut self.graph, (name, None), &imports, &exports).expect(
-            rt,
-            "a package",
-        )
+        parts::register(rt, &mut self.graph, key, &imports, &exports).expect(rt, "a package")
     }
 }
 
@@ -371,12 +404,13 @@ fn assert_parts(rt: &(impl Abort + AllocGlobal), bytes: &[u8], want: &[&str]) {
     assert!(rt; items == Some(want.as_str()), "{text}");
 }
 
-// The name that is refused, since it may not be exported.
-fn assert_unexportable(rt: &impl Abort, error: &EncodeError, want: &str) {
+// Names are refused, and these are.
+fn assert_invalid(rt: &(impl Abort + AllocGlobal), error: &EncodeError, want: &str) {
     match error {
-        EncodeError::ValidationFailure {
-            source: ValidationFault::NotExportable { name },
-        } => assert_row(rt, name.as_str() == want, want),
+        EncodeError::ValidationFailure { source } => {
+            let text = parts::invalid(rt, rt.alloc(), source);
+            assert_row(rt, text.as_str() == want, want);
+        }
         _ => panic!(rt; "another refusal"),
     }
 }
@@ -391,7 +425,7 @@ fn assert_refused(rt: &(impl Abort + AllocGlobal), error: &EncodeError, want: Wa
             _ => panic!(rt; "another refusal"),
         },
         Want::Text(want) => assert_displayed(rt, error, want),
-        Want::Unexportable(name) => assert_unexportable(rt, error, name),
+        Want::Invalid(want) => assert_invalid(rt, error, want),
         _ => panic!(rt; "a refusal"),
     }
 }
@@ -401,6 +435,7 @@ fn assert_written(rt: &(impl Abort + AllocGlobal), bytes: &[u8], want: Want) {
     match want {
         Want::Parts(want) => assert_parts(rt, bytes, want),
         Want::Length(want) => assert!(rt; bytes.len() == want),
+        Want::Written => {}
         _ => panic!(rt; "bytes are written"),
     }
 }
@@ -423,26 +458,11 @@ pub fn assert_encoded_with(
     }
 }
 
-// Each case is answered so.
-fn assert_answers(rt: &(impl Abort + AllocGlobal), cases: &[Case]) {
+/// Each case is answered so with these options.
+pub fn assert_answers(rt: &(impl Abort + AllocGlobal), cases: &[Case], options: EncodeOptions<'_>) {
     for case in cases {
         let made = Made::new(rt, case.rows, case.steps);
-        assert_encoded(rt, &made.graph, case.want);
-    }
-}
-
-#[test]
-fn graphs_are_encoded(rt: HostRuntime) {
-    for cases in [
-        DEFINED,
-        REDEFINED,
-        IMPORTS,
-        ALIASED,
-        ONCE,
-        WRITABLE,
-        DEPENDENCIES,
-    ] {
-        assert_answers(&rt, cases);
+        assert_encoded_with(rt, &made.graph, options, case.want);
     }
 }
 

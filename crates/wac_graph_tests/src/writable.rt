@@ -2,8 +2,8 @@
 use crate::tables::Row::{Component, Enumeration, Func, Instance, Module, TypeOf, Using, Value};
 use crate::tables::Step::{Define, Import, Instantiate, Register, Set};
 use crate::tables::Want::{Fault, Parts, Text};
-use crate::tables::{Case, Row, Step, Want};
-use wac_graph::WriteFault;
+use crate::tables::{Case, Row, Step, Want, assert_answers};
+use wac_graph::{EncodeOptions, WriteFault};
 
 // A function, a value, an instance that lists the type of a core module, and an instance of the empty interface.
 const LOWEST: &[Row] = &[
@@ -27,7 +27,7 @@ const VALUE_FIRST: &[Step] = &[
 const WORLDS: &[Row] = &[
     Enumeration("a"),
     Instance(Some("n:p/j"), &[("t", 0)]),
-    Using(Some("n:p/i"), ("t", 1), &[("t", 0)]),
+    Using(Some("n:p/i"), &[("t", 1, "t")], &[("t", 0)]),
     Component(Some("n:p/w"), &[("n:p/i", 2)], &[]),
     Component(None, &[("n:p/i", 2), ("n:p/j", 1)], &[]),
     Component(None, &[("n:p/i", 2)], &[("n:p/j", 1)]),
@@ -37,29 +37,27 @@ const WORLDS: &[Row] = &[
     Instance(None, &[("c", 8)]),
 ];
 
-const NOT_YET: Want = Text("the graph holds something that is not written yet");
-
 const UNLISTED: Want = Fault(0, WriteFault::UnlistedDependency);
 
-/// Worlds that list what they use, and others.
-pub const DEPENDENCIES: &[Case] = &[
+// Worlds that list what they use, and others.
+const DEPENDENCIES: &[Case] = &[
     // An interface that an imported instance uses is not imported.
     Case {
         rows: WORLDS,
         steps: &[Import("c", 3)],
         want: UNLISTED,
     },
-    // It is, under its id: both are of one enumeration, which is aliased from the first.
+    // It is, under its id: it comes first, since the other depends on it.
     Case {
         rows: WORLDS,
         steps: &[Import("c", 4)],
         want: Parts(&[
             "073b014105", // a component type of five declarations
             "014202016d01016104000174030000", // an instance type that lists the enumeration
-            "0300056e3a702f690500", // `n:p/i` is imported
+            "0300056e3a702f6a0500", // `n:p/j` is imported
             "020300000174", // its enumeration
             "014202020302010104000174030000", // an instance type that lists that
-            "0300056e3a702f6a0502", // `n:p/j` is imported
+            "0300056e3a702f690502", // `n:p/i` is imported
             "0a06010001630400", // the component `c`
         ]),
     },
@@ -76,10 +74,10 @@ pub const DEPENDENCIES: &[Case] = &[
         want: Parts(&[
             "073b014105", // a component type of five declarations
             "014202016d01016104000174030000", // an instance type that lists the enumeration
-            "0400056e3a702f690500", // `n:p/i` is exported
+            "0400056e3a702f6a0500", // `n:p/j` is exported
             "020300000174", // its enumeration
             "014202020302010104000174030000", // an instance type that lists that
-            "0400056e3a702f6a0502", // `n:p/j` is exported
+            "0400056e3a702f690502", // `n:p/i` is exported
             "0a06010001630400", // the component `c`
         ]),
     },
@@ -104,12 +102,22 @@ pub const DEPENDENCIES: &[Case] = &[
     Case {
         rows: WORLDS,
         steps: &[Define("c", 3)],
-        want: NOT_YET,
+        want: Parts(&[
+            "0748014102", // a component type of two declarations
+            "014105", // the world's component type, of five
+            "014202016d01016104000174030000", // an instance type that lists the enumeration
+            "0300056e3a702f6a0500", // `n:p/j` is imported
+            "020300000174", // its enumeration
+            "014202020302010104000174030000", // an instance type that lists that
+            "0300056e3a702f690502", // `n:p/i` is imported
+            "0400056e3a702f770400", // the world is exported
+            "0b0701000163030000", // the definition `c`
+        ]),
     },
 ];
 
-/// Types, written or refused.
-pub const WRITABLE: &[Case] = &[
+// Types, written or refused.
+const WRITABLE: &[Case] = &[
     // A module type is no item.
     Case {
         rows: &[Module, TypeOf(0), Instance(None, &[("x", 1)])],
@@ -175,3 +183,13 @@ pub const WRITABLE: &[Case] = &[
         want: Text("the graph contains a cycle and cannot be encoded"),
     },
 ];
+
+#[test]
+fn worlds_list_what_they_use(rt: HostRuntime) {
+    assert_answers(&rt, DEPENDENCIES, EncodeOptions::default());
+}
+
+#[test]
+fn types_are_written_or_refused(rt: HostRuntime) {
+    assert_answers(&rt, WRITABLE, EncodeOptions::default());
+}

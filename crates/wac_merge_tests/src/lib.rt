@@ -1,6 +1,6 @@
 //! Tests of merging, through what `wac_merge` and its layers make public.
 //!
-//! They stand apart from `wac_tests`, so that the tests of the crates below need not wait for merging.
+//! They are a crate of their own, so that the tests of the crates below need not wait for merging.
 #![tactic(auto)]
 
 #[cfg(test)]

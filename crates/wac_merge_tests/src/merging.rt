@@ -6,32 +6,46 @@ use crate::merged::Check::{Bound, Canonical, Differ, Imports, Lists, Resource, U
 use crate::merged::{Case, assert_merged};
 use crate::rows::Row::{Enumeration, Instance, Plain, Telling, TypeOf};
 use crate::rows::{Item, Items, Row, assert_row};
-use std::alloc::Global;
+use std::alloc::{AllocError, Global};
 use std::process::Abort;
 use wac_merge::{MergeFault, TypeAggregator};
 use wac_types::{ItemKind, Types};
 
-// An aggregator that is asked for these.
+// An aggregator that is asked for these, or that memory was refused.
 fn aggregated(
     alloc: Global,
     rt: &impl Abort,
     types: &Types,
     asked: &[(&str, ItemKind)],
-) -> TypeAggregator
-    ensures { AreHeld types.now result.entries }
+) -> Result<TypeAggregator, AllocError>
+    ensures { IfOk result (λ a. AreHeld types.now a.entries) }
 {
     let mut aggregator = TypeAggregator::new(alloc);
     for i in 0..asked.len() {
         let (name, kind) = asked[i];
         assert!(rt; types.contains(kind.ty()));
-        aggregator = aggregator
-            .aggregate(name, types, kind)
-            .expect(rt, "an aggregator");
+        aggregator = aggregator.aggregate(name, types, kind)?;
     }
-    aggregator
+    Ok(aggregator)
 }
 
-// What `finish` answers where these are asked for.
+// What `finish` answers where these are asked for, once.
+fn finished_once(
+    alloc: Global,
+    rt: &impl Abort,
+    types: &Types,
+    asked: &[(&str, ItemKind)],
+) -> Result<TypeAggregator, MergeFault>
+    ensures { IfOk result (λ merged. merged.is_finished ≡ true) }
+{
+    match aggregated(alloc, rt, types, asked) {
+        Ok(aggregator) => aggregator.finish(types),
+        Err(_) => Err(MergeFault::OutOfMemory),
+    }
+}
+
+// What `finish` answers where these are asked for. If memory is refused, the aggregator is consumed, and another answers the same
+// as if memory had not been refused.
 pub(crate) fn finished(
     alloc: Global,
     rt: &impl Abort,
@@ -40,7 +54,10 @@ pub(crate) fn finished(
 ) -> Result<TypeAggregator, MergeFault>
     ensures { IfOk result (λ merged. merged.is_finished ≡ true) }
 {
-    aggregated(alloc, rt, types, asked).finish(types)
+    match finished_once(alloc, rt, types, asked) {
+        Err(MergeFault::OutOfMemory) => finished_once(alloc, rt, types, asked),
+        answer => answer,
+    }
 }
 
 // Types, what is asked for of them, and the fault that is answered.

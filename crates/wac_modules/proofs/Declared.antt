@@ -12,7 +12,7 @@ use Rattle.wac_binary.specs.Indexes.{function_types}
 use Rattle.wac_binary.specs.Fits.{ModuleFits}
 use Rattle.wac_binary.specs.declared.fault.BinaryFault.{BinaryFault}
 use Rattle.wac_binary.specs.declared.fault.BinaryFault.TheVariants.{TooLarge}
-use Rattle.wac_modules.specs.Declarations.{in_order}
+use Rattle.wac_modules.specs.private.Declarations.{in_order}
 
 pub function_types-append : (xs ys : List ModuleDecl) → function_types (xs ++ ys) ≡ function_types xs + function_types ys
 function_types-append [] ys = omega arith

@@ -17,7 +17,7 @@ use Rattle.wac_binary.specs.Items.{ModuleDecl, module_import, module_export}
 use Rattle.wac_binary.specs.Indexes.{function_types}
 use Rattle.wac_binary.specs.Unfold.{Module, no_module, func_at, core_item, with_module_decl, module_after}
 use Rattle.wac_binary.specs.HasMeaning.{IsFreeInModule, EntityHasMeaning, ModuleHasMeaning}
-use Rattle.wac_modules.specs.Declarations.{entity, type_before, import_of, export_of, in_order, declarations_of, MeansModule}
+use Rattle.wac_modules.specs.private.Declarations.{entity, type_before, import_of, export_of, in_order, declarations_of, MeansModule}
 use Rattle.wac_modules.proofs.Declared.{function_types-append}
 
 -- ---- declarations one after another

@@ -8,7 +8,7 @@ use Rattle.wac_binary.specs.declared.core_types.EntityType.TheVariants as t
 use Rattle.wac_binary.specs.Items.{module_import, module_func, module_export}
 use Rattle.wac_binary.specs.Bytes.{module_bytes}
 use Rattle.wac_binary.specs.Leb.{groups, leb}
-use Rattle.wac_modules.specs.Declarations.{declarations_of}
+use Rattle.wac_modules.specs.private.Declarations.{declarations_of}
 
 -- a memory of one page at least
 abbrev memory : CoreExtern

@@ -1,1 +1,1 @@
-pub mod Declarations
+pub mod private

@@ -6,7 +6,7 @@ ghost use Rattle.wac_binary.specs.Fits.{ModuleFits};
 ghost use Rattle.wac_binary.specs.Indexes.{function_types};
 ghost use Rattle.wac_binary.specs.Items.{module_func};
 ghost use Rattle.wac_binary.specs.declared.fault.BinaryFault.TheVariants.{TooLarge};
-ghost use Rattle.wac_modules.specs.Declarations.{entity, type_before, import_of, export_of, declarations_of, MeansModule};
+ghost use Rattle.wac_modules.specs.private.Declarations.{entity, type_before, import_of, export_of, declarations_of, MeansModule};
 
 use std::alloc::Global;
 use wac_binary::{BinaryFault, EntityType, GlobalType, MemoryType, TableType};

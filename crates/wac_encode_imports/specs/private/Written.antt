@@ -22,7 +22,7 @@ use Rattle.wac_encode_interfaces.specs.Imports.{ImportsBeside, RefersToImport}
 use Rattle.wac_encode_interfaces.specs.Ready.{IsClean}
 use Rattle.wac_encode_interfaces.specs.Worlds.{Worlds, HaveWorlds, written_in}
 use Rattle.wac_encode_interfaces.specs.Writers.{IsWriter}
-use Rattle.wac_encode_imports.specs.Imports.{merged_bindings, import_tree, HasDistinctClasses, HasNoImportFault, ImportsFirst}
+use Rattle.wac_encode_imports.specs.private.Imports.{merged_bindings, import_tree, HasDistinctClasses, HasNoImportFault, ImportsFirst}
 use Rattle.wac_encode_imports.specs.private.Exports.{ExportNoNameTwice}
 use Rattle.wac_encode_imports.specs.declared.import.ImportWriter.{ImportWriter}
 

@@ -16,10 +16,10 @@ use Rattle.wac_binary.specs.Unfold.{Scope}
 use Rattle.wac_encode_stacks.specs.Scopes.{Stack, env, envs}
 use Rattle.wac_encode_stacks.specs.Good.{Good, top, Grown}
 use Rattle.wac_encode_stacks.specs.Listed.{AreListed}
-use Rattle.wac_encode_scopes.specs.Interfaces.{own_items}
+use Rattle.wac_encode_scopes.specs.private.Interfaces.{own_items}
 use Rattle.wac_encode_scopes.specs.declared.state.State.{State}
 use Rattle.wac_encode_scopes.specs.States.{stack, Goes}
-use Rattle.wac_encode_order.specs.Interfaces.{is_later_at}
+use Rattle.wac_encode_order.specs.private.Interfaces.{is_later_at}
 use Rattle.wac_encode_values.specs.Values.{IsReady}
 use Rattle.wac_encode_faults.specs.Faults.{listed_fault}
 use Rattle.wac_encode_interfaces.specs.Worlds.{Worlds, HaveWorlds, HaveInterfaceWorlds}

@@ -11,7 +11,7 @@ use Rattle.wac_types_collection.specs.collection.Aliases.{type_resolved}
 use Rattle.wac_types_collection.specs.reach.Reach.{IsIn}
 use Rattle.wac_edges.specs.declared.node.NodeId.{NodeId}
 use Rattle.wac_edges.specs.Order.{Edges, IsEdge}
-use Rattle.wac_encode_order.specs.TypeItems.{made_of, NamesAt, IsFirstName, IsTypeItemAt}
+use Rattle.wac_encode_order.specs.private.TypeItems.{made_of, NamesAt, IsFirstName, IsTypeItemAt}
 
 -- The items are of the collection.
 abbrev pub AreHeld : Collection → List (Name × ItemKind) → Type 0

@@ -3,7 +3,7 @@ use Rattle.std.specs.Prelude.{ℕ, ltb, ◌&&◌, not, Bool, if◌then◌else◌
 use Rattle.wac_types_shapes.specs.primitives.Name.{Name}
 use Rattle.wac_types_shapes.specs.declared.shapes.component.ItemKind.{ItemKind}
 use Rattle.wac_types_collection.specs.collection.Bound.{lists_type}
-use Rattle.wac_encode_order.specs.SideOrder.{lists_resource}
+use Rattle.wac_encode_order.specs.private.SideOrder.{lists_resource}
 
 -- The item is a type item of another type than a resource.
 abbrev pub lists_plain_type : Name × ItemKind → Bool

@@ -10,12 +10,12 @@ use Rattle.wac_encode_scopes.specs.declared.scope.Scope.{Scope}
 use Rattle.wac_encode_scopes.specs.declared.state.State.{State}
 use Rattle.wac_encode_scopes.specs.declared.encodable.Encodable.TheVariants.{Builder, Instance, Component}
 use Rattle.wac_encode_scopes.specs.Contents.{and_alias_of, and_item}
-use Rattle.wac_encode_scopes.specs.Interfaces.{own_in}
+use Rattle.wac_encode_scopes.specs.private.Interfaces.{own_in}
 use Rattle.wac_encode_scopes.specs.Books.{recorded, opened}
 use Rattle.wac_encode_scopes.specs.States.{stack, named_in}
 use Rattle.wac_encode_stacks.specs.Scopes.{Content, Where, How, defined, brought, listed, at_type, at_export, Open, opening, declarations, root, next_type, bind_at, export_at}
 use Rattle.wac_encode_stacks.specs.Beside.{written_as, all_written_as}
-use Rattle.wac_encode_stacks.specs.Inside.{changed_at, aliased_there}
+use Rattle.wac_encode_stacks.specs.private.Inside.{changed_at, aliased_there}
 use Rattle.wac_types_shapes.specs.declared.shapes.component.DefinedTypeId.{DefinedTypeId}
 use Rattle.wac_encode_stacks.specs.Brought.{aliased_value}
 use Rattle.wac_types_shapes.specs.primitives.Name.{Name, option_case}

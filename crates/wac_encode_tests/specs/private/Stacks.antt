@@ -7,7 +7,7 @@ use Rattle.wac_types_shapes.specs.declared.shapes.component.«Type».{«Type» a
 use Rattle.wac_types_shapes.specs.declared.shapes.component.ItemKind.{ItemKind}
 use Rattle.wac_types_collection.specs.collection.Collection.{Collection, seconds}
 use Rattle.wac_types_shapes.specs.declared.shapes.component.ValueType.{ValueType}
-use Rattle.wac_encode_stacks.specs.HeldParts.{HoldsAll}
+use Rattle.wac_encode_stacks.specs.private.HeldParts.{HoldsAll}
 use Rattle.wac_types_collection.specs.collection.Bound.{Bindings}
 use Rattle.wac_binary.specs.Items.{decls}
 use Rattle.wac_binary.specs.HasMeaning.{ImportNothing}
@@ -15,7 +15,7 @@ use Rattle.wac_encode_stacks.specs.Good.{Good, Holds, top}
 use Rattle.wac_encode_scopes.specs.declared.encodable.Encodable.{Encodable}
 use Rattle.wac_encode_scopes.specs.declared.encodable.Encodable.TheVariants.{Instance}
 use Rattle.wac_encode_scopes.specs.declared.state.State.{State}
-use Rattle.wac_encode_scopes.specs.Interfaces.{own_in}
+use Rattle.wac_encode_scopes.specs.private.Interfaces.{own_in}
 use Rattle.wac_encode_scopes.specs.Roots.{IsRoot}
 use Rattle.wac_encode_scopes.specs.States.{stack}
 

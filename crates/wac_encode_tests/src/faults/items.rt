@@ -133,6 +133,18 @@ const CASES: &[Case] = &[
         want: Some(WriteFault::NestedItem),
     },
     Case {
+        name: "a value item of an instance",
+        rows: &[
+            Primitive(PrimitiveType::U8),
+            Value(0),
+            Instance(Some("n:p/i"), &[("v", 1)]),
+        ],
+        place: 2,
+        role: Role::Imported,
+        bound: &[],
+        want: Some(WriteFault::NestedItem),
+    },
+    Case {
         name: "a value item",
         rows: &[Primitive(PrimitiveType::U8), Value(0)],
         place: 1,

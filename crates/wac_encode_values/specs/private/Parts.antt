@@ -18,7 +18,7 @@ use Rattle.wac_encode_scopes.specs.declared.state.State.{State}
 use Rattle.wac_encode_scopes.specs.declared.closed.ClosedTypes.{ClosedTypes}
 use Rattle.wac_encode_scopes.specs.Books.{opened}
 use Rattle.wac_encode_scopes.specs.States.{named_in}
-use Rattle.wac_encode_scopes.specs.Parts.{parts}
+use Rattle.wac_encode_scopes.specs.private.Parts.{parts}
 use Rattle.wac_encode_values.specs.declared.task.Part.{Part}
 use Rattle.wac_encode_values.specs.declared.task.Part.TheVariants.{Written, Missing}
 use Rattle.wac_encode_values.specs.declared.task.Task.{Task}

@@ -10,7 +10,6 @@ use Rattle.wac_merge_classes.specs.entries.Binding.{binding_class}
 use Rattle.wac_merge_classes.specs.entries.Classes.{by_names}
 use Rattle.wac_merge.specs.Aggregate.{Aggregate}
 use Rattle.wac_graph_model.specs.nodes.Graph.{Graph}
-use Rattle.wac_graph_model.specs.nodes.OuterImports.{outer_entries}
 use Rattle.wac_graph_model.specs.causes.TypeFaults.{class_bindings}
 
 -- The resource of a type item.
@@ -42,10 +41,6 @@ IsBoundIn a r = IsSome (binding_class by_names (a.merge).types a.entries r)
 -- Those resources for which P holds were added.
 abbrev pub AddsResources : (ResourceId → Type 0) → List ResourceId → List ResourceId → Type 0
 AddsResources P old new = (r : ResourceId) → Contains new r ↔ (Contains old r ⊎ P r)
-
--- The classes bind the same resources over the merged types as over the graph's.
-abbrev pub BindsAlike : Graph → Aggregate → Type 0
-BindsAlike g a = (r : ResourceId) → binding_class by_names (a.merge).types a.entries r ≡ binding_class by_names g.types (outer_entries g) r
 
 -- The resources are those that classes of the graph's imports bind.
 abbrev pub AreBound : Graph → List ResourceId → Type 0

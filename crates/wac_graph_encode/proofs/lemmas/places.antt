@@ -3,3 +3,4 @@ pub mod OuterLemmas
 pub mod OuterNameLemmas
 pub mod MergeLemmas
 pub mod FoundLemmas
+pub mod BeginLemmas

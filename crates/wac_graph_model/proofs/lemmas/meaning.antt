@@ -1,4 +1,6 @@
+pub mod ListLemmas
 pub mod MeaningLemmas
+pub mod TypeThings
 pub mod MeantLemmas
 pub mod QuietLemmas
 pub mod CoverLemmas
@@ -7,7 +9,6 @@ pub mod DefinedLemmas
 pub mod ThingLemmas
 pub mod AskedLemmas
 pub mod WrittenLemmas
-pub mod ShownLemmas
 pub mod FurtherLemmas
 pub mod EncodeLemmas
 pub mod OuterOrder
@@ -15,5 +16,4 @@ pub mod BeginLemmas
 pub mod AskedMembers
 pub mod MergeLemmas
 pub mod OrderLemmas
-pub mod PlainLemmas
 pub mod OnceLemmas

@@ -20,7 +20,6 @@ use Rattle.wac_graph_model.specs.nodes.Graph.{Graph, GraphNode, node_at, imports
 use Rattle.wac_edges.specs.Order.{IsOnCycle, IsLowestOnCycle}
 use Rattle.wac_graph_model.specs.nodes.Asked.{Entry}
 use Rattle.wac_graph_model.specs.nodes.Entries.{asked_entries, to_merge}
-use Rattle.wac_graph_model.specs.causes.NotYet.{IsNotYet}
 use Rattle.wac_graph_model.specs.causes.TypeFaults.{IsTypeFault, IsEntryFault, wanted_entries}
 use Rattle.wac_graph_model.specs.causes.OuterNames.{IsOuterFault}
 use Rattle.wac_names.specs.validation.FirstFault.{Fault, fault_view}
@@ -103,7 +102,6 @@ pub data Cause : Type 0 where
   explicit_merge : Name → NodeId → NodeId → Cause
   import_circle : Name → Cause
   unwritable : NodeId → WriteFault → Cause
-  not_yet : Cause
   invalid : Fault → Cause
 
 -- The kinds of causes.
@@ -113,7 +111,6 @@ pub data CauseKind : Type 0 where
   a_disagreement : CauseKind
   a_circle : CauseKind
   a_type_fault : CauseKind
-  unwritten : CauseKind
   an_invalid_name : CauseKind
 
 -- The kind of a cause.
@@ -124,7 +121,6 @@ kind_of_cause (implicit_merge import first second p q export) = a_disagreement
 kind_of_cause (explicit_merge import node other) = a_disagreement
 kind_of_cause (import_circle import) = a_circle
 kind_of_cause (unwritable node fault) = a_type_fault
-kind_of_cause not_yet = unwritten
 kind_of_cause (invalid fault) = an_invalid_name
 
 -- The order in which kinds of causes are reported.
@@ -134,8 +130,7 @@ rank a_conflict = 1
 rank a_disagreement = 2
 rank a_circle = 3
 rank a_type_fault = 4
-rank unwritten = 5
-rank an_invalid_name = 6
+rank an_invalid_name = 5
 
 -- The graph has a cause of this kind, under these options.
 abbrev pub Occurs : Graph → EncodeOptions → CauseKind → Type 0
@@ -144,7 +139,6 @@ Occurs g o a_conflict = (import : NodeId) × (instantiation : NodeId) × (positi
 Occurs g o a_disagreement = (first : ℕ) × (second : ℕ) × IsDisagreement by_names g.types (to_merge (asked_entries g)) first second
 Occurs g o a_circle = (class : ℕ) × IsOnCircle by_names g.types (to_merge (asked_entries g)) class
 Occurs g o a_type_fault = (position : ℕ) × (entry : Entry) × (fault : WriteFault) × (slice_get (wanted_entries g o.define_components) position ≡ Some entry) × IsEntryFault g entry fault
-Occurs g o unwritten = IsNotYet g o
 Occurs g o an_invalid_name = IsTrue o.validate × ((fault : Fault) × IsOuterFault g o fault)
 
 -- The graph has a cause of this kind and of no kind before it.
@@ -159,7 +153,6 @@ IsNamed g o (implicit_merge import first second p q export) = IsImplicitMerge g 
 IsNamed g o (explicit_merge import node other) = IsExplicitMerge g import node other
 IsNamed g o (import_circle import) = IsImportCircle g import
 IsNamed g o (unwritable node fault) = IsTypeFault g o.define_components node fault
-IsNamed g o not_yet = Unit {0}
 IsNamed g o (invalid fault) = IsOuterFault g o fault
 
 -- The cause is the one to report: its kind is the first that occurs, and it is the first of its kind.
@@ -181,7 +174,6 @@ cause_of (error.ImportsUseEachOther import) = Some (import_circle (string_bytes 
 cause_of (error.TypeNotWritable node fault) = Some (unwritable node fault)
 cause_of error.TooLarge = None
 cause_of error.OutOfMemory = None
-cause_of error.NotYet = Some not_yet
 cause_of (error.ValidationFailure fault) = Some (invalid (fault_view fault))
 
 -- The error reports the cause, or memory ran out.

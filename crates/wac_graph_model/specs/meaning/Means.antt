@@ -23,12 +23,12 @@ use Rattle.wac_binary.specs.Indexes.{space, indexes, sort_added}
 use Rattle.wac_binary.specs.Meaning.{Thing, import_at, projection, instance_at, component_at, Instantiation, Export, meaning, stands_for}
 use Rattle.wac_binary.specs.HasMeaning.{HasMeaning}
 use Rattle.wac_edges.specs.declared.node.NodeId.{NodeId}
+use Rattle.wac_encode_faults.specs.Trees.{definition_tree}
 use Rattle.wac_graph_model.specs.declared.nodes.packages.PackageId.{PackageId}
 use Rattle.wac_graph_model.specs.nodes.Graph.{Graph, GraphNode, Kind, import, instantiation, alias, node_at, package_at, imports_of, exports_of, IsAliasOf, IsArgumentOf, IsUnsatisfied, definition}
 use Rattle.wac_edges.specs.Order.{Writes}
 use Rattle.wac_graph_model.specs.nodes.OuterImports.{AreOuterImports, IsImportPlace, outer_bindings}
 use Rattle.wac_graph_model.specs.meaning.Defined.{IsDefined}
-use Rattle.wac_graph_model.specs.meaning.Definition.{definition_tree}
 use Rattle.wac_graph_model.specs.declared.nodes.options.EncodeOptions.{EncodeOptions}
 use Rattle.wac_graph_model.specs.declared.nodes.options.Processor.{Processor}
 

@@ -15,6 +15,7 @@ use Rattle.wac_edges.specs.declared.edges.Label.{Label}
 use Rattle.wac_edges.specs.declared.edges.Label.TheVariants.{Alias, Argument, Dependency}
 use Rattle.wac_edges.specs.declared.node.NodeId.{NodeId}
 use Rattle.wac_graph_model.specs.declared.nodes.packages.PackageId.{PackageId}
+use Rattle.wac_graph_model.specs.nodes.Definitions.{IsResource}
 use Rattle.wac_graph_model.specs.nodes.Graph.{Graph, GraphNode, definition, instantiation, alias, node_at, package_at, exports_of, imports_of, IsAliasOf, IsArgumentOf, IsImportOf, IsDefinitionOf, IsRegistered, export_at}
 
 -- The node is an instance of a registered package.
@@ -36,11 +37,12 @@ pub record IsAlias (g : Graph) (n : NodeId) (node : GraphNode) : Type 0 where
   pub exported : slice_get (exports_of g source) position ≡ Some (name, node.item_kind)
   pub owned : node.owner ≡ source.owner
 
--- The node defines a type and has a first export name.
+-- The node defines a type, which is no resource, and has a first export name.
 pub record IsTypeUnderName (node : GraphNode) : Type 0 where
   pub defined : AnyType
   pub name : Name
   pub typed : node.item_kind ≡ TypeItem defined
+  pub no_resource : IsResource defined → ⊥
   pub named : node.first_name ≡ Some name
 
 -- The nodes fit the edge's label; no label fits an edge into an import.
@@ -77,7 +79,7 @@ pub record IsSound (g : Graph) : Type 0 where
   pub one_export : (name : Name) (i j : ℕ) (n other : NodeId) → slice_get g.exports i ≡ Some (name, n) → slice_get g.exports j ≡ Some (name, other) → i ≡ j
   -- Only a definition has a first export name, and it is exported under it.
   pub first_names : (n : NodeId) (node : GraphNode) (name : Name) → node_at g n ≡ Some node → node.first_name ≡ Some name → (node.kind ≡ definition) × (export_at g name ≡ Some n)
-  -- A definition has a type and a first export name.
+  -- A definition has a type, which is no resource, and a first export name.
   pub definitions : (n : NodeId) (node : GraphNode) → node_at g n ≡ Some node → node.kind ≡ definition → IsTypeUnderName node
   -- A key belongs to at most one registered package.
   pub one_package : (key : Key) (id other : PackageId) → IsRegistered g key id → IsRegistered g key other → id ≡ other

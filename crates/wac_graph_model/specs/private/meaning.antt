@@ -2,4 +2,4 @@ pub mod Beginning
 pub mod MergedImports
 pub mod Encoding
 pub mod Writing
-pub mod Listing
+pub mod WrittenSoFar

@@ -20,9 +20,8 @@ use wac_types::PackageKey;
 ///    [`ExplicitImportMergeConflict`](EncodeError::ExplicitImportMergeConflict)
 /// 4. [`ImportsUseEachOther`](EncodeError::ImportsUseEachOther)
 /// 5. [`TypeNotWritable`](EncodeError::TypeNotWritable)
-/// 6. [`NotYet`](EncodeError::NotYet)
-/// 7. [`TooLarge`](EncodeError::TooLarge)
-/// 8. [`ValidationFailure`](EncodeError::ValidationFailure)
+/// 6. [`TooLarge`](EncodeError::TooLarge)
+/// 7. [`ValidationFailure`](EncodeError::ValidationFailure)
 ///
 /// [`OutOfMemory`](EncodeError::OutOfMemory) may be returned in place of any of them.
 #[derive(Debug, Drop, Error)]
@@ -87,13 +86,6 @@ pub enum EncodeError {
     /// Out of memory.
     #[error("out of memory")]
     OutOfMemory,
-    /// An import or a definition is not supported yet, or packages are to be imported.
-    ///
-    /// Supported are value types and function types without handles, and functions of these types.
-    /// So are instances, components and interfaces of such items, their types, and core modules as imports.
-    /// A defined interface or world must have an id and use no interface. The instances in a defined world must use none.
-    #[error("the graph holds something that is not written yet")]
-    NotYet,
     /// Validation was requested, and a name of an import or export is invalid or clashes with another.
     #[error("encoding produced a component that failed validation")]
     ValidationFailure {

@@ -1,4 +1,4 @@
 pub mod SeenLemmas
-pub mod RootLemmas
 pub mod NamesLemmas
 pub mod ComponentLemmas
+pub mod PackageLemmas

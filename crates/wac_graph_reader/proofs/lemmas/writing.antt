@@ -1,4 +1,3 @@
-pub mod ImportableLemmas
 pub mod CauseLemmas
 pub mod EncodingLemmas
 pub mod MeansLemmas
@@ -6,6 +5,7 @@ pub mod SourceLemmas
 pub mod ImportRows
 pub mod AskingWalk
 pub mod AskedHeld
+pub mod FaultlessLemmas
 pub mod WantedLemmas
 pub mod ConflictLemmas
 pub mod WriteAliasLemmas

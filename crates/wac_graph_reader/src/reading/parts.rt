@@ -8,10 +8,10 @@ ghost use Rattle.wac_graph_model.specs.private.meaning.Encoding.{HasRoom, index_
 ghost use Rattle.wac_graph_model.specs.meaning.Means.{custom_item, name_customs, AreNames, processor_customs, export_item_of, further_exports};
 ghost use Rattle.wac_graph_model.specs.private.meaning.Writing.{WritesNode};
 ghost use Rattle.wac_graph_model.specs.nodes.Graph.{node_at, alias};
-ghost use Rattle.wac_scopes.specs.Contents.{items_of};
-ghost use Rattle.wac_scopes.specs.Rooted.{IsRightRoot};
-ghost use Rattle.wac_scopes.specs.Scoped.{listing};
-ghost use Rattle.wac_types_shapes.specs.declared.shapes.component.«Type».{«Type» as AnyType};
+ghost use Rattle.wac_encode_scopes.specs.Roots.{IsRoot, items_of};
+ghost use Rattle.wac_types_collection.specs.collection.Bound.{Bindings};
+ghost use Rattle.wac_graph_model.specs.declared.nodes.options.EncodeOptions.{EncodeOptions as Asked};
+ghost use Rattle.wac_graph_reader.specs.private.reading.Appended.{AppendsItems};
 ghost use Rattle.wac_types_shapes.specs.primitives.Name.{Name as AName};
 ghost use Rattle.wac_graph_reader.specs.private.writing.Naming.{IsNamed};
 ghost use Rattle.std.specs.List.{flat_map};
@@ -22,22 +22,19 @@ use crate::reading::reader::GraphReader;
 use std::alloc::Global;
 use wac_binary::{ComponentBuilder, component_names, producers};
 use wac_graph_model::{EncodeError, NodeId, Processor};
-use wac_scopes::rooted_law;
 use wac_types::ItemKind;
 
 impl<'a> GraphReader<'a> {
     /// Writes an alias and returns its index.
     pub fn write_alias(&self, encoder: &mut Encoder, n: NodeId) -> Result<u32, EncodeError>
         requires alias { IsSomeAnd (node_at self.now n) (λ node. node.kind ≡ alias) }
-        requires right { IsRightRoot self.now.types encoder.old.root }
+        requires root { IsRoot encoder.old.state.here.content }
         requires room { HasRoom self.now encoder.old.indexes.items }
-        ensures written { IfOk result (λ i. (places : Places) → IfSome (node_at self.now n) (λ node. WritesNode self.now places n node (index_in encoder.old.indexes.items) encoder.old.components encoder.new.components (items_of encoder.old.root.content) (items_of encoder.new.root.content) i)) }
-        ensures right { OnOk result (IsRightRoot self.now.types encoder.new.root) }
-        ensures listed { OnOk result ((a : AnyType) → listing encoder.new.root a ≡ listing encoder.old.root a) }
+        ensures written { IfOk result (λ i. (o : Asked) (m : Bindings) (places : Places) → IfSome (node_at self.now n) (λ node. WritesNode self.now o m places n node (index_in encoder.old.indexes.items) encoder.old.components encoder.new.components (items_of encoder.old.state.here.content) (items_of encoder.new.state.here.content) i)) }
+        ensures appended { OnOk result (AppendsItems encoder.old.state encoder.new.state) }
         ensures kept { encoder.new.indexes ≡ encoder.old.indexes }
         ensures fault { IfErr result (λ e. cause_of e ≡ None) }
     {
-        rooted_law(); // proof only
         let Some((source, position)) = self.edges.alias_source(n) else {
             unreachable!()
         };
@@ -47,7 +44,8 @@ impl<'a> GraphReader<'a> {
         let name = self.types[interface].exports.name_at(position);
         let sort = sort_of(self.nodes[n.0].item_kind());
         let instance = encoder.indexes[source.0];
-        Ok(encoder.root.alias_export(sort, instance, name)?)
+        let index = encoder.state.builder().alias_export(sort, instance, name)?;
+        Ok(index)
     }
 
     /// Writes the exports in the graph's order, without definitions' first names.

@@ -12,7 +12,5 @@ pub mod DefinitionRows
 pub mod DefinedRows
 pub mod PlugExample
 pub mod BeginningRows
-pub mod KindRows
-pub mod ListingRows
 pub mod FitRows
 pub mod ImportItemRows

@@ -57,7 +57,8 @@ fn plain_package(text: &str) -> bool {
 }
 
 fn plain_version(alloc: Global, text: &str) -> bool {
-    Version::parse(alloc, text).is_ok()
+    // Once more, if memory was refused.
+    Version::parse(alloc, text).is_ok() || Version::parse(alloc, text).is_ok()
 }
 
 fn plain_bound(alloc: Global, text: &str, sign: &str) -> bool {

@@ -5,6 +5,7 @@ use std::process::Abort;
 
 /// What is told is true, and nothing was refused.
 pub fn assert_told(rt: &impl Abort, told: Result<bool, Refusal>, what: &str) {
+    assert!(rt; told != Err(Refusal::Memory), "out of memory: {what}");
     assert!(rt; told == Ok(true), "{what}");
 }
 

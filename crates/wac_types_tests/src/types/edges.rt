@@ -185,7 +185,8 @@ fn assert_lowest(
     steps: &[(usize, usize)],
     want: Option<usize>,
 ) {
-    assert!(rt; lowest(alloc, count, steps) == Ok(want), "{want:?}");
+    let found = lowest(alloc, count, steps).expect(rt, "the lowest number");
+    assert!(rt; found == want, "{want:?}");
 }
 
 /// How many numbers there are, the steps between them, and the lowest on a cycle.

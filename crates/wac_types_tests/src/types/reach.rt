@@ -16,13 +16,17 @@ fn are_found(found: &Reached, wanted: &[Type]) -> bool {
     found.as_slice() == wanted
 }
 
-/// Whether a type reaches exactly these, in the order in which they are found.
+/// Whether a type reaches exactly these, in the order in which they are found; asked once more where memory was refused.
 pub fn reaches(types: &Types, ty: Type, wanted: &[Type]) -> bool {
     let held = types.contains(ty);
     if !held {
         return false;
     }
-    match reach(types, ty) {
+    let mut answer = reach(types, ty);
+    if answer.is_err() {
+        answer = reach(types, ty);
+    }
+    match answer {
         Ok(found) => are_found(&found, wanted),
         Err(_) => false,
     }

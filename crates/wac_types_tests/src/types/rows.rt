@@ -42,10 +42,19 @@ fn has_interfaces(types: &Types, wanted: &[InterfaceId]) -> bool {
     interfaces.next().is_none()
 }
 
+// Whether an item is refused by this error. It is added once more where memory was refused.
+fn refuses(types: &mut Types, adding: Adding, error: AddTypeError) -> bool {
+    let mut answer = add(types, adding);
+    if answer == Err(Refusal::Memory) {
+        answer = add(types, adding);
+    }
+    answer == Err(Refusal::Item(error))
+}
+
 fn holds(types: &mut Types, row: Row) -> bool {
     match row {
         Row::Adds(adding, ty) => adds(types, adding, ty),
-        Row::Refuses(adding, error) => add(types, adding) == Err(Refusal::Item(error)),
+        Row::Refuses(adding, error) => refuses(types, adding, error),
         Row::Holds(ty, held) => types.contains(ty) == held,
         Row::Value(value, source) => types.resolve_value_type(value) == source,
         Row::Resource(alias, source) => types.resolve_resource(alias) == source,

@@ -8,11 +8,13 @@ use wac_types_collection::collection::*;
 fn names_given_twice_are_refused(alloc: Global) -> Result<bool, Refusal> {
     match Named::from_pairs(alloc, &[("x", BOOL), ("y", U32), ("x", U32)]) {
         Err(ShapeError::NameTwice) => {}
-        _ => return Ok(false),
+        Err(error) => return Err(error.into()),
+        Ok(_) => return Ok(false),
     }
     match Labels::new(alloc, &["b", "a", "b"]) {
         Err(ShapeError::NameTwice) => Ok(true),
-        _ => Ok(false),
+        Err(error) => Err(error.into()),
+        Ok(_) => Ok(false),
     }
 }
 

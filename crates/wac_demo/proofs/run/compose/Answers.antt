@@ -1,6 +1,6 @@
 use Rattle.std.proofs.Common.{List, ℕ, codes, string_bytes, inl, inr}
 use Rattle.wac_graph_model.specs.nodes.Steps.{IsEmpty}
-use Rattle.wac_demo.specs.Composed.{AreDefault, Compose, IsFunction, IsReadme, IsPlugged, NameProcessor, of_empty, of_processor, of_function, of_readme, of_plug}
+use Rattle.wac_demo.specs.Composed.{AreDefault, Compose, IsFunction, IsReadme, IsPlugged, IsImportedPackage, ImportPackages, IsResourceImport, NameProcessor, of_empty, of_processor, of_function, of_readme, of_plug, of_resource, of_dependency}
 use Rattle.wac_demo.proofs.Weakening.{one-line, no-line, two-lines}
 use Rattle.wac_demo.proofs.run.compose.Goals as goal
 
@@ -40,8 +40,20 @@ returns-in-plug c = (
   one-line (λ v. v.items) string_bytes c.args.word.now (λ (bs : List ℕ). Compose bs AreDefault IsPlugged) (λ bs h. of_plug c.in-plug.is h) c.plugged.result c.plugged.ensures c.line-in-plug.result c.line-in-plug.ensures,
 )
 
+pub returns-in-resource : goal.returns-in-resource
+returns-in-resource c = (
+  inr (inr (inr (inr (inr (inr (inl c.in-resource.is)))))),
+  one-line (λ v. v.items) string_bytes c.args.word.now (λ (bs : List ℕ). Compose bs AreDefault IsResourceImport) (λ bs h. of_resource c.in-resource.is h) c.resource.result c.resource.ensures c.line-in-resource.result c.line-in-resource.ensures,
+)
+
+pub returns-in-dependency : goal.returns-in-dependency
+returns-in-dependency c = (
+  inr (inr (inr (inr (inr (inr (inr (inl c.in-dependency.is))))))),
+  one-line (λ v. v.items) string_bytes c.args.word.now (λ (bs : List ℕ). Compose bs ImportPackages IsImportedPackage) (λ bs h. of_dependency c.in-dependency.is h) c.dependency.result c.dependency.ensures c.line-in-dependency.result c.line-in-dependency.ensures,
+)
+
 pub returns-in-precedence : goal.returns-in-precedence
 returns-in-precedence c = (
-  inr (inr (inr (inr (inr (inr c.in-precedence.is))))),
+  inr (inr (inr (inr (inr (inr (inr (inr c.in-precedence.is))))))),
   two-lines string_bytes c.args.word.now c.in-precedence.is c.precedence_lines.result c.precedence_lines.ensures,
 )

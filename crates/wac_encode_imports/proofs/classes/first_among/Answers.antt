@@ -2,7 +2,7 @@ use Rattle.std.proofs.Common.{◌≡◌, ◌||◌, Option, ap, ◌∙◌, arith}
 use Rattle.std.specs.List.{list_any}
 use Rattle.std.proofs.lemmas.List.{take_all}
 use Rattle.wac_types_shapes.specs.declared.shapes.component.ResourceId.{ResourceId}
-use Rattle.wac_encode_scopes.specs.Telling.{is_one_of}
+use Rattle.wac_encode_scopes.specs.private.Telling.{is_one_of}
 use Rattle.wac_encode_imports.specs.private.Classes.{is_first_of, is_that}
 use Rattle.wac_encode_imports.proofs.Looked.{first-next}
 use Rattle.wac_encode_imports.proofs.classes.first_among.Goals as goal

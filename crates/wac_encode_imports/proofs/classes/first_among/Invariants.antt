@@ -1,7 +1,7 @@
 use Rattle.std.proofs.Common.{◌≡◌, take}
 use Rattle.std.specs.List.{list_any}
 use Rattle.wac_types_shapes.specs.declared.shapes.component.ResourceId.{ResourceId}
-use Rattle.wac_encode_scopes.specs.Telling.{is_one_of}
+use Rattle.wac_encode_scopes.specs.private.Telling.{is_one_of}
 use Rattle.wac_encode_imports.specs.private.Classes.{is_first_of}
 use Rattle.wac_encode_imports.proofs.classes.first_among.Given as goal
 

@@ -5,7 +5,7 @@ use Rattle.wac_merge_classes.specs.entries.Classes.{Entry}
 use Rattle.wac_merge_classes.specs.terms.Merge.{Merged}
 use Rattle.wac_encode_scopes.specs.Closed.{AreClosedTypes}
 use Rattle.wac_encode_interfaces.specs.Worlds.{AreWorldTypes, written_in}
-use Rattle.wac_encode_imports.specs.Imports.{AreImported}
+use Rattle.wac_encode_imports.specs.private.Imports.{AreImported}
 use Rattle.wac_encode_imports.specs.private.Exports.{ExportNoNameTwice}
 use Rattle.wac_encode_imports.specs.private.Written.{AreCleanImports, AreWritable, HaveImportWorlds, IsImportWriter}
 use Rattle.wac_encode_imports.proofs.Given.{clean-imports}

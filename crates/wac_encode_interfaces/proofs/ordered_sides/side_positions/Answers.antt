@@ -1,7 +1,7 @@
 use Rattle.std.proofs.Common.{ℕ, ◌≡◌, ◌<◌, ◌+◌, ◌↔◌, List, Some, Contains, length, slice_get, ap, sym, ◌∙◌, subst}
 use Rattle.std.specs.BTreeSet.{BTreeSet}
 use Rattle.wac_edges.specs.cycles.Cycles.{AreWithin, HasNoCycle, IsStep}
-use Rattle.wac_encode_order.specs.SideOrder.{IsSideOrder}
+use Rattle.wac_encode_order.specs.private.SideOrder.{IsSideOrder}
 use Rattle.wac_encode_interfaces.specs.private.Ordered.{AreMoved, IsOrdered}
 use Rattle.wac_encode_interfaces.proofs.Positions.{moved-within, moved-no-cycle, are-ordered, if-three}
 use Rattle.wac_encode_interfaces.proofs.ordered_sides.side_positions.Goals as goal

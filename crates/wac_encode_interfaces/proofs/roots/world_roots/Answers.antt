@@ -2,7 +2,7 @@ use Rattle.std.proofs.Common.{sym, ◌∙◌, subst}
 use Rattle.std.proofs.lemmas.Result.{IfOk-weaker}
 use Rattle.wac_types_collection.specs.wide.Wide.{AreThere}
 use Rattle.wac_types_collection.proofs.lemmas.wide.Members.{in_left, in_right}
-use Rattle.wac_encode_faults.specs.Ids.{HaveIds}
+use Rattle.wac_encode_faults.specs.private.Ids.{HaveIds}
 use Rattle.wac_encode_faults.specs.Sides.{Sides, completed_sides}
 use Rattle.wac_encode_interfaces.specs.private.Defined.{AreSideRoots}
 use Rattle.wac_encode_interfaces.proofs.DefinedSides.{world-sides, world-defined, one-sides}

@@ -3,7 +3,7 @@ use Rattle.std.specs.List.Sorted.{IsStrictlySortedBy}
 use Rattle.std.specs.Ordering.{nat_cmp}
 use Rattle.std.specs.Prelude.{slice_index}
 use Rattle.wac_edges.specs.private.cycles.Numbers.{AreBelow, Has}
-use Rattle.wac_encode_order.specs.Arranged.{Selects}
+use Rattle.wac_encode_order.specs.private.Arranged.{Selects}
 use Rattle.wac_edges.proofs.lemmas.cycles.CycleSearch.{below_first, below_rest}
 use Rattle.wac_encode_order.proofs.ArrangedPlaces.{positions, positions_below, positions_select}
 use Rattle.wac_encode_order.proofs.arranged.selected.Goals as goal

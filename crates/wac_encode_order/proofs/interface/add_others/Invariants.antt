@@ -1,5 +1,5 @@
 use Rattle.std.proofs.Common.{◌≡◌, ◌++◌, drop}
-use Rattle.wac_encode_order.specs.Interfaces.{others_from}
+use Rattle.wac_encode_order.specs.private.Interfaces.{others_from}
 use Rattle.wac_encode_order.proofs.interface.add_others.Given as goal
 
 abbrev pub invariant-loop-i : goal.invariant-loop-i

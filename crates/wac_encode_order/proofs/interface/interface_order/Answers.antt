@@ -1,7 +1,7 @@
 use Rattle.std.specs.Prelude.{◌≡◌, ◌↔◌, ℕ, true, Contains, List}
 use Rattle.std.proofs.lemmas.Result.{IfOk-weaker}
 use Rattle.wac_types_shapes.specs.declared.shapes.component.Interface.{Interface}
-use Rattle.wac_encode_order.specs.Interfaces.{IsInterfaceOrder, is_later_at}
+use Rattle.wac_encode_order.specs.private.Interfaces.{IsInterfaceOrder, is_later_at}
 use Rattle.wac_encode_order.proofs.Listing.{exports-held, of-interface}
 use Rattle.wac_encode_order.proofs.Exporting.{position-each, position-once}
 use Rattle.wac_encode_order.proofs.interface.interface_order.Goals as goal

@@ -1,4 +1,4 @@
-use Rattle.wac_encode_order.specs.Interfaces.{others_from}
+use Rattle.wac_encode_order.specs.private.Interfaces.{others_from}
 use Rattle.wac_encode_order.proofs.Listing.{in-order, types-alone, and-others}
 use Rattle.wac_encode_order.proofs.interface.order_items.Goals as goal
 

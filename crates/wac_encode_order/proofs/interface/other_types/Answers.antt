@@ -1,5 +1,5 @@
 use Rattle.std.proofs.Common.{ap, ◌∙◌, ◌≡◌, length, map, arith, ◌++◌, ◌∷◌, []}
-use Rattle.wac_encode_order.specs.Interfaces.{lists_other_type}
+use Rattle.wac_encode_order.specs.private.Interfaces.{lists_other_type}
 use Rattle.wac_encode_order.proofs.Listing.{mapped-next, taken-all}
 use Rattle.wac_encode_order.proofs.interface.other_types.Goals as goal
 

@@ -1,5 +1,5 @@
 use Rattle.std.proofs.Common.{◌≡◌, map, take}
-use Rattle.wac_encode_order.specs.Interfaces.{lists_other_type}
+use Rattle.wac_encode_order.specs.private.Interfaces.{lists_other_type}
 use Rattle.wac_encode_order.proofs.interface.other_types.Given as goal
 
 abbrev pub invariant-loop-i : goal.invariant-loop-i

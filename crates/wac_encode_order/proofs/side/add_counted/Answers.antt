@@ -1,5 +1,5 @@
 use Rattle.std.proofs.Common.{ap, sym, ◌∙◌, ◌+◌, ◌≡◌, ◌++◌, [], ◌∷◌, ℕ, arith, append_assoc}
-use Rattle.wac_encode_order.specs.SideOrder.{counted_from}
+use Rattle.wac_encode_order.specs.private.SideOrder.{counted_from}
 use Rattle.wac_encode_order.proofs.Siding.{counted-next}
 use Rattle.wac_encode_order.proofs.side.add_counted.Goals as goal
 

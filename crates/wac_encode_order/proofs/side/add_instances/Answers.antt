@@ -1,7 +1,7 @@
 use Rattle.std.proofs.Common.{ap, sym, ◌∙◌, arith}
 use Rattle.wac_types_shapes.specs.primitives.Name.{Name}
 use Rattle.wac_types_shapes.specs.declared.shapes.component.ItemKind.{ItemKind}
-use Rattle.wac_encode_order.specs.SideOrder.{lists_instance}
+use Rattle.wac_encode_order.specs.private.SideOrder.{lists_instance}
 use Rattle.wac_encode_order.proofs.Siding.{picked-passed, picked-next, picked-done}
 use Rattle.wac_encode_order.proofs.side.add_instances.Goals as goal
 use Rattle.wac_encode_order.proofs.side.add_instances.Goals.{then-is_instance+in_ok-push, else-is_instance}

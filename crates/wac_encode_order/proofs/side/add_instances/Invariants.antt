@@ -1,5 +1,5 @@
 use Rattle.std.proofs.Common.{◌≡◌, ◌++◌, drop}
-use Rattle.wac_encode_order.specs.SideOrder.{lists_instance, positions_of}
+use Rattle.wac_encode_order.specs.private.SideOrder.{lists_instance, positions_of}
 use Rattle.wac_encode_order.proofs.side.add_instances.Given as goal
 
 abbrev pub invariant-loop-i : goal.invariant-loop-i

@@ -2,7 +2,7 @@ use Rattle.std.specs.Prelude.{◌++◌, ◌∷◌, List, ℕ, Bool, drop, if◌t
 use Rattle.std.proofs.Common.{ap, ◌∙◌, arith}
 use Rattle.wac_types_shapes.specs.primitives.Name.{Name}
 use Rattle.wac_types_shapes.specs.declared.shapes.component.ItemKind.{ItemKind}
-use Rattle.wac_encode_order.specs.SideOrder.{lists_resource, positions_of}
+use Rattle.wac_encode_order.specs.private.SideOrder.{lists_resource, positions_of}
 use Rattle.wac_encode_order.specs.private.Merging.{merged}
 use Rattle.wac_encode_order.proofs.Listing.{dropped, dropped-all}
 use Rattle.wac_encode_order.proofs.Merges.{merging-next, merging-ends}

@@ -1,5 +1,5 @@
 use Rattle.std.specs.Prelude.{◌≡◌, ◌++◌, drop}
-use Rattle.wac_encode_order.specs.SideOrder.{lists_resource, positions_of}
+use Rattle.wac_encode_order.specs.private.SideOrder.{lists_resource, positions_of}
 use Rattle.wac_encode_order.specs.private.Merging.{merged}
 use Rattle.wac_encode_order.proofs.side.with_resources.Given as goal
 

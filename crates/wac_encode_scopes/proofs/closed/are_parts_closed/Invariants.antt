@@ -1,6 +1,6 @@
 use Rattle.std.specs.Prelude.{ℕ, ◌≡◌, ◌<◌, ◌-◌, true, Some, slice_get, length}
 use Rattle.wac_types_shapes.specs.declared.shapes.component.ValueType.{ValueType}
-use Rattle.wac_encode_scopes.specs.Parts.{parts}
+use Rattle.wac_encode_scopes.specs.private.Parts.{parts}
 use Rattle.wac_encode_scopes.specs.private.Bits.{value_bit}
 use Rattle.wac_encode_scopes.proofs.closed.are_parts_closed.Given as goal
 

@@ -2,7 +2,7 @@ use Rattle.std.proofs.Common.{◌≡◌, ◌≤◌, ◌+◌, suc, true, List, �
 use Rattle.std.proofs.lemmas.List.{take_all}
 use Rattle.wac_types_shapes.specs.primitives.Name.{Name}
 use Rattle.wac_types_shapes.specs.declared.shapes.component.ItemKind.{ItemKind}
-use Rattle.wac_encode_scopes.specs.Telling.{is_one_of, all_own}
+use Rattle.wac_encode_scopes.specs.private.Telling.{is_one_of, all_own}
 use Rattle.wac_encode_scopes.proofs.Telling.{own-next, own-fails}
 use Rattle.wac_encode_scopes.proofs.instances.are_all_of.Goals as goal
 

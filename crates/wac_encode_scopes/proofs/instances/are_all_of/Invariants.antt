@@ -1,5 +1,5 @@
 use Rattle.std.proofs.Common.{◌≡◌, true, take}
-use Rattle.wac_encode_scopes.specs.Telling.{is_one_of, all_own}
+use Rattle.wac_encode_scopes.specs.private.Telling.{is_one_of, all_own}
 use Rattle.wac_encode_scopes.proofs.instances.are_all_of.Given as goal
 
 abbrev pub invariant-loop-i : goal.invariant-loop-i

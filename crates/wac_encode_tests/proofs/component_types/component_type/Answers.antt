@@ -5,7 +5,7 @@ use Rattle.wac_types_shapes.specs.declared.shapes.component.World.{World}
 use Rattle.wac_types_collection.specs.collection.Collection.{item_at}
 use Rattle.wac_types_collection.specs.wide.Wide.{AreThere}
 use Rattle.wac_encode_stacks.specs.Good.{nothing_bound}
-use Rattle.wac_encode_faults.specs.Ids.{HaveIds}
+use Rattle.wac_encode_faults.specs.private.Ids.{HaveIds}
 use Rattle.wac_encode_faults.specs.Sides.{unlisted}
 use Rattle.wac_encode_interfaces.specs.declared.worlds.WorldTypes.{WorldTypes}
 use Rattle.wac_encode_interfaces.specs.Worlds.{AreWorldTypes, written_in}

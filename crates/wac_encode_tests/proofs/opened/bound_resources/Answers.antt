@@ -1,4 +1,4 @@
-use Rattle.std.proofs.Common.{sym, subst, rules}
+use Rattle.std.proofs.Common.{rules}
 use Rattle.wac_encode_tests.proofs.RootItems.{bound-empty}
 use Rattle.wac_encode_tests.proofs.opened.bound_resources.Goals as goal
 

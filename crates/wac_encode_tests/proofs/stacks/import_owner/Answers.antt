@@ -1,9 +1,9 @@
 use Rattle.std.proofs.Common.{◌≡◌, false, refl, sym, ◌∙◌, rules}
 use Rattle.wac_binary.specs.declared.sorts.Description.TheVariants as desc
-use Rattle.wac_encode_scopes.specs.Interfaces.{own_items}
+use Rattle.wac_encode_scopes.specs.private.Interfaces.{own_items}
 use Rattle.wac_encode_scopes.specs.Listing.{Closes}
 use Rattle.wac_encode_scopes.specs.Roots.{ImportsItem}
-use Rattle.wac_encode_scopes.specs.Telling.{is_one_of}
+use Rattle.wac_encode_scopes.specs.private.Telling.{is_one_of}
 use Rattle.wac_encode_scopes.proofs.Stepped.{all-none}
 use Rattle.wac_encode_tests.proofs.OpenScopes.{interface-there, plain-fresh, plain-instance, plain-imports, nonempty-around, closed-again, root-types, owner-good, right-import, on-ok-is, if-ok-is, if-some-is}
 use Rattle.wac_encode_tests.specs.private.Stacks.{HasOnly}

@@ -1,6 +1,6 @@
 use Rattle.std.proofs.Common.{sym, ◌∙◌, rules}
 use Rattle.wac_encode_tests.proofs.OpenScopes.{interface-there, interface-at, good-open, plain-fresh, on-ok-is}
-use Rattle.wac_encode_scopes.specs.Interfaces.{own_items}
+use Rattle.wac_encode_scopes.specs.private.Interfaces.{own_items}
 use Rattle.wac_encode_tests.proofs.stacks.open.Goals as goal
 
 pub open_interface-requires : goal.open_interface-requires

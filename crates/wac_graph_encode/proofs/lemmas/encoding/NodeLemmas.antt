@@ -1,7 +1,8 @@
 -- What is read of a node, and the argument that it is.
-use Rattle.std.proofs.Common.{◌≡◌, ℕ, true, false, List, refl, ap, ◌∙◌, sym, Option, Some, None, IfSome, IsSome, IsSomeAnd, String, Global}
+use Rattle.std.proofs.Common.{◌≡◌, ℕ, Bool, true, false, List, subst, Result, Ok, Err, OnOk, refl, ap, ◌∙◌, sym, Option, Some, None, IfSome, IsSome, IsSomeAnd, String, Global}
 use Rattle.wac_types_shapes.specs.primitives.Name.{Name}
 use Rattle.wac_types_shapes.specs.declared.shapes.component.ItemKind.{ItemKind}
+use Rattle.wac_types_collection.specs.collection.Collection.{Collection}
 use Rattle.wac_binary.specs.declared.sorts.Sort.{Sort}
 use Rattle.wac_edges.specs.declared.node.NodeId.{NodeId}
 use Rattle.wac_graph_model.specs.declared.nodes.node.NodeKind.{NodeKind}
@@ -12,6 +13,8 @@ use Rattle.wac_graph_model.specs.meaning.Means.{is_import, sort_of_kind}
 use Rattle.wac_graph_model.specs.private.meaning.Encoding.{index_in}
 use Rattle.wac_graph_model.specs.private.meaning.Beginning.{Places}
 use Rattle.wac_graph_model.specs.private.meaning.Writing.{IsArgumentItem, of_node}
+use Rattle.wac_graph_encode.specs.declared.encoding.writer.GraphWriter.{GraphWriter}
+use Rattle.wac_graph_encode.specs.private.encoding.Root.{IsGraphWriter}
 
 module _ (g : Graph) (n : NodeId) (k : NodeKind) (there : IsSomeAnd (node_at g n) (λ node. is_import node.kind ≡ false)) (is : IfSome (node_at g n) (λ node. node.kind ≡ kind_of k)) where
   -- the node is of the kind that is read
@@ -35,3 +38,15 @@ set_argument g places indexes n source i name s k there is given sorted = by (no
   by : (o : Option GraphNode) → node_at g source ≡ o → IsSome o → IfSome o (λ node. node.item_kind ≡ k) → IsArgumentItem g places (index_in indexes) n i name (name, s, index_in indexes source)
   by None at h j = absurd (let f : false ≡ true = h in cc)
   by (Some node) at h j = of_node source node refl given at (sorted ∙ ap sort_of_kind (sym j)) refl
+
+-- ---- the writer has the graph's own types
+
+pub own-types : (w : GraphWriter) → IsGraphWriter w → (P : Collection → Bool → Type 0) → P (w.reader.now).types false → P (w.types.now).types.now (w.types.now).merged
+own-types w is P h = subst (λ (c : Collection). P c (w.types.now).merged) (sym is.types) (subst (λ (b : Bool). P (w.reader.now).types b) (sym is.own) h)
+
+pub graph-types : (w : GraphWriter) → IsGraphWriter w → (P : Collection → Bool → Type 0) → P (w.types.now).types.now (w.types.now).merged → P (w.reader.now).types false
+graph-types w is P h = subst (λ (b : Bool). P (w.reader.now).types b) is.own (subst (λ (c : Collection). P c (w.types.now).merged) is.types h)
+
+pub on-both : {A E P Q R : Type 0} → (r : Result A E) → (P → Q → R) → OnOk r P → OnOk r Q → OnOk r R
+on-both (Ok x) f g h = f g h
+on-both (Err e) f g h = tt

@@ -1,5 +1,5 @@
 -- The imports of a graph are one list; where a name fell; and what is not written yet.
-use Rattle.std.proofs.Common.{◌≡◌, ℕ, zero, suc, ◌<◌, Bool, true, false, List, [], ◌∷◌, length, refl, ap, ◌∙◌, sym, subst, arith, Some}
+use Rattle.std.proofs.Common.{◌≡◌, ℕ, zero, suc, ◌<◌, Bool, true, List, [], ◌∷◌, length, refl, ap, ◌∙◌, sym, subst, arith, Some}
 use Rattle.std.specs.Prelude.{slice_get, Contains}
 use Rattle.std.specs.List.{AllByRecursion, filter}
 use Rattle.std.proofs.lemmas.Option.{slice_get_within, get_or_from_slice_get}
@@ -8,19 +8,15 @@ use Rattle.wac_types_shapes.specs.primitives.Tree.{Tree, TypeTree, function_item
 use Rattle.wac_types_collection.specs.collection.Collection.{Collection}
 use Rattle.wac_types_shapes.specs.declared.shapes.component.ItemKind.{ItemKind}
 use Rattle.wac_types_shapes.specs.declared.shapes.component.ItemKind.TheVariants as kind
-use Rattle.wac_types_shapes.specs.declared.shapes.component.«Type».TheVariants as ty
-use Rattle.wac_types_collection.specs.subtyping.Subtype.{Sub, type_tree, kind_tree, IsSubtype}
-use Rattle.wac_merge_classes.specs.entries.Classes.{Entry, by_names, is_instance, same_class, canonical, class_names, imported_as, ClassLaws}
+use Rattle.wac_types_collection.specs.subtyping.Subtype.{Sub, kind_tree, IsSubtype}
+use Rattle.wac_merge_classes.specs.entries.Classes.{Entry, by_names, same_class, canonical, class_names, imported_as, ClassLaws}
 use Rattle.wac_merge.specs.Aggregate.{Aggregate}
 use Rattle.wac_binary.specs.declared.sorts.Sort.{Sort}
 use Rattle.wac_binary.specs.declared.sorts.Sort.TheVariants as sort
 use Rattle.wac_graph_model.specs.nodes.Graph.{Graph}
 use Rattle.wac_graph_model.specs.nodes.OuterImports.{outer_entries, AreOuterImports, outer_import}
-use Rattle.wac_graph_model.specs.causes.NotYet.{AllImportable}
 use Rattle.wac_graph_model.specs.meaning.Means.{sort_of_kind}
 use Rattle.wac_graph_model.specs.private.meaning.Beginning.{Places}
-use Rattle.wac_graph_model.specs.meaning.Importable.{IsImportable, IsImportableKind}
-use Rattle.wac_graph_reader.proofs.lemmas.writing.ImportableLemmas.{importable_super}
 use Rattle.wac_graph_model.specs.private.meaning.MergedImports.{IsFoundAt}
 use Rattle.wac_graph_model.proofs.lemmas.meaning.AskedMembers.{IsIn, in_filter}
 use Rattle.wac_graph_model.proofs.lemmas.meaning.MergeLemmas.{OrderHasClasses, found_name, imported_canonical, place_of_name}
@@ -111,24 +107,3 @@ asked_sort laws has_classes g a merged x within p e at named =
     let (k, class, placed, of_class, same) = place_of_name g a.merge merge laws has_classes p e at x.name named in
     subtype_sort (a.merge).types g.types e.kind x.kind
     (passed (λ y. same_class by_names (outer_entries g) class y.name) (λ member. IsSubtype (a.merge).types e.kind g.types member.kind) (outer_entries g) x (merge.subtypes p k class e placed of_class at) within same)
-
--- ---- what is importable
--- where all imports of a merge are importable so is all that is asked for
-pub asked_importable : ClassLaws → OrderHasClasses → (g : Graph) (a : Aggregate) → IsMergedFor g a → ((p : ℕ) (e : Entry) → slice_get (a.merge).imports p ≡ Some e → IsImportableKind (a.merge).types e.kind) → AllImportable g
-asked_importable laws has_classes g a merged all q x at =
-    let merge = (merged.whole).merge in
-    let (p, e, there, named) = found_name g a.merge merge laws has_classes x (q, at) in
-    let (k, class, placed, of_class, same) = place_of_name g a.merge merge laws has_classes p e there x.name named in
-    let sub : IsSubtype (a.merge).types e.kind g.types x.kind =
-    passed (λ y. same_class by_names (outer_entries g) class y.name) (λ member. IsSubtype (a.merge).types e.kind g.types member.kind) (outer_entries g) x (merge.subtypes p k class e placed of_class there) (q, at) same in
-    by_kind (a.merge).types g.types e.kind x.kind sub
-    (λ other. passed (λ y. same_class by_names (outer_entries g) class y.name) (λ member. kind_tree (a.merge).types e.kind ≡ kind_tree g.types member.kind) (outer_entries g) x (merge.equal p k class e placed of_class there other) (q, at) same) (all p e there)
-  where
-    -- an instance is of a supertype, and all else has one tree
-    by_kind : (m c : Collection) (k j : ItemKind) → IsSubtype m k c j → (is_instance k ≡ false → kind_tree m k ≡ kind_tree c j) → IsImportableKind m k → IsImportableKind c j
-    by_kind m c (kind.Instance i) j sub equal h = importable_super (type_tree m (ty.Interface i)) (kind_tree c j) sub h
-    by_kind m c (kind.TypeItem t) j sub equal h = subst IsImportable (equal refl) h
-    by_kind m c (kind.Func f) j sub equal h = subst IsImportable (equal refl) h
-    by_kind m c (kind.Component w) j sub equal h = subst IsImportable (equal refl) h
-    by_kind m c (kind.Module n) j sub equal h = subst IsImportable (equal refl) h
-    by_kind m c (kind.Value v) j sub equal h = subst IsImportable (equal refl) h

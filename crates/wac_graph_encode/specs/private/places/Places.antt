@@ -1,5 +1,5 @@
 -- The merged imports of a graph, and the place of each name's import.
-use Rattle.std.specs.Prelude.{ℕ, ◌≡◌, true, length, map, List, Some, slice_get}
+use Rattle.std.specs.Prelude.{ℕ, ◌≡◌, ◌++◌, Bool, true, length, map, List, Some, slice_get}
 use Rattle.wac_types_shapes.specs.primitives.Name.{Name}
 use Rattle.wac_merge_classes.specs.entries.Classes.{Entry, by_names, imported_as}
 use Rattle.wac_merge.specs.Aggregate.{Aggregate}
@@ -13,6 +13,7 @@ use Rattle.wac_graph_model.specs.meaning.Means.{sort_of_kind}
 use Rattle.wac_graph_model.specs.private.meaning.Beginning.{Places}
 use Rattle.wac_graph_model.specs.private.meaning.Encoding.{index_in}
 use Rattle.wac_graph_model.specs.private.meaning.MergedImports.{AreOfSorts, IsMergeOf, IsFoundAt}
+use Rattle.wac_graph_reader.specs.private.reading.PackageNames.{package_names}
 use Rattle.wac_graph_encode.specs.declared.places.places.ImportPlaces.{ImportPlaces}
 
 -- There is an import under the name's canonical name.
@@ -50,3 +51,7 @@ AreFound g p indexes = (n : NodeId) (node : GraphNode) (name : Name) → node_at
 -- The names of the imports.
 abbrev pub names_of : List Entry → List Name
 names_of es = map (λ e. e.name) es
+
+-- The names of the component's imports: the merged ones, then the packages that are imported.
+abbrev pub import_texts : Graph → List Entry → (define_components : Bool) → List NodeId → List Name
+import_texts g imports define_components order = names_of imports ++ package_names g define_components order

@@ -92,7 +92,7 @@ asked_outer g e asks =
       of_entry : (x : Entry) → x.name ≡ e.name → x.kind ≡ e.kind → IsIn (outer_entries g) (record { name = x.name; kind = x.kind }) → IsIn (outer_entries g) (record { name = e.name; kind = e.kind })
       of_entry x named kinds h = subst (λ (k : ItemKind). IsIn (outer_entries g) (record { name = e.name; kind = k })) kinds (subst (λ (n : Name). IsIn (outer_entries g) (record { name = n; kind = x.kind })) named h)
 
-node_there : (g : Graph) (n : NodeId) (node : GraphNode) → node_at g n ≡ Some node → IsIn (finite.keys g.nodes) n.0
+pub node_there : (g : Graph) (n : NodeId) (node : GraphNode) → node_at g n ≡ Some node → IsIn (finite.keys g.nodes) n.0
 node_there g n node there = in_numbers (finite.keys g.nodes) n.0 (sym (finite.contains_key-keys g.nodes n.0) ∙ ap is_some there)
 
 -- an import node is asked for, under its name

@@ -16,10 +16,10 @@ use Rattle.wac_binary.specs.Unfold.{Scope, Bound, bound_at, type_at, described_i
 use Rattle.wac_binary.specs.Meaning.{Thing, import_at, Root, start, stands_for, things, thing_at, meaning}
 use Rattle.wac_binary.specs.HasMeaning.{ItemHasMeaning, AllHaveMeaning, HasMeaning}
 use Rattle.wac_graph_model.specs.private.meaning.Beginning.{Places, HasImport, Begins}
-use Rattle.wac_graph_model.proofs.lemmas.meaning.MeaningLemmas.{Laws, Rest, rest, meaning-push, rest-with_thing, things-with_thing, thing_at-last, bound_at-last, indexes-push}
+use Rattle.wac_graph_model.proofs.lemmas.meaning.MeaningLemmas.{Laws, Rest, rest, meaning-push, rest-with_thing, things-with_thing, thing_at-last, bound_at-last, indexes-push, counted_up}
 use Rattle.wac_graph_model.proofs.lemmas.meaning.MeantLemmas.{meant-push}
 use Rattle.wac_graph_model.proofs.lemmas.meaning.QuietLemmas.{IsQuiet, quiet_rest, all_behind, first_all}
-use Rattle.wac_graph_model.proofs.lemmas.meaning.WrittenLemmas.{slice_get-push, counted_up}
+use Rattle.wac_graph_model.proofs.lemmas.meaning.ListLemmas.{slice_get-push}
 
 -- nothing is written yet
 pub nothing_begins : Begins [] [] []
@@ -68,7 +68,7 @@ import_type laws items n j =
     ∙ type_at-last (meaning items).scope.types (type_at (meaning items).scope.types j) (indexes (space sort.«Type») items) (sym (laws.types_counted items))
 
 -- the index that an import adds stands for it
-import_stands : Laws → (items : List Item) (n : Name) (d : Description) → stands_for (meaning (items ++ import_item n d ∷ [])) (described_sort d) (indexes (space (described_sort d)) items) ≡ import_at (length (meaning items).imports)
+pub import_stands : Laws → (items : List Item) (n : Name) (d : Description) → stands_for (meaning (items ++ import_item n d ∷ [])) (described_sort d) (indexes (space (described_sort d)) items) ≡ import_at (length (meaning items).imports)
 import_stands laws items n d =
     let t : Sort = described_sort d in
     let x : Thing = import_at (length (meaning items).imports) in
@@ -76,6 +76,10 @@ import_stands laws items n d =
     ∙ ap (λ ts. thing_at ts (indexes (space t) items)) (things-with_thing _ t x ∙ ap (λ ts. ts ++ x ∷ []) (things-imported (meaning items) (with_bound (meaning items).scope imported (position (length (meaning items).imports) ∷ []) (described_item (meaning items).scope d)) ((meaning items).imports ++ (n, described_item (meaning items).scope d) ∷ []) t))
     ∙ ap (thing_at (things (meaning items) t ++ x ∷ [])) (sym (laws.counted items t))
     ∙ thing_at-last (things (meaning items) t) x
+
+-- what an import adds
+pub import_rest : (items : List Item) (n : Name) (d : Description) → rest (meaning (items ++ import_item n d ∷ [])) ≡ record (rest (meaning items)) { imports = (meaning items).imports ++ (n, described_item (meaning items).scope d) ∷ [] }
+import_rest items n d = ap rest (meaning-push items (import_item n d)) ∙ rest-with_thing _ (described_sort d) _
 
 -- an import stays where it is
 HasImport-push : (items : List Item) (x : Item) (t : Sort) (i k : ℕ) → HasImport items t i k → HasImport (items ++ x ∷ []) t i k
@@ -129,8 +133,7 @@ module _ (laws : Laws) (imports : List (Name × Tree)) (places : Places) (items 
       → Begins (imports ++ (n, described_item (meaning items).scope d) ∷ []) (places ++ (described_sort d, indexes (space (described_sort d)) items) ∷ []) (items ++ import_item n d ∷ [])
   begins_import n d meant =
       let x : Item = import_item n d in
-      let same : rest (meaning (items ++ x ∷ [])) ≡ record (rest (meaning items)) { imports = (meaning items).imports ++ (n, described_item (meaning items).scope d) ∷ [] } =
-      ap rest (meaning-push items x) ∙ rest-with_thing _ (described_sort d) _ in
+      let same = import_rest items n d in
       record {
         meant = meant-push items x b.meant meant;
         imports_are = ap (λ (r : Rest). r.imports) same ∙ ap (λ is. is ++ (n, described_item (meaning items).scope d) ∷ []) b.imports_are;

@@ -12,7 +12,7 @@ use Rattle.wac_graph_model.specs.nodes.Graph.{Graph, GraphNode, node_at}
 use Rattle.wac_graph_model.specs.nodes.Sound.{IsSound}
 use Rattle.wac_graph_model.specs.meaning.Means.{is_first, is_further, further_exports}
 use Rattle.wac_graph_model.proofs.lemmas.meaning.MeantLemmas.{IsAmong}
-use Rattle.wac_graph_model.proofs.lemmas.meaning.WrittenLemmas.{slice_get-prefix}
+use Rattle.wac_graph_model.proofs.lemmas.meaning.ListLemmas.{slice_get-prefix}
 
 -- no name stands twice
 abbrev IsOnce : List (Name × NodeId) → Type 0

@@ -1,5 +1,5 @@
 -- What one more item adds to what items mean.
-use Rattle.std.proofs.Common.{◌≡◌, ℕ, zero, suc, ◌+◌, ◌<◌, Bool, true, false, T, if◌then◌else◌, List, [], ◌∷◌, ◌++◌, length, map, refl, ap, ◌∙◌, sym, arith}
+use Rattle.std.proofs.Common.{◌≡◌, ℕ, zero, suc, ◌+◌, ◌<◌, Bool, true, false, cond, T, if◌then◌else◌, List, [], ◌∷◌, ◌++◌, length, map, refl, ap, ◌∙◌, sym, arith, Some}
 use Rattle.wac_types_shapes.specs.primitives.Name.{Name}
 use Rattle.wac_types_shapes.specs.primitives.Tree.{Tree}
 use Rattle.wac_binary.specs.declared.sorts.Sort.{Sort}
@@ -10,6 +10,7 @@ use Rattle.wac_binary.specs.Unfold.{Scope, Bound, unbound, aliased_instance, wit
 use Rattle.wac_binary.specs.Meaning.{Thing, nothing, instance_at, component_at, projected, may_export, aliased_thing, Root, Instantiation, Export, start, things, thing_at, stands_for, with_thing, read, read_all, meaning}
 use Rattle.wac_binary.specs.HasMeaning.{HasExport}
 use Rattle.std.proofs.lemmas.List.{map-append}
+use Rattle.wac_edges.proofs.WrittenOrder.{eqb_same}
 use Rattle.wac_graph_model.specs.meaning.Means.{shown}
 
 read_all-append : (r : Root) (items : List Item) (x : Item) → read_all r (items ++ x ∷ []) ≡ read (read_all r items) x
@@ -173,3 +174,9 @@ alias_bound laws items c name =
 pub indexes-push : (k : ℕ) (items : List Item) (x : Item) → indexes k (items ++ x ∷ []) ≡ indexes k items + is_in k (adds x)
 indexes-push k [] x = omega arith
 indexes-push k (y ∷ items) x = omega (arith, indexes-push k items x)
+
+-- an item that adds an index of a sort
+pub counted_up : (t : Sort) (items : List Item) (x : Item) → adds x ≡ Some (space t) → indexes (space t) items < indexes (space t) (items ++ x ∷ [])
+counted_up t items x is =
+    let one : is_in (space t) (adds x) ≡ 1 = ap (is_in (space t)) is ∙ ap (λ b. cond b 1 0) (eqb_same (space t)) in
+    omega (arith, indexes-push (space t) items x)

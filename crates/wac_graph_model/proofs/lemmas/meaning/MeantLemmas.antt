@@ -6,17 +6,20 @@ use Rattle.std.proofs.lemmas.List.{map-append}
 use Rattle.std.proofs.lemmas.List.Folds.{list_any-append}
 use Rattle.wac_types_shapes.specs.primitives.Name.{Name, same_name, option_case}
 use Rattle.wac_types_shapes.proofs.lemmas.shapes.Names.{same_name-true}
+use Rattle.wac_types_shapes.specs.primitives.Tree.{Tree}
+use Rattle.wac_types_collection.specs.collection.Bound.{Bindings}
 use Rattle.wac_binary.specs.declared.sorts.Sort.{Sort}
 use Rattle.wac_binary.specs.declared.sorts.Sort.TheVariants as sort
 use Rattle.wac_binary.specs.Items.{Item, alias_item, export_alias}
 use Rattle.wac_binary.specs.Unfold.{bound_at}
-use Rattle.wac_binary.specs.Meaning.{Thing, Root, Export, start, stands_for, read, read_all, meaning}
+use Rattle.wac_binary.specs.Meaning.{Thing, import_at, Root, Export, start, stands_for, read, read_all, meaning}
 use Rattle.wac_binary.specs.HasMeaning.{ItemHasMeaning, AllHaveMeaning, HasMeaning, IsSomething, HasExport, IsNew}
 use Rattle.wac_edges.specs.declared.node.NodeId.{NodeId}
 use Rattle.wac_graph_model.specs.nodes.Graph.{Graph, GraphNode, node_at}
-use Rattle.wac_types_shapes.specs.declared.shapes.component.«Type».{«Type» as AnyType}
-use Rattle.wac_graph_model.specs.meaning.Means.{sort_of_kind, shown, first_export, export_of}
-use Rattle.wac_graph_model.specs.private.meaning.Listing.{Listing, by_item, by_export, listing_of, IsListedAs, IsListedThing, as_import, as_instantiation, as_alias, as_definition}
+use Rattle.wac_encode_faults.specs.Trees.{definition_tree}
+use Rattle.wac_graph_model.specs.meaning.Defined.{IsDefined, as_new, as_listed}
+use Rattle.wac_graph_model.specs.meaning.Means.{sort_of_kind, IsThing, as_import, as_instantiation, as_definition, as_alias, shown, first_export, export_of}
+use Rattle.wac_graph_model.proofs.lemmas.meaning.TypeThings.{along_something}
 use Rattle.wac_edges.proofs.WrittenOrder.{has, same, same_itself}
 
 -- one more item that has a meaning
@@ -32,18 +35,17 @@ pub alias_meant : (items : List Item) (t : Sort) (i : ℕ) (n : Name) → IsSome
     → ItemHasMeaning (meaning items) (alias_item (export_alias t i n))
 alias_meant items t i n there has = (there, has)
 
--- what a definition is is something
-pub defined_something : (g : Graph) (t : AnyType) (o : Option Listing) (x : Thing) → IsListedAs g t o x → IsSomething x
-defined_something g t None x is = subst IsSomething (sym is) tt
-defined_something g t (Some (by_item entry)) x (p, place, is) = subst IsSomething (sym is) tt
-defined_something g t (Some (by_export entry name)) x (p, place, is) = subst IsSomething (sym is) tt
+-- what a definition refers to is something
+pub defined_something : (imports : List (Name × Tree)) (tree : Tree) (x : Thing) → IsDefined imports tree x → IsSomething x
+defined_something imports tree x (as_new is) = subst IsSomething (sym is) tt
+defined_something imports tree x (as_listed p names entry there item is) = subst IsSomething (sym is) (along_something (import_at p) names tt)
 
--- what a node stands for is something
-pub something : (g : Graph) (at : NodeId → Thing) (order : List NodeId) (n : NodeId) (node : GraphNode) → IsListedThing g at order n node → IsSomething (at n)
-something g at order n node (as_import name p kind place is) = subst IsSomething (sym is) tt
-something g at order n node (as_instantiation k kind place is) = subst IsSomething (sym is) tt
-something g at order n node (as_definition t kind item is) = defined_something g t (listing_of g t) (at n) is
-something g at order n node (as_alias instance source i name kind aliased there exported is) = subst IsSomething (sym is) tt
+-- what a node refers to is something
+pub something : (g : Graph) (imports : List (Name × Tree)) (m : Bindings) (at : NodeId → Thing) (order : List NodeId) (n : NodeId) (node : GraphNode) → IsThing g imports m at order n node → IsSomething (at n)
+something g imports m at order n node (as_import name p kind place is) = subst IsSomething (sym is) tt
+something g imports m at order n node (as_instantiation k kind place is) = subst IsSomething (sym is) tt
+something g imports m at order n node (as_definition t kind item is) = defined_something imports (definition_tree g.types m t) (at n) is
+something g imports m at order n node (as_alias instance source i name kind aliased there exported is) = subst IsSomething (sym is) tt
 
 -- a name that is not among those of these exports is new
 abbrev pub IsAmong : List (Name × NodeId) → Name → Type 0

@@ -26,11 +26,9 @@ use Rattle.wac_graph_model.specs.meaning.Means.{is_written, sort_of_kind, export
 use Rattle.wac_graph_model.specs.private.meaning.Beginning.{Places, IsPlacedAt, Begins, IsPlacedNode}
 use Rattle.wac_graph_model.specs.private.meaning.MergedImports.{merged_item, imports_from, merged_imports, IsMergeOf, IsFoundAt}
 use Rattle.wac_graph_model.specs.private.meaning.Encoding.{Progress, index_in, HasRoom}
-use Rattle.wac_graph_model.specs.private.meaning.Listing.{ShowsDefinitions}
-use Rattle.wac_graph_model.specs.private.meaning.Writing.{WroteAll}
-use Rattle.wac_graph_model.proofs.lemmas.meaning.OuterOrder.{EachOnce, one_place}
+use Rattle.wac_graph_model.specs.private.meaning.WrittenSoFar.{IsWrittenSoFar}
 use Rattle.wac_graph_model.proofs.lemmas.meaning.AskedMembers.{IsIn, in_filter, import_asked}
-use Rattle.wac_graph_model.proofs.lemmas.meaning.EncodeLemmas.{means_all}
+use Rattle.wac_graph_model.proofs.lemmas.meaning.EncodeLemmas.{written_begins, written_means}
 use Rattle.wac_graph_model.proofs.lemmas.meaning.MeaningLemmas.{Laws}
 use Rattle.wac_graph_model.proofs.lemmas.meaning.MergedCover.{subtype_covers}
 
@@ -217,15 +215,21 @@ placed_node laws has_classes g sound m whole places index n node name there kind
 pub placed_argument : ClassLaws → OrderHasClasses → (g : Graph) (m : Merged) → IsMerge by_names g.types (outer_entries g) m → (places : Places) (name : Name) (t : Sort) (i : ℕ) → IsFoundAt g m places name t i → IsPlacedAt g places name t i
 placed_argument laws has_classes g m merge places name t i found = record { p = found.p; fell = import_place g m merge laws has_classes found.p found.entry found.there name found.named; placed = found.placed }
 
--- Where items begin a component with the imports of a merge of all that is asked for, and its nodes, exports, names and processor are written behind them, they mean the graph.
-pub means_merged : Laws → ClassLaws → OrderHasClasses → (g : Graph) → EachOnce g → IsSound g → (m : Merged) → (whole : IsMergeOf g m) → ShowsDefinitions g (merged_imports m) (outer_bindings g whole.merge.order) → (order : List NodeId) → Writes g.edges (is_written g) order
-    → (o : EncodeOptions) → o.define_components ≡ true → (places : Places) (begin : List Item) (indexes : List ℕ) → Begins (merged_imports m) places begin
+-- no node is written at the start, after the imports of a merge
+pub merged_begins : ClassLaws → OrderHasClasses → (g : Graph) → IsSound g → (m : Merged) → (whole : IsMergeOf g m) → (o : EncodeOptions) (places : Places) (order : List NodeId) (begin : List Item) (indexes : List ℕ)
+    → Writes g.edges (is_written g) order → Begins (merged_imports m) places begin → HasRoom g indexes
     → ((n : NodeId) (node : GraphNode) (name : Name) → node_at g n ≡ Some node → node.kind ≡ graph.import name → IsFoundAt g m places name (sort_of_kind node.item_kind) (index_in indexes n))
-    → HasRoom g indexes → (p q : Progress) → p ≡ record { items = begin; components = []; indexes = indexes } → WroteAll g places order p q
+    → IsWrittenSoFar g o (merged_imports m) (outer_bindings g whole.merge.order) places order [] (record { items = begin; components = []; indexes = indexes })
+merged_begins class_laws has_classes g sound m whole o places order begin indexes writes begins room found =
+    written_begins g o (merged_imports m) (outer_bindings g whole.merge.order) places order begin indexes writes begins room
+    (λ n node name there kind. placed_node class_laws has_classes g sound m whole places (index_in indexes) n node name there kind (found n node name there kind))
+
+-- Where all nodes are written after the imports of a merge of all that is asked for, then the exports, the names and the processor, the items mean the graph.
+pub merged_means : Laws → (g : Graph) → IsSound g → (m : Merged) → (whole : IsMergeOf g m) → (o : EncodeOptions) (places : Places) (order : List NodeId) (q : Progress)
+    → IsWrittenSoFar g o (merged_imports m) (outer_bindings g whole.merge.order) places order order q
     → (names : List (Sort × ℕ × Name)) → AreNames g (index_in q.indexes) names
     → (items with_names written : List Item) → items ≡ q.items ++ flat_map (export_item_of g (index_in q.indexes)) (further_exports g)
     → with_names ≡ items ++ map custom_item (name_customs names) → written ≡ with_names ++ map custom_item (processor_customs o.processor) → Means written g o
 unfolding outer_of_merge
-means_merged laws class_laws has_classes g once sound m whole shows order writes o define places begin indexes begins found =
-    means_all laws g sound (one_place class_laws g once) order writes o define (merged_imports m) places (outer_of_merge g m whole.merge) shows begin indexes begins
-    (λ n node name there kind. placed_node class_laws has_classes g sound m whole places (index_in indexes) n node name there kind (found n node name there kind))
+merged_means laws g sound m whole o places order q s names named items with_names written end next last =
+    written_means laws g sound o (merged_imports m) (outer_bindings g whole.merge.order) (outer_of_merge g m whole.merge) refl places order q s names named items with_names written end next last

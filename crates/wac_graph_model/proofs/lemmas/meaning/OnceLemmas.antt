@@ -15,7 +15,8 @@ use Rattle.wac_graph_model.specs.nodes.Graph.{Graph, GraphNode, Kind, node_at}
 use Rattle.wac_graph_model.specs.nodes.OuterImports.{outer_bindings}
 use Rattle.wac_graph_model.specs.meaning.Means.{instantiations, same_package, with_package, used_after, IsInstantiationOf, AreInstantiations, IsThing, as_import, as_instantiation, as_definition, as_alias, Means}
 use Rattle.wac_graph_model.specs.meaning.Once.{IsUsedOnce}
-use Rattle.wac_graph_model.proofs.lemmas.meaning.WrittenLemmas.{any_package, slice_get-push}
+use Rattle.wac_graph_model.proofs.lemmas.meaning.ListLemmas.{slice_get-push}
+use Rattle.wac_graph_model.proofs.lemmas.meaning.WrittenLemmas.{any_package}
 
 -- no package is at two places
 abbrev AreOnce : List PackageId → Type 0

@@ -1,15 +1,9 @@
 -- There is one order in which the classes of what a graph asks for are written.
-use Rattle.std.proofs.Common.{◌≡◌, ℕ, true, List, [], ◌∷◌, ◌++◌, refl, ap, ◌∙◌, sym, subst, Option, Some, None}
-use Rattle.std.specs.Prelude.{slice_get}
-use Rattle.wac_merge_classes.specs.entries.Classes.{by_names, same_class, ClassLaws}
-use Rattle.wac_merge_classes.proofs.lemmas.entries.ClassFacts.{one-position}
+use Rattle.std.proofs.Common.{◌≡◌, ℕ, List, [], ◌∷◌, ◌++◌, refl, ap, sym, subst}
+use Rattle.wac_merge_classes.specs.entries.Classes.{by_names}
 use Rattle.wac_merge_classes.specs.terms.ClassOrder.{RestsOn, Selects, none, takes, leaves, Arranges, done, there, new, grouped}
 use Rattle.wac_graph_model.specs.nodes.Graph.{Graph}
-use Rattle.wac_graph_model.specs.nodes.OuterImports.{outer_entries, IsOuterOrder, IsImportPlace}
-use Rattle.wac_graph_model.specs.private.meaning.Listing.{Listing, by_item, by_export, IsListedAs}
-use Rattle.wac_binary.specs.Meaning.{Thing, import_at, projection}
-use Rattle.wac_types_shapes.specs.primitives.Name.{Name}
-use Rattle.wac_types_shapes.specs.declared.shapes.component.«Type».{«Type» as AnyType}
+use Rattle.wac_graph_model.specs.nodes.OuterImports.{outer_entries, IsOuterOrder}
 
 -- what of a list has P is one list
 one_selection : (P : ℕ → Type 0) (ns xs ys : List ℕ) → Selects P ns xs → Selects P ns ys → xs ≡ ys
@@ -33,25 +27,3 @@ one_arrangement rests all placed ns xs ys (new _ under before after n more absen
 -- so the imports of a graph and the places of its names stand in one order
 pub one_order : (g : Graph) (xs ys : List ℕ) → IsOuterOrder g xs → IsOuterOrder g ys → xs ≡ ys
 one_order g xs ys a b = one_arrangement (RestsOn by_names g.types (outer_entries g)) (grouped by_names (outer_entries g)) [] (grouped by_names (outer_entries g)) xs ys a b
-
--- a name's import stands at one place
-abbrev pub OneImportPlace : Graph → Type 0
-OneImportPlace g = (name : Name) (p q : ℕ) → IsImportPlace g name p → IsImportPlace g name q → p ≡ q
-
--- each class stands once in a written order
-abbrev pub EachOnce : Graph → Type 0
-EachOnce g = (order : List ℕ) → IsOuterOrder g order → (i j k : ℕ) → slice_get order i ≡ Some k → slice_get order j ≡ Some k → i ≡ j
-
-pub one_place : ClassLaws → (g : Graph) → EachOnce g → OneImportPlace g
-one_place laws g once name p q a b =
-    let (m, at_m, of_m) = a.of_class in
-    let (n, at_n, of_n) = b.of_class in
-    let one_class : same_class by_names (outer_entries g) m n ≡ true = laws.transitive (outer_entries g) m name n of_m (laws.symmetric (outer_entries g) n name of_n) in
-    let one_number : a.number ≡ b.number = one-position by_names (outer_entries g) (outer_entries g) a.number b.number m n at_m at_n one_class in
-    once a.order a.written p q a.number a.placed (ap (λ xs. slice_get xs q) (one_order g a.order b.order a.written b.written) ∙ b.placed ∙ ap Some (sym one_number))
-
--- so a definition is one thing
-pub defined_once : (g : Graph) → OneImportPlace g → (t : AnyType) (o : Option Listing) (x y : Thing) → IsListedAs g t o x → IsListedAs g t o y → x ≡ y
-defined_once g one t None x y a b = a ∙ sym b
-defined_once g one t (Some (by_item entry)) x y (p, place, is) (q, other, same) = is ∙ ap import_at (one entry p q place other) ∙ sym same
-defined_once g one t (Some (by_export entry name)) x y (p, place, is) (q, other, same) = is ∙ ap (λ k. projection (import_at k) name) (one entry p q place other) ∙ sym same

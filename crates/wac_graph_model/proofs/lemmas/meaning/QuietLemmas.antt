@@ -4,7 +4,7 @@ use Rattle.std.specs.List.{AllByRecursion}
 use Rattle.wac_binary.specs.Items.{Item, core_type, alias_item, export_alias, outer_alias, type_item}
 use Rattle.wac_binary.specs.Meaning.{Root, read, read_all, meaning}
 use Rattle.wac_binary.specs.HasMeaning.{AllHaveMeaning}
-use Rattle.wac_graph_model.specs.private.meaning.Writing.{IsTypeAlone}
+use Rattle.wac_graph_model.specs.private.meaning.Encoding.{IsTypeAlone}
 use Rattle.wac_graph_model.proofs.lemmas.meaning.MeaningLemmas.{rest, meaning-push, rest-with_thing, alias_rest}
 
 -- a type, a core type or an alias

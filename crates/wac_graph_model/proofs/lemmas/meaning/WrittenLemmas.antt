@@ -1,6 +1,6 @@
 -- What is written of a graph after some of its nodes, behind items that begin with its imports.
-use Rattle.std.proofs.Common.{◌≡◌, ℕ, zero, suc, ◌<◌, Bool, true, false, ◌||◌, cond, List, [], ◌∷◌, ◌++◌, length, map, refl, ap, ◌∙◌, sym, subst, arith, append_assoc, Option, Some, None, ◌⊎◌, inl, inr}
-use Rattle.std.specs.List.{AllByRecursion, list_any, filter, flat_map}
+use Rattle.std.proofs.Common.{◌≡◌, ℕ, zero, suc, ◌+◌, ◌<◌, Bool, true, false, ◌||◌, cond, List, [], ◌∷◌, ◌++◌, length, map, refl, ap, ◌∙◌, sym, subst, arith, append_assoc, Option, Some, None, ◌⊎◌, inl, inr}
+use Rattle.std.specs.List.{AllByRecursion, list_any, flat_map}
 use Rattle.std.specs.Prelude.{slice_get}
 use Rattle.std.specs.FinSet as set
 use Rattle.std.proofs.lemmas.List.{append-nil, length-append, map-append, length-map}
@@ -12,60 +12,47 @@ use Rattle.wac_types_shapes.proofs.lemmas.shapes.Names.{same_name-refl}
 use Rattle.wac_types_shapes.specs.declared.shapes.component.InterfaceId.{InterfaceId}
 use Rattle.wac_types_shapes.specs.declared.shapes.component.ItemKind.{ItemKind}
 use Rattle.wac_types_shapes.specs.declared.shapes.component.«Type».{«Type» as AnyType}
-use Rattle.wac_types_shapes.specs.primitives.Tree.{Tree}
+use Rattle.wac_types_shapes.specs.primitives.Tree.{Tree, absent}
+use Rattle.wac_types_collection.specs.collection.Bound.{Bindings}
 use Rattle.wac_types_collection.specs.collection.Collection.{interface_exports}
 use Rattle.wac_types_shapes.specs.declared.shapes.component.ItemKind.TheVariants as item
 use Rattle.wac_binary.specs.declared.sorts.Sort.{Sort}
 use Rattle.wac_binary.specs.declared.sorts.Sort.TheVariants as sort
-use Rattle.wac_binary.specs.Items.{Item, nested, instantiate, alias_item, export_alias, export_item}
-use Rattle.wac_binary.specs.Indexes.{space, indexes, is_in, adds, sort_added}
-use Rattle.wac_binary.specs.Meaning.{Thing, nothing, import_at, instance_at, component_at, projection, projected, Instantiation, start, stands_for, meaning}
-use Rattle.wac_binary.specs.Unfold.{Bound, bound_at}
-use Rattle.wac_binary.specs.HasMeaning.{ItemHasMeaning, AllHaveMeaning, HasMeaning, IsSomething, HasExport}
+use Rattle.wac_binary.specs.declared.sorts.Description.{Description}
+use Rattle.wac_binary.specs.Items.{Item, nested, instantiate, alias_item, export_alias, import_item, export_item}
+use Rattle.wac_binary.specs.Indexes.{space, indexes, adds, sort_added, described_sort}
+use Rattle.wac_binary.specs.Meaning.{Thing, import_at, instance_at, component_at, projection, projected, Instantiation, start, stands_for, meaning}
+use Rattle.wac_binary.specs.Unfold.{Bound, type_at, bound_at, described_item}
+use Rattle.wac_binary.specs.HasMeaning.{ItemHasMeaning, AllHaveMeaning, HasMeaning, IsResource, IsSomething, HasExport}
+use Rattle.wac_encode_faults.specs.Trees.{definition_tree}
 use Rattle.wac_edges.specs.declared.edges.Edge.{Edge}
 use Rattle.wac_edges.specs.declared.node.NodeId.{NodeId}
+use Rattle.wac_graph_model.specs.declared.nodes.options.EncodeOptions.{EncodeOptions}
 use Rattle.wac_graph_model.specs.declared.nodes.packages.PackageId.{PackageId}
 use Rattle.wac_edges.specs.Edge.{alias_edge, argument_edge}
 use Rattle.wac_graph_model.specs.nodes.Graph as graph
 use Rattle.wac_graph_model.specs.nodes.Graph.{Graph, GraphNode, Kind, node_at, export_at, imports_of, exports_of, IsAliasOf, IsArgumentOf}
 use Rattle.wac_graph_model.specs.nodes.Sound.{IsSound}
-use Rattle.wac_edges.specs.Order.{Writes, IsLowestReady}
-use Rattle.wac_graph_model.specs.meaning.Means.{node_is, is_instantiation, is_written, instantiations, sort_of_kind, same_package, with_package, used_after, used_packages, package_bytes, IsArgument, given, AreArguments, HasItem, is_first, is_own_item, asked, shown, first_export}
+use Rattle.wac_edges.specs.Order.{IsLowestReady}
+use Rattle.wac_graph_model.specs.meaning.Defined.{IsDefined}
+use Rattle.wac_graph_model.specs.meaning.Means.{node_is, is_instantiation, is_written, instantiations, sort_of_kind, same_package, with_package, used_after, used_packages, package_bytes, package_import, package_thing, IsArgument, given, asked, AreArguments, IsInstantiationOf, AreInstantiations, IsThing, as_instantiation, as_definition, as_alias, HasItem, is_first, is_own_item, shown, first_export}
 use Rattle.wac_graph_model.specs.private.meaning.Beginning.{Places}
-use Rattle.wac_graph_model.specs.private.meaning.Encoding.{HasComponent}
-use Rattle.wac_graph_model.specs.private.meaning.Writing.{IsArgumentItem, of_node, of_import, AreArgumentItems, WritesType}
-use Rattle.wac_graph_model.specs.private.meaning.Listing.{listing_of, IsListedAs, IsListedThing, as_import, as_instantiation, as_alias, as_definition}
-use Rattle.wac_edges.proofs.WrittenOrder.{has, minus, minus-true, same, same_itself, eqb_same, apart, in_list, in_push, now_in, slice_get-middle, written_left, only_place, has-filter}
-use Rattle.wac_graph_model.proofs.lemmas.meaning.ThingLemmas.{Stands, node_of_written, stands_apart, stood, ready_sources}
-use Rattle.wac_graph_model.proofs.lemmas.meaning.OuterOrder.{OneImportPlace, defined_once}
+use Rattle.wac_graph_model.specs.private.meaning.Encoding.{AddsPackage, adds_nested, adds_import, HasComponent}
+use Rattle.wac_graph_model.specs.private.meaning.Writing.{IsArgumentItem, of_node, of_import, AreArgumentItems, WritesTypeWith}
+use Rattle.wac_edges.proofs.WrittenOrder.{has, minus, minus-true, same, same_itself, eqb_same, apart, in_list, in_push, slice_get-middle}
+use Rattle.wac_graph_model.proofs.lemmas.meaning.ListLemmas.{slice_get-push, slice_get-prefix, slice_get-map}
+use Rattle.wac_graph_model.proofs.lemmas.meaning.TypeThings.{projected_some, type_defined, defined_first}
+use Rattle.wac_graph_model.proofs.lemmas.meaning.ThingLemmas.{Stands, node_of_written, stands_apart, stood, ready_sources, place_of}
 use Rattle.wac_graph_model.proofs.lemmas.meaning.CoverLemmas.{IsKnown, known_export, known_alias}
 use Rattle.wac_graph_model.proofs.lemmas.meaning.MeantLemmas.{meant-push, alias_meant, defined_something, something, IsAmong, IsFirstAmong, new_name}
-use Rattle.wac_graph_model.proofs.lemmas.meaning.QuietLemmas.{IsQuiet, quiet_rest, quiet_types, all_behind}
-use Rattle.wac_graph_model.proofs.lemmas.meaning.MeaningLemmas.{Laws, meaning-push, alias_stands, alias_bound, instance_bound, alias_rest, nested_bytes_more, nested_stands, instantiations_more, instance_stands, export_shown, type_export_stands, export_others, made_of, indexes-push}
-use Rattle.wac_graph_model.proofs.lemmas.meaning.DefinedLemmas.{IsMadeOf, AreMade}
+use Rattle.wac_graph_model.proofs.lemmas.meaning.QuietLemmas.{IsQuiet, quiet_rest, quiet_types, all_behind, first_all}
+use Rattle.wac_graph_model.proofs.lemmas.meaning.MeaningLemmas.{Laws, meaning-push, alias_stands, alias_bound, instance_bound, alias_rest, nested_bytes_more, nested_stands, instantiations_more, instance_stands, export_shown, type_export_stands, export_others, made_of, indexes-push, counted_up}
+use Rattle.wac_graph_model.proofs.lemmas.meaning.BeginLemmas.{import_rest, import_stands}
+use Rattle.wac_graph_model.proofs.lemmas.meaning.DefinedLemmas.{nested_packages, imported_packages, nested_are, imported_nothing, nested_push, nested_thing, nested_nothing, imported_push, imported_thing, package_something, imported_components}
 
 clash : (b : Bool) → b ≡ true → b ≡ false → ⊥
 clash true _ h = cc
 clash false h _ = cc
-
-pub slice_get-push : {A : Type 0} (xs : List A) (x : A) (k : ℕ) (y : A) → slice_get (xs ++ x ∷ []) k ≡ Some y → (slice_get xs k ≡ Some y) ⊎ ((k ≡ length xs) × (y ≡ x))
-slice_get-push [] x zero y h = inr (refl, cc)
-slice_get-push [] x (suc k) y h = cc
-slice_get-push (z ∷ xs) x zero y h = inl h
-slice_get-push (z ∷ xs) x (suc k) y h = split (slice_get-push xs x k y h) where
-  split : (slice_get xs k ≡ Some y) ⊎ ((k ≡ length xs) × (y ≡ x)) → (slice_get xs k ≡ Some y) ⊎ ((suc k ≡ suc (length xs)) × (y ≡ x))
-  split (inl a) = inl a
-  split (inr (a, b)) = inr (ap suc a, b)
-
-pub slice_get-prefix : {A : Type 0} (xs ys : List A) (k : ℕ) (y : A) → slice_get xs k ≡ Some y → slice_get (xs ++ ys) k ≡ Some y
-slice_get-prefix [] ys k y h = cc
-slice_get-prefix (x ∷ xs) ys zero y h = h
-slice_get-prefix (x ∷ xs) ys (suc k) y h = slice_get-prefix xs ys k y h
-
-slice_get-map : {A B : Type 0} (f : A → B) (xs : List A) (k : ℕ) (y : A) → slice_get xs k ≡ Some y → slice_get (map f xs) k ≡ Some (f y)
-slice_get-map f [] k y h = cc
-slice_get-map f (x ∷ xs) zero y h = let e : x ≡ y = cc in ap (λ z. Some (f z)) e
-slice_get-map f (x ∷ xs) (suc k) y h = slice_get-map f xs k y h
 
 same_package_itself : (p : PackageId) → same_package p p ≡ true
 same_package_itself p = rw (eqb_same p.slot) (eqb_same p.generation)
@@ -116,34 +103,27 @@ HasItem-push items x node index k h = record {
 HasItem-within : (items : List Item) (node : GraphNode) (index k : ℕ) → HasItem items node index k → k < length items
 HasItem-within items node index k h = omega (arith, ap length h.split, length-append h.before (h.it ∷ h.after), h.here)
 
-first_of : {A B : Type 0} (o : Option (A × B)) (a b : A) (x y : B) → o ≡ Some (a, x) → o ≡ Some (b, y) → a ≡ b
-first_of {A} {B} o a b x y p q = ap (λ (z : Option (A × B)). option_case z a (λ (e : A × B). e.0)) (sym p ∙ q)
+module _ (laws : Laws) (g : Graph) (sound : IsSound g) (o : EncodeOptions) (order : List NodeId) (at : NodeId → Thing) (classes : List (Name × Tree)) (bindings : Bindings) (places : Places) where
+  -- what a node refers to
+  abbrev pub IsNodeThing : NodeId → GraphNode → Type 0
+  IsNodeThing n node = IsThing g classes bindings at order n node
 
-projected_some : (x : Thing) (name : Name) → IsSomething x → projected x name ≡ projection x name
-projected_some nothing name h = absurd h
-projected_some x name h = refl
-
--- an item that adds an index of a sort
-pub counted_up : (t : Sort) (items : List Item) (x : Item) → adds x ≡ Some (space t) → indexes (space t) items < indexes (space t) (items ++ x ∷ [])
-counted_up t items x is =
-    let one : is_in (space t) (adds x) ≡ 1 = ap (is_in (space t)) is ∙ ap (λ b. cond b 1 0) (eqb_same (space t)) in
-    omega (arith, indexes-push (space t) items x)
-
-module _ (laws : Laws) (g : Graph) (sound : IsSound g) (order : List NodeId) (at : NodeId → Thing) (is_thing : (n : NodeId) (node : GraphNode) → node_at g n ≡ Some node → IsListedThing g at order n node) (imported : List (Name × Tree)) (places : Places) where
   -- these items and indexes say what the nodes written so far stand for; `used` are the packages whose components are written
   pub record Written (done : List NodeId) (used : List PackageId) (items : List Item) (components : List (PackageId × ℕ)) (index : NodeId → ℕ) : Type 0 where
     pub nodes : (n : NodeId) → has done n ≡ true → is_written g n ≡ true
     pub meant : HasMeaning items
-    pub imports : (meaning items).imports ≡ imported
+    pub imports : (meaning items).imports ≡ classes ++ imported_packages g o used
+    pub import_count : o.define_components ≡ false → length (meaning items).imports ≡ length classes + length used
     pub customs : (meaning items).customs ≡ []
     pub exports : map shown (meaning items).exports ≡ flat_map (first_export g at) done
-    pub bytes : (meaning items).nested_bytes ≡ map (package_bytes g) used
+    pub bytes : (meaning items).nested_bytes ≡ nested_packages g o used
     pub packages : map (λ e. e.0) components ≡ used
-    pub numbers : (k : ℕ) (e : PackageId × ℕ) → slice_get components k ≡ Some e → (e.1 < indexes (space sort.Component) items) × (stands_for (meaning items) sort.Component e.1 ≡ component_at k)
-    pub made : AreMade g at order (instantiations g done) (meaning items).instantiations
+    pub numbers : (k : ℕ) (e : PackageId × ℕ) → slice_get components k ≡ Some e → (e.1 < indexes (space sort.Component) items) × (stands_for (meaning items) sort.Component e.1 ≡ package_thing o (length classes) k)
+    pub made : AreInstantiations g o (length classes) at order (instantiations g done) (meaning items).instantiations
     pub asked_for : (p : ℕ) (t : Sort) (i : ℕ) → slice_get places p ≡ Some (t, i) → (i < indexes (space t) items) × (stands_for (meaning items) t i ≡ import_at p)
     pub stand : (n : NodeId) (node : GraphNode) → Stands done n node → node_at g n ≡ Some node
         → (index n < indexes (space (sort_of_kind node.item_kind)) items) × (stands_for (meaning items) (sort_of_kind node.item_kind) (index n) ≡ at n)
+    pub things : (n : NodeId) (node : GraphNode) → Stands done n node → node_at g n ≡ Some node → IsNodeThing n node
     pub known : (n : NodeId) (node : GraphNode) → Stands done n node → node_at g n ≡ Some node → (i : InterfaceId) → node.item_kind ≡ item.Instance i → IsKnown g.types i (bound_at (meaning items).scope.instances (index n))
     pub place : NodeId → ℕ
     pub own : (n : NodeId) (node : GraphNode) → Stands done n node → node_at g n ≡ Some node → HasItem items node (index n) (place n)
@@ -168,7 +148,7 @@ module _ (laws : Laws) (g : Graph) (sound : IsSound g) (order : List NodeId) (at
 
     -- a component keeps its index
     kept_number : (x : Item) (k : ℕ) (e : PackageId × ℕ) → slice_get components k ≡ Some e
-        → (e.1 < indexes (space sort.Component) (items ++ x ∷ [])) × (stands_for (meaning (items ++ x ∷ [])) sort.Component e.1 ≡ component_at k)
+        → (e.1 < indexes (space sort.Component) (items ++ x ∷ [])) × (stands_for (meaning (items ++ x ∷ [])) sort.Component e.1 ≡ package_thing o (length classes) k)
     kept_number x k e there =
         let n = w.numbers k e there in
         (omega (arith, n.0, indexes-push (space sort.Component) items x), laws.earlier items (x ∷ []) sort.Component e.1 n.0 ∙ n.1)
@@ -181,52 +161,99 @@ module _ (laws : Laws) (g : Graph) (sound : IsSound g) (order : List NodeId) (at
           nodes = w.nodes;
           meant = meant-push items x w.meant meant;
           imports = ap (λ r. r.imports) same_ ∙ w.imports;
+          import_count = λ not_defined. ap (λ r. length r.imports) same_ ∙ w.import_count not_defined;
           customs = ap (λ r. r.customs) same_ ∙ w.customs;
           exports = ap (λ r. map shown r.exports) same_ ∙ w.exports;
           bytes = ap (λ r. r.nested_bytes) same_ ∙ w.bytes;
           packages = w.packages;
           numbers = kept_number x;
-          made = subst (λ made. AreMade g at order (instantiations g done) made) (sym (ap (λ r. r.instantiations) same_)) w.made;
+          made = subst (λ made. AreInstantiations g o (length classes) at order (instantiations g done) made) (sym (ap (λ r. r.instantiations) same_)) w.made;
           asked_for = asked-push x;
           stand = stand-push x;
+          things = w.things;
           known = known-push x;
           place = w.place;
           own = λ n node here there. HasItem-push items x node (index n) (w.place n) (w.own n node here there);
           in_place = w.in_place;
         }
 
-    -- a component more
-    component_more : (id : PackageId) → list_any (same_package id) used ≡ false
+    -- the component that is added last
+    numbers_more : (x : Item) (id : PackageId) (c : ℕ) → (c < indexes (space sort.Component) (items ++ x ∷ [])) × (stands_for (meaning (items ++ x ∷ [])) sort.Component c ≡ package_thing o (length classes) (length components))
+        → (k : ℕ) (e : PackageId × ℕ) → (slice_get components k ≡ Some e) ⊎ ((k ≡ length components) × (e ≡ (id, c)))
+        → (e.1 < indexes (space sort.Component) (items ++ x ∷ [])) × (stands_for (meaning (items ++ x ∷ [])) sort.Component e.1 ≡ package_thing o (length classes) k)
+    numbers_more x id c this k e (inl before) = kept_number x k e before
+    numbers_more x id c this k e (inr (last, is)) =
+        subst (λ (y : PackageId × ℕ). (y.1 < indexes (space sort.Component) (items ++ x ∷ [])) × (stands_for (meaning (items ++ x ∷ [])) sort.Component y.1 ≡ package_thing o (length classes) k)) (sym is)
+        (this.0, this.1 ∙ ap (package_thing o (length classes)) (sym last))
+
+    packages_more : (id : PackageId) (c : ℕ) → map (λ e. e.0) (components ++ (id, c) ∷ []) ≡ used ++ id ∷ []
+    packages_more id c = map-append (λ e. e.0) components ((id, c) ∷ []) ∙ ap (λ us. us ++ id ∷ []) w.packages
+
+    many_components : length used ≡ length components
+    many_components = ap length (sym w.packages) ∙ length-map components (λ e. e.0)
+
+    -- a nested component more
+    component_more : (id : PackageId) → o.define_components ≡ true
         → Written done (used ++ id ∷ []) (items ++ nested (package_bytes g id) ∷ []) (components ++ (id, indexes (space sort.Component) items) ∷ []) index
-    component_more id absent =
+    component_more id define =
+        let x : Item = nested (package_bytes g id) in
+        let c : ℕ = indexes (space sort.Component) items in
         let more = nested_bytes_more items (package_bytes g id) in
-        let many : length (meaning items).nested_bytes ≡ length components = ap length w.bytes ∙ length-map used (package_bytes g) ∙ ap length (sym w.packages) ∙ length-map components (λ e. e.0) in
+        let many : length (meaning items).nested_bytes ≡ length components = ap length w.bytes ∙ ap length (nested_are g o define used) ∙ length-map used (package_bytes g) ∙ many_components in
+        let stands : stands_for (meaning (items ++ nested (package_bytes g id) ∷ [])) sort.Component (indexes (space sort.Component) items) ≡ package_thing o (length classes) (length components) =
+        nested_stands items (package_bytes g id) (indexes (space sort.Component) items) (sym (laws.counted items sort.Component)) ∙ ap component_at many ∙ nested_thing g o define (length classes) (length components) in
         record {
           nodes = w.nodes;
-          meant = meant-push items (nested (package_bytes g id)) w.meant tt;
-          imports = ap (λ r. r.imports) more ∙ w.imports;
+          meant = meant-push items x w.meant tt;
+          imports = ap (λ r. r.imports) more ∙ w.imports ∙ ap (λ is. classes ++ is) (imported_nothing g o define used ∙ sym (imported_nothing g o define (used ++ id ∷ [])));
+          import_count = λ not_defined. absurd (clash o.define_components define not_defined);
           customs = ap (λ r. r.customs) more ∙ w.customs;
           exports = ap (λ r. map shown r.exports) more ∙ w.exports;
-          bytes = ap (λ r. r.nested_bytes) more ∙ ap (λ bs. bs ++ package_bytes g id ∷ []) w.bytes ∙ sym (map-append (package_bytes g) used (id ∷ []));
-          packages = map-append (λ e. e.0) components ((id, indexes (space sort.Component) items) ∷ []) ∙ ap (λ us. us ++ id ∷ []) w.packages;
-          numbers = λ k e at_k. numbers many k e (slice_get-push components (id, indexes (space sort.Component) items) k e at_k);
-          made = subst (λ made. AreMade g at order (instantiations g done) made) (sym (ap (λ r. r.instantiations) more)) w.made;
-          asked_for = asked-push (nested (package_bytes g id));
-          stand = stand-push (nested (package_bytes g id));
-          known = known-push (nested (package_bytes g id));
+          bytes = ap (λ r. r.nested_bytes) more ∙ ap (λ bs. bs ++ package_bytes g id ∷ []) w.bytes ∙ nested_push g o define used id;
+          packages = packages_more id c;
+          numbers = λ k e at_k. numbers_more x id c (counted_up sort.Component items x refl, stands) k e (slice_get-push components (id, c) k e at_k);
+          made = subst (λ made. AreInstantiations g o (length classes) at order (instantiations g done) made) (sym (ap (λ r. r.instantiations) more)) w.made;
+          asked_for = asked-push x;
+          stand = stand-push x;
+          things = w.things;
+          known = known-push x;
           place = w.place;
-          own = λ n node here there. HasItem-push items (nested (package_bytes g id)) node (index n) (w.place n) (w.own n node here there);
+          own = λ n node here there. HasItem-push items x node (index n) (w.place n) (w.own n node here there);
           in_place = w.in_place;
-        } where
-          numbers : length (meaning items).nested_bytes ≡ length components → (k : ℕ) (e : PackageId × ℕ)
-              → (slice_get components k ≡ Some e) ⊎ ((k ≡ length components) × (e ≡ (id, indexes (space sort.Component) items)))
-              → (e.1 < indexes (space sort.Component) (items ++ nested (package_bytes g id) ∷ [])) × (stands_for (meaning (items ++ nested (package_bytes g id) ∷ [])) sort.Component e.1 ≡ component_at k)
-          numbers many k e (inl before) = kept_number (nested (package_bytes g id)) k e before
-          numbers many k e (inr (last, is)) = (
-            subst (λ j. j < indexes (space sort.Component) (items ++ nested (package_bytes g id) ∷ [])) (sym (ap (λ x. x.1) is)) (counted_up sort.Component items (nested (package_bytes g id)) refl),
-            ap (stands_for (meaning (items ++ nested (package_bytes g id) ∷ [])) sort.Component) (ap (λ x. x.1) is)
-                ∙ nested_stands items (package_bytes g id) (indexes (space sort.Component) items) (sym (laws.counted items sort.Component)) ∙ ap component_at (many ∙ sym last),
-          )
+        }
+
+    -- an imported component more
+    import_more : (id : PackageId) (name : Name) (d : Description) → o.define_components ≡ false → described_sort d ≡ sort.Component → ItemHasMeaning (meaning items) (import_item name d)
+        → (meaning (items ++ import_item name d ∷ [])).imports ≡ (meaning items).imports ++ package_import g id
+        → Written done (used ++ id ∷ []) (items ++ import_item name d ∷ []) (components ++ (id, indexes (space sort.Component) items) ∷ []) index
+    import_more id name d not_defined sorted meant listed =
+        let x : Item = import_item name d in
+        let c : ℕ = indexes (space sort.Component) items in
+        let more = import_rest items name d in
+        let stands : stands_for (meaning (items ++ import_item name d ∷ [])) sort.Component (indexes (space sort.Component) items) ≡ package_thing o (length classes) (length components) =
+        subst (λ t. stands_for (meaning (items ++ import_item name d ∷ [])) t (indexes (space t) items) ≡ import_at (length (meaning items).imports)) sorted (import_stands laws items name d)
+        ∙ ap import_at (w.import_count not_defined ∙ ap (λ k. length classes + k) many_components)
+        ∙ imported_thing g o not_defined (length classes) (length components) in
+        let one_more : length (meaning (items ++ import_item name d ∷ [])).imports ≡ length (meaning items).imports + 1 = ap (λ r. length r.imports) more ∙ length-append (meaning items).imports ((name, described_item (meaning items).scope d) ∷ []) in
+        record {
+          nodes = w.nodes;
+          meant = meant-push items x w.meant meant;
+          imports = listed ∙ ap (λ is. is ++ package_import g id) w.imports ∙ append_assoc classes (imported_packages g o used) (package_import g id) ∙ ap (λ is. classes ++ is) (imported_push g o not_defined used id);
+          import_count = λ _. omega (arith, one_more, w.import_count not_defined, length-append used (id ∷ []));
+          customs = ap (λ r. r.customs) more ∙ w.customs;
+          exports = ap (λ r. map shown r.exports) more ∙ w.exports;
+          bytes = ap (λ r. r.nested_bytes) more ∙ w.bytes ∙ nested_nothing g o not_defined used ∙ sym (nested_nothing g o not_defined (used ++ id ∷ []));
+          packages = packages_more id c;
+          numbers = λ k e at_k. numbers_more x id c (counted_up sort.Component items x (ap (λ t. Some (space t)) sorted), stands) k e (slice_get-push components (id, c) k e at_k);
+          made = subst (λ made. AreInstantiations g o (length classes) at order (instantiations g done) made) (sym (ap (λ r. r.instantiations) more)) w.made;
+          asked_for = asked-push x;
+          stand = stand-push x;
+          things = w.things;
+          known = known-push x;
+          place = w.place;
+          own = λ n node here there. HasItem-push items x node (index n) (w.place n) (w.own n node here there);
+          in_place = w.in_place;
+        }
 
   -- types and aliases more
   quiet_all : (done : List NodeId) (used : List PackageId) (more items : List Item) (components : List (PackageId × ℕ)) (index : NodeId → ℕ) → AllByRecursion IsQuiet more → AllHaveMeaning (meaning items) more
@@ -236,18 +263,37 @@ module _ (laws : Laws) (g : Graph) (sound : IsSound g) (order : List NodeId) (at
       subst (λ its. Written done used its components index) (append_assoc items (x ∷ []) more)
       (quiet_all done used more (items ++ x ∷ []) components index quiet.1 (subst (λ r. AllHaveMeaning r more) (sym (meaning-push items x)) meant.1) (quiet_more done used items components index w x quiet.0 meant.0))
 
-  -- types alone more, of which one stands for this
-  pub with_type : (done : List NodeId) (used : List PackageId) (items mid : List Item) (components : List (PackageId × ℕ)) (index : NodeId → ℕ) (thing : Thing) (k : ℕ)
-      → Written done used items components index → WritesType thing items mid k → Written done used mid components index × (stands_for (meaning mid) sort.«Type» k ≡ thing)
-  with_type done used items mid components index thing k w t =
-      let (meant, stands) = t.meant w.meant in
+  -- types alone more, one of which has this tree
+  pub with_type : (done : List NodeId) (used : List PackageId) (items mid : List Item) (components : List (PackageId × ℕ)) (index : NodeId → ℕ) (tree : Tree) (k : ℕ)
+      → Written done used items components index → WritesTypeWith tree items mid k → Written done used mid components index × (type_at (meaning mid).scope.types k ≡ tree)
+  with_type done used items mid components index tree k w t =
+      let (meant, typed) = t.meant w.meant in
       let behind : AllHaveMeaning (meaning items) t.types = all_behind start items t.types (subst HasMeaning t.added meant) in
-      (subst (λ its. Written done used its components index) (sym t.added) (quiet_all done used t.types items components index (quiet_types t.types t.alone) behind w), stands)
+      (subst (λ its. Written done used its components index) (sym t.added) (quiet_all done used t.types items components index (quiet_types t.types t.alone) behind w), typed)
 
-  -- the component of a package, which is written where it was not
+  -- a package's component more
+  adds_package : (done : List NodeId) (used : List PackageId) (items mid : List Item) (components : List (PackageId × ℕ)) (index : NodeId → ℕ) (id : PackageId) (c : ℕ) → AddsPackage g o id c items mid
+      → Written done used items components index → Written done (used ++ id ∷ []) mid (components ++ (id, c) ∷ []) index
+  adds_package done used items mid components index id c (adds_nested define counted added) w =
+      subst (λ j. Written done (used ++ id ∷ []) mid (components ++ (id, j) ∷ []) index) (sym counted)
+      (subst (λ its. Written done (used ++ id ∷ []) its (components ++ (id, indexes (space sort.Component) items) ∷ []) index) (sym added) (component_more done used items components index w id define))
+  adds_package done used items mid components index id c (adds_import not_defined it) w =
+      let (meant, listed) = it.meant w.meant in
+      let behind : AllHaveMeaning (meaning items) (it.types ++ import_item it.name it.description ∷ []) =
+      all_behind start items (it.types ++ import_item it.name it.description ∷ []) (subst HasMeaning (it.added ∙ append_assoc items it.types (import_item it.name it.description ∷ [])) meant) in
+      let quiet : Written done used (items ++ it.types) components index = quiet_all done used it.types items components index (quiet_types it.types it.alone) (first_all (meaning items) it.types (import_item it.name it.description ∷ []) behind) w in
+      let last : ItemHasMeaning (meaning (items ++ it.types)) (import_item it.name it.description) = (all_behind start (items ++ it.types) (import_item it.name it.description ∷ []) (subst HasMeaning it.added meant)).0 in
+      let same : (meaning (items ++ it.types)).imports ≡ (meaning items).imports = quiet.imports ∙ sym w.imports in
+      let more : (meaning ((items ++ it.types) ++ import_item it.name it.description ∷ [])).imports ≡ (meaning (items ++ it.types)).imports ++ package_import g id =
+      ap (λ its. (meaning its).imports) (sym it.added) ∙ listed ∙ ap (λ is. is ++ package_import g id) (sym same) in
+      subst (λ j. Written done (used ++ id ∷ []) mid (components ++ (id, j) ∷ []) index) (sym it.counted)
+      (subst (λ its. Written done (used ++ id ∷ []) its (components ++ (id, indexes (space sort.Component) (items ++ it.types)) ∷ []) index) (sym it.added)
+      (import_more done used (items ++ it.types) components index quiet id it.name it.description not_defined it.sorted last more))
+
+  -- the component of a package, which is added where it was not
   pub with_component : (done : List NodeId) (used : List PackageId) (items mid : List Item) (components after : List (PackageId × ℕ)) (index : NodeId → ℕ) (id : PackageId) (c : ℕ)
-      → Written done used items components index → HasComponent (package_bytes g id) id c components after items mid
-      → Written done (with_package used (Some id)) mid after index × ((k : ℕ) × (slice_get (with_package used (Some id)) k ≡ Some id) × (stands_for (meaning mid) sort.Component c ≡ component_at k))
+      → Written done used items components index → HasComponent g o id c components after items mid
+      → Written done (with_package used (Some id)) mid after index × ((k : ℕ) × (slice_get (with_package used (Some id)) k ≡ Some id) × (stands_for (meaning mid) sort.Component c ≡ package_thing o (length classes) k))
   with_component done used items mid components after index id c w (inl (k, at_k, same, kept)) =
       let there : slice_get used k ≡ Some id = ap (λ us. slice_get us k) (sym w.packages) ∙ slice_get-map (λ e. e.0) components k (id, c) at_k in
       let is : with_package used (Some id) ≡ used = ap (λ b. cond b used (used ++ id ∷ [])) (any_package id used k there) in
@@ -255,35 +301,21 @@ module _ (laws : Laws) (g : Graph) (sound : IsSound g) (order : List NodeId) (at
         subst (λ us. Written done us mid after index) (sym is) (subst (λ cs. Written done used mid cs index) (sym same) (subst (λ its. Written done used its components index) (sym kept) w)),
         (k, ap (λ us. slice_get us k) is ∙ there, ap (λ its. stands_for (meaning its) sort.Component c) kept ∙ n.1),
       )
-  with_component done used items mid components after index id c w (inr (absent, number, grown, added)) =
-      let none : list_any (same_package id) used ≡ false = ap (list_any (same_package id)) (sym w.packages) ∙ sym (any_first id components) ∙ absent in
+  with_component done used items mid components after index id c w (inr (lacking, grown, adds)) =
+      let none : list_any (same_package id) used ≡ false = ap (list_any (same_package id)) (sym w.packages) ∙ sym (any_first id components) ∙ lacking in
       let is : with_package used (Some id) ≡ used ++ id ∷ [] = ap (λ b. cond b used (used ++ id ∷ [])) none in
-      let more = component_more done used items components index w id none in
-      let place = length components in
-      let last : slice_get (components ++ (id, indexes (space sort.Component) items) ∷ []) (length components) ≡ Some (id, indexes (space sort.Component) items) = slice_get-middle components (id, indexes (space sort.Component) items) [] in
-      let n = more.numbers (length components) (id, indexes (space sort.Component) items) last in
+      let more = adds_package done used items mid components index id c adds w in
+      let last : slice_get (components ++ (id, c) ∷ []) (length components) ≡ Some (id, c) = slice_get-middle components (id, c) [] in
+      let n = more.numbers (length components) (id, c) last in
       let long : length used ≡ length components = ap length (sym w.packages) ∙ length-map components (λ e. e.0) in (
-        subst (λ us. Written done us mid after index) (sym is)
-            (subst (λ cs. Written done (used ++ id ∷ []) mid cs index) (sym (grown ∙ ap (λ j. components ++ (id, j) ∷ []) number))
-            (subst (λ its. Written done (used ++ id ∷ []) its (components ++ (id, indexes (space sort.Component) items) ∷ []) index) (sym added) more)),
-        (
-          length components,
-          ap (λ us. slice_get us (length components)) is ∙ ap (slice_get (used ++ id ∷ [])) (sym long) ∙ slice_get-middle used id [],
-          ap (λ its. stands_for (meaning its) sort.Component c) added ∙ ap (stands_for (meaning (items ++ nested (package_bytes g id) ∷ [])) sort.Component) number ∙ n.1,
-        ),
+        subst (λ us. Written done us mid after index) (sym is) (subst (λ cs. Written done (used ++ id ∷ []) mid cs index) (sym grown) more),
+        (length components, ap (λ us. slice_get us (length components)) is ∙ ap (slice_get (used ++ id ∷ [])) (sym long) ∙ slice_get-middle used id [], n.1),
       )
 
-  -- what a node stands for is something
-  projected_thing : (m : NodeId) (node : GraphNode) (name : Name) → IsListedThing g at order m node → projected (at m) name ≡ projection (at m) name
-  projected_thing m node name (as_import n p k place is) = rw is refl
-  projected_thing m node name (as_instantiation j k place is) = rw is refl
-  projected_thing m node name (as_definition t k item is) = projected_some (at m) name (defined_something g t (listing_of g t) (at m) is)
-  projected_thing m node name (as_alias instance source i n k aliased there exported is) = rw is refl
-
   -- the next node, with the index at which it stands
-  module _ (done later : List NodeId) (n : NodeId) (node : GraphNode) (here : order ≡ done ++ n ∷ later) (ready : IsLowestReady g.edges (minus (is_written g) done) n) (writes : Writes g.edges (minus (is_written g) (done ++ n ∷ [])) later) (there : node_at g n ≡ Some node) (index index' : NodeId → ℕ) (i : ℕ) (now : index' n ≡ i) (others : (m : NodeId) → same m n ≡ false → index' m ≡ index m) where
-    absent : has done n ≡ false
-    absent = (minus-true (is_written g) done n ready.here).1
+  module _ (done later : List NodeId) (n : NodeId) (node : GraphNode) (here : order ≡ done ++ n ∷ later) (ready : IsLowestReady g.edges (minus (is_written g) done) n) (there : node_at g n ≡ Some node) (index index' : NodeId → ℕ) (i : ℕ) (now : index' n ≡ i) (others : (m : NodeId) → same m n ≡ false → index' m ≡ index m) where
+    absent_node : has done n ≡ false
+    absent_node = (minus-true (is_written g) done n ready.here).1
 
     source_done : (e : Edge) → set.contains g.edges e ≡ true → e.target ≡ n → (source : GraphNode) → node_at g e.source ≡ Some source → Stands done e.source source
     source_done e stands leads source source_there = ready_sources g done n ready e stands leads source source_there
@@ -291,12 +323,6 @@ module _ (laws : Laws) (g : Graph) (sound : IsSound g) (order : List NodeId) (at
     -- another node than the next keeps its index
     index_kept : (m : NodeId) (other : GraphNode) → Stands done m other → node_at g m ≡ Some other → index' m ≡ index m
     index_kept m other was other_there = others m (stands_apart g done m n other ready.here other_there was)
-
-    not_later : has later n ≡ false
-    not_later = split (has later n) refl where
-      split : (b : Bool) → has later n ≡ b → b ≡ false
-      split false _ = refl
-      split true is = absurd (clash (has (done ++ n ∷ []) n) (now_in done n) ((minus-true (is_written g) (done ++ n ∷ []) n (written_left g.edges (minus (is_written g) (done ++ n ∷ [])) later writes n is)).1))
 
     -- facts on each node that stands so far and the next
     each : (P : NodeId → GraphNode → Type 0) → ((m : NodeId) (other : GraphNode) → Stands done m other → node_at g m ≡ Some other → P m other) → P n node
@@ -341,12 +367,12 @@ module _ (laws : Laws) (g : Graph) (sound : IsSound g) (order : List NodeId) (at
 
       rising : (a b : ℕ) (k m : NodeId) → a < b → (slice_get done a ≡ Some k) ⊎ ((a ≡ length done) × (k ≡ n)) → (slice_get done b ≡ Some m) ⊎ ((b ≡ length done) × (m ≡ n)) → place' w.place (length items) k < place' w.place (length items) m
       rising a b k m less (inl at_a) (inl at_b) =
-          let e = place-other w.place (length items) k (apart done k n (in_list done a k at_a) absent) in
-          let f = place-other w.place (length items) m (apart done m n (in_list done b m at_b) absent) in
+          let e = place-other w.place (length items) k (apart done k n (in_list done a k at_a) absent_node) in
+          let f = place-other w.place (length items) m (apart done m n (in_list done b m at_b) absent_node) in
           let r = w.in_place a b k m less at_a at_b in
           rw (e, f) r
       rising a b k m less (inl at_a) (inr (last, is)) =
-          let e = place-other w.place (length items) k (apart done k n (in_list done a k at_a) absent) in
+          let e = place-other w.place (length items) k (apart done k n (in_list done a k at_a) absent_node) in
           let f = ap (place' w.place (length items)) is ∙ place-here w.place (length items) in
           rw (e, f) (within k (in_list done a k at_a))
       rising a b k m less (inr (first, _)) (inl at_b) = let s = slice_get_within done b m at_b in absurd (omega arith)
@@ -384,6 +410,19 @@ module _ (laws : Laws) (g : Graph) (sound : IsSound g) (order : List NodeId) (at
         (λ m other was other_there j is. subst (λ k. IsKnown g.types j (bound_at (meaning (items ++ x ∷ [])).scope.instances k)) (sym (index_kept m other was other_there)) (known-push done used items components index w x m other was other_there j is))
         (λ j is. subst (λ k. IsKnown g.types j (bound_at (meaning (items ++ x ∷ [])).scope.instances k)) (sym now) (last j is))
 
+    -- and what the nodes refer to
+    things_more : (used : List PackageId) (items : List Item) (components : List (PackageId × ℕ)) → Written done used items components index → IsNodeThing n node
+        → (k : NodeId) (other : GraphNode) → Stands (done ++ n ∷ []) k other → node_at g k ≡ Some other → IsNodeThing k other
+    things_more used items components w this = each (λ k other. IsNodeThing k other) (λ k other was other_there. w.things k other was other_there) this
+
+    -- the index of the node that an item adds
+    index_there : (items : List Item) (x : Item) → adds x ≡ Some (space (sort_of_kind node.item_kind)) → i ≡ indexes (space (sort_of_kind node.item_kind)) items → i < indexes (space (sort_of_kind node.item_kind)) (items ++ x ∷ [])
+    index_there items x is counts = subst (λ j. j < indexes (space (sort_of_kind node.item_kind)) (items ++ x ∷ [])) (sym counts) (counted_up (sort_of_kind node.item_kind) items x is)
+
+    -- what the node's index refers to after these items is what the node is taken to refer to
+    abbrev pub Agrees : List Item → Type 0
+    Agrees its = i < indexes (space (sort_of_kind node.item_kind)) its → stands_for (meaning its) (sort_of_kind node.item_kind) i ≡ at n
+
     -- the exports by first names, with the node's where it has one
     first-push : (o : Option Name) → node.first_name ≡ o → flat_map (first_export g at) (done ++ n ∷ []) ≡ flat_map (first_export g at) done ++ option_case o [] (λ name. (name, sort_of_kind node.item_kind, at n) ∷ [])
     first-push o is =
@@ -402,26 +441,29 @@ module _ (laws : Laws) (g : Graph) (sound : IsSound g) (order : List NodeId) (at
     -- an alias is written
     pub alias_more : (used : List PackageId) (items : List Item) (components : List (PackageId × ℕ)) (instance : NodeId) (source : GraphNode) (k : ℕ) (name : Name) → Written done used items components index
         → node.kind ≡ graph.alias → IsAliasOf g instance k n → node_at g instance ≡ Some source → slice_get (exports_of g source) k ≡ Some (name, node.item_kind)
-        → i ≡ indexes (space (sort_of_kind node.item_kind)) items
+        → i ≡ indexes (space (sort_of_kind node.item_kind)) items → Agrees (items ++ alias_item (export_alias (sort_of_kind node.item_kind) (index instance) name) ∷ [])
         → Written (done ++ n ∷ []) used (items ++ alias_item (export_alias (sort_of_kind node.item_kind) (index instance) name) ∷ []) components index'
-    alias_more used items components instance source k name w kind aliased source_there exported counts =
+    alias_more used items components instance source k name w kind aliased source_there exported counts agrees =
         let t : Sort = sort_of_kind node.item_kind in
         let x : Item = alias_item (export_alias t (index instance) name) in
         let more = alias_rest items t (index instance) name in
         let (place, own, in_place) = placed used items components w x (ap (λ q. is_own_item node q x) kind) refl counts in
+        let less = index_there items x refl counts in
         record {
-          nodes = λ m within. nodes_more used items components w m (in_push done n m within);
-          meant = meant-push items x w.meant (alias_meant items t (index instance) name (subst IsSomething (sym of_instance) (something g at order instance source (is_thing instance source source_there))) has_export);
+          nodes = λ k within. nodes_more used items components w k (in_push done n k within);
+          meant = meant-push items x w.meant (alias_meant items t (index instance) name (subst IsSomething (sym of_instance) source_something) has_export);
           imports = ap (λ r. r.imports) more ∙ w.imports;
+          import_count = λ not_defined. ap (λ r. length r.imports) more ∙ w.import_count not_defined;
           customs = ap (λ r. r.customs) more ∙ w.customs;
           exports = ap (λ r. map shown r.exports) more ∙ w.exports ∙ no_first (λ other. two_kinds kind other);
           bytes = ap (λ r. r.nested_bytes) more ∙ w.bytes;
           packages = w.packages;
           numbers = kept_number done used items components index w x;
-          made = subst (λ ns. AreMade g at order ns (meaning (items ++ x ∷ [])).instantiations) (sym (instantiations-push false (kind_test false (ap is_instantiation kind)) ∙ rw append-nil refl))
-              (subst (λ made. AreMade g at order (instantiations g done) made) (sym (ap (λ r. r.instantiations) more)) w.made);
+          made = subst (λ ns. AreInstantiations g o (length classes) at order ns (meaning (items ++ x ∷ [])).instantiations) (sym (instantiations-push false (kind_test false (ap is_instantiation kind)) ∙ rw append-nil refl))
+              (subst (λ made. AreInstantiations g o (length classes) at order (instantiations g done) made) (sym (ap (λ r. r.instantiations) more)) w.made);
           asked_for = asked-push done used items components index w x;
-          stand = stand_more used items components w x (subst (λ j. (j < indexes (space t) (items ++ x ∷ [])) × (stands_for (meaning (items ++ x ∷ [])) t j ≡ at n)) (sym counts) here_stands);
+          stand = stand_more used items components w x (less, agrees less);
+          things = things_more used items components w (as_alias instance source k name kind aliased source_there exported (is_projection less));
           known = known_more used items components w x here_known;
           place = place;
           own = own;
@@ -449,23 +491,11 @@ module _ (laws : Laws) (g : Graph) (sound : IsSound g) (order : List NodeId) (at
           instance_of (item.Module m) z is found = absurd (no_exports z (rw is refl) found)
           instance_of (item.Value v) z is found = absurd (no_exports z (rw is refl) found)
 
-          -- what the alias is
-          is_projection : IsListedThing g at order n node → at n ≡ projection (at instance) name
-          is_projection (as_import other p other_kind at_p is) = absurd (two_kinds kind other_kind) where
-            two_kinds : {q : Kind} {m : Name} → q ≡ graph.alias → q ≡ graph.import m → ⊥
-            two_kinds a b = cc
-          is_projection (as_instantiation j other_kind at_j is) = absurd (two_kinds kind other_kind) where
-            two_kinds : {q : Kind} → q ≡ graph.alias → q ≡ graph.instantiation → ⊥
-            two_kinds a b = cc
-          is_projection (as_definition t other_kind _ _) = absurd (two_kinds kind other_kind)
-          is_projection (as_alias other other_source j other_name _ other_aliased other_there other_exported is) =
-              let (same, at_same) = sound.one_source n instance other k j aliased other_aliased in
-              let sources : source ≡ other_source = let e : node_at g instance ≡ Some other_source = ap (node_at g) same ∙ other_there in cc in
-              let names : name ≡ other_name = first_of (slice_get (exports_of g source) k) name other_name node.item_kind node.item_kind exported (ap (λ z. slice_get (exports_of g z) k) sources ∙ ap (slice_get (exports_of g other_source)) at_same ∙ other_exported) in
-              is ∙ ap (λ z. projection (at z) other_name) (sym same) ∙ ap (projection (at instance)) (sym names)
-
           source_stands : Stands done instance source
           source_stands = source_done (alias_edge instance n k) aliased refl source source_there
+
+          source_something : IsSomething (at instance)
+          source_something = something g classes bindings at order instance source (w.things instance source source_stands source_there)
 
           -- the instance stands
           of_instance : stands_for (meaning items) sort.Instance (index instance) ≡ at instance
@@ -489,51 +519,45 @@ module _ (laws : Laws) (g : Graph) (sound : IsSound g) (order : List NodeId) (at
               subst (λ q. IsKnown g.types l (bound_at (meaning (items ++ alias_item (export_alias (sort_of_kind node.item_kind) (index instance) name) ∷ [])).scope.instances q)) (sym counts)
               (subst (λ (q : ItemKind). IsKnown g.types l (bound_at (meaning (items ++ alias_item (export_alias (sort_of_kind q) (index instance) name) ∷ [])).scope.instances (indexes (space (sort_of_kind q)) items))) (sym is_instance) here)
 
-          here_stands : (indexes (space (sort_of_kind node.item_kind)) items < indexes (space (sort_of_kind node.item_kind)) (items ++ alias_item (export_alias (sort_of_kind node.item_kind) (index instance) name) ∷ []))
-              × (stands_for (meaning (items ++ alias_item (export_alias (sort_of_kind node.item_kind) (index instance) name) ∷ [])) (sort_of_kind node.item_kind) (indexes (space (sort_of_kind node.item_kind)) items) ≡ at n)
-          here_stands =
-              let t : Sort = sort_of_kind node.item_kind in (
-                counted_up t items (alias_item (export_alias t (index instance) name)) refl,
-                alias_stands items t (index instance) name (indexes (space t) items) (sym (laws.counted items t)) has_export
-                    ∙ ap (λ z. projected z name) of_instance
-                    ∙ projected_thing instance source name (is_thing instance source source_there)
-                    ∙ sym (is_projection (is_thing n node there)),
-              )
-
-    -- where the node stands among the instantiations
-    only_instance : (k : ℕ) → node.kind ≡ graph.instantiation → slice_get (instantiations g order) k ≡ Some n → k ≡ length (instantiations g done)
-    only_instance k kind at_k =
-        let test : NodeId → Bool = node_is g (λ x. is_instantiation x.kind) in
-        only_place (filter test done) (filter test later) n k (has-filter test done n absent) (has-filter test later n not_later)
-        (ap (λ xs. slice_get xs k) (sym (ap (filter test) here ∙ filter-append test done (n ∷ later) ∙ ap (λ b. filter test done ++ cond b (n ∷ filter test later) (filter test later)) (kind_test true (ap is_instantiation kind)))) ∙ at_k)
+          -- the alias refers to the export
+          is_projection : i < indexes (space (sort_of_kind node.item_kind)) (items ++ alias_item (export_alias (sort_of_kind node.item_kind) (index instance) name) ∷ []) → at n ≡ projection (at instance) name
+          is_projection less =
+              let t : Sort = sort_of_kind node.item_kind in
+              sym (agrees less)
+              ∙ ap (stands_for (meaning (items ++ alias_item (export_alias t (index instance) name) ∷ [])) t) counts
+              ∙ alias_stands items t (index instance) name (indexes (space t) items) (sym (laws.counted items t)) has_export
+              ∙ ap (λ z. projected z name) of_instance
+              ∙ projected_some (at instance) name source_something
 
     -- an instantiation is written
-    pub instance_more : (used : List PackageId) (items : List Item) (components : List (PackageId × ℕ)) (id : PackageId) (c place : ℕ) (arguments : List (Name × Sort × ℕ)) → Written done used items components index
-        → node.kind ≡ graph.instantiation → node.owner ≡ Some id → slice_get (used_packages g order) place ≡ Some id → stands_for (meaning items) sort.Component c ≡ component_at place
+    pub instance_more : (used : List PackageId) (items : List Item) (components : List (PackageId × ℕ)) (id : PackageId) (c k : ℕ) (arguments : List (Name × Sort × ℕ)) → Written done used items components index
+        → node.kind ≡ graph.instantiation → node.owner ≡ Some id → slice_get (used_packages g order) k ≡ Some id → stands_for (meaning items) sort.Component c ≡ package_thing o (length classes) k
         → sort_of_kind node.item_kind ≡ sort.Instance
         → AreArgumentItems g places index n 0 (imports_of g node) arguments
-        → i ≡ indexes (space sort.Instance) items
+        → i ≡ indexes (space sort.Instance) items → Agrees (items ++ instantiate c arguments ∷ [])
         → Written (done ++ n ∷ []) used (items ++ instantiate c arguments ∷ []) components index'
-    instance_more used items components id c k arguments w kind owned first stands typed given_items counts =
+    instance_more used items components id c k arguments w kind owned first stands typed given_items counts agrees =
         let x : Item = instantiate c arguments in
         let more = instantiations_more items c arguments in
-        let (place, own, in_place) = placed used items components w x (ap (λ q. is_own_item node q x) kind) (ap Some (sym typed)) (counts ∙ ap (λ t. indexes (space t) items) (sym typed)) in
+        let counted : i ≡ indexes (space (sort_of_kind node.item_kind)) items = counts ∙ ap (λ t. indexes (space t) items) (sym typed) in
+        let (place, own, in_place) = placed used items components w x (ap (λ q. is_own_item node q x) kind) (ap Some (sym typed)) counted in
+        let less = index_there items x (ap (λ t. Some (space t)) (sym typed)) counted in
         record {
-          nodes = λ m within. nodes_more used items components w m (in_push done n m within);
-          meant = meant-push items x w.meant (subst IsSomething (sym stands) tt, arguments_meant 0 (imports_of g node) arguments given_items);
+          nodes = λ k within. nodes_more used items components w k (in_push done n k within);
+          meant = meant-push items x w.meant (subst IsSomething (sym stands) (package_something g o (length classes) k), arguments_meant 0 (imports_of g node) arguments given_items);
           imports = ap (λ r. r.imports) more ∙ w.imports;
+          import_count = λ not_defined. ap (λ r. length r.imports) more ∙ w.import_count not_defined;
           customs = ap (λ r. r.customs) more ∙ w.customs;
           exports = ap (λ r. map shown r.exports) more ∙ w.exports ∙ no_first (λ other. two_kinds kind other);
           bytes = ap (λ r. r.nested_bytes) more ∙ w.bytes;
           packages = w.packages;
           numbers = kept_number done used items components index w x;
-          made = subst (λ ns. AreMade g at order ns (meaning (items ++ x ∷ [])).instantiations) (sym (instantiations-push true (kind_test true (ap is_instantiation kind))))
-              (subst (λ made. AreMade g at order (instantiations g done ++ n ∷ []) made) (sym (ap (λ r. r.instantiations) more))
+          made = subst (λ ns. AreInstantiations g o (length classes) at order ns (meaning (items ++ x ∷ [])).instantiations) (sym (instantiations-push true (kind_test true (ap is_instantiation kind))))
+              (subst (λ made. AreInstantiations g o (length classes) at order (instantiations g done ++ n ∷ []) made) (sym (ap (λ r. r.instantiations) more))
               (are_push (instantiations g done) (meaning items).instantiations w.made this));
           asked_for = asked-push done used items components index w x;
-          stand = stand_more used items components w x
-              (subst (λ j. (j < indexes (space (sort_of_kind node.item_kind)) (items ++ x ∷ [])) × (stands_for (meaning (items ++ x ∷ [])) (sort_of_kind node.item_kind) j ≡ at n)) (sym counts)
-              (subst (λ t. (indexes (space sort.Instance) items < indexes (space t) (items ++ x ∷ [])) × (stands_for (meaning (items ++ x ∷ [])) t (indexes (space sort.Instance) items) ≡ at n)) (sym typed) here_stands));
+          stand = stand_more used items components w x (less, agrees less);
+          things = things_more used items components w (as_instantiation (length (instantiations g done)) kind (place_of g order done later n node here there kind) (is_instance less));
           known = known_more used items components w x
               (λ j is. inl (ap (λ k. (bound_at (meaning (items ++ x ∷ [])).scope.instances k).type) counts ∙ ap (λ (b : Bound). b.type) (instance_bound laws items c arguments)));
           place = place;
@@ -543,17 +567,18 @@ module _ (laws : Laws) (g : Graph) (sound : IsSound g) (order : List NodeId) (at
           two_kinds : {q : Kind} → q ≡ graph.instantiation → q ≡ graph.definition → ⊥
           two_kinds a b = cc
 
-          are_push : (ns : List NodeId) (its : List Instantiation) → AreMade g at order ns its → IsMadeOf g at order n (made_of (meaning items) c arguments) → AreMade g at order (ns ++ n ∷ []) (its ++ made_of (meaning items) c arguments ∷ [])
+          are_push : (ns : List NodeId) (its : List Instantiation) → AreInstantiations g o (length classes) at order ns its → IsInstantiationOf g o (length classes) at order n (made_of (meaning items) c arguments)
+              → AreInstantiations g o (length classes) at order (ns ++ n ∷ []) (its ++ made_of (meaning items) c arguments ∷ [])
           are_push [] [] h it = (it, tt)
           are_push [] (y ∷ its) h it = absurd h
-          are_push (m ∷ ns) [] h it = absurd h
-          are_push (m ∷ ns) (y ∷ its) h it = (h.0, are_push ns its h.1 it)
+          are_push (k ∷ ns) [] h it = absurd h
+          are_push (k ∷ ns) (y ∷ its) h it = (h.0, are_push ns its h.1 it)
 
-          are_many : (ns : List NodeId) (its : List Instantiation) → AreMade g at order ns its → length its ≡ length ns
+          are_many : (ns : List NodeId) (its : List Instantiation) → AreInstantiations g o (length classes) at order ns its → length its ≡ length ns
           are_many [] [] h = refl
           are_many [] (y ∷ its) h = absurd h
-          are_many (m ∷ ns) [] h = absurd h
-          are_many (m ∷ ns) (y ∷ its) h = ap suc (are_many ns its h.1)
+          are_many (k ∷ ns) [] h = absurd h
+          are_many (k ∷ ns) (y ∷ its) h = ap suc (are_many ns its h.1)
 
           node_stands : (j : ℕ) (source : NodeId) (other : GraphNode) (a : Name × Sort × ℕ) → IsArgumentOf g n j source → node_at g source ≡ Some other → a.1 ≡ sort_of_kind other.item_kind → a.2 ≡ index source → stands_for (meaning items) a.1 a.2 ≡ at source
           node_stands j source other a set_ other_there of_sort at_index =
@@ -569,7 +594,8 @@ module _ (laws : Laws) (g : Graph) (sound : IsSound g) (order : List NodeId) (at
           argument_thing j name a (of_import is unset_ there_) = subst (λ t. IsArgument g at n j name t) (sym (w.asked_for there_.p a.1 a.2 there_.placed).1) (asked there_.p unset_ there_.fell)
 
           argument_meant : (j : ℕ) (name : Name) (a : Name × Sort × ℕ) → IsArgumentItem g places index n j name a → IsSomething (stands_for (meaning items) a.1 a.2)
-          argument_meant j name a (of_node source other is set_ other_there of_sort at_index) = subst IsSomething (sym (node_stands j source other a set_ other_there of_sort at_index)) (something g at order source other (is_thing source other other_there))
+          argument_meant j name a (of_node source other is set_ other_there of_sort at_index) = subst IsSomething (sym (node_stands j source other a set_ other_there of_sort at_index))
+              (something g classes bindings at order source other (w.things source other (source_done (argument_edge source n j) set_ refl other other_there) other_there))
           argument_meant j name a (of_import is unset_ there_) = subst IsSomething (sym (w.asked_for there_.p a.1 a.2 there_.placed).1) tt
 
           arguments_meant : (j : ℕ) (imports : List (Name × ItemKind)) (as_ : List (Name × Sort × ℕ)) → AreArgumentItems g places index n j imports as_ → AllByRecursion (λ a. IsSomething (stands_for (meaning items) a.1 a.2)) as_
@@ -584,94 +610,86 @@ module _ (laws : Laws) (g : Graph) (sound : IsSound g) (order : List NodeId) (at
           are_arguments j (e ∷ imports) [] h = absurd h
           are_arguments j (e ∷ imports) (a ∷ as_) h = (argument_named j e.0 a h.0, argument_thing j e.0 a h.0, are_arguments (suc j) imports as_ h.1)
 
-          this : IsMadeOf g at order n (made_of (meaning items) c arguments)
+          this : IsInstantiationOf g o (length classes) at order n (made_of (meaning items) c arguments)
           this = record { node = node; there = there; owner = id; owned = owned; place = k; used = first; component = stands; arguments = are_arguments 0 (imports_of g node) arguments given_items }
 
-          is_instance : IsListedThing g at order n node → at n ≡ instance_at (length (instantiations g done))
-          is_instance (as_import other p other_kind at_p is) = absurd (two_kinds kind other_kind) where
-            two_kinds : {q : Kind} {m : Name} → q ≡ graph.instantiation → q ≡ graph.import m → ⊥
-            two_kinds a b = cc
-          is_instance (as_instantiation j _ at_j is) = is ∙ ap instance_at (only_instance j kind at_j)
-          is_instance (as_definition t other_kind _ _) = absurd (two_kinds kind other_kind)
-          is_instance (as_alias other other_source j other_name other_kind _ _ _ _) = absurd (two_kinds kind other_kind) where
-            two_kinds : {q : Kind} → q ≡ graph.instantiation → q ≡ graph.alias → ⊥
-            two_kinds a b = cc
-
-          here_stands : (indexes (space sort.Instance) items < indexes (space sort.Instance) (items ++ instantiate c arguments ∷ []))
-              × (stands_for (meaning (items ++ instantiate c arguments ∷ [])) sort.Instance (indexes (space sort.Instance) items) ≡ at n)
-          here_stands = (
-            counted_up sort.Instance items (instantiate c arguments) refl,
-            instance_stands items c arguments (indexes (space sort.Instance) items) (sym (laws.counted items sort.Instance))
-                ∙ ap instance_at (are_many (instantiations g done) (meaning items).instantiations w.made)
-                ∙ sym (is_instance (is_thing n node there)),
-          )
+          -- the index refers to the instantiation
+          is_instance : i < indexes (space (sort_of_kind node.item_kind)) (items ++ instantiate c arguments ∷ []) → at n ≡ instance_at (length (instantiations g done))
+          is_instance less =
+              sym (agrees less)
+              ∙ ap (λ t. stands_for (meaning (items ++ instantiate c arguments ∷ [])) t i) typed
+              ∙ ap (stands_for (meaning (items ++ instantiate c arguments ∷ [])) sort.Instance) counts
+              ∙ instance_stands items c arguments (indexes (space sort.Instance) items) (sym (laws.counted items sort.Instance))
+              ∙ ap instance_at (are_many (instantiations g done) (meaning items).instantiations w.made)
 
     -- a definition is exported by its first name
-    pub definition_more : OneImportPlace g → (used : List PackageId) (items : List Item) (components : List (PackageId × ℕ)) (t : AnyType) (name : Name) (k : ℕ) (thing : Thing) → Written done used items components index
-        → node.kind ≡ graph.definition → node.item_kind ≡ item.TypeItem t → node.first_name ≡ Some name → IsListedAs g t (listing_of g t) thing → stands_for (meaning items) sort.«Type» k ≡ thing
-        → i ≡ indexes (space sort.«Type») items
+    pub definition_more : (used : List PackageId) (items : List Item) (components : List (PackageId × ℕ)) (t : AnyType) (name : Name) (k : ℕ) → Written done used items components index
+        → node.kind ≡ graph.definition → node.item_kind ≡ item.TypeItem t → node.first_name ≡ Some name
+        → (definition_tree g.types bindings t ≡ absent → ⊥) → (IsResource (definition_tree g.types bindings t) → ⊥) → type_at (meaning items).scope.types k ≡ definition_tree g.types bindings t
+        → i ≡ indexes (space sort.«Type») items → Agrees (items ++ export_item name sort.«Type» k ∷ [])
         → Written (done ++ n ∷ []) used (items ++ export_item name sort.«Type» k ∷ []) components index'
-    definition_more one_place used items components t name k thing w kind is_type first defined stands counts =
+    definition_more used items components t name k w kind is_type first no_absent no_resource tree_is counts agrees =
         let x : Item = export_item name sort.«Type» k in
         let more = export_others items sort.«Type» k name in
-        let typed : sort_of_kind node.item_kind ≡ sort.«Type» = ap sort_of_kind is_type in
         let own_name : is_first node name ≡ true = ap (λ o. option_case o false (same_name name)) first ∙ same_name-refl name in
-        let (place, own, in_place) = placed used items components w x (ap (λ q. is_own_item node q x) kind ∙ own_name) (ap Some (sym typed)) (counts ∙ ap (λ z. indexes (space z) items) (sym typed)) in
+        let counted : i ≡ indexes (space (sort_of_kind node.item_kind)) items = counts ∙ ap (λ z. indexes (space z) items) (sym typed) in
+        let (place, own, in_place) = placed used items components w x (ap (λ q. is_own_item node q x) kind ∙ own_name) (ap Some (sym typed)) counted in
+        let less = index_there items x (ap (λ z. Some (space z)) (sym typed)) counted in
         let exported : map shown (meaning (items ++ x ∷ [])).exports ≡ flat_map (first_export g at) done ++ (name, sort_of_kind node.item_kind, at n) ∷ [] =
         export_shown items sort.«Type» k name
         ∙ ap (λ es. es ++ (name, sort.«Type», stands_for (meaning items) sort.«Type» k) ∷ []) w.exports
-        ∙ ap (λ z. flat_map (first_export g at) done ++ (name, sort.«Type», z) ∷ []) (stands ∙ sym (is_type_defined (is_thing n node there)))
+        ∙ ap (λ z. flat_map (first_export g at) done ++ (name, sort.«Type», z) ∷ []) (sym (is_that less))
         ∙ ap (λ z. flat_map (first_export g at) done ++ (name, z, at n) ∷ []) (sym typed) in
         record {
-          nodes = λ m within. nodes_more used items components w m (in_push done n m within);
-          meant = meant-push items x w.meant (new_name g at items done [] name (w.exports ∙ sym (append-nil (flat_map (first_export g at) done))) not_first no_others, subst IsSomething (sym stands) (defined_something g t (listing_of g t) thing defined));
+          nodes = λ k within. nodes_more used items components w k (in_push done n k within);
+          meant = meant-push items x w.meant
+              (new_name g at items done [] name (w.exports ∙ sym (append-nil (flat_map (first_export g at) done))) not_first no_others, defined_something classes (definition_tree g.types bindings t) (stands_for (meaning items) sort.«Type» k) defined);
           imports = more.0 ∙ w.imports;
+          import_count = λ not_defined. ap length more.0 ∙ w.import_count not_defined;
           customs = more.3 ∙ w.customs;
           exports = exported ∙ sym (first-push (Some name) first);
           bytes = more.1 ∙ w.bytes;
           packages = w.packages;
           numbers = kept_number done used items components index w x;
-          made = subst (λ ns. AreMade g at order ns (meaning (items ++ x ∷ [])).instantiations) (sym (instantiations-push false (kind_test false (ap is_instantiation kind)) ∙ rw append-nil refl))
-              (subst (λ made. AreMade g at order (instantiations g done) made) (sym more.2) w.made);
+          made = subst (λ ns. AreInstantiations g o (length classes) at order ns (meaning (items ++ x ∷ [])).instantiations) (sym (instantiations-push false (kind_test false (ap is_instantiation kind)) ∙ rw append-nil refl))
+              (subst (λ made. AreInstantiations g o (length classes) at order (instantiations g done) made) (sym more.2) w.made);
           asked_for = asked-push done used items components index w x;
-          stand = stand_more used items components w x
-              (subst (λ j. (j < indexes (space (sort_of_kind node.item_kind)) (items ++ x ∷ [])) × (stands_for (meaning (items ++ x ∷ [])) (sort_of_kind node.item_kind) j ≡ at n)) (sym counts)
-              (subst (λ z. (indexes (space sort.«Type») items < indexes (space z) (items ++ x ∷ [])) × (stands_for (meaning (items ++ x ∷ [])) z (indexes (space sort.«Type») items) ≡ at n)) (sym typed) here_stands));
+          stand = stand_more used items components w x (less, agrees less);
+          things = things_more used items components w (as_definition t kind is_type (subst (IsDefined classes (definition_tree g.types bindings t)) (sym (is_that less)) defined));
           known = known_more used items components w x (λ j is. absurd (no_instance is_type is));
           place = place;
           own = own;
           in_place = in_place;
         } where
+          typed : sort_of_kind node.item_kind ≡ sort.«Type»
+          typed = ap sort_of_kind is_type
+
           no_instance : {q : ItemKind} {j : InterfaceId} → q ≡ item.TypeItem t → q ≡ item.Instance j → ⊥
           no_instance a b = cc
 
           no_others : IsAmong [] name → ⊥
-          no_others (j, m, wrong) = cc
+          no_others (j, l, wrong) = cc
 
           not_first : IsFirstAmong g done name → ⊥
-          not_first (m, other, within, other_there, also) =
-              let e : m ≡ n = one_node (export_at g name) (sound.first_names m other name other_there also).1 (sound.first_names n node name there first).1 in
-              clash (has done n) (ap (has done) (sym e) ∙ within) absent where
-                one_node : (o : Option NodeId) → o ≡ Some m → o ≡ Some n → m ≡ n
-                one_node o a b = cc
+          not_first (l, other, within, other_there, also) =
+              let e : l ≡ n = one_node (export_at g name) (sound.first_names l other name other_there also).1 (sound.first_names n node name there first).1 in
+              clash (has done n) (ap (has done) (sym e) ∙ within) absent_node where
+                one_node : (z : Option NodeId) → z ≡ Some l → z ≡ Some n → l ≡ n
+                one_node z a b = cc
 
-          is_type_defined : IsListedThing g at order n node → at n ≡ thing
-          is_type_defined (as_import other p other_kind at_p is) = absurd (no_import kind other_kind) where
-            no_import : {q : Kind} {m : Name} → q ≡ graph.definition → q ≡ graph.import m → ⊥
-            no_import a b = cc
-          is_type_defined (as_instantiation j other_kind at_j is) = absurd (no_kind kind other_kind) where
-            no_kind : {q : Kind} → q ≡ graph.definition → q ≡ graph.instantiation → ⊥
-            no_kind a b = cc
-          is_type_defined (as_definition other other_kind other_type is) = defined_once g one_place t (listing_of g t) (at n) thing (subst (λ z. IsListedAs g z (listing_of g z) (at n)) (one_type node.item_kind other_type is_type) is) defined where
-            one_type : (q : ItemKind) → q ≡ item.TypeItem other → q ≡ item.TypeItem t → other ≡ t
-            one_type q a b = cc
-          is_type_defined (as_alias other other_source j other_name other_kind _ _ _ _) = absurd (no_kind kind other_kind) where
-            no_kind : {q : Kind} → q ≡ graph.definition → q ≡ graph.alias → ⊥
-            no_kind a b = cc
+          -- the type is new, or that of an import of a class
+          defined : IsDefined classes (definition_tree g.types bindings t) (stands_for (meaning items) sort.«Type» k)
+          defined =
+              let found : IsDefined (meaning items).imports (type_at (meaning items).scope.types k) (stands_for (meaning items) sort.«Type» k) =
+              type_defined items k (λ none. no_absent (sym tree_is ∙ none)) (λ is. no_resource (subst IsResource tree_is is)) in
+              defined_first classes (imported_packages g o used) (imported_components g o used) (definition_tree g.types bindings t) (stands_for (meaning items) sort.«Type» k)
+              (subst (λ is. IsDefined is (definition_tree g.types bindings t) (stands_for (meaning items) sort.«Type» k)) w.imports
+              (subst (λ tree. IsDefined (meaning items).imports tree (stands_for (meaning items) sort.«Type» k)) tree_is found))
 
-          here_stands : (indexes (space sort.«Type») items < indexes (space sort.«Type») (items ++ export_item name sort.«Type» k ∷ []))
-              × (stands_for (meaning (items ++ export_item name sort.«Type» k ∷ [])) sort.«Type» (indexes (space sort.«Type») items) ≡ at n)
-          here_stands = (
-            counted_up sort.«Type» items (export_item name sort.«Type» k) refl,
-            type_export_stands items k name (indexes (space sort.«Type») items) (sym (laws.counted items sort.«Type»)) ∙ stands ∙ sym (is_type_defined (is_thing n node there)),
-          )
+          -- the export refers to the type
+          is_that : i < indexes (space (sort_of_kind node.item_kind)) (items ++ export_item name sort.«Type» k ∷ []) → at n ≡ stands_for (meaning items) sort.«Type» k
+          is_that less =
+              sym (agrees less)
+              ∙ ap (λ z. stands_for (meaning (items ++ export_item name sort.«Type» k ∷ [])) z i) typed
+              ∙ ap (stands_for (meaning (items ++ export_item name sort.«Type» k ∷ [])) sort.«Type») counts
+              ∙ type_export_stands items k name (indexes (space sort.«Type») items) (sym (laws.counted items sort.«Type»))

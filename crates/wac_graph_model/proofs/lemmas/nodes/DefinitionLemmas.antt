@@ -19,7 +19,7 @@ use Rattle.wac_graph_model.specs.nodes.Graph as graph
 use Rattle.wac_graph_model.specs.nodes.Graph.{Graph, GraphNode, node_at, export_at, IsDefinitionOf}
 use Rattle.wac_graph_model.specs.nodes.Sound.{IsSound, IsInstance, IsAlias, IsTypeUnderName, Joins}
 use Rattle.wac_graph_model.specs.nodes.Steps.{Defines}
-use Rattle.wac_graph_model.specs.nodes.Definitions.{definition_node, IsUndefined, IsDependency, reached, reaching, WithDependencies}
+use Rattle.wac_graph_model.specs.nodes.Definitions.{definition_node, IsUndefined, IsResource, IsDependency, reached, reaching, WithDependencies}
 use Rattle.wac_graph_model.proofs.lemmas.nodes.Added.{by_eq, same_id, insert_same, insert_other, some_either, ImportIn, import_before, one_more, one_name}
 use Rattle.wac_graph_model.proofs.lemmas.nodes.JoinLemmas.{alike_itself, joins_kept}
 use Rattle.wac_graph_model.proofs.lemmas.nodes.NodeLemmas.{find_kept, find_new}
@@ -45,7 +45,7 @@ name_is : (name other : Name) → Some name ≡ Some other → name ≡ other
 name_is name other h = cc
 
 module _ (g : Graph) (s : IsSound g) (name : Name) (t : AnyType) (n : NodeId) (next : ℕ) (edges : set.FinSet edge_cmp)
-    (free : IsUndefined g t) (absent : export_at g name ≡ None) (vacant : node_at g n ≡ None) (held : holds_type g.types t ≡ true) (with : WithDependencies g t n edges) where
+    (free : IsUndefined g t) (no_resource : IsResource t → ⊥) (absent : export_at g name ≡ None) (vacant : node_at g n ≡ None) (held : holds_type g.types t ≡ true) (with : WithDependencies g t n edges) where
   node : GraphNode
   node = definition_node name t
 
@@ -189,11 +189,11 @@ module _ (g : Graph) (s : IsSound g) (name : Name) (t : AnyType) (n : NodeId) (n
         (λ first. (refl, ap (find_name (g.exports ++ (name, n) ∷ [])) (sym (name_is name text first)) ∙ find_new g.exports name n absent))
         (λ k x was first. let (kind, exported) = s.first_names k x text was first in (kind, find_kept g.exports (name, n) text k exported))
         m other at is;
-    definitions = each_node (λ _ x. x.kind ≡ graph.definition → IsTypeUnderName x) (λ _. record { defined = t; name = name; typed = refl; named = refl }) s.definitions;
+    definitions = each_node (λ _ x. x.kind ≡ graph.definition → IsTypeUnderName x) (λ _. record { defined = t; name = name; typed = refl; no_resource = no_resource; named = refl }) s.definitions;
     vacant = s.vacant;
     vacant_once = s.vacant_once;
   }
 
 -- so after the step
 pub sound_defines : (old new : Graph) → IsSound old → (name : Name) (t : AnyType) (n : NodeId) → holds_type old.types t ≡ true → Defines old name t (Ok n) new → IsSound new
-sound_defines old new s name t n held (free, _, absent, _, _, vacant, with, is) = subst IsSound (sym is) (sound_definition old s name t n new.next new.edges free absent vacant held with)
+sound_defines old new s name t n held (free, no_resource, absent, _, _, vacant, with, is) = subst IsSound (sym is) (sound_definition old s name t n new.next new.edges free no_resource absent vacant held with)

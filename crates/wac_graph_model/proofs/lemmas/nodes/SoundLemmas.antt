@@ -513,7 +513,7 @@ module _ (g : Graph) (s : IsSound g) where
     definitions = λ m other at is.
         let (was, had, same_kind, same_first, same_item) = first_before m other at in
         let d = s.definitions m was had (sym same_kind ∙ is) in
-        record { defined = d.defined; name = d.name; typed = same_item ∙ d.typed; named = same_first ∙ d.named };
+        record { defined = d.defined; name = d.name; typed = same_item ∙ d.typed; no_resource = d.no_resource; named = same_first ∙ d.named };
     vacant = s.vacant;
     vacant_once = s.vacant_once;
   } where

@@ -1,5 +1,5 @@
 -- One cause stands at most; from what a call refuses to what `encode` does.
-use Rattle.std.proofs.Common.{lit<, ◌<◌, IsTrue, Ok, Err, Result, IfErr, ◌≡◌, ℕ, ◌≤◌, refl, ap, ◌∙◌, sym, subst, arith, Option, Some, None, IfSome, IsSomeAnd, Bool, true, false, ◌⊎◌, inl, inr}
+use Rattle.std.proofs.Common.{lit<, ◌<◌, IsTrue, Ok, Err, Result, IfErr, ◌≡◌, ℕ, ◌≤◌, refl, ap, ◌∙◌, sym, subst, arith, Option, Some, None, IfSome, IsSomeAnd, Bool, ◌⊎◌, inl, inr}
 use Rattle.std.specs.Prelude.{slice_get}
 use Rattle.std.specs.Result.{IsErrAnd}
 use Rattle.wac_types_shapes.specs.primitives.Name.{Name, option_case}
@@ -17,20 +17,18 @@ use Rattle.wac_graph_model.specs.nodes.Graph as graph
 use Rattle.wac_graph_model.specs.nodes.Graph.{Graph, GraphNode, node_at, imports_of, package_of, IsImportOf}
 use Rattle.wac_graph_model.specs.nodes.Sound.{IsSound}
 use Rattle.wac_edges.specs.Order.{IsAcyclic, IsLowestOnCycle}
-use Rattle.wac_graph_model.specs.causes.NotYet.{AllImportable, AllDefinable, IsNotYet, unwritten, undefined_type, undefined_components}
 use Rattle.wac_merge_classes.specs.terms.Faults.{OneFault, Fault, disagree, use_each_other}
 use Rattle.wac_merge_classes.specs.entries.Classes.{by_names}
 use Rattle.wac_merge_classes.specs.terms.NoDisagreement.{HasNoDisagreement}
 use Rattle.wac_graph_model.specs.nodes.Asked.{Entry}
 use Rattle.wac_graph_model.specs.nodes.Entries.{asked_entries, to_merge}
-use Rattle.wac_graph_model.specs.causes.Cause.{IsFirstConflict, HasNoConflict, HasMerge, IsMergeConflict, IsImplicitMerge, IsExplicitMerge, IsImportCircle, Cause, cycle, conflict, implicit_merge, explicit_merge, import_circle, unwritable, not_yet, invalid, CauseKind, a_disagreement, an_invalid_name, rank, kind_of_cause, Occurs, Stands, cause_of, AnswersFor}
+use Rattle.wac_graph_model.specs.causes.Cause.{IsFirstConflict, HasNoConflict, HasMerge, IsMergeConflict, IsImplicitMerge, IsExplicitMerge, IsImportCircle, Cause, cycle, conflict, implicit_merge, explicit_merge, import_circle, unwritable, invalid, CauseKind, a_disagreement, an_invalid_name, rank, kind_of_cause, Occurs, Stands, cause_of, AnswersFor}
 use Rattle.wac_graph_model.specs.causes.TypeFaults.{wanted_entries, IsEntryFault, IsTypeFault, HasNoTypeFault}
 use Rattle.wac_graph_model.specs.private.causes.Search.{IsRefused}
 use Rattle.wac_encode_faults.specs.declared.fault.WriteFault.{WriteFault}
 use Rattle.wac_encode_faults.specs.Faults.{IsLowest}
 use Rattle.wac_encode_faults.proofs.Lowest.{one_lowest}
-use Rattle.wac_graph_reader.specs.private.writing.Refused.{IsRefusedBefore}
-use Rattle.wac_graph_model.proofs.lemmas.causes.StandsLemmas.{stands_cycle, stands_unwritable, stands_not_yet, same_kind, none_there, invalid_alone}
+use Rattle.wac_graph_model.proofs.lemmas.causes.StandsLemmas.{stands_cycle, stands_unwritable, same_kind, none_there, invalid_alone}
 use Rattle.wac_graph_model.specs.causes.OuterNames.{IsOuterFault}
 use Rattle.wac_names.specs.validation.FirstFault as names
 use Rattle.wac_merge_classes.specs.declared.terms.fault.MergeFault.TheVariants as merge
@@ -155,7 +153,6 @@ one_named g sound law o (cycle n) (implicit_merge i f s p q x) before e a b = cc
 one_named g sound law o (cycle n) (explicit_merge i m k) before e a b = cc
 one_named g sound law o (cycle n) (import_circle i) before e a b = cc
 one_named g sound law o (cycle n) (unwritable m h) before e a b = cc
-one_named g sound law o (cycle n) not_yet before e a b = cc
 one_named g sound law o (cycle n) (invalid f') before e a b = cc
 one_named g sound law o (conflict i n k s) (cycle m) before e a b = cc
 one_named g sound law o (conflict i n k s) (conflict j m l t) before e a b = one_conflict g sound i j n m k l s t a.1 b.1
@@ -163,7 +160,6 @@ one_named g sound law o (conflict i n k s) (implicit_merge j f t p q x) before e
 one_named g sound law o (conflict i n k s) (explicit_merge j m t) before e a b = cc
 one_named g sound law o (conflict i n k s) (import_circle j) before e a b = cc
 one_named g sound law o (conflict i n k s) (unwritable m h) before e a b = cc
-one_named g sound law o (conflict i n k s) not_yet before e a b = cc
 one_named g sound law o (conflict i n k s) (invalid f') before e a b = cc
 one_named g sound law o (implicit_merge i f s p q x) (cycle m) before e a b = cc
 one_named g sound law o (implicit_merge i f s p q x) (conflict j m l t) before e a b = cc
@@ -171,7 +167,6 @@ one_named g sound law o (implicit_merge i f s p q x) (implicit_merge j t u r v y
 one_named g sound law o (implicit_merge i f s p q x) (explicit_merge j n k) before e a b = absurd (not_both g law i j f s n k p q x a.1 b.1)
 one_named g sound law o (implicit_merge i f s p q x) (import_circle j) before e a b = cc
 one_named g sound law o (implicit_merge i f s p q x) (unwritable m h) before e a b = cc
-one_named g sound law o (implicit_merge i f s p q x) not_yet before e a b = cc
 one_named g sound law o (implicit_merge i f s p q x) (invalid f') before e a b = cc
 one_named g sound law o (explicit_merge i n k) (cycle m) before e a b = cc
 one_named g sound law o (explicit_merge i n k) (conflict j m l t) before e a b = cc
@@ -179,7 +174,6 @@ one_named g sound law o (explicit_merge i n k) (implicit_merge j t u r v y) befo
 one_named g sound law o (explicit_merge i n k) (explicit_merge j m l) before e a b = one_explicit g law i j n k m l a.1 b.1
 one_named g sound law o (explicit_merge i n k) (import_circle j) before e a b = cc
 one_named g sound law o (explicit_merge i n k) (unwritable m h) before e a b = cc
-one_named g sound law o (explicit_merge i n k) not_yet before e a b = cc
 one_named g sound law o (explicit_merge i n k) (invalid f') before e a b = cc
 one_named g sound law o (import_circle i) (cycle m) before e a b = cc
 one_named g sound law o (import_circle i) (conflict j m l t) before e a b = cc
@@ -187,7 +181,6 @@ one_named g sound law o (import_circle i) (implicit_merge j t u r v y) before e 
 one_named g sound law o (import_circle i) (explicit_merge j m l) before e a b = cc
 one_named g sound law o (import_circle i) (import_circle j) before e a b = one_circle g law i j (λ p q h. a.0.1 a_disagreement (omega arith) (p, q, h)) a.1 b.1
 one_named g sound law o (import_circle i) (unwritable m h) before e a b = cc
-one_named g sound law o (import_circle i) not_yet before e a b = cc
 one_named g sound law o (import_circle i) (invalid f') before e a b = cc
 one_named g sound law o (unwritable n f) (cycle m) before e a b = cc
 one_named g sound law o (unwritable n f) (conflict j m l t) before e a b = cc
@@ -195,16 +188,7 @@ one_named g sound law o (unwritable n f) (implicit_merge j t u r v y) before e a
 one_named g sound law o (unwritable n f) (explicit_merge j m l) before e a b = cc
 one_named g sound law o (unwritable n f) (import_circle j) before e a b = cc
 one_named g sound law o (unwritable n f) (unwritable m h) before e a b = one_type_fault g o.define_components n m f h a.1 b.1
-one_named g sound law o (unwritable n f) not_yet before e a b = cc
 one_named g sound law o (unwritable n f) (invalid f') before e a b = cc
-one_named g sound law o not_yet (cycle m) before e a b = cc
-one_named g sound law o not_yet (conflict j m l t) before e a b = cc
-one_named g sound law o not_yet (implicit_merge j t u r v y) before e a b = cc
-one_named g sound law o not_yet (explicit_merge j m l) before e a b = cc
-one_named g sound law o not_yet (import_circle j) before e a b = cc
-one_named g sound law o not_yet (unwritable m h) before e a b = cc
-one_named g sound law o not_yet not_yet before e a b = refl
-one_named g sound law o not_yet (invalid f') before e a b = cc
 one_named g sound law o (invalid f') b' before e a b = absurd (omega (arith, before))
 
 -- no two causes stand
@@ -221,20 +205,17 @@ pub refused_for : (g : Graph) → IsSound g → OneFault → (o : EncodeOptions)
 refused_for g sound law o e (inl is) cause stands = inr (inl is)
 refused_for g sound law o e (inr (named, names, before, there)) cause stands = inl (names ∙ ap Some (one_cause g sound law o named cause before there stands))
 
--- where all is written names alone may be at fault
+-- where none of the other causes is there names alone may be at fault
 abbrev pub IsChecked : Graph → EncodeOptions → Type 0
-IsChecked g o = IsAcyclic g.edges × HasNoConflict g × HasMerge g × HasNoTypeFault g o.define_components × (IsNotYet g o → ⊥)
+IsChecked g o = IsAcyclic g.edges × HasNoConflict g × HasMerge g × HasNoTypeFault g o.define_components
 
 -- where the names are valid, or none asks whether they are, no cause of any kind occurs
 pub none_occurs : (g : Graph) → (o : EncodeOptions) → IsChecked g o → (IsTrue o.validate → (fault : names.Fault) → IsOuterFault g o fault → ⊥) → (kind : CauseKind) → Occurs g o kind → ⊥
-none_occurs g o h valid = none_there g o h.0 h.1 h.2 h.3 h.4 valid
+none_occurs g o h valid = none_there g o h.0 h.1 h.2 h.3 valid
 
 -- where a size does not fit names alone may be at fault as well
 pub too_large : (g : Graph) → (o : EncodeOptions) → IsChecked g o → (cause : Cause) → Stands g o cause → AnswersFor cause error.TooLarge
-too_large g o h cause s = inr (inr (invalid_alone g o h.0 h.1 h.2 h.3 h.4 (kind_of_cause cause) s.0.0, refl))
-
-pub at_not_yet : (g : Graph) (o : EncodeOptions) → IsAcyclic g.edges → HasNoConflict g → HasMerge g → HasNoTypeFault g o.define_components → IsNotYet g o → IsRefused g o error.NotYet
-at_not_yet g o acyclic apart merges types here = inr (not_yet, refl, lit< tt, stands_not_yet g o acyclic apart merges types here)
+too_large g o h cause s = inr (inr (invalid_alone g o h.0 h.1 h.2 h.3 (kind_of_cause cause) s.0.0, refl))
 
 pub at_type_fault : (g : Graph) (o : EncodeOptions) (n : NodeId) (f : WriteFault) → IsAcyclic g.edges → HasNoConflict g → HasMerge g → IsTypeFault g o.define_components n f → IsRefused g o (error.TypeNotWritable n f)
 at_type_fault g o n f acyclic apart merges here = inr (unwritable n f, refl, lit< tt, stands_unwritable g o n f acyclic apart merges here)
@@ -254,7 +235,6 @@ nameless (error.ImportsUseEachOther import) h = cc
 nameless (error.TypeNotWritable node fault) h = cc
 nameless error.TooLarge h = inr refl
 nameless error.OutOfMemory h = inl refl
-nameless error.NotYet h = cc
 nameless (error.ValidationFailure fault) h = cc
 
 pub nameless_answers : (g : Graph) → (o : EncodeOptions) → IsChecked g o → (e : EncodeError) → cause_of e ≡ None → (cause : Cause) → Stands g o cause → AnswersFor cause e
@@ -263,33 +243,10 @@ nameless_answers g o h e none cause s = by_error (nameless e none) where
   by_error (inl is) = inr (inl is)
   by_error (inr is) = subst (λ x. AnswersFor cause x) (sym is) (too_large g o h cause s)
 
--- what stands where the call that begins is refused
-pub begun_cause : (g : Graph) (o : EncodeOptions) (e : EncodeError) → IsRefusedBefore g o e → IfSome (cause_of e) (Stands g o)
-begun_cause g o e (inl h) = names_cause g o e h
-begun_cause g o e (inr (none, written)) = subst (λ x. IfSome x (Stands g o)) (sym none) tt
-
-pub begun_refused : (g : Graph) → IsSound g → OneFault → (o : EncodeOptions) → IsAcyclic g.edges → HasNoConflict g → HasMerge g → HasNoTypeFault g o.define_components → (e : EncodeError) → IsRefusedBefore g o e → (cause : Cause) → Stands g o cause → AnswersFor cause e
-begun_refused g sound law o acyclic apart merges types e (inl h) cause s = refused_for g sound law o e h cause s
-begun_refused g sound law o acyclic apart merges types e (inr (none, written)) cause s = nameless_answers g o (acyclic, apart, merges, types, written) e none cause s
-
 -- what the builder refuses names no cause
 pub binary_nameless : (e : BinaryFault) → cause_of (encode_error e) ≡ None
 binary_nameless binary.TooLarge = refl
 binary_nameless binary.OutOfMemory = refl
-
--- where all is importable, all definitions are definable, and components are defined, nothing is left for later
-pub nothing_left : (g : Graph) → AllImportable g → AllDefinable g → (o : EncodeOptions) → o.define_components ≡ true → IsNotYet g o → ⊥
-nothing_left g all types o define (unwritten not) = not all
-nothing_left g all types o define (undefined_type not) = not types
-nothing_left g all types o define (undefined_components is) = clash o.define_components define is where
-  clash : (b : Bool) → b ≡ true → b ≡ false → ⊥
-  clash true _ h = cc
-  clash false h _ = cc
-
--- a refusal of the imports' writer is for want of memory, or of room where all can be written
-pub begin_refused : (g : Graph) → AllDefinable g → (o : EncodeOptions) → o.define_components ≡ true → (e : EncodeError) → (e ≡ error.OutOfMemory) ⊎ ((e ≡ error.TooLarge) × AllImportable g) → IsRefusedBefore g o e
-begin_refused g types o define e (inl is) = inl (inl is)
-begin_refused g types o define e (inr (is, all)) = inr (ap cause_of is, nothing_left g all types o define)
 
 -- what a `?` hands on
 pub exit_cause : {A E : Type 0} (P : E → Type 0) (r : Result A E) (e : E) → IsErrAnd r (λ y. y ≡ e) → P e → IfErr r P

@@ -23,9 +23,7 @@ use Rattle.wac_graph_model.specs.nodes.Graph.{Graph, GraphNode, node_at, package
 use Rattle.wac_graph_model.specs.nodes.Nodes.{node_of, kind_of, satisfied_at}
 use Rattle.wac_graph_fields.specs.private.Fields.{Fields, graph_of, Invariant}
 use Rattle.wac_graph_model.specs.meaning.Means.{is_import, is_written}
-use Rattle.wac_graph_model.specs.meaning.Importable.{IsDefinableKind}
 use Rattle.wac_graph_model.specs.nodes.Gives.{GivesNode}
-use Rattle.wac_graph_model.specs.causes.NotYet.{AllDefinable}
 use Rattle.wac_graph_model.proofs.lemmas.nodes.NodeLemmas.{get-nodes_of}
 use Rattle.wac_graph_fields.proofs.ArgumentLemmas.{owned, registered}
 use Rattle.wac_graph_model.proofs.lemmas.nodes.JoinLemmas.{imports_of_package}
@@ -130,13 +128,6 @@ some_and a n node P had p = subst (λ o. IsSomeAnd o P) (sym (node_is a n (Some 
 
 pub if_none : (a : Fields) (n : ℕ) (P : GraphNode → Type 0) → get a.nodes n ≡ None → IfSome (node_at (graph_of a) (node_number n)) P
 if_none a n P had = subst (λ o. IfSome o P) (sym (node_is a n None had)) tt
-
--- where a definition is of a type that is not defined so far, not all are of such
-pub one_undefined : (g : Graph) (n : NodeId) → IsSomeAnd (node_at g n) (λ node. (node.kind ≡ graph.definition) × (IsDefinableKind g.types node.item_kind → ⊥)) → AllDefinable g → ⊥
-one_undefined g n h all = by_node (node_at g n) refl h where
-  by_node : (o : Option GraphNode) → node_at g n ≡ o → IsSomeAnd o (λ node. (node.kind ≡ graph.definition) × (IsDefinableKind g.types node.item_kind → ⊥)) → ⊥
-  by_node None there h = absurd h
-  by_node (Some node) there h = h.1 (all n node there h.0)
 
 pub of_if : (a : Fields) (n : ℕ) (node : Node) (P : GraphNode → Type 0) → IfSome (node_at (graph_of a) (node_number n)) P → get a.nodes n ≡ Some node → P (node_of node)
 of_if a n node P h had = subst (λ o. IfSome o P) (node_is a n (Some node) had) h

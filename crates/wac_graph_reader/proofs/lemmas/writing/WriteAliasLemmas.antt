@@ -26,6 +26,8 @@ use Rattle.wac_graph_fields.specs.private.Fields.{Fields, graph_of, Invariant}
 use Rattle.wac_graph_model.specs.meaning.Means.{sort_of_kind}
 use Rattle.wac_graph_model.specs.private.meaning.Beginning.{Places}
 use Rattle.wac_graph_model.specs.private.meaning.Writing.{WritesNode, writes_alias}
+use Rattle.wac_graph_model.specs.declared.nodes.options.EncodeOptions.{EncodeOptions}
+use Rattle.wac_types_collection.specs.collection.Bound.{Bindings}
 use Rattle.wac_graph_model.proofs.lemmas.nodes.NodeLemmas.{there, text_pair}
 use Rattle.wac_graph_reader.proofs.lemmas.writing.EncodingLemmas.{node_is, some_node, if_node}
 use Rattle.wac_graph_fields.proofs.AliasLemmas.{exports_are}
@@ -102,18 +104,18 @@ module _ (a : Fields) (v : Invariant a) (n : ℕ) (h : IsSomeAnd (node_at (graph
       pub alias_there : ContainsKey a.nodes n
       alias_there = let (m, at, _) = some_node a n (λ x. x.kind ≡ graph.alias) h in ap is_some at
 
-      pub alias_added : (places : Places) (m : Node) → get a.nodes n ≡ Some m → (text : Name) → option_map (λ e. e.0) (slice_get it.exports position) ≡ Some text
+      pub alias_added : (o : EncodeOptions) (b : Bindings) (places : Places) (m : Node) → get a.nodes n ≡ Some m → (text : Name) → option_map (λ e. e.0) (slice_get it.exports position) ≡ Some text
           → (t : Sort) → t ≡ sort_of_kind m.item_kind → (f : NodeId → ℕ) (index : ℕ) → index ≡ f (node_number source)
           → (components components' : List (PackageId × ℕ)) → components' ≡ components
           → (items items' : List Item) → items' ≡ items ++ alias_item (export_alias t index text) ∷ [] → (place : ℕ) → place ≡ indexes (space t) items
-          → IfSome (node_at (graph_of a) (node_number n)) (λ x. WritesNode (graph_of a) places (node_number n) x f components components' items items' place)
-      alias_added places m at text named t sorted f index placed components components' kept items items' added place counted =
+          → IfSome (node_at (graph_of a) (node_number n)) (λ x. WritesNode (graph_of a) o b places (node_number n) x f components components' items items' place)
+      alias_added o b places m at text named t sorted f index placed components components' kept items items' added place counted =
           let (other, found, kind) = some_node a n (λ x. x.kind ≡ graph.alias) h in
           let k : other ≡ m = one (sym found ∙ at) in
           let (name, here) = exported_at m at in
           let same_name : name ≡ text = text_is (sym (ap (option_map (λ e. e.0)) here) ∙ named) in
           let first : exports_of (graph_of a) (node_of s) ≡ it.exports = exports_are a s i it is held in
-          if_node a n m (λ x. WritesNode (graph_of a) places (node_number n) x f components components' items items' place) at
+          if_node a n m (λ x. WritesNode (graph_of a) o b places (node_number n) x f components components' items items' place) at
           (writes_alias (node_number source) (node_of s) position text
           (ap (λ x. kind_of x.kind) (sym k) ∙ kind) stands (node_is a source (Some s) had)
           (ap (λ es. slice_get es position) first ∙ here ∙ ap (λ (x : Name). Some (x, m.item_kind)) same_name)

@@ -18,7 +18,9 @@ use Rattle.wac_binary.specs.Indexes.{space, indexes}
 use Rattle.wac_binary.specs.Views.{arguments_of}
 use Rattle.wac_graph_model.specs.declared.nodes.node.Node.{Node}
 use Rattle.wac_graph_model.specs.declared.nodes.node.NodeKind.TheVariants as code
+use Rattle.wac_graph_model.specs.declared.nodes.options.EncodeOptions.{EncodeOptions}
 use Rattle.wac_graph_model.specs.declared.nodes.packages.PackageId.{PackageId}
+use Rattle.wac_types_collection.specs.collection.Bound.{Bindings}
 use Rattle.wac_edges.specs.declared.node.NodeId.{NodeId}
 use Rattle.wac_edges.specs.declared.edges.Edge.{Edge}
 use Rattle.wac_edges.specs.Edge.{argument_edge}
@@ -30,7 +32,7 @@ use Rattle.wac_graph_fields.specs.private.Fields.{Fields, graph_of, Invariant}
 use Rattle.wac_graph_model.specs.meaning.Means.{is_import, sort_of_kind, package_bytes}
 use Rattle.wac_graph_model.specs.private.meaning.Encoding.{index_in, HasComponent, HasRoom, Progress}
 use Rattle.wac_graph_model.specs.private.meaning.Beginning.{Places}
-use Rattle.wac_graph_model.specs.private.meaning.Writing.{IsArgumentItem, of_node, AreArgumentItems, WritesNode, writes_instantiation, Wrote, WroteAll}
+use Rattle.wac_graph_model.specs.private.meaning.Writing.{IsArgumentItem, of_node, AreArgumentItems, WritesNode, writes_instantiation, Wrote}
 use Rattle.wac_graph_reader.proofs.lemmas.writing.SourceLemmas.{source_at}
 use Rattle.wac_graph_model.proofs.lemmas.nodes.NodeLemmas.{there}
 use Rattle.wac_graph_reader.proofs.lemmas.writing.EncodingLemmas as nodes
@@ -92,44 +94,33 @@ all_arguments g at index n i imports args end are items = by_node (node_at g (no
   by_node None h = tt
   by_node (Some x) h = subst (λ xs. AreArgumentItems g at index (node_number n) 0 xs (arguments_of args)) h whole
 
--- an instantiation is written behind its package's component
-pub added_instantiation : (g : Graph) (at : Places) (n : ℕ) (id : PackageId) (p : PackageParts) (bytes : List ℕ) (places read : List ℕ) (args given : List (Bor (List ℕ) × Sort × ℕ)) (c : ℕ) (components components' : List (PackageId × ℕ)) (items mid items' : List Item) (i : ℕ)
-    → IsSomeAnd (node_at g (node_number n)) (λ x. x.kind ≡ graph.instantiation) → IfSome (node_at g (node_number n)) (λ x. x.owner ≡ Some id) → package_at g id ≡ Some p → bytes ≡ p.bytes → read ≡ places → given ≡ args
+-- an instantiation is written after its package's component
+pub added_instantiation : (g : Graph) (o : EncodeOptions) (m : Bindings) (at : Places) (n : ℕ) (id : PackageId) (places read : List ℕ) (args given : List (Bor (List ℕ) × Sort × ℕ)) (c : ℕ) (components components' : List (PackageId × ℕ)) (items mid items' : List Item) (i : ℕ)
+    → IsSomeAnd (node_at g (node_number n)) (λ x. x.kind ≡ graph.instantiation) → IfSome (node_at g (node_number n)) (λ x. x.owner ≡ Some id) → read ≡ places → given ≡ args
     → IfSome (node_at g (node_number n)) (λ x. AreArgumentItems g at (index_in read) (node_number n) 0 (imports_of g x) (arguments_of args))
-    → HasComponent bytes id c components components' items mid → items' ≡ mid ++ instantiate c (arguments_of given) ∷ [] → i ≡ indexes (space sort.Instance) mid
-    → IfSome (node_at g (node_number n)) (λ x. WritesNode g at (node_number n) x (index_in places) components components' items items' i)
-added_instantiation g at n id p bytes places read args given c components components' items mid items' i one owner there content placed same are has grown counted = by_node (node_at g (node_number n)) one owner are where
-  its : HasComponent (package_bytes g id) id c components components' items mid
-  its = subst (λ b. HasComponent b id c components components' items mid) (content ∙ ap (λ (o : Option PackageParts). option_case o [] (λ it. it.bytes)) (sym there)) has
-
+    → HasComponent g o id c components components' items mid → items' ≡ mid ++ instantiate c (arguments_of given) ∷ [] → i ≡ indexes (space sort.Instance) mid
+    → IfSome (node_at g (node_number n)) (λ x. WritesNode g o m at (node_number n) x (index_in places) components components' items items' i)
+added_instantiation g o m at n id places read args given c components components' items mid items' i one owner placed same are has grown counted = by_node (node_at g (node_number n)) one owner are where
   last : items' ≡ mid ++ instantiate c (arguments_of args) ∷ []
   last = grown ∙ ap (λ xs. mid ++ instantiate c (arguments_of xs) ∷ []) same
 
-  by_node : (o : Option GraphNode) → IsSomeAnd o (λ x. x.kind ≡ graph.instantiation) → IfSome o (λ x. x.owner ≡ Some id) → IfSome o (λ x. AreArgumentItems g at (index_in read) (node_number n) 0 (imports_of g x) (arguments_of args))
-      → IfSome o (λ x. WritesNode g at (node_number n) x (index_in places) components components' items items' i)
+  by_node : (x : Option GraphNode) → IsSomeAnd x (λ x. x.kind ≡ graph.instantiation) → IfSome x (λ x. x.owner ≡ Some id) → IfSome x (λ x. AreArgumentItems g at (index_in read) (node_number n) 0 (imports_of g x) (arguments_of args))
+      → IfSome x (λ x. WritesNode g o m at (node_number n) x (index_in places) components components' items items' i)
   by_node None k w h = tt
-  by_node (Some x) k w h = writes_instantiation id c mid (arguments_of args) k w its (subst (λ r. AreArgumentItems g at (index_in r) (node_number n) 0 (imports_of g x) (arguments_of args)) placed h) last counted
+  by_node (Some x) k w h = writes_instantiation id c mid (arguments_of args) k w has (subst (λ r. AreArgumentItems g at (index_in r) (node_number n) 0 (imports_of g x) (arguments_of args)) placed h) last counted
 
 -- a node's index is noted
-pub noted : (g : Graph) (at : Places) (n : ℕ) (old new last : Progress) (i k : ℕ) → last ≡ new → k ≡ i → IfSome (node_at g (node_number n)) (λ x. WritesNode g at (node_number n) x (index_in old.indexes) old.components new.components old.items new.items i) → new.indexes ≡ old.indexes
-    → Wrote g at (node_number n) old (record last { indexes = slice_set last.indexes n k })
-noted g at n old new last i k same placed added kept = by_node (node_at g (node_number n)) added where
-  by_node : (o : Option GraphNode) → IfSome o (λ x. WritesNode g at (node_number n) x (index_in old.indexes) old.components new.components old.items new.items i)
-      → IfSome o (λ x. (j : ℕ) × WritesNode g at (node_number n) x (index_in old.indexes) old.components last.components old.items last.items j × (slice_set last.indexes n k ≡ slice_set old.indexes n j))
+pub noted : (g : Graph) (o : EncodeOptions) (m : Bindings) (at : Places) (n : ℕ) (old new last : Progress) (i k : ℕ) → last ≡ new → k ≡ i → IfSome (node_at g (node_number n)) (λ x. WritesNode g o m at (node_number n) x (index_in old.indexes) old.components new.components old.items new.items i) → new.indexes ≡ old.indexes
+    → Wrote g o m at (node_number n) old (record last { indexes = slice_set last.indexes n k })
+noted g o m at n old new last i k same placed added kept = by_node (node_at g (node_number n)) added where
+  by_node : (x : Option GraphNode) → IfSome x (λ x. WritesNode g o m at (node_number n) x (index_in old.indexes) old.components new.components old.items new.items i)
+      → IfSome x (λ x. (j : ℕ) × WritesNode g o m at (node_number n) x (index_in old.indexes) old.components last.components old.items last.items j × (slice_set last.indexes n k ≡ slice_set old.indexes n j))
   by_node None h = tt
   by_node (Some x) h = (
     i,
-    subst (λ (p : Progress). WritesNode g at (node_number n) x (index_in old.indexes) old.components p.components old.items p.items i) (sym same) h,
+    subst (λ (p : Progress). WritesNode g o m at (node_number n) x (index_in old.indexes) old.components p.components old.items p.items i) (sym same) h,
     ap (λ (p : Progress). slice_set p.indexes n k) same ∙ ap (λ v. slice_set v n k) kept ∙ ap (λ j. slice_set old.indexes n j) placed,
   )
-
--- one node more is written
-pub wrote_next : (g : Graph) (place : Places) (xs : List NodeId) (i : ℕ) (x : NodeId) (p mid q : Progress) → slice_get xs i ≡ Some x → Wrote g place x p mid → WroteAll g place (drop (i + 1) xs) mid q → WroteAll g place (drop i xs) p q
-wrote_next g place xs i x p mid q at one more = let e : i + 1 ≡ suc i = omega arith in at_suc xs i at (subst (λ k. WroteAll g place (drop k xs) mid q) e more) where
-  at_suc : (ys : List NodeId) (j : ℕ) → slice_get ys j ≡ Some x → WroteAll g place (drop (suc j) ys) mid q → WroteAll g place (drop j ys) p q
-  at_suc [] j h m = cc
-  at_suc (y ∷ ys) zero h m = let same : x ≡ y = cc in (mid, subst (λ k. Wrote g place k p mid) same one, m)
-  at_suc (y ∷ ys) (suc j) h m = at_suc ys j h m
 
 pub dropped_all : {A : Type 0} (xs : List A) (i : ℕ) → length xs ≤ i → drop i xs ≡ []
 dropped_all [] zero h = refl

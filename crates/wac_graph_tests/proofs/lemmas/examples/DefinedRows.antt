@@ -17,8 +17,8 @@ use Rattle.wac_types_collection.specs.collection.Collection.{Collection}
 use Rattle.wac_merge_classes.specs.entries.Binding.{root_bindings}
 use Rattle.wac_merge_classes.specs.entries.Classes.{Entry, NameRules}
 use Rattle.wac_binary.specs.Meaning.{Thing, import_at, projection}
+use Rattle.wac_encode_faults.specs.Trees.{definition_tree}
 use Rattle.wac_graph_model.specs.meaning.Defined.{along, item_along, IsDefined, as_new, as_listed}
-use Rattle.wac_graph_model.specs.meaning.Definition.{definition_tree}
 
 -- where a thing begins, and its path
 abbrev path_of : Thing → List Name

@@ -13,21 +13,22 @@ use Rattle.wac_types_shapes.specs.declared.shapes.component.«Type».TheVariants
 use Rattle.wac_types_shapes.specs.declared.shapes.component.ValueType.TheVariants as val
 use Rattle.wac_types_collection.specs.collection.Bound.{Bindings, held_tree}
 use Rattle.wac_types_collection.specs.collection.Collection.{Collection}
-use Rattle.wac_types_shapes.specs.primitives.Tree.{Tree, absent, primitive, enum_of, type_equal, component, items_in, type_in}
+use Rattle.wac_types_shapes.specs.primitives.Tree.{Leaf, Tree, absent, resource, primitive, enum_of, type_equal, component, items_in, type_in}
 use Rattle.wac_binary.specs.declared.sorts.Sort.TheVariants as s
 use Rattle.wac_binary.specs.Items.{Item, export_item, type_item, value_def, primitive_def}
 use Rattle.wac_binary.specs.Meaning.{meaning, stands_for, written, Thing}
 use Rattle.wac_edges.specs.declared.node.NodeId.{NodeId}
+use Rattle.wac_encode_faults.specs.Sides.{interface_sides}
+use Rattle.wac_encode_faults.specs.Trees.{sides_tree, definition_tree}
 use Rattle.wac_graph_model.specs.nodes.Asked.{asked, asked_by, imported_by}
 use Rattle.wac_graph_model.specs.nodes.OuterImports.{AreOuterImports, outer_bindings}
 use Rattle.wac_graph_model.specs.meaning.Defined.{as_new}
-use Rattle.wac_graph_model.specs.meaning.Definition.{definition_tree, interface_definition}
 use Rattle.wac_graph_model.specs.nodes.Graph as graph
 use Rattle.wac_edges.specs.Edge.{node_number}
 use Rattle.wac_graph_model.specs.nodes.Graph.{Graph, GraphNode, node_at}
 use Rattle.wac_graph_model.specs.meaning.Means.{Means, is_written, instantiations, sort_of_kind, AreInstantiations, IsThing, as_definition, HasItem, shown, export_of, first_export, further_exports, export_item_of, custom_item}
 use Rattle.wac_graph_model.specs.private.meaning.Encoding.{index_in}
-use Rattle.wac_graph_model.specs.private.meaning.Writing.{WritesNode, writes_definition, Wrote}
+use Rattle.wac_graph_model.specs.private.meaning.Writing.{WritesTypeWith, WritesNode, writes_definition, Wrote}
 use Rattle.wac_graph_model.proofs.lemmas.meaning.DefinedLemmas.{no_names}
 use Rattle.wac_graph_model.proofs.lemmas.meaning.AskedLemmas.{no_imports}
 use Rattle.wac_graph_tests.proofs.lemmas.examples.OptionRows.{with_one, node_0, by_one, one_in_order, in_one}
@@ -72,9 +73,12 @@ asks_nothing =
       none_imported n (Some node) is = by_one base defined (λ k x. imported_by k.0 (Some x) ≡ []) refl (node_number n) node is
 
 -- what it is
-bool_is : (m : Bindings) → written (primitive prim.Bool) ≡ written (definition_tree defining_bool.types m of_bool)
+bool_tree : (m : Bindings) → primitive prim.Bool ≡ definition_tree defining_bool.types m of_bool
 unfolding definition_tree held_tree
-bool_is m = refl
+bool_tree m = refl
+
+bool_is : (m : Bindings) → written (primitive prim.Bool) ≡ written (definition_tree defining_bool.types m of_bool)
+bool_is m = ap written (bool_tree m)
 
 bool_imports : AreOuterImports defining_bool []
 bool_imports = no_imports defining_bool asks_nothing
@@ -133,16 +137,36 @@ definition_means = record {
   no_instances : instantiations defining_bool (node_number 0 ∷ []) ≡ []
   no_instances = rw (node_0 base defined) refl
 
+-- nothing is bound
+abbrev unbound : Bindings
+unbound r = None
+
+abbrev bool_type : List Item
+bool_type = type_item (value_def (primitive_def prim.Bool)) ∷ []
+
+-- the type is written so
+bool_type_is_written : WritesTypeWith (definition_tree defining_bool.types unbound of_bool) [] bool_type 0
+bool_type_is_written = subst (λ (t : Tree). WritesTypeWith t [] bool_type 0) (bool_tree unbound)
+    (record { types = bool_type; alone = (tt, tt); added = refl; there = not_absent; no_resource = λ is. is; meant = λ _. ((tt, tt), refl) }) where
+      not_absent : ◌≡◌ {A = Tree} (primitive prim.Bool) absent → ⊥
+      not_absent is = cc
+
 -- the definition is written so: the type, and behind it the export by the first name
-pub definition_is_written : Wrote defining_bool [] (node_number 0) (record { items = []; components = []; indexes = 0 ∷ [] })
+pub definition_is_written : Wrote defining_bool defining unbound [] (node_number 0) (record { items = []; components = []; indexes = 0 ∷ [] })
     (record { items = type_item (value_def (primitive_def prim.Bool)) ∷ export_item (codes "foo") s.«Type» 0 ∷ []; components = []; indexes = 1 ∷ [] })
 definition_is_written = subst
     (λ o. IfSome o (λ node. (i : ℕ)
-    × WritesNode defining_bool [] (node_number 0) node (index_in (0 ∷ [])) [] [] [] (type_item (value_def (primitive_def prim.Bool)) ∷ export_item (codes "foo") s.«Type» 0 ∷ []) i × (1 ∷ [] ≡ slice_set (0 ∷ []) 0 i)))
+    × WritesNode defining_bool defining unbound [] (node_number 0) node (index_in (0 ∷ [])) [] [] [] (type_item (value_def (primitive_def prim.Bool)) ∷ export_item (codes "foo") s.«Type» 0 ∷ []) i × (1 ∷ [] ≡ slice_set (0 ∷ []) 0 i)))
     (sym (node_0 base defined))
-    (1, writes_definition of_bool (codes "foo") 0 types (written (primitive prim.Bool)) refl refl refl refl (bool_is (λ _. None)) (record { types = types; alone = (tt, tt); added = refl; meant = λ _. ((tt, tt), refl) }) refl refl, refl) where
-      types : List Item
-      types = type_item (value_def (primitive_def prim.Bool)) ∷ []
+    (1, writes_definition of_bool (codes "foo") 0 bool_type refl refl refl refl bool_type_is_written refl refl, refl)
+
+-- no type without a tree is written as a definition
+pub no_absent_type : (items : List Item) (k : ℕ) → WritesTypeWith absent [] items k → ⊥
+no_absent_type items k w = w.there refl
+
+-- nor a resource
+pub no_resource_type : (l : Leaf) (items : List Item) (k : ℕ) → WritesTypeWith (resource l) [] items k → ⊥
+no_resource_type l items k w = w.no_resource tt
 
 -- items that lose the second name do not mean the graph
 pub no_lost_export : Means (type_item (value_def (primitive_def prim.Bool)) ∷ export_item (codes "foo") s.«Type» 0 ∷ []) defining_bool defining → ⊥
@@ -180,7 +204,7 @@ exports_in (component imports exports) = exports
 exports_in _ = λ _. absent
 
 abbrev of_i : Tree
-of_i = interface_definition using (record { 0 = 1 })
+of_i = sides_tree using (interface_sides using (record { 0 = 1 }))
 
 -- the type stays in what is imported
 pub used_type_stays : items_in (type_in (imports_in of_i (codes "n:p/j"))) (codes "t") ≡ type_equal (enum_of (codes "a" ∷ []))

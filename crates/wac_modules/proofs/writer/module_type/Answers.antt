@@ -3,7 +3,7 @@ use Rattle.std.proofs.lemmas.List.{append-nil}
 use Rattle.wac_binary.specs.Items.{ModuleDecl}
 use Rattle.wac_binary.specs.Indexes.{function_types}
 use Rattle.wac_binary.specs.Fits.{ModuleFits}
-use Rattle.wac_modules.specs.Declarations.{import_of, export_of, in_order, declarations_of, MeansModule}
+use Rattle.wac_modules.specs.private.Declarations.{import_of, export_of, in_order, declarations_of, MeansModule}
 use Rattle.wac_modules.proofs.Declared.{one_more, all_are, none_fit, fault_is}
 use Rattle.wac_modules.proofs.Meant.{means_module}
 use Rattle.wac_modules.proofs.writer.module_type.Goals as goal

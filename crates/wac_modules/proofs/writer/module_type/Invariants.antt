@@ -1,6 +1,6 @@
 use Rattle.std.proofs.Common.{◌≡◌, ◌++◌, take}
 use Rattle.wac_binary.specs.Indexes.{function_types}
-use Rattle.wac_modules.specs.Declarations.{import_of, export_of, in_order}
+use Rattle.wac_modules.specs.private.Declarations.{import_of, export_of, in_order}
 use Rattle.wac_modules.proofs.writer.module_type.Given as goal
 
 abbrev pub invariant-loop-i : goal.invariant-loop-i

@@ -7,6 +7,7 @@ use Rattle.wac_encode_scopes.proofs.Stepped.{goes-none}
 use Rattle.wac_encode_interfaces.specs.Ready.{IsInterfaceAt}
 use Rattle.wac_encode_interfaces.specs.Worlds.{written_in}
 use Rattle.wac_encode_interfaces.proofs.Ended.{level-around, closed-level, closed-at, closed-into}
+use Rattle.wac_encode_interfaces.proofs.Refused.{closed-open, dropped-open, err-of}
 use Rattle.wac_encode_interfaces.proofs.writer.TypeWriter.close_level.Goals as goal
 
 pub close-requires-clause-around : goal.close-requires-clause-around
@@ -50,3 +51,9 @@ returns-clause-closed c = λ i cut old ks nest ready.
 
 pub returns-clause-recorded : goal.returns-clause-recorded
 returns-clause-recorded c = λ whole. (defined, c.in_ok-record.ensures.recorded)
+
+pub returns-in_err-index-clause-refused : goal.returns-in_err-index-clause-refused
+returns-in_err-index-clause-refused c = err-of c.from_residual.result (dropped-open c.args.state.now c.close.new.self c.in_err-index.ensures.refused)
+
+pub returns-in_err-record-clause-refused : goal.returns-in_err-record-clause-refused
+returns-in_err-record-clause-refused c = err-of c.from_residual-in_err-record.result (closed-open c.args.state.now c.close.new.self c.record.new.self c.in_ok-index.ensures.written c.record.ensures.types)

@@ -1,7 +1,8 @@
-use Rattle.std.proofs.Common.{length}
+use Rattle.std.proofs.Common.{ℕ, length, Option, IfSome, subst}
 use Rattle.wac_types_collection.proofs.lemmas.collection.Steady.{within}
 use Rattle.wac_encode_scopes.specs.Components.{DefinesModuleType}
 use Rattle.wac_encode_scopes.specs.States.{Goes}
+use Rattle.wac_encode_scopes.proofs.Stepped.{all-none, goes-none}
 use Rattle.wac_encode_interfaces.specs.Imports.{IsModuleAt}
 use Rattle.wac_encode_interfaces.proofs.Written.{if-ok, ok-of}
 use Rattle.wac_encode_interfaces.proofs.Importing.{module-goes, module-at}
@@ -9,6 +10,12 @@ use Rattle.wac_encode_interfaces.proofs.writer.TypeWriter.core_module.Goals as g
 
 pub index-requires : goal.index-requires
 index-requires c = within c.args.id.0 (length c.args.self.now.types.now.modules) c.requires.held
+
+pub returns-in-Some-clause-goes : goal.returns-in-Some-clause-goes
+returns-in-Some-clause-goes c = goes-none c.still_law.ensures c.args.self.now.merged c.args.state.now c.args.self.now.types.now
+
+pub returns-in-Some-clause-is : goal.returns-in-Some-clause-is
+returns-in-Some-clause-is c = subst (λ (o : Option ℕ). IfSome o (IsModuleAt c.args.self.now.types.now c.args.self.now.merged c.args.state.now c.args.id)) c.in-Some.is c.requires.known
 
 pub returns-clause-goes : goal.returns-clause-goes
 returns-clause-goes c =
@@ -23,3 +30,9 @@ returns-clause-is c =
     let b = c.args.self.now.merged in
     if-ok (DefinesModuleType c.in_ok-written.written c.args.state.now c.define_module.new.self) (IsModuleAt t b c.define_module.new.self c.args.id) c.define_module.result
     (λ k defines. module-at c.module_law.ensures.holds_module t b c.args.id c.index.result.now c.in_ok-written.written c.args.state.now c.define_module.new.self k c.index.ensures c.requires.ready c.in_ok-written.ensures.means defines) c.define_module.ensures.defines
+
+pub returns-in_err-written-clause-types : goal.returns-in_err-written-clause-types
+returns-in_err-written-clause-types c = all-none c.args.state.now
+
+pub returns-in-Some-clause-types : goal.returns-in-Some-clause-types
+returns-in-Some-clause-types c = all-none c.args.state.now

@@ -9,6 +9,7 @@ use Rattle.wac_encode_interfaces.specs.Worlds.{written_in}
 use Rattle.wac_encode_interfaces.specs.private.Defined.{IsDefinition}
 use Rattle.wac_encode_interfaces.proofs.Definitions.{has-definition, plain-ready, plain-at, component-goes, component-at}
 use Rattle.wac_encode_interfaces.proofs.Written.{if-ok, ok-of}
+use Rattle.wac_encode_scopes.proofs.Stepped.{all-none}
 use Rattle.wac_encode_interfaces.proofs.writer.TypeWriter.definition.Goals as goal
 
 pub definition_component-requires-clause-ready : goal.definition_component-requires-clause-ready
@@ -39,3 +40,6 @@ returns-in-None-clause-is c =
     let b = c.args.self.now.merged in
     if-ok (IsTypeIndex t b c.type_index.new.state c.args.ty) (IsDefinitionAt t b c.type_index.new.state c.args.ty) c.type_index.result
     (λ k h. plain-at c.step_law.ensures.is_its_tree t b c.type_index.new.state c.args.ty k (c.in_ok-defined.ensures.plain c.in-None.is) h) c.type_index.ensures.is
+
+pub returns-in_err-defined-clause-types : goal.returns-in_err-defined-clause-types
+returns-in_err-defined-clause-types c = all-none c.args.state.now

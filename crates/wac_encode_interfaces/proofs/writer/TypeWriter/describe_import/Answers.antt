@@ -10,7 +10,8 @@ use Rattle.wac_encode_interfaces.specs.Imports.{DescribesImport}
 use Rattle.wac_encode_interfaces.specs.Items.{DescribesItem}
 use Rattle.wac_encode_interfaces.specs.Worlds.{HaveWorlds, written_in}
 use Rattle.wac_encode_interfaces.proofs.Written.{if-ok, on-ok}
-use Rattle.wac_encode_interfaces.proofs.Importing.{component-is, described-component, described-item, described-module, interface-ready, item-after, module-is}
+use Rattle.wac_encode_interfaces.proofs.Importing.{component-is, described-component, described-item, interface-ready, item-after}
+use Rattle.wac_encode_interfaces.proofs.Refused.{keeps-types, keeps-both, err-of}
 use Rattle.wac_encode_interfaces.proofs.writer.TypeWriter.describe_import.Goals as goal
 
 pub world-requires-clause-written : goal.world-requires-clause-written
@@ -19,15 +20,6 @@ world-requires-clause-written c =
 
 pub returns-in-Some-clause-describes : goal.returns-in-Some-clause-describes
 returns-in-Some-clause-describes c = described-component c.args.self.now.types.now c.args.self.now.merged c.world.new.state c.args.item c.in-Some.world c.in_ok-index.index (sym c.world_in.ensures ∙ c.in-Some.is) c.in_ok-index.ensures.is
-
-pub core_module-requires-clause-held : goal.core_module-requires-clause-held
-core_module-requires-clause-held c = subst (λ (k : ItemKind). holds_type c.args.self.now.types.now (kind_type k) ≡ true) (module-is c.args.item c.in-Some-module_in.id (sym c.module_in.ensures ∙ c.in-Some-module_in.is)) c.requires.ready.held
-
-pub core_module-requires-clause-ready : goal.core_module-requires-clause-ready
-core_module-requires-clause-ready c = subst (λ (k : ItemKind). IsReady c.args.self.now.types.now c.args.self.now.merged c.args.state.now (kind_type k)) (module-is c.args.item c.in-Some-module_in.id (sym c.module_in.ensures ∙ c.in-Some-module_in.is)) c.requires.ready.ready
-
-pub returns-in-Some-module_in-clause-describes : goal.returns-in-Some-module_in-clause-describes
-returns-in-Some-module_in-clause-describes c = described-module c.args.self.now.types.now c.args.self.now.merged c.core_module.new.state c.args.item c.in-Some-module_in.id c.in_ok-index-2.index (sym c.module_in.ensures ∙ c.in-Some-module_in.is) c.in_ok-index-2.ensures.is
 
 pub write_interface_of-requires-clause-held : goal.write_interface_of-requires-clause-held
 write_interface_of-requires-clause-held c = λ i is. within i.0 (length c.args.self.now.types.now.interfaces) (subst (λ (a : AnyType). holds_type c.args.self.now.types.now a ≡ true) is c.requires.ready.held)
@@ -40,7 +32,7 @@ write_interface_of-requires-clause-worlds c = λ i is. subst (HaveWorlds c.args.
 
 pub describe-requires-clause-ready : goal.describe-requires-clause-ready
 describe-requires-clause-ready c =
-    item-after c.args.self.now.types.now c.args.self.now.merged (written_in c.args.self.now.worlds.now) c.args.state.now c.write_interface_of.new.state c.args.item (sym c.world_in.ensures ∙ c.in_default.is) (sym c.module_in.ensures ∙ c.in_default-module_in.is) c.requires.ready c.in_ok-write_interface_of.ensures.goes c.in_ok-write_interface_of.ensures.has
+    item-after c.args.self.now.types.now c.args.self.now.merged (written_in c.args.self.now.worlds.now) c.args.state.now c.write_interface_of.new.state c.args.item (sym c.world_in.ensures ∙ c.in_default.is) c.requires.no_module c.requires.ready c.in_ok-write_interface_of.ensures.goes c.in_ok-write_interface_of.ensures.has
 
 pub returns-clause-goes : goal.returns-clause-goes
 returns-clause-goes c =
@@ -49,4 +41,15 @@ returns-clause-goes c =
 pub returns-clause-describes : goal.returns-clause-describes
 returns-clause-describes c =
     if-ok (DescribesItem c.args.self.now.types.now c.args.self.now.merged c.describe.new.state c.args.item) (DescribesImport c.args.self.now.types.now c.args.self.now.merged c.describe.new.state c.args.item) c.describe.result
-    (λ d h. described-item c.args.self.now.types.now c.args.self.now.merged c.describe.new.state c.args.item d (sym c.world_in.ensures ∙ c.in_default.is) (sym c.module_in.ensures ∙ c.in_default-module_in.is) h) c.describe.ensures.describes
+    (λ d h. described-item c.args.self.now.types.now c.args.self.now.merged c.describe.new.state c.args.item d (sym c.world_in.ensures ∙ c.in_default.is) c.requires.no_module h) c.describe.ensures.describes
+
+pub returns-in_err-index-clause-refused : goal.returns-in_err-index-clause-refused
+returns-in_err-index-clause-refused c =
+    err-of _
+    (keeps-types c.args.state.now c.world.new.state c.world.ensures.types)
+
+pub returns-clause-refused : goal.returns-clause-refused
+returns-clause-refused c = err-of c.describe.result (keeps-both c.args.state.now c.write_interface_of.new.state c.describe.new.state (keeps-types c.args.state.now c.write_interface_of.new.state c.in_ok-write_interface_of.ensures.goes.types) (keeps-types c.write_interface_of.new.state c.describe.new.state c.describe.ensures.types))
+
+pub returns-in_err-write_interface_of-clause-refused : goal.returns-in_err-write_interface_of-clause-refused
+returns-in_err-write_interface_of-clause-refused c = err-of _ c.in_err-write_interface_of.ensures.refused

@@ -3,6 +3,7 @@ use Rattle.wac_encode_interfaces.specs.Worlds.{written_in}
 use Rattle.wac_encode_interfaces.proofs.Parts.{stays-ready, item-ready, next-type-held}
 use Rattle.wac_encode_interfaces.proofs.Told.{has-instance}
 use Rattle.wac_encode_interfaces.proofs.Ended.{export-keeps, level-side, one-further}
+use Rattle.wac_encode_interfaces.proofs.Refused.{keeps-both, keeps-types}
 use Rattle.wac_encode_interfaces.proofs.writer.TypeWriter.export_next.Goals as goal
 
 pub next_item-item-requires-clause-level : goal.next_item-item-requires-clause-level
@@ -35,3 +36,9 @@ returns-clause-keeps c =
 
 pub returns-clause-level : goal.returns-clause-level
 returns-clause-level c = ap (λ n. record c.args.level.now { next = n }) (add-one c.args.level.now.next)
+
+pub returns-in_err-tell_exports-clause-kept : goal.returns-in_err-tell_exports-clause-kept
+returns-in_err-tell_exports-clause-kept c = keeps-both c.args.state.now c.add_item.new.state c.tell_exports.new.state c.add_item.ensures.kept (keeps-types c.add_item.new.state c.tell_exports.new.state c.tell_exports.ensures.types)
+
+pub returns-clause-kept : goal.returns-clause-kept
+returns-clause-kept c = keeps-both c.args.state.now c.add_item.new.state c.tell_exports.new.state c.add_item.ensures.kept (keeps-types c.add_item.new.state c.tell_exports.new.state c.tell_exports.ensures.types)

@@ -2,6 +2,7 @@ use Rattle.std.proofs.Common.{arith}
 use Rattle.wac_encode_interfaces.specs.Worlds.{written_in}
 use Rattle.wac_encode_interfaces.proofs.Parts.{under-way-on}
 use Rattle.wac_encode_interfaces.proofs.Ended.{filling-none, filling-on, filling-less}
+use Rattle.wac_encode_interfaces.proofs.Refused.{keeps-both}
 use Rattle.wac_encode_interfaces.proofs.writer.TypeWriter.fill.Goals as goal
 
 pub items-init : goal.items-init
@@ -23,7 +24,7 @@ pub export_next-requires-clause-left : goal.export_next-requires-clause-left
 export_next-requires-clause-left c = let l = c.len.ensures in let o = c.items.level.order.ok.0 in let t = c.items-test.true in omega (arith, l, o, t)
 
 pub items-preserved : goal.items-preserved
-items-preserved c = filling-on c.args.self.now.types.now c.args.self.now.merged c.args.state.now c.items.state c.export_next.new.state c.args.level.now c.items.level c.export_next.new.level c.items.invariant c.in_ok-export_next.ensures.keeps c.in_ok-export_next.ensures.level
+items-preserved c = filling-on c.args.self.now.types.now c.args.self.now.merged c.args.state.now c.items.state c.export_next.new.state c.args.level.now c.items.level c.export_next.new.level c.items.invariant c.in_ok-export_next.ensures.keeps c.in_ok-export_next.ensures.level c.export_next.ensures.kept
 
 pub items-smaller : goal.items-smaller
 items-smaller c = filling-less c.items.level c.export_next.new.level c.in_ok-export_next.ensures.level (let l = c.len.ensures in let o = c.items.level.order.ok.0 in let t = c.items-test.true in omega (arith, l, o, t))
@@ -51,3 +52,12 @@ returns-clause-same c = c.items.invariant.same
 
 pub returns-clause-further : goal.returns-clause-further
 returns-clause-further c = c.items.invariant.further
+
+pub returns-in_err-export_next-clause-kept : goal.returns-in_err-export_next-clause-kept
+returns-in_err-export_next-clause-kept c = keeps-both c.args.state.now c.items.state c.export_next.new.state c.items.invariant.kept c.export_next.ensures.kept
+
+pub returns-in-Some-clause-kept : goal.returns-in-Some-clause-kept
+returns-in-Some-clause-kept c = c.items.invariant.kept
+
+pub returns-clause-kept : goal.returns-clause-kept
+returns-clause-kept c = c.items.invariant.kept

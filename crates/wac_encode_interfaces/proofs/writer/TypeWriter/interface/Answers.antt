@@ -4,6 +4,7 @@ use Rattle.wac_encode_interfaces.specs.declared.level.Level.{Level}
 use Rattle.wac_encode_interfaces.specs.private.Nests.{Nest, IsFilled}
 use Rattle.wac_encode_interfaces.proofs.Parts.{waited-held, waits-no-more}
 use Rattle.wac_encode_interfaces.proofs.Ended.{first-nest, opened-inside, outer-waits, outer-nest, last-closed, last-level, recorded-as, inner-less, ended-less, waits-left}
+use Rattle.wac_encode_interfaces.proofs.Refused.{err-of, levels-keep, levels-less}
 use Rattle.wac_encode_interfaces.proofs.writer.TypeWriter.interface.Goals as goal
 
 pub levels-init : goal.levels-init
@@ -108,3 +109,35 @@ levels-preserved c =
 
 pub levels-smaller : goal.levels-smaller
 levels-smaller c = ended-less c.args.self.now.types.now c.levels.waiting.items c.pop.new.self.items c.levels.level c.in-Some-pop.outer c.export_next.new.level c.in-Some-pop.ensures.items c.in_ok-export_next-in-None.ensures.level
+
+pub returns-in_err-inside-clause-refused : goal.returns-in_err-inside-clause-refused
+returns-in_err-inside-clause-refused c =
+    err-of _
+    (levels-keep c.args.self.now.merged _ c.args.state.now c.levels.state c.fill.new.state c.levels.invariant.0 c.fill.ensures.kept)
+
+pub returns-in_err-inner-in-Some-clause-refused : goal.returns-in_err-inner-in-Some-clause-refused
+returns-in_err-inner-in-Some-clause-refused c =
+    err-of _
+    (levels-keep c.args.self.now.merged _ c.args.state.now c.fill.new.state c.open_level-in-Some.new.state (c.in_ok-inside.ensures.keeps c.args.interface c.args.types_only c.args.state.now (reverse c.levels.waiting.items) c.levels.invariant).0 c.open_level-in-Some.ensures.kept)
+
+pub returns-in_err-push-in-Some-clause-refused : goal.returns-in_err-push-in-Some-clause-refused
+returns-in_err-push-in-Some-clause-refused c =
+    err-of _
+    (levels-keep c.args.self.now.merged _ c.args.state.now c.fill.new.state c.open_level-in-Some.new.state (c.in_ok-inside.ensures.keeps c.args.interface c.args.types_only c.args.state.now (reverse c.levels.waiting.items) c.levels.invariant).0 c.open_level-in-Some.ensures.kept)
+
+pub returns-in_err-index-in-None-clause-refused : goal.returns-in_err-index-in-None-clause-refused
+returns-in_err-index-in-None-clause-refused c =
+    err-of _
+    (levels-less c.args.self.now.merged _ c.args.state.now c.fill.new.state c.close_level.new.state (c.in_ok-inside.ensures.keeps c.args.interface c.args.types_only c.args.state.now (reverse c.levels.waiting.items) c.levels.invariant).0 c.in_err-index-in-None.ensures.refused)
+
+pub returns-in_err-export_next-in-None-clause-refused : goal.returns-in_err-export_next-in-None-clause-refused
+returns-in_err-export_next-in-None-clause-refused c =
+    let keeps = c.in_ok-inside.ensures.keeps c.args.interface c.args.types_only c.args.state.now (reverse c.levels.waiting.items) c.levels.invariant in
+    let us = c.pop.new.self.items in
+    let outer = c.in-Some-pop.outer in
+    let closed = c.in_ok-index-in-None.ensures.closed c.args.interface c.args.types_only c.args.state.now (reverse c.levels.waiting.items) keeps c.requires.ready in
+    let nest = outer-nest c.args.self.now.types.now c.args.self.now.merged c.args.interface c.args.types_only c.args.state.now c.fill.new.state c.close_level.new.state c.fill.new.level outer c.levels.waiting.items us c.in_ok-index-in-None.index c.in-Some-pop.ensures.items c.requires.ready closed in
+    err-of _ (levels-keep c.args.self.now.merged _ c.args.state.now c.close_level.new.state c.export_next.new.state nest.0 c.export_next.ensures.kept)
+
+pub returns-in_err-level-clause-refused : goal.returns-in_err-level-clause-refused
+returns-in_err-level-clause-refused c = err-of _ c.open_level.ensures.kept

@@ -2,7 +2,7 @@ use Rattle.std.proofs.Common.{◌≡◌, sym, ◌∙◌, subst, refl}
 use Rattle.std.proofs.lemmas.Result.{IfOk-weaker}
 use Rattle.wac_types_collection.specs.wide.Wide.{AreThere}
 use Rattle.wac_encode_scopes.specs.Components.{ComponentHasMeaning, component_tree}
-use Rattle.wac_encode_faults.specs.Ids.{HaveIds}
+use Rattle.wac_encode_faults.specs.private.Ids.{HaveIds}
 use Rattle.wac_encode_faults.specs.Sides.{Sides, id_or_empty, interface_sides}
 use Rattle.wac_encode_faults.specs.Trees.{sides_tree}
 use Rattle.wac_encode_interfaces.specs.Definitions.{HaveWorldsInside}

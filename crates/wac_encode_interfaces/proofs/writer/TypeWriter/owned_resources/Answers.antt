@@ -3,7 +3,7 @@ use Rattle.std.specs.List.{list_any}
 use Rattle.wac_types_shapes.specs.declared.shapes.component.ResourceId.{ResourceId}
 use Rattle.wac_types_shapes.specs.declared.shapes.component.Interface.{Interface}
 use Rattle.wac_types_collection.specs.collection.Collection.{item_at}
-use Rattle.wac_encode_scopes.specs.Telling.{is_one_of}
+use Rattle.wac_encode_scopes.specs.private.Telling.{is_one_of}
 use Rattle.wac_encode_interfaces.specs.private.Parts.{is_owned}
 use Rattle.wac_encode_interfaces.proofs.Bound.{one-some}
 use Rattle.wac_encode_interfaces.proofs.Written.{if-ok}

@@ -2,7 +2,7 @@ use Rattle.wac_types_shapes.specs.declared.shapes.component.ValueType.TheVariant
 use Rattle.wac_types_shapes.specs.declared.shapes.component.«Type».TheVariants as ty
 use Rattle.wac_encode_scopes.specs.States.{Goes, IsTypeAt}
 use Rattle.wac_encode_scopes.specs.Components.{DefinesPrimitiveType}
-use Rattle.wac_encode_scopes.proofs.Stepped.{goes-none}
+use Rattle.wac_encode_scopes.proofs.Stepped.{goes-none, all-none}
 use Rattle.wac_encode_interfaces.proofs.Written.{if-ok, ok-of, indexed-at, primitive-goes, primitive-at}
 use Rattle.wac_encode_interfaces.proofs.writer.TypeWriter.primitive.Goals as goal
 
@@ -26,3 +26,6 @@ returns-in-None-clause-is c =
     let a = ty.Value (val.Primitive c.args.primitive) in
     if-ok (DefinesPrimitiveType c.args.primitive c.args.state.now c.define_primitive.new.self) (IsTypeAt t b c.define_primitive.new.self a) c.define_primitive.result
     (λ k h. primitive-at t b c.args.primitive a c.args.state.now c.define_primitive.new.self k c.requires h) c.define_primitive.ensures.defines
+
+pub returns-in-Some-clause-types : goal.returns-in-Some-clause-types
+returns-in-Some-clause-types c = all-none c.args.state.now

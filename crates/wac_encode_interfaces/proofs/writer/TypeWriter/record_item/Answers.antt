@@ -1,6 +1,6 @@
 use Rattle.std.proofs.Common.{sym, refl, ◌∙◌}
 use Rattle.wac_encode_stacks.specs.Scopes.{index_at, listed}
-use Rattle.wac_encode_scopes.proofs.Stepped.{goes-none}
+use Rattle.wac_encode_scopes.proofs.Stepped.{goes-none, all-none}
 use Rattle.wac_encode_interfaces.proofs.Written.{on-ok, named-at}
 use Rattle.wac_encode_interfaces.proofs.writer.TypeWriter.record_item.Goals as goal
 
@@ -24,3 +24,9 @@ returns-clause-goes c =
 
 pub returns-clause-records : goal.returns-clause-records
 returns-clause-records c = on-ok c.record.result (λ h. (index_at c.in-Some.ty listed c.args.index, h)) c.record.ensures.records
+
+pub returns-in_default-clause-types : goal.returns-in_default-clause-types
+returns-in_default-clause-types c = all-none c.args.state.now
+
+pub returns-then-is_listed-clause-types : goal.returns-then-is_listed-clause-types
+returns-then-is_listed-clause-types c = all-none c.args.state.now

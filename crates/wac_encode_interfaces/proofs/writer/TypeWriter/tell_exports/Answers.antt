@@ -1,7 +1,7 @@
 use Rattle.wac_types_shapes.specs.declared.shapes.component.Interface.{Interface}
 use Rattle.wac_encode_scopes.specs.Closed.{is_closed_in}
-use Rattle.wac_encode_scopes.specs.Telling.{is_one_of, telling}
-use Rattle.wac_encode_scopes.proofs.Stepped.{goes-none, on-ok}
+use Rattle.wac_encode_scopes.specs.private.Telling.{is_one_of, telling}
+use Rattle.wac_encode_scopes.proofs.Stepped.{all-none, goes-none, on-ok}
 use Rattle.wac_encode_interfaces.proofs.Told.{told-ok, instance-held, empty-keys}
 use Rattle.wac_encode_interfaces.proofs.writer.TypeWriter.tell_exports.Goals as goal
 
@@ -9,7 +9,7 @@ pub tell_instance-requires : goal.tell_instance-requires
 tell_instance-requires c = instance-held c.args.self.now.types.now c.args.item c.in-Instance.id c.in-Instance.is c.requires.held
 
 pub returns-in_default : goal.returns-in_default
-returns-in_default c = record { goes = goes-none c.still_law.ensures c.args.self.now.merged c.args.state.now c.args.self.now.types.now }
+returns-in_default c = record { goes = goes-none c.still_law.ensures c.args.self.now.merged c.args.state.now c.args.self.now.types.now; types = all-none c.args.state.now }
 
 pub returns : goal.returns
 returns c =
@@ -19,4 +19,5 @@ returns c =
           (λ (it : Interface). telling t it (is_one_of c.new-own.result.keys) (is_closed_in c.args.self.now.closed.now) c.args.index) (empty-keys c.new-own.result.keys c.new-own.ensures.len) c.in-Instance.is
           (instance-held t c.args.item c.in-Instance.id c.in-Instance.is c.requires.held) c.requires.there c.tell_instance.result c.tell_instance.ensures.recorded
           (on-ok c.tell_instance.result (λ h. h c.requires.writer.closed) c.tell_instance.ensures.tells) c.tell_instance.ensures.types;
+      types = c.tell_instance.ensures.types;
     }

@@ -6,7 +6,7 @@ use Rattle.wac_types_shapes.specs.declared.shapes.component.«Type».TheVariants
 use Rattle.wac_types_collection.specs.collection.Collection.{Collection, HasFunc}
 use Rattle.wac_types_collection.proofs.lemmas.collection.Steady.{within}
 use Rattle.wac_encode_scopes.specs.States.{IsTypeAt, IsResourceAt}
-use Rattle.wac_encode_scopes.proofs.Stepped.{goes-none}
+use Rattle.wac_encode_scopes.proofs.Stepped.{goes-none, all-none}
 use Rattle.wac_encode_interfaces.specs.Items.{IsItemReady, IsTypeIndex}
 use Rattle.wac_encode_interfaces.specs.Worlds.{written_in}
 use Rattle.wac_encode_interfaces.proofs.Written.{on-ok, if-ok, goes-as, type-as, ready-as, closed-as, indexed-at, resource-bound, resource-index, has-index, no-module}
@@ -101,3 +101,6 @@ unreachable-requires c =
 
 pub unreachable-requires-in-Module : goal.unreachable-requires-in-Module
 unreachable-requires-in-Module c = no-module c.args.ty c.in-Module.field-0 c.in-Module.is c.requires.ready.writable
+
+pub returns-in-Some-clause-types : goal.returns-in-Some-clause-types
+returns-in-Some-clause-types c = all-none c.args.state.now

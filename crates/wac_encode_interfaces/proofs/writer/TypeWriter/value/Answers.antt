@@ -4,7 +4,7 @@ use Rattle.wac_types_shapes.specs.declared.shapes.component.ValueType.TheVariant
 use Rattle.wac_types_shapes.specs.declared.shapes.component.«Type».TheVariants as ty
 use Rattle.wac_types_collection.specs.collection.Collection.{Collection, holds_value}
 use Rattle.wac_encode_scopes.specs.States.{Goes, IsTypeAt}
-use Rattle.wac_encode_scopes.proofs.Stepped.{goes-both}
+use Rattle.wac_encode_scopes.proofs.Stepped.{goes-both, all-both}
 use Rattle.wac_encode_values.specs.Values.{IsWrittenAs}
 use Rattle.wac_encode_values.proofs.Ready.{ready-on}
 use Rattle.wac_encode_interfaces.proofs.Written.{on-ok, if-both, goes-as, written-as, ready-as, closed-as, index-at, primitive-ready, primitive-value}
@@ -54,3 +54,6 @@ returns-in-Primitive-clause-is c =
     let written = subst (IsWrittenAs t b s c.args.value) c.in-Primitive.is (written-as t c.args.self.now.values.types.now b c.args.self.now.values.merged s c.args.value c.in_ok-written.written c.requires.writer.types c.requires.writer.merged c.in_ok-written.ensures.written) in
     if-both (Goes t b s u) (IsTypeAt t b u (ty.Value (val.Primitive p))) (IsTypeAt t b u (ty.Value c.args.value)) c.primitive.result
     (λ k g h. primitive-value c.bringing_law.ensures.good_once c.step_law.ensures.is_its_tree t b s u (ty.Value c.args.value) c.args.value p k (ready-on t b c.args.state.now s (ty.Value c.args.value) goes c.requires.ready) g written h) c.primitive.ensures.goes c.primitive.ensures.is
+
+pub returns-in-Primitive-clause-types : goal.returns-in-Primitive-clause-types
+returns-in-Primitive-clause-types c = all-both c.args.state.now c.value_type.new.state c.primitive.new.state c.value_type.ensures.types c.primitive.ensures.types

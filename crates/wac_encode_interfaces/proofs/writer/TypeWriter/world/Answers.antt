@@ -4,7 +4,7 @@ use Rattle.wac_types_shapes.specs.declared.shapes.component.«Type».TheVariants
 use Rattle.wac_encode_stacks.specs.Scopes.{defined}
 use Rattle.wac_encode_scopes.specs.States.{Goes, IsRecordedAt, IsTypeAt}
 use Rattle.wac_encode_scopes.specs.Components.{DefinesComponent}
-use Rattle.wac_encode_scopes.proofs.Stepped.{goes-none}
+use Rattle.wac_encode_scopes.proofs.Stepped.{goes-none, all-none}
 use Rattle.wac_encode_interfaces.specs.Worlds.{written_in}
 use Rattle.wac_encode_interfaces.proofs.Written.{if-ok, ok-of, indexed-at, type-at, has-world, world-goes}
 use Rattle.wac_encode_interfaces.proofs.writer.TypeWriter.world.Goals as goal
@@ -31,3 +31,6 @@ returns-clause-is c =
     let b = c.args.self.now.merged in
     if-ok (IsRecordedAt b c.define_component.new.self (ty.World c.args.world) defined) (IsTypeAt t b c.define_component.new.self (ty.World c.args.world)) c.define_component.result
     (λ k h. type-at c.step_law.ensures.stands_recorded t b c.define_component.new.self (ty.World c.args.world) defined k h) c.define_component.ensures.recorded
+
+pub returns-in-Some-clause-types : goal.returns-in-Some-clause-types
+returns-in-Some-clause-types c = all-none c.args.state.now

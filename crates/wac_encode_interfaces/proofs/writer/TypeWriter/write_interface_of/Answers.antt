@@ -2,6 +2,7 @@ use Rattle.std.proofs.Common.{sym, ap, ◌∙◌, refl}
 use Rattle.wac_encode_scopes.proofs.Stepped.{goes-none}
 use Rattle.wac_encode_interfaces.specs.private.Parts.{type_interface}
 use Rattle.wac_encode_interfaces.proofs.Writes.{interface-is, has-recorded, has-none}
+use Rattle.wac_encode_interfaces.proofs.Refused.{err-of}
 use Rattle.wac_encode_interfaces.proofs.writer.TypeWriter.write_interface_of.Goals as goal
 
 pub returns-in-None-clause-goes : goal.returns-in-None-clause-goes
@@ -23,3 +24,6 @@ pub returns-in_ok-interface_index-in-Some-clause-has : goal.returns-in_ok-interf
 returns-in_ok-interface_index-in-Some-clause-has c =
     let there = c.in_ok-interface_index-in-Some.ensures.recorded refl in
     has-recorded c.args.self.now.merged c.interface_index.new.state c.args.item c.in-Some.interface (ap type_interface (sym c.ty.ensures) ∙ sym c.interface_in.ensures ∙ c.in-Some.is) (there.0, c.in_ok-interface_index-in-Some.field-0, there.1)
+
+pub returns-in_err-interface_index-in-Some-clause-refused : goal.returns-in_err-interface_index-in-Some-clause-refused
+returns-in_err-interface_index-in-Some-clause-refused c = err-of _ c.in_err-interface_index-in-Some.ensures.refused

@@ -2,7 +2,7 @@ use Rattle.std.proofs.Common.{◌≡◌, ◌≤◌, ◌+◌, suc, List, [], refl
 use Rattle.std.proofs.lemmas.List.{take_all}
 use Rattle.wac_types_shapes.specs.primitives.Name.{Name}
 use Rattle.wac_types_shapes.specs.declared.shapes.component.ItemKind.{ItemKind}
-use Rattle.wac_encode_scopes.specs.Telling.{is_one_of, binding_own}
+use Rattle.wac_encode_scopes.specs.private.Telling.{is_one_of, binding_own}
 use Rattle.wac_encode_scopes.specs.private.Steps.{ScopeChanges}
 use Rattle.wac_encode_scopes.proofs.Told.{binding-none}
 use Rattle.wac_encode_scopes.proofs.Telling.{changes-none, binding-next}

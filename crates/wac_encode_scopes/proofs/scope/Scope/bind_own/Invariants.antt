@@ -1,5 +1,5 @@
 use Rattle.std.proofs.Common.{◌≡◌, take}
-use Rattle.wac_encode_scopes.specs.Telling.{is_one_of, binding_own}
+use Rattle.wac_encode_scopes.specs.private.Telling.{is_one_of, binding_own}
 use Rattle.wac_encode_scopes.specs.private.Steps.{ScopeChanges}
 use Rattle.wac_encode_scopes.proofs.scope.Scope.bind_own.Given as goal
 

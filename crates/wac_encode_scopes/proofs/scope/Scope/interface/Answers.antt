@@ -8,7 +8,7 @@ use Rattle.wac_encode_scopes.specs.declared.encodable.Encodable.{Encodable}
 use Rattle.wac_encode_scopes.specs.declared.encodable.Encodable.TheVariants.{Instance}
 use Rattle.wac_encode_scopes.specs.Contents.{content_of, IsInstanceType}
 use Rattle.wac_encode_scopes.specs.Books.{opened}
-use Rattle.wac_encode_scopes.specs.Interfaces.{own_items, fresh_exports}
+use Rattle.wac_encode_scopes.specs.private.Interfaces.{own_items, fresh_exports}
 use Rattle.wac_encode_scopes.specs.private.Steps.{with_own}
 use Rattle.wac_encode_scopes.proofs.Owned.{opened-step, content-step}
 use Rattle.wac_encode_scopes.proofs.scope.Scope.interface.Goals as goal

@@ -3,7 +3,7 @@ use Rattle.wac_encode_stacks.specs.Scopes.{opening}
 use Rattle.wac_encode_stacks.specs.Beside.{written_as}
 use Rattle.wac_encode_scopes.specs.declared.encodable.Encodable.TheVariants.{Instance}
 use Rattle.wac_encode_scopes.specs.Books.{opened}
-use Rattle.wac_encode_scopes.specs.Interfaces.{own_items, fresh_exports}
+use Rattle.wac_encode_scopes.specs.private.Interfaces.{own_items, fresh_exports}
 use Rattle.wac_encode_scopes.specs.private.Steps.{with_own}
 use Rattle.wac_encode_scopes.proofs.scope.Scope.interface.Given as goal
 

@@ -2,7 +2,7 @@ use Rattle.std.proofs.Common.{◌≡◌, ◌≤◌, ◌+◌, suc, Some, None, su
 use Rattle.std.proofs.lemmas.List.{take_all}
 use Rattle.wac_types_shapes.specs.primitives.Name.{Name}
 use Rattle.wac_types_shapes.specs.declared.shapes.component.ItemKind.{ItemKind}
-use Rattle.wac_encode_scopes.specs.Interfaces.{own_in}
+use Rattle.wac_encode_scopes.specs.private.Interfaces.{own_in}
 use Rattle.wac_encode_scopes.specs.private.Steps.{OwnIsBound}
 use Rattle.wac_encode_scopes.proofs.Owned.{NoneOf, none-step, binds-one}
 use Rattle.wac_encode_scopes.proofs.state.State.binds_none.Goals as goal

@@ -1,6 +1,6 @@
 use Rattle.std.proofs.Common.{◌≡◌, Some, ◌∙◌, sym, subst}
 use Rattle.wac_types_shapes.specs.declared.shapes.component.Interface.{Interface}
-use Rattle.wac_encode_scopes.specs.Interfaces.{BeginsInterface}
+use Rattle.wac_encode_scopes.specs.private.Interfaces.{BeginsInterface}
 use Rattle.wac_encode_scopes.proofs.Stepped.{two-ok}
 use Rattle.wac_encode_scopes.proofs.Owned.{sound-named, begins-interface}
 use Rattle.wac_encode_scopes.proofs.state.State.open_interface.Goals as goal

@@ -4,7 +4,7 @@ use Rattle.wac_types_shapes.specs.declared.shapes.component.Interface.{Interface
 use Rattle.wac_encode_scopes.specs.Contents.{AddsTypes}
 use Rattle.wac_encode_scopes.specs.Closed.{is_closed_in}
 use Rattle.wac_encode_scopes.specs.States.{RecordsHere}
-use Rattle.wac_encode_scopes.specs.Telling.{is_one_of, telling, TellsInstance}
+use Rattle.wac_encode_scopes.specs.private.Telling.{is_one_of, telling, TellsInstance}
 use Rattle.wac_encode_scopes.proofs.Added.{adds-none}
 use Rattle.wac_encode_scopes.proofs.Owned.{sound-named}
 use Rattle.wac_encode_scopes.proofs.Stepped.{on-ok, all-here, records-here}

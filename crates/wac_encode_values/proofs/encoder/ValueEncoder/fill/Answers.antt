@@ -1,6 +1,6 @@
 use Rattle.std.specs.Prelude.{ℕ, ◌≡◌, ◌+◌, ◌<◌, ◌^◌, Some, None, slice_get, length}
 use Rattle.std.proofs.Common.{sym, ◌∙◌, subst, arith}
-use Rattle.wac_encode_scopes.specs.Parts.{parts}
+use Rattle.wac_encode_scopes.specs.private.Parts.{parts}
 use Rattle.wac_encode_scopes.proofs.Stepped.{goes-none, goes-both, all-both}
 use Rattle.wac_encode_values.specs.private.Parts.{IsAdded}
 use Rattle.wac_encode_values.proofs.Waiting.{filling-first, filling-ready, filling-step, filling-waits, fewer-parts, all-parts}

@@ -1,4 +1,4 @@
-use Rattle.std.proofs.Common.{◌≡◌, ◌<◌, ℕ, List, [], Some, length, true, refl, ap, sym, ◌∙◌, subst, arith}
+use Rattle.std.proofs.Common.{◌≡◌, List, [], Some, length, true, refl, ap, sym, ◌∙◌, subst, arith}
 use Rattle.std.specs.Prelude.{slice_get}
 use Rattle.std.proofs.lemmas.Option.{slice_get_read}
 use Rattle.wac_types_shapes.specs.shapes.Kinds.{kind_type}
@@ -54,5 +54,5 @@ returns c =
     let m = c.args.merge.now in
     let es = c.entries-entries.result.now in
     let past = c.loop-i-test.false in
-    all_bound g m es [] c.loop-i.bound.keys c.requires.alike c.entries-entries.ensures c.requires.merged.entries refl
+    all_bound g m es [] c.loop-i.bound.keys c.requires.kept.binds c.entries-entries.ensures c.requires.merged.entries refl
     (adds_all (ImportLists g.types) (IsBoundIn m) es [] c.loop-i.i c.loop-i.bound.keys (omega (arith, past)) c.loop-i.invariant)

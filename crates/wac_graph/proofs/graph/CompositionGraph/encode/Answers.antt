@@ -3,10 +3,9 @@ use Rattle.wac_binary.specs.Bytes.{bytes_of}
 use Rattle.wac_binary.specs.Fits.{Fits}
 use Rattle.wac_binary.specs.Items.{Item}
 use Rattle.wac_graph_model.specs.causes.Cause.{AnswersFor, CauseKind, Occurs, Stands, cause_of, kind_of_cause}
-use Rattle.wac_graph_model.specs.causes.NotYet.{AllDefinable, AllImportable}
 use Rattle.wac_graph_model.specs.private.causes.Search.{IsRefused}
 use Rattle.wac_merge_classes.specs.entries.Classes.{by_names}
-use Rattle.wac_graph_model.specs.nodes.OuterImports.{outer_entries}
+use Rattle.wac_graph_model.specs.nodes.OuterImports.{outer_bindings, outer_entries}
 use Rattle.wac_merge_classes.specs.terms.Faults.{HasNoCircle}
 use Rattle.wac_edges.specs.Order.{Writes, IsAcyclic}
 use Rattle.wac_edges.specs.declared.node.NodeId.{NodeId}
@@ -14,8 +13,13 @@ use Rattle.wac_graph_model.specs.meaning.Means.{Means, is_written}
 use Rattle.wac_graph_model.specs.nodes.Graph.{Graph}
 use Rattle.wac_graph_reader.specs.private.reading.Seen.{open_numbers}
 use Rattle.wac_graph_encode.specs.private.places.Places.{ArePlaced}
-use Rattle.wac_graph_reader.proofs.lemmas.writing.CauseLemmas.{names_cause, refused_for, begun_cause, begun_refused, none_occurs, nameless_answers, exit_cause, exit_refused}
+use Rattle.wac_graph_reader.proofs.lemmas.writing.CauseLemmas.{names_cause, refused_for, none_occurs, nameless_answers, exit_cause, exit_refused}
 use Rattle.wac_graph_encode.proofs.lemmas.places.OuterNameLemmas.{items_valid, names_valid, fault_stands, fault_answers}
+use Rattle.wac_merge_classes.specs.entries.Agreement.{AllMembersAgree}
+use Rattle.wac_merge_imports.specs.unions.MergedScope.{BindsAsClasses}
+use Rattle.wac_encode_imports.specs.private.ToldGraph.{HasNoUnbound}
+use Rattle.wac_graph_encode.specs.private.encoding.Root.{IsFaultlessNode}
+use Rattle.wac_graph.proofs.BeginLemmas.{faultless_node, no_unbound, nodes_there}
 use Rattle.wac_graph.proofs.WantedAskedLemmas.{IsDefinition}
 use Rattle.wac_graph.proofs.graph.CompositionGraph.encode.Goals as goal
 
@@ -51,31 +55,23 @@ pub returns-in_err-check_types-clause-refused : goal.returns-in_err-check_types-
 returns-in_err-check_types-clause-refused c = λ cause stands. exit_refused (AnswersFor cause) c.from_residual-in_err-check_types.result (c.in_err-check_types.field-0).0 c.from_residual-in_err-check_types.ensures.1
     (refused_for c.args.self.now c.law.ensures c.fault_law.ensures c.args.options (c.in_err-check_types.field-0).0 (c.in_err-check_types.ensures.refused c.args.options refl) cause stands)
 
-pub returns-in_err-root-clause-cause : goal.returns-in_err-root-clause-cause
-returns-in_err-root-clause-cause c = exit_cause (λ e. IfSome (cause_of e) (Stands c.args.self.now c.args.options)) c.from_residual-in_err-root.result (c.in_err-root.field-0).0 c.from_residual-in_err-root.ensures.1
-    (begun_cause c.args.self.now c.args.options (c.in_err-root.field-0).0 (c.in_err-root.ensures.refused c.args.options refl))
-
-pub returns-in_err-root-clause-refused : goal.returns-in_err-root-clause-refused
-returns-in_err-root-clause-refused c = λ cause stands. exit_refused (AnswersFor cause) c.from_residual-in_err-root.result (c.in_err-root.field-0).0 c.from_residual-in_err-root.ensures.1
-    (begun_refused c.args.self.now c.law.ensures c.fault_law.ensures c.args.options (subst (λ g. IsAcyclic g.edges) c.reader-reader.ensures c.in_ok-ordered.ensures.acyclic) c.in_ok-check_conflicts.ensures.none c.in_ok-merge.ensures.merges c.in_ok-check_types.ensures.none (c.in_err-root.field-0).0 (c.in_err-root.ensures.refused c.args.options refl) cause stands)
-
 pub returns-in_err-bytes-clause-refused : goal.returns-in_err-bytes-clause-refused
 returns-in_err-bytes-clause-refused c = λ cause stands. exit_refused (AnswersFor cause) c.from_residual-in_err-bytes.result (c.in_err-bytes.field-0).0 c.from_residual-in_err-bytes.ensures.1
-    (nameless_answers c.args.self.now c.args.options ((subst (λ g. IsAcyclic g.edges) c.reader-reader.ensures c.in_ok-ordered.ensures.acyclic), c.in_ok-check_conflicts.ensures.none, c.in_ok-merge.ensures.merges, c.in_ok-check_types.ensures.none, c.in_ok-root.ensures.written c.args.options refl) (c.in_err-bytes.field-0).0 c.in_err-bytes.ensures.fault cause stands)
+    (nameless_answers c.args.self.now c.args.options ((subst (λ g. IsAcyclic g.edges) c.reader-reader.ensures c.in_ok-ordered.ensures.acyclic), c.in_ok-check_conflicts.ensures.none, c.in_ok-merge.ensures.merges, c.in_ok-check_types.ensures.none) (c.in_err-bytes.field-0).0 c.in_err-bytes.ensures.fault cause stands)
 
 pub returns-in_err-check_names-clause-cause : goal.returns-in_err-check_names-clause-cause
 returns-in_err-check_names-clause-cause c = exit_cause (λ e. IfSome (cause_of e) (Stands c.args.self.now c.args.options)) c.from_residual-in_err-check_names.result (c.in_err-check_names.field-0).0 c.from_residual-in_err-check_names.ensures.1
-    (fault_stands c.args.self.now c.law.ensures c.args.options c.in_ok-root.ensures.defined c.class_laws.ensures (λ t es order w. (c.order_law.ensures t es order w).each) c.in_ok-root.imports.merge c.in_ok-root.ensures.placed.merged c.deref-2.result.now (subst (λ ns. Writes c.args.self.now.edges (is_written c.args.self.now) ns) (sym c.deref-2.ensures.value) (subst (λ g. Writes g.edges (is_written g) c.in_ok-ordered.ordered.order.items) c.reader-reader.ensures c.in_ok-ordered.ensures.whole)) ((subst (λ g. IsAcyclic g.edges) c.reader-reader.ensures c.in_ok-ordered.ensures.acyclic), c.in_ok-check_conflicts.ensures.none, c.in_ok-merge.ensures.merges, c.in_ok-check_types.ensures.none, c.in_ok-root.ensures.written c.args.options refl)
+    (fault_stands c.args.self.now c.law.ensures c.args.options c.class_laws.ensures (λ t es order w. (c.order_law.ensures t es order w).each) c.in_ok-state.imports.merge c.in_ok-state.ensures.placed.merged c.deref-2.result.now (subst (λ ns. Writes c.args.self.now.edges (is_written c.args.self.now) ns) (sym c.deref-2.ensures.value) (subst (λ g. Writes g.edges (is_written g) c.in_ok-ordered.ordered.order.items) c.reader-reader.ensures c.in_ok-ordered.ensures.whole)) ((subst (λ g. IsAcyclic g.edges) c.reader-reader.ensures c.in_ok-ordered.ensures.acyclic), c.in_ok-check_conflicts.ensures.none, c.in_ok-merge.ensures.merges, c.in_ok-check_types.ensures.none)
     (c.in_err-check_names.field-0).0 c.in_err-check_names.ensures.fault.0 c.in_err-check_names.ensures.fault.1)
 
 pub returns-in_err-check_names-clause-refused : goal.returns-in_err-check_names-clause-refused
 returns-in_err-check_names-clause-refused c = λ cause stands. exit_refused (AnswersFor cause) c.from_residual-in_err-check_names.result (c.in_err-check_names.field-0).0 c.from_residual-in_err-check_names.ensures.1
-    (fault_answers c.args.self.now c.law.ensures c.args.options c.in_ok-root.ensures.defined c.class_laws.ensures (λ t es order w. (c.order_law.ensures t es order w).each) c.in_ok-root.imports.merge c.in_ok-root.ensures.placed.merged c.deref-2.result.now (subst (λ ns. Writes c.args.self.now.edges (is_written c.args.self.now) ns) (sym c.deref-2.ensures.value) (subst (λ g. Writes g.edges (is_written g) c.in_ok-ordered.ordered.order.items) c.reader-reader.ensures c.in_ok-ordered.ensures.whole)) ((subst (λ g. IsAcyclic g.edges) c.reader-reader.ensures c.in_ok-ordered.ensures.acyclic), c.in_ok-check_conflicts.ensures.none, c.in_ok-merge.ensures.merges, c.in_ok-check_types.ensures.none, c.in_ok-root.ensures.written c.args.options refl)
+    (fault_answers c.args.self.now c.law.ensures c.args.options c.class_laws.ensures (λ t es order w. (c.order_law.ensures t es order w).each) c.in_ok-state.imports.merge c.in_ok-state.ensures.placed.merged c.deref-2.result.now (subst (λ ns. Writes c.args.self.now.edges (is_written c.args.self.now) ns) (sym c.deref-2.ensures.value) (subst (λ g. Writes g.edges (is_written g) c.in_ok-ordered.ordered.order.items) c.reader-reader.ensures c.in_ok-ordered.ensures.whole)) ((subst (λ g. IsAcyclic g.edges) c.reader-reader.ensures c.in_ok-ordered.ensures.acyclic), c.in_ok-check_conflicts.ensures.none, c.in_ok-merge.ensures.merges, c.in_ok-check_types.ensures.none)
     (c.in_err-check_names.field-0).0 c.in_err-check_names.ensures.fault.1 cause stands)
 
 pub returns-clause-none : goal.returns-clause-none
-returns-clause-none c = none_occurs c.args.self.now c.args.options ((subst (λ g. IsAcyclic g.edges) c.reader-reader.ensures c.in_ok-ordered.ensures.acyclic), c.in_ok-check_conflicts.ensures.none, c.in_ok-merge.ensures.merges, c.in_ok-check_types.ensures.none, c.in_ok-root.ensures.written c.args.options refl)
-    (names_valid c.args.self.now c.law.ensures c.args.options c.in_ok-root.ensures.defined c.class_laws.ensures (λ t es order w. (c.order_law.ensures t es order w).each) c.in_ok-root.imports.merge c.in_ok-root.ensures.placed.merged c.deref-2.result.now (subst (λ ns. Writes c.args.self.now.edges (is_written c.args.self.now) ns) (sym c.deref-2.ensures.value) (subst (λ g. Writes g.edges (is_written g) c.in_ok-ordered.ordered.order.items) c.reader-reader.ensures c.in_ok-ordered.ensures.whole)) c.in_ok-check_names.ensures.none)
+returns-clause-none c = none_occurs c.args.self.now c.args.options ((subst (λ g. IsAcyclic g.edges) c.reader-reader.ensures c.in_ok-ordered.ensures.acyclic), c.in_ok-check_conflicts.ensures.none, c.in_ok-merge.ensures.merges, c.in_ok-check_types.ensures.none)
+    (names_valid c.args.self.now c.law.ensures c.args.options c.class_laws.ensures (λ t es order w. (c.order_law.ensures t es order w).each) c.in_ok-state.imports.merge c.in_ok-state.ensures.placed.merged c.deref-2.result.now (subst (λ ns. Writes c.args.self.now.edges (is_written c.args.self.now) ns) (sym c.deref-2.ensures.value) (subst (λ g. Writes g.edges (is_written g) c.in_ok-ordered.ordered.order.items) c.reader-reader.ensures c.in_ok-ordered.ensures.whole)) c.in_ok-check_names.ensures.none)
 
 pub returns-clause-refused : goal.returns-clause-refused
 returns-clause-refused c =
@@ -91,29 +87,8 @@ merged-requires-clause-acyclic c = subst (λ g. IsAcyclic g.edges) c.reader-read
 pub merged-requires-clause-instantiations : goal.merged-requires-clause-instantiations
 merged-requires-clause-instantiations c = c.as_slice.ensures.value ∙ c.in_ok-ordered.ensures.open ∙ ap open_numbers c.reader-reader.ensures
 
-pub check_types-requires-clause-definitions : goal.check_types-requires-clause-definitions
-check_types-requires-clause-definitions c = λ none. subst (λ (g : Graph). (n : NodeId) → IsDefinition g n → ⊥) c.reader-reader.ensures (c.in_ok-ordered.ensures.defined none)
-
-pub begin-requires-clause-definitions : goal.begin-requires-clause-definitions
-begin-requires-clause-definitions c = λ none. subst (λ (g : Graph). (n : NodeId) → IsDefinition g n → ⊥) c.reader-reader.ensures (c.in_ok-ordered.ensures.defined none)
-
 pub check_types-requires-clause-acyclic : goal.check_types-requires-clause-acyclic
 check_types-requires-clause-acyclic c = subst (λ g. IsAcyclic g.edges) c.reader-reader.ensures c.in_ok-ordered.ensures.acyclic
-
-pub begin-requires-clause-acyclic : goal.begin-requires-clause-acyclic
-begin-requires-clause-acyclic c = subst (λ g. IsAcyclic g.edges) c.reader-reader.ensures c.in_ok-ordered.ensures.acyclic
-
-pub write-requires-clause-placed : goal.write-requires-clause-placed
-write-requires-clause-placed c = subst (λ g. ArePlaced g c.in_ok-root.imports) (sym c.reader-reader.ensures) c.in_ok-root.ensures.placed
-
-pub write-requires-clause-definable : goal.write-requires-clause-definable
-write-requires-clause-definable c = subst AllDefinable (sym c.reader-reader.ensures) c.in_ok-root.ensures.definable
-
-pub write-requires-clause-importable : goal.write-requires-clause-importable
-write-requires-clause-importable c = subst AllImportable (sym c.reader-reader.ensures) c.in_ok-root.ensures.importable
-
-pub write-requires-clause-ordered : goal.write-requires-clause-ordered
-write-requires-clause-ordered c = subst (λ g. HasNoCircle by_names g.types (outer_entries g)) (sym c.reader-reader.ensures) c.in_ok-merge.ensures.merges.1
 
 pub write-requires-clause-whole : goal.write-requires-clause-whole
 write-requires-clause-whole c = subst (λ ns. Writes c.reader-reader.result.edges (is_written c.reader-reader.result) ns) (sym c.deref.ensures.value) c.in_ok-ordered.ensures.whole
@@ -124,4 +99,38 @@ returns-clause-means c = subst (λ g. (items : List Item) × (c.in_ok-bytes.byte
 pub returns-clause-valid : goal.returns-clause-valid
 returns-clause-valid c = λ asked.
     let (items, written, _, means) = returns-clause-means c in
-    (items, written, items_valid c.args.self.now c.law.ensures c.args.options c.in_ok-root.ensures.defined c.class_laws.ensures (λ t es order w. (c.order_law.ensures t es order w).each) c.in_ok-root.imports.merge c.in_ok-root.ensures.placed.merged c.deref-2.result.now (subst (λ ns. Writes c.args.self.now.edges (is_written c.args.self.now) ns) (sym c.deref-2.ensures.value) (subst (λ g. Writes g.edges (is_written g) c.in_ok-ordered.ordered.order.items) c.reader-reader.ensures c.in_ok-ordered.ensures.whole)) asked c.in_ok-check_names.ensures.valid items means)
+    (items, written, items_valid c.args.self.now c.law.ensures c.args.options c.class_laws.ensures (λ t es order w. (c.order_law.ensures t es order w).each) c.in_ok-state.imports.merge c.in_ok-state.ensures.placed.merged c.deref-2.result.now (subst (λ ns. Writes c.args.self.now.edges (is_written c.args.self.now) ns) (sym c.deref-2.ensures.value) (subst (λ g. Writes g.edges (is_written g) c.in_ok-ordered.ordered.order.items) c.reader-reader.ensures c.in_ok-ordered.ensures.whole)) asked c.in_ok-check_names.ensures.valid items means)
+
+pub returns-in_err-state-clause-refused : goal.returns-in_err-state-clause-refused
+returns-in_err-state-clause-refused c = λ cause stands. exit_refused (AnswersFor cause) c.from_residual-in_err-state.result (c.in_err-state.field-0).0 c.from_residual-in_err-state.ensures.1
+    (nameless_answers c.args.self.now c.args.options ((subst (λ g. IsAcyclic g.edges) c.reader-reader.ensures c.in_ok-ordered.ensures.acyclic), c.in_ok-check_conflicts.ensures.none, c.in_ok-merge.ensures.merges, c.in_ok-check_types.ensures.none) (c.in_err-state.field-0).0 c.in_err-state.ensures.fault cause stands)
+
+pub check_types-requires-clause-definitions : goal.check_types-requires-clause-definitions
+check_types-requires-clause-definitions c = λ none. subst (λ (g : Graph). (n : NodeId) → IsDefinition g n → ⊥) c.reader-reader.ensures (c.in_ok-ordered.ensures.defined none)
+
+pub begin-requires-clause-writable : goal.begin-requires-clause-writable
+begin-requires-clause-writable c = (c.args.options.define_components, c.in_ok-check_types.ensures.none)
+
+pub write-requires-clause-placed : goal.write-requires-clause-placed
+write-requires-clause-placed c = subst (λ g. ArePlaced g c.in_ok-state.imports) (sym c.reader-reader.ensures) c.in_ok-state.ensures.placed
+
+pub write-requires-clause-ordered : goal.write-requires-clause-ordered
+write-requires-clause-ordered c = subst (λ g. HasNoCircle by_names g.types (outer_entries g)) (sym c.reader-reader.ensures) c.in_ok-merge.ensures.merges.1
+
+pub write-requires-clause-agreed : goal.write-requires-clause-agreed
+write-requires-clause-agreed c = subst (λ g. AllMembersAgree by_names g.types (outer_entries g)) (sym c.reader-reader.ensures) c.in_ok-merge.ensures.agreed
+
+pub write-requires-clause-binds : goal.write-requires-clause-binds
+write-requires-clause-binds c = subst (λ g. BindsAsClasses by_names g.types (outer_entries g) c.in_ok-state.imports.merge.merge) (sym c.reader-reader.ensures) c.in_ok-state.ensures.kept.binds
+
+pub write-requires-clause-bound : goal.write-requires-clause-bound
+write-requires-clause-bound c = λ outer is.
+    subst (λ g. HasNoUnbound g.types (outer_entries g) outer) (sym c.reader-reader.ensures) (no_unbound c.args.self.now c.law.ensures c.args.options.define_components c.in_ok-check_types.ensures.none outer)
+
+pub write-requires-clause-faultless : goal.write-requires-clause-faultless
+write-requires-clause-faultless c = λ outer is n within.
+    subst (λ g. IsFaultlessNode g c.args.options.define_components (outer_bindings g outer) n) (sym c.reader-reader.ensures) (faultless_node c.args.self.now c.law.ensures c.args.options.define_components c.in_ok-check_types.ensures.none outer n)
+
+pub check_names-requires-clause-nodes : goal.check_names-requires-clause-nodes
+check_names-requires-clause-nodes c =
+    nodes_there c.args.self.now c.deref-2.result.now (subst (λ ns. Writes c.args.self.now.edges (is_written c.args.self.now) ns) (sym c.deref-2.ensures.value) (subst (λ g. Writes g.edges (is_written g) c.in_ok-ordered.ordered.order.items) c.reader-reader.ensures c.in_ok-ordered.ensures.whole))

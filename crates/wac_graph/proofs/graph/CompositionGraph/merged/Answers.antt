@@ -1,6 +1,6 @@
 use Rattle.std.proofs.Common.{◌≡◌, List, map, ap, sym, ◌∙◌, subst}
 use Rattle.std.specs.List.{AllByRecursion}
-use Rattle.wac_types_collection.specs.collection.Collection.{Collection, IsKeptBy, IsWellFormed}
+use Rattle.wac_types_collection.specs.collection.Collection.{Collection, IsWellFormed}
 use Rattle.wac_merge.specs.Aggregate.{IsFault}
 use Rattle.wac_merge.specs.Listed.{AreListedInOrder}
 use Rattle.wac_merge_classes.specs.entries.Bindings.{AreHeld}
@@ -9,14 +9,16 @@ use Rattle.wac_graph_model.specs.private.meaning.MergedImports.{ExportsOnce}
 use Rattle.wac_merge_classes.specs.terms.Faults.{HasNoCircle}
 use Rattle.wac_merge_classes.specs.terms.NoDisagreement.{HasNoDisagreement}
 use Rattle.wac_merge_classes.specs.declared.terms.fault.MergeFault.{MergeFault}
+use Rattle.wac_merge_classes.specs.entries.Agreement.{AllMembersAgree}
 use Rattle.wac_merge_classes.specs.entries.Classes as merge
+use Rattle.wac_merge_imports.specs.unions.EntryFaults.{HasFaultsOfEntries}
+use Rattle.wac_merge_imports.specs.unions.MergedScope.{BindsAsClasses}
 use Rattle.wac_graph_model.specs.nodes.Asked.{Entry}
 use Rattle.wac_graph_model.specs.nodes.Entries.{asked_entries, to_merge}
 use Rattle.wac_graph_fields.specs.private.EntriesLeft.{entry_view, IsHeldKind}
 use Rattle.wac_graph_model.specs.nodes.Graph.{Graph}
 use Rattle.wac_graph_reader.proofs.lemmas.writing.AskedHeld.{held_entries}
 use Rattle.wac_graph_encode.proofs.lemmas.places.MergeLemmas.{is_fault, merge_held}
-use Rattle.wac_graph.proofs.BoundLemmas.{merge_alike}
 use Rattle.wac_graph.proofs.graph.CompositionGraph.merged.Goals as goal
 
 pub aggregated-requires : goal.aggregated-requires
@@ -77,12 +79,22 @@ returns-in-Ok-clause-merged c =
           (c.listed_law.ensures c.self.inside.types c.in_ok-aggregator.aggregator.entries c.in-Ok.merge.merge c.in-Ok.ensures.merged c.in-Ok.ensures.once));
     }
 
-pub returns-in-Ok-clause-alike : goal.returns-in-Ok-clause-alike
-returns-in-Ok-clause-alike c =
+pub returns-in-Ok-clause-kept : goal.returns-in-Ok-clause-kept
+returns-in-Ok-clause-kept c =
+    let g = c.args.self.now in
+    let m = c.in-Ok.merge.merge in
+    let types : c.self.inside.types ≡ g.types = ap (λ (h : Graph). h.types) c.self.view_is in
+    let same : map entry_view c.as_slice.result.now ≡ asked_entries g = ap (map entry_view) c.as_slice.ensures.value ∙ c.in_ok-entries.ensures in
+    let entries : c.in_ok-aggregator.aggregator.entries ≡ to_merge (asked_entries g) = c.in_ok-aggregator.ensures ∙ ap to_merge same in record {
+      binds = subst (λ (t : Collection). BindsAsClasses merge.by_names t (to_merge (asked_entries g)) m) types (subst (λ (es : List merge.Entry). BindsAsClasses merge.by_names c.self.inside.types es m) entries c.in-Ok.ensures.bound);
+      before = c.in-Ok.ensures.before;
+      faults = subst (λ (t : Collection). HasFaultsOfEntries merge.by_names t (to_merge (asked_entries g)) m) types (subst (λ (es : List merge.Entry). HasFaultsOfEntries merge.by_names c.self.inside.types es m) entries c.in-Ok.ensures.faults);
+    }
+
+pub returns-in-Ok-clause-agreed : goal.returns-in-Ok-clause-agreed
+returns-in-Ok-clause-agreed c =
     let g = c.args.self.now in
     let types : c.self.inside.types ≡ g.types = ap (λ (h : Graph). h.types) c.self.view_is in
-    let wf : IsWellFormed g.types = subst (λ (t : Collection). IsWellFormed t) types c.law-2.ensures in
     let same : map entry_view c.as_slice.result.now ≡ asked_entries g = ap (map entry_view) c.as_slice.ensures.value ∙ c.in_ok-entries.ensures in
     let entries : c.in_ok-aggregator.aggregator.entries ≡ to_merge (asked_entries g) = c.in_ok-aggregator.ensures ∙ ap to_merge same in
-    merge_alike g c.in-Ok.merge c.in_ok-aggregator.aggregator.entries wf (subst (λ (t : Collection). IsKeptBy t c.in-Ok.merge.merge.types) types c.in-Ok.ensures.kept) c.in-Ok.ensures.finished.0 entries
-    (subst (λ (es : List merge.Entry). AreHeld g.types es) (sym entries) (merge_held g.types (asked_entries g) (held_entries g c.law.ensures wf)))
+    subst (λ (t : Collection). AllMembersAgree merge.by_names t (to_merge (asked_entries g))) types (subst (λ (es : List merge.Entry). AllMembersAgree merge.by_names c.self.inside.types es) entries c.in-Ok.ensures.agreed)

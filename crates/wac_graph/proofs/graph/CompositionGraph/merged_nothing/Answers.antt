@@ -4,8 +4,7 @@ use Rattle.wac_merge.specs.Aggregate.{Aggregate}
 use Rattle.wac_graph_model.specs.private.meaning.MergedImports.{ExportsOnce}
 use Rattle.wac_graph_model.specs.nodes.Entries.{to_merge}
 use Rattle.wac_graph_model.specs.nodes.Graph.{Graph}
-use Rattle.wac_graph.proofs.BoundLemmas.{nothing_alike}
-use Rattle.wac_graph.proofs.NothingLemmas.{has_merge, lists_nothing, merges_nothing}
+use Rattle.wac_graph.proofs.NothingLemmas.{has_merge, keeps_nothing, lists_nothing, merges_nothing, nothing_agrees}
 use Rattle.wac_graph.proofs.graph.CompositionGraph.merged_nothing.Goals as goal
 
 pub returns-in-Ok-clause-merged : goal.returns-in-Ok-clause-merged
@@ -29,7 +28,10 @@ returns-in-Ok-clause-merged c =
 pub returns-in-Ok-clause-merges : goal.returns-in-Ok-clause-merges
 returns-in-Ok-clause-merges c = has_merge c.args.self.now c.requires
 
-pub returns-in-Ok-clause-alike : goal.returns-in-Ok-clause-alike
-returns-in-Ok-clause-alike c =
+pub returns-in-Ok-clause-kept : goal.returns-in-Ok-clause-kept
+returns-in-Ok-clause-kept c =
     let entries : c.new.result.entries ≡ [] = ap (λ (a : Aggregate). a.entries) c.new.ensures in
-    nothing_alike c.args.self.now c.in-Ok.merge (c.in-Ok.ensures.finished.0 ∙ entries) (ap to_merge c.requires)
+    keeps_nothing c.args.self.now c.new-types.result c.new.result.entries c.in-Ok.merge c.requires entries c.in-Ok.ensures.before c.in-Ok.ensures.faults
+
+pub returns-in-Ok-clause-agreed : goal.returns-in-Ok-clause-agreed
+returns-in-Ok-clause-agreed c = nothing_agrees c.args.self.now c.requires

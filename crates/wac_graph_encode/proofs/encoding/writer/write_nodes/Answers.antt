@@ -1,41 +1,48 @@
-use Rattle.std.proofs.Common.{◌≡◌, false, ◌<◌, ◌∙◌, refl, sym, subst, arith, slice_index_or}
-use Rattle.wac_edges.specs.Edge.{node_number}
-use Rattle.wac_graph_model.specs.meaning.Means.{is_import}
-use Rattle.wac_graph_model.specs.private.meaning.Writing.{WroteAll}
-use Rattle.wac_graph_reader.specs.private.reading.EncoderView.{progress}
-use Rattle.wac_graph_reader.proofs.lemmas.writing.WriteArgumentsLemmas.{wrote_next, dropped_all, element, room_kept, is_there_of}
-use Rattle.wac_graph_encode.proofs.lemmas.encoding.DefinitionLemmas.{still_listed}
+use Rattle.std.proofs.Common.{◌∙◌, Contains, None, false, length, ap, refl, sym, subst}
+use Rattle.wac_types_collection.specs.collection.Collection.{Collection}
+use Rattle.wac_edges.specs.declared.node.NodeId.{NodeId}
+use Rattle.wac_encode_scopes.specs.Closed.{AreClosedTypes}
+use Rattle.wac_encode_interfaces.specs.Worlds.{AreWorldTypes, written_in}
+use Rattle.wac_encode_interfaces.specs.declared.worlds.WorldTypes.{WorldTypes}
+use Rattle.wac_graph_model.specs.nodes.OuterImports.{outer_bindings}
+use Rattle.wac_graph_reader.proofs.lemmas.writing.MeansLemmas.{in_order}
+use Rattle.wac_graph_reader.proofs.lemmas.writing.WriteArgumentsLemmas.{room_kept}
+use Rattle.wac_graph_encode.specs.private.encoding.Root.{HasNodeWorlds}
+use Rattle.wac_graph_encode.proofs.lemmas.encoding.LoopLemmas.{order-at, nodes-begin}
 use Rattle.wac_graph_encode.proofs.encoding.writer.write_nodes.Goals as goal
 
-pub loop-n-init : goal.loop-n-init
-loop-n-init c = (λ ends written. written, refl, c.requires.right, λ a. refl)
+pub node_worlds-requires-clause-closed : goal.node_worlds-requires-clause-closed
+node_worlds-requires-clause-closed c = subst (λ (t : Collection). AreClosedTypes t c.in_ok-closed.closed) c.types.ensures c.in_ok-closed.ensures
 
-pub write_node-requires-clause-room : goal.write_node-requires-clause-room
-write_node-requires-clause-room c = room_kept c.args.reader.now c.args.encoder.now.indexes.items c.loop-n.encoder.indexes.items c.loop-n.invariant.1 c.requires.room
+pub node_worlds-requires-clause-nodes : goal.node_worlds-requires-clause-nodes
+node_worlds-requires-clause-nodes c = λ n within. in_order c.args.reader.now c.args.order.now c.requires.whole within.0 n (order-at c.args.order.now n within)
 
-pub write_node-requires-clause-noted : goal.write_node-requires-clause-noted
-write_node-requires-clause-noted c = subst (λ k. (slice_index_or c.args.order.now c.loop-n.n-index (node_number 0)).0 < k) (sym c.loop-n.invariant.1) (c.requires.room (slice_index_or c.args.order.now c.loop-n.n-index (node_number 0)) (is_there_of c.args.reader.now (slice_index_or c.args.order.now c.loop-n.n-index (node_number 0)) (λ node. is_import node.kind ≡ false) (c.requires.nodes c.loop-n.n-index (slice_index_or c.args.order.now c.loop-n.n-index (node_number 0)) (element c.args.order.now c.loop-n.n-index c.loop-n-test.true))))
+pub node_worlds-requires-clause-faultless : goal.node_worlds-requires-clause-faultless
+node_worlds-requires-clause-faultless c = λ n within. (outer_bindings c.args.reader.now (c.requires.begins).outer, c.requires.faultless (c.requires.begins).outer (c.requires.begins).is_order n within)
 
-pub returns-in_err-write_node-clause-kept : goal.returns-in_err-write_node-clause-kept
-returns-in_err-write_node-clause-kept c = c.in_err-write_node.ensures.kept ∙ c.loop-n.invariant.1
+pub write_nodes-requires-clause-writer : goal.write_nodes-requires-clause-writer
+write_nodes-requires-clause-writer c = record {
+  writer = c.new-types.ensures.writer (subst (λ (t : Collection). AreClosedTypes t c.in_ok-closed.closed) (c.types.ensures ∙ sym c.types-2.ensures) c.in_ok-closed.ensures) (subst (λ (t : Collection). AreWorldTypes t (written_in c.in_ok-worlds.worlds)) (sym c.types-2.ensures) c.in_ok-worlds.ensures.written);
+  types = c.new-types.ensures.types ∙ c.types-2.ensures;
+  own = c.new-types.ensures.merged;
+  placed = c.requires.placed;
+}
 
-pub loop-n-preserved : goal.loop-n-preserved
-loop-n-preserved c = (λ ends written. c.loop-n.invariant.0 ends (wrote_next c.args.reader.now c.args.imports.now.places.items c.args.order.now c.loop-n.n-index (slice_index_or c.args.order.now c.loop-n.n-index (node_number 0)) (progress c.loop-n.encoder) (progress c.write_node.new.encoder) ends (element c.args.order.now c.loop-n.n-index c.loop-n-test.true) c.in_ok-write_node.ensures.written written), c.in_ok-write_node.ensures.kept ∙ c.loop-n.invariant.1, c.in_ok-write_node.ensures.right, λ a. c.in_ok-write_node.ensures.listed a ∙ c.loop-n.invariant.3 a)
+pub write_nodes-requires-clause-nodes : goal.write_nodes-requires-clause-nodes
+write_nodes-requires-clause-nodes c = λ n within. in_order c.args.reader.now c.args.order.now c.requires.whole within.0 n (order-at c.args.order.now n within)
+
+pub write_nodes-requires-clause-worlds : goal.write_nodes-requires-clause-worlds
+write_nodes-requires-clause-worlds c = subst (λ (ws : WorldTypes). (n : NodeId) → Contains c.args.order.now n → HasNodeWorlds c.args.reader.now c.args.define_components (written_in ws) n) (sym c.new-types.ensures.worlds) c.in_ok-worlds.ensures.there
+
+pub write_nodes-requires-clause-begins : goal.write_nodes-requires-clause-begins
+write_nodes-requires-clause-begins c = nodes-begin c.class_laws.ensures (λ t es order w. (c.order_law.ensures t es order w).each) _ c.requires.placed c.law.ensures c.new-encoder.result c.args.order.now c.args.state c.in_ok-indexes.indexes.items
+    c.requires.whole c.requires.faultless c.requires.begins c.in_ok-indexes.ensures.room c.in_ok-indexes.ensures.found c.new-encoder.ensures.state c.new-encoder.ensures.components (ap (λ v. v.items) c.new-encoder.ensures.indexes)
 
 pub returns-clause-written : goal.returns-clause-written
-returns-clause-written c = c.loop-n.invariant.0 (progress c.loop-n.encoder) (subst (λ xs. WroteAll c.args.reader.now c.args.imports.now.places.items xs (progress c.loop-n.encoder) (progress c.loop-n.encoder)) (sym (dropped_all c.args.order.now c.loop-n.n-index (omega (arith, c.loop-n-test.false)))) refl)
+returns-clause-written c = λ o same outer is_order. (c.in_ok-write_nodes.ensures.written o same outer is_order).1
 
-pub returns-clause-kept : goal.returns-clause-kept
-returns-clause-kept c = c.loop-n.invariant.1
+pub returns-clause-root : goal.returns-clause-root
+returns-clause-root c = (c.in_ok-write_nodes.ensures.written (record { define_components = c.args.define_components; validate = false; processor = None }) refl (c.requires.begins).outer (c.requires.begins).is_order).0.root
 
-pub write_node-requires-clause-node : goal.write_node-requires-clause-node
-write_node-requires-clause-node c = c.requires.nodes c.loop-n.n-index (slice_index_or c.args.order.now c.loop-n.n-index (node_number 0)) (element c.args.order.now c.loop-n.n-index c.loop-n-test.true)
-
-pub write_node-requires-clause-right : goal.write_node-requires-clause-right
-write_node-requires-clause-right c = c.loop-n.invariant.2
-
-pub returns-clause-right : goal.returns-clause-right
-returns-clause-right c = c.loop-n.invariant.2
-
-pub write_node-requires-clause-listed : goal.write_node-requires-clause-listed
-write_node-requires-clause-listed c = λ m is. still_listed c.args.reader.now c.args.imports.now.places.items c.args.encoder.now.root c.loop-n.encoder.root c.loop-n.invariant.3 (c.requires.listed m is)
+pub returns-clause-room : goal.returns-clause-room
+returns-clause-room c = room_kept c.args.reader.now c.in_ok-indexes.indexes.items c.write_nodes.new.encoder.indexes.items (c.in_ok-write_nodes.ensures.kept ∙ ap (λ v. length v.items) c.new-encoder.ensures.indexes) c.in_ok-indexes.ensures.room

@@ -1,9 +1,8 @@
-use Rattle.wac_scopes.specs.declared.scope.Scope.{Scope}
-use Rattle.wac_scopes.specs.Scoped.{listing}
-use Rattle.std.proofs.Common.{◌<◌, ◌∙◌, refl, ap, sym, subst, IfSome}
-use Rattle.wac_binary.specs.Indexes.{space}
-use Rattle.wac_scopes.specs.Contents.{items_of}
-use Rattle.wac_graph_reader.proofs.lemmas.reading.RootLemmas.{root_count, grown, stays_right}
+use Rattle.std.proofs.Common.{◌<◌, ◌∙◌, [], ◌∷◌, ◌++◌, refl, ap, sym, subst, IfSome}
+use Rattle.wac_binary.specs.Indexes.{space, indexes}
+use Rattle.wac_binary.specs.Items.{alias_item, export_alias}
+use Rattle.wac_encode_scopes.specs.Lending.{with_items}
+use Rattle.wac_encode_scopes.specs.Roots.{items_of}
 use Rattle.wac_graph_model.specs.meaning.Means.{sort_of_kind}
 use Rattle.wac_graph_model.specs.private.meaning.Encoding.{index_in}
 use Rattle.wac_graph_model.specs.private.meaning.Writing.{WritesNode}
@@ -37,20 +36,21 @@ index-requires-3 c =
     alias_there (fields_of c.self.inside) c.self.invariant c.args.n.0 (rw (← c.self.view_is) at c.requires.alias) c.in-Some.source.0 c.in-Some.position c.in-Some.ensures.some c.index.result.now c.in-Instance.interface c.index-2.result.now c.index.ensures (sym c.item_kind.ensures ∙ c.in-Instance.is) c.index-2.ensures
 
 pub returns-clause-written : goal.returns-clause-written
-returns-clause-written c places =
-    subst (λ g. IfSome (node_at g c.args.n) (λ node. WritesNode g places c.args.n node (index_in c.args.encoder.now.indexes.items) c.args.encoder.now.components c.args.encoder.now.components (items_of c.args.encoder.now.root.content) (items_of c.alias_export.new.self.content) c.in_ok-alias_export.field-0)) c.self.view_is
+returns-clause-written c o m places =
+    let state = c.args.encoder.now.state in
+    let grown = c.in_ok-index.ensures.appended ∙ ap (λ xs. xs ++ alias_item (export_alias c.sort_of-sort.result c.index-instance.result.now c.name_at-name.result.now) ∷ []) c.builder.ensures.value in
+    subst (λ g. IfSome (node_at g c.args.n) (λ node. WritesNode g o m places c.args.n node (index_in c.args.encoder.now.indexes.items) c.args.encoder.now.components c.args.encoder.now.components (items_of state.here.content) c.alias_export.new.self c.in_ok-index.index)) c.self.view_is
     (alias_added (fields_of c.self.inside) c.self.invariant c.args.n.0 (rw (← c.self.view_is) at c.requires.alias) c.in-Some.source.0 c.in-Some.position c.in-Some.ensures.some c.index.result.now c.in-Instance.interface c.index-2.result.now c.index.ensures (sym c.item_kind.ensures ∙ c.in-Instance.is) c.index-2.ensures
-    places c.index-3.result.now c.index-3.ensures c.name_at-name.result.now c.name_at-name.ensures c.sort_of-sort.result (c.sort_of-sort.ensures ∙ ap sort_of_kind c.item_kind-2.ensures)
+    o m places c.index-3.result.now c.index-3.ensures c.name_at-name.result.now c.name_at-name.ensures c.sort_of-sort.result (c.sort_of-sort.ensures ∙ ap sort_of_kind c.item_kind-2.ensures)
     (index_in c.args.encoder.now.indexes.items) c.index-instance.result.now (index_is c.args.encoder.now.indexes.items c.in-Some.source.0 c.index-instance.result.now (source_noted (fields_of c.self.inside) c.self.invariant c.args.self.now c.self.view_is c.args.encoder.now.indexes.items c.requires.room (alias_edge c.in-Some.source c.args.n c.in-Some.position) c.in-Some.ensures.some) c.index-instance.ensures)
     c.args.encoder.now.components c.args.encoder.now.components refl
-    (items_of c.args.encoder.now.root.content) (items_of c.alias_export.new.self.content) (grown c.args.encoder.now.root c.alias_export.new.self _ c.in_ok-alias_export.ensures.appended) c.in_ok-alias_export.field-0 (c.in_ok-alias_export.ensures.index ∙ root_count (space c.sort_of-sort.result) c.args.encoder.now.root.content c.requires.right.is_root))
+    (items_of state.here.content) c.alias_export.new.self grown c.in_ok-index.index (c.in_ok-index.ensures.index ∙ ap (indexes (space c.sort_of-sort.result)) c.builder.ensures.value))
+
+pub returns-clause-appended : goal.returns-clause-appended
+returns-clause-appended c =
+    let added = alias_item (export_alias c.sort_of-sort.result c.index-instance.result.now c.name_at-name.result.now) ∷ [] in
+    (added, ap (with_items c.args.encoder.now.state) (c.in_ok-index.ensures.appended ∙ ap (λ xs. xs ++ added) c.builder.ensures.value))
 
 pub index-instance-requires : goal.index-instance-requires
 index-instance-requires c = subst (λ k. c.in-Some.source.0 < k) (sym c.args.encoder.now.indexes.ok.0)
     (source_noted (fields_of c.self.inside) c.self.invariant c.args.self.now c.self.view_is c.args.encoder.now.indexes.items c.requires.room (alias_edge c.in-Some.source c.args.n c.in-Some.position) c.in-Some.ensures.some)
-
-pub returns-clause-right : goal.returns-clause-right
-returns-clause-right c = stays_right c.rooted_law.ensures.stays c.args.self.now.types c.args.encoder.now.root c.alias_export.new.self _ c.requires.right c.in_ok-alias_export.ensures.appended
-
-pub returns-clause-listed : goal.returns-clause-listed
-returns-clause-listed c = λ a. ap (λ (s : Scope). listing s a) c.in_ok-alias_export.ensures.appended

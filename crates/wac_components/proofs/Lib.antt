@@ -1,2 +1,0 @@
-pub mod Importing
-pub mod Defining

@@ -1,2 +1,0 @@
-pub mod EnumInterface
-pub mod ImportedEnum

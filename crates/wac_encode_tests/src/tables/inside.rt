@@ -1,0 +1,303 @@
+//! Imports of instances with instances inside.
+
+use crate::rows::Row::{Component, Enumeration, Func, Instance, List, Primitive, TypeOf, User};
+use crate::tables::RootRow;
+use wac_types_shapes::PrimitiveType;
+
+/// Instances inside an instance.
+pub const INSIDE: &[RootRow] = &[
+    RootRow {
+        name: "a function takes the alias of an enum that an instance beside it exports",
+        rows: &[
+            Enumeration("a"),
+            Func(&[("x", 0)], None),
+            Instance(None, &[("t", 0)]),
+            Instance(Some("n:p/i"), &[("j", 2), ("f", 1)]),
+        ],
+        imports: &[("n:p/i", 3)],
+        definitions: &[],
+        want: &[
+            0x07, 0x2c, 0x01, 0x42, 0x05, // an instance type of five declarations
+            0x01, 0x42, 0x02, // an instance type of two declarations inside
+            0x01, 0x6d, 0x01, 0x01, 0x61, // the enum
+            0x04, 0x00, 0x01, 0x74, 0x03, 0x00, 0x00, // a type item that equals it
+            0x04, 0x00, 0x01, 0x6a, 0x05, 0x00, // the instance
+            0x02, 0x03, 0x00, 0x00, 0x01, 0x74, // an alias of its enum
+            0x01, 0x40, 0x01, 0x01, 0x78, 0x01, 0x01, 0x00, // a function type over the alias
+            0x04, 0x00, 0x01, 0x66, 0x01, 0x02, // the function
+            0x0a, 0x0a, 0x01, 0x00, 0x05, 0x6e, 0x3a, 0x70, 0x2f, 0x69, 0x05, 0x00, // the import
+        ],
+    },
+    RootRow {
+        name: "functions before and after an instance take the enum as it is written and the alias of its export",
+        rows: &[
+            Enumeration("a"),
+            Func(&[("x", 0)], None),
+            Instance(None, &[("t", 0)]),
+            Func(&[("y", 0)], None),
+            Instance(Some("n:p/i"), &[("f", 1), ("j", 2), ("g", 3)]),
+        ],
+        imports: &[("n:p/i", 4)],
+        definitions: &[],
+        want: &[
+            0x07, 0x3f, 0x01, 0x42, 0x08, // an instance type of eight declarations
+            0x01, 0x6d, 0x01, 0x01, 0x61, // the enum
+            0x01, 0x40, 0x01, 0x01, 0x78, 0x00, 0x01, 0x00, // a function type over it
+            0x04, 0x00, 0x01, 0x66, 0x01, 0x01, // the first function
+            0x01, 0x42, 0x02, // an instance type of two declarations inside
+            0x01, 0x6d, 0x01, 0x01, 0x61, // the enum
+            0x04, 0x00, 0x01, 0x74, 0x03, 0x00, 0x00, // a type item that equals it
+            0x04, 0x00, 0x01, 0x6a, 0x05, 0x02, // the instance
+            0x02, 0x03, 0x00, 0x00, 0x01, 0x74, // an alias of its enum
+            0x01, 0x40, 0x01, 0x01, 0x79, 0x03, 0x01, 0x00, // a function type over the alias
+            0x04, 0x00, 0x01, 0x67, 0x01, 0x04, // the second function
+            0x0a, 0x0a, 0x01, 0x00, 0x05, 0x6e, 0x3a, 0x70, 0x2f, 0x69, 0x05, 0x00, // the import
+        ],
+    },
+    RootRow {
+        name: "two instances of one interface share its type",
+        rows: &[
+            Func(&[], None),
+            Instance(None, &[("f", 0)]),
+            Instance(Some("n:p/i"), &[("m", 1), ("n", 1)]),
+        ],
+        imports: &[("n:p/i", 2)],
+        definitions: &[],
+        want: &[
+            0x07, 0x1d, 0x01, 0x42, 0x03, // an instance type of three declarations
+            0x01, 0x42, 0x02, // an instance type of two declarations inside
+            0x01, 0x40, 0x00, 0x01, 0x00, // a function type
+            0x04, 0x00, 0x01, 0x66, 0x01, 0x00, // the function
+            0x04, 0x00, 0x01, 0x6d, 0x05, 0x00, // an instance
+            0x04, 0x00, 0x01, 0x6e, 0x05, 0x00, // another
+            0x0a, 0x0a, 0x01, 0x00, 0x05, 0x6e, 0x3a, 0x70, 0x2f, 0x69, 0x05, 0x00, // the import
+        ],
+    },
+    RootRow {
+        name: "the interface of a type item has its own enum if no scope binds the interface that it uses",
+        rows: &[
+            Enumeration("a"),
+            Instance(Some("n:p/j"), &[("t", 0)]),
+            User(Some("n:p/i"), &[("t", 1, "t")], &[("t", 0)]),
+            TypeOf(2),
+            Instance(Some("n:p/k"), &[("i", 3)]),
+        ],
+        imports: &[("n:p/k", 4)],
+        definitions: &[],
+        want: &[
+            0x07, 0x19, 0x01, 0x42, 0x02, // an instance type of two declarations
+            0x01, 0x42, 0x02, // an instance type of two declarations inside
+            0x01, 0x6d, 0x01, 0x01, 0x61, // the enum
+            0x04, 0x00, 0x01, 0x74, 0x03, 0x00, 0x00, // a type item that equals it
+            0x04, 0x00, 0x01, 0x69, 0x03, 0x00, 0x00, // a type item that equals the instance type
+            0x0a, 0x0a, 0x01, 0x00, 0x05, 0x6e, 0x3a, 0x70, 0x2f, 0x6b, 0x05, 0x00, // the import
+        ],
+    },
+];
+
+/// Interfaces and worlds inside an instance, and what they take from it.
+pub const DEEP: &[RootRow] = &[
+    RootRow {
+        name: "an instance inside takes an enum that its owner exports, under the name that it has there",
+        rows: &[
+            Enumeration("a"),
+            Func(&[("x", 0)], None),
+            Instance(None, &[("f", 1)]),
+            Instance(Some("n:p/i"), &[("n", 2), ("t", 0)]),
+        ],
+        imports: &[("n:p/i", 3)],
+        definitions: &[],
+        want: &[
+            0x07, 0x2b, 0x01, 0x42, 0x04, // an instance type of four declarations
+            0x01, 0x6d, 0x01, 0x01, 0x61, // the enum
+            0x04, 0x00, 0x01, 0x74, 0x03, 0x00, 0x00, // a type item that equals it
+            0x01, 0x42, 0x03, // an instance type of three declarations inside
+            0x02, 0x03, 0x02, 0x01, 0x01, // an outer alias of the type item
+            0x01, 0x40, 0x01, 0x01, 0x78, 0x00, 0x01, 0x00, // a function type over it
+            0x04, 0x00, 0x01, 0x66, 0x01, 0x01, // the function
+            0x04, 0x00, 0x01, 0x6e, 0x05, 0x02, // the instance
+            0x0a, 0x0a, 0x01, 0x00, 0x05, 0x6e, 0x3a, 0x70, 0x2f, 0x69, 0x05, 0x00, // the import
+        ],
+    },
+    RootRow {
+        name: "an interface inside two others is written in each",
+        rows: &[
+            Enumeration("a"),
+            Func(&[("x", 0)], None),
+            Instance(None, &[("f", 1)]),
+            Instance(None, &[("n", 2)]),
+            Instance(None, &[("m", 2)]),
+            Instance(Some("n:p/i"), &[("a", 3), ("b", 4), ("t", 0)]),
+        ],
+        imports: &[("n:p/i", 5)],
+        definitions: &[],
+        want: &[
+            0x07, 0x59, 0x01, 0x42, 0x06, // an instance type of six declarations
+            0x01, 0x6d, 0x01, 0x01, 0x61, // the enum
+            0x04, 0x00, 0x01, 0x74, 0x03, 0x00, 0x00, // a type item that equals it
+            0x01, 0x42, 0x02, // an instance type of two declarations inside
+            0x01, 0x42, 0x03, // an instance type of three declarations in it
+            0x02, 0x03, 0x02, 0x02, 0x01, // an outer alias of the type item, with count 2
+            0x01, 0x40, 0x01, 0x01, 0x78, 0x00, 0x01, 0x00, // a function type over it
+            0x04, 0x00, 0x01, 0x66, 0x01, 0x01, // the function
+            0x04, 0x00, 0x01, 0x6e, 0x05, 0x00, // the instance
+            0x04, 0x00, 0x01, 0x61, 0x05, 0x02, // an instance
+            0x01, 0x42, 0x02, // an instance type of two declarations inside
+            0x01, 0x42, 0x03, // an instance type of three declarations in it
+            0x02, 0x03, 0x02, 0x02, 0x01, // an outer alias of the type item, with count 2
+            0x01, 0x40, 0x01, 0x01, 0x78, 0x00, 0x01, 0x00, // a function type over it
+            0x04, 0x00, 0x01, 0x66, 0x01, 0x01, // the function
+            0x04, 0x00, 0x01, 0x6d, 0x05, 0x00, // the instance
+            0x04, 0x00, 0x01, 0x62, 0x05, 0x03, // an instance
+            0x0a, 0x0a, 0x01, 0x00, 0x05, 0x6e, 0x3a, 0x70, 0x2f, 0x69, 0x05, 0x00, // the import
+        ],
+    },
+    RootRow {
+        name: "an interface as a type item takes an enum that its owner exports",
+        rows: &[
+            Enumeration("a"),
+            Func(&[("x", 0)], None),
+            Instance(None, &[("f", 1)]),
+            TypeOf(2),
+            Instance(Some("n:p/i"), &[("n", 3), ("t", 0)]),
+        ],
+        imports: &[("n:p/i", 4)],
+        definitions: &[],
+        want: &[
+            0x07, 0x2c, 0x01, 0x42, 0x04, // an instance type of four declarations
+            0x01, 0x6d, 0x01, 0x01, 0x61, // the enum
+            0x04, 0x00, 0x01, 0x74, 0x03, 0x00, 0x00, // a type item that equals it
+            0x01, 0x42, 0x03, // an instance type of three declarations inside
+            0x02, 0x03, 0x02, 0x01, 0x01, // an outer alias of the type item
+            0x01, 0x40, 0x01, 0x01, 0x78, 0x00, 0x01, 0x00, // a function type over it
+            0x04, 0x00, 0x01, 0x66, 0x01, 0x01, // the function
+            0x04, 0x00, 0x01, 0x6e, 0x03, 0x00, 0x02, // a type item that equals the instance type
+            0x0a, 0x0a, 0x01, 0x00, 0x05, 0x6e, 0x3a, 0x70, 0x2f, 0x69, 0x05, 0x00, // the import
+        ],
+    },
+    RootRow {
+        name: "type items of an interface come before instances, which have the first of them",
+        rows: &[
+            Func(&[], None),
+            Instance(None, &[("f", 0)]),
+            TypeOf(1),
+            Instance(Some("n:p/i"), &[("m", 1), ("i", 2), ("n", 1), ("j", 2)]),
+        ],
+        imports: &[("n:p/i", 3)],
+        definitions: &[],
+        want: &[
+            0x07, 0x2b, 0x01, 0x42, 0x05, // an instance type of five declarations
+            0x01, 0x42, 0x02, // an instance type of two declarations inside
+            0x01, 0x40, 0x00, 0x01, 0x00, // a function type
+            0x04, 0x00, 0x01, 0x66, 0x01, 0x00, // the function
+            0x04, 0x00, 0x01, 0x69, 0x03, 0x00, 0x00, // a type item that equals the instance type
+            0x04, 0x00, 0x01, 0x6a, 0x03, 0x00, 0x01, // another, which equals the first
+            0x04, 0x00, 0x01, 0x6d, 0x05, 0x01, // an instance of the first
+            0x04, 0x00, 0x01, 0x6e, 0x05, 0x01, // another
+            0x0a, 0x0a, 0x01, 0x00, 0x05, 0x6e, 0x3a, 0x70, 0x2f, 0x69, 0x05, 0x00, // the import
+        ],
+    },
+];
+
+/// Types that are written once in a scope. The imports are in no order of a merge.
+pub const ONCE: &[RootRow] = &[
+    RootRow {
+        name: "a world inside is written once in a scope, and takes nothing from the scopes around",
+        rows: &[
+            Enumeration("a"),
+            Func(&[("x", 0)], None),
+            Component(None, &[("f", 1)], &[]),
+            TypeOf(2),
+            Instance(Some("n:p/k"), &[("w", 3), ("v", 3)]),
+        ],
+        imports: &[("t", 0), ("n:p/k", 4)],
+        definitions: &[],
+        want: &[
+            0x07, 0x05, 0x01, 0x6d, 0x01, 0x01, 0x61, // the enum
+            0x0a, 0x07, 0x01, 0x00, 0x01, 0x74, 0x03, 0x00, 0x00, // a type item that equals it
+            0x07, 0x27, 0x01, 0x42, 0x03, // an instance type of three declarations
+            0x01, 0x41, 0x03, // a component type of three declarations inside
+            0x01, 0x6d, 0x01, 0x01, 0x61, // the enum
+            0x01, 0x40, 0x01, 0x01, 0x78, 0x00, 0x01, 0x00, // a function type over it
+            0x03, 0x00, 0x01, 0x66, 0x01, 0x01, // the function
+            0x04, 0x00, 0x01, 0x77, 0x03, 0x00, 0x00, // a type item that equals the component type
+            0x04, 0x00, 0x01, 0x76, 0x03, 0x00, 0x01, // another, which equals the first
+            0x0a, 0x0a, 0x01, 0x00, 0x05, 0x6e, 0x3a, 0x70, 0x2f, 0x6b, 0x05, 0x02, // the import
+        ],
+    },
+    RootRow {
+        name: "an instance has the type item of its interface",
+        rows: &[Func(&[], None), Instance(None, &[("f", 0)]), TypeOf(1)],
+        imports: &[("i", 2), ("n:p/j", 1)],
+        definitions: &[],
+        want: &[
+            0x07, 0x0e, 0x01, 0x42, 0x02, // an instance type of two declarations
+            0x01, 0x40, 0x00, 0x01, 0x00, // a function type
+            0x04, 0x00, 0x01, 0x66, 0x01, 0x00, // the function
+            0x0a, 0x10, 0x02, // two imports
+            0x00, 0x01, 0x69, 0x03, 0x00, 0x00, // a type item that equals the instance type
+            0x00, 0x05, 0x6e, 0x3a, 0x70, 0x2f, 0x6a, 0x05, 0x01, // an instance of the type item
+        ],
+    },
+    RootRow {
+        name: "the type of a component is written once, and takes nothing from the root",
+        rows: &[
+            Enumeration("a"),
+            Func(&[("x", 0)], None),
+            Component(None, &[("f", 1)], &[]),
+        ],
+        imports: &[("t", 0), ("c", 2), ("d", 2)],
+        definitions: &[],
+        want: &[
+            0x07, 0x05, 0x01, 0x6d, 0x01, 0x01, 0x61, // the enum
+            0x0a, 0x07, 0x01, 0x00, 0x01, 0x74, 0x03, 0x00, 0x00, // a type item that equals it
+            0x07, 0x16, 0x01, 0x41, 0x03, // a component type of three declarations
+            0x01, 0x6d, 0x01, 0x01, 0x61, // the enum
+            0x01, 0x40, 0x01, 0x01, 0x78, 0x00, 0x01, 0x00, // a function type over it
+            0x03, 0x00, 0x01, 0x66, 0x01, 0x01, // the function
+            0x0a, 0x0b, 0x02, // two imports
+            0x00, 0x01, 0x63, 0x04, 0x02, // a component
+            0x00, 0x01, 0x64, 0x04, 0x02, // another
+        ],
+    },
+    RootRow {
+        name: "an interface that two instances have is written once, and so is a function type that it exports twice",
+        rows: &[
+            Primitive(PrimitiveType::U8),
+            Func(&[("x", 0)], None),
+            Instance(None, &[("f", 1), ("g", 1)]),
+        ],
+        imports: &[("a", 2), ("b", 2)],
+        definitions: &[],
+        want: &[
+            0x07, 0x17, 0x01, 0x42, 0x03, // an instance type of three declarations
+            0x01, 0x40, 0x01, 0x01, 0x78, 0x7d, 0x01, 0x00, // a function type
+            0x04, 0x00, 0x01, 0x66, 0x01, 0x00, // a function of it
+            0x04, 0x00, 0x01, 0x67, 0x01, 0x00, // another
+            0x0a, 0x0b, 0x02, // two imports
+            0x00, 0x01, 0x61, 0x05, 0x00, // an instance
+            0x00, 0x01, 0x62, 0x05, 0x00, // another
+        ],
+    },
+    RootRow {
+        name: "a type that the root has no name for is written again in an instance type",
+        rows: &[
+            Primitive(PrimitiveType::U8),
+            List(0),
+            Func(&[("x", 1)], None),
+            Instance(Some("n:p/i"), &[("f", 2)]),
+        ],
+        imports: &[("g", 2), ("n:p/i", 3)],
+        definitions: &[],
+        want: &[
+            0x07, 0x0a, 0x02, 0x70, 0x7d, // a list
+            0x40, 0x01, 0x01, 0x78, 0x00, 0x01, 0x00, // a function type over it
+            0x0a, 0x06, 0x01, 0x00, 0x01, 0x67, 0x01, 0x01, // the function
+            0x07, 0x14, 0x01, 0x42, 0x03, // an instance type of three declarations
+            0x01, 0x70, 0x7d, // the list
+            0x01, 0x40, 0x01, 0x01, 0x78, 0x00, 0x01, 0x00, // the function type over it
+            0x04, 0x00, 0x01, 0x66, 0x01, 0x01, // the function
+            0x0a, 0x0a, 0x01, 0x00, 0x05, 0x6e, 0x3a, 0x70, 0x2f, 0x69, 0x05, 0x02, // the instance
+        ],
+    },
+];

@@ -1,3 +1,0 @@
-pub mod Loop
-pub mod Merging
-pub mod Asked

@@ -1,4 +1,0 @@
-pub mod Holders
-pub mod Modules
-pub mod Looked
-pub mod Defined

@@ -1,4 +1,0 @@
-pub mod Made
-pub mod Order
-pub mod Before
-pub mod Found

@@ -1,4 +1,0 @@
-pub mod Imported
-pub mod Importing
-pub mod Defining
-pub mod ComponentTypes

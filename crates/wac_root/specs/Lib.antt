@@ -1,3 +1,0 @@
-pub mod Importing
-pub mod Components
-pub mod Defining

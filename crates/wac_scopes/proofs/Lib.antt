@@ -1,7 +1,0 @@
-pub mod ContentLaws
-pub mod ScopedLaws
-pub mod ImportLaws
-pub mod SideLaws
-pub mod Rooted
-pub mod Undefined
-pub mod Standing

@@ -1,4 +1,0 @@
-pub mod Plain
-pub mod Ordered
-pub mod Inside
-pub mod Flat

@@ -1,4 +1,0 @@
-pub mod Worlds
-pub mod Sorts
-pub mod Order
-pub mod Inside

@@ -1,5 +1,0 @@
-use Rattle.wac_stacks.proofs.Aliases.{is-its-end}
-use Rattle.wac_stacks.proofs.laws.alias_law.Goals as goal
-
-pub returns : goal.returns
-returns c = is-its-end

@@ -1,5 +1,0 @@
-use Rattle.wac_stacks.proofs.Besides.{goes-on-beside}
-use Rattle.wac_stacks.proofs.laws.beside_law.Goals as goal
-
-pub returns : goal.returns
-returns c = record { goes_on_beside = goes-on-beside }

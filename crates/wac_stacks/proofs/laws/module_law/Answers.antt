@@ -1,9 +1,0 @@
-use Rattle.wac_stacks.proofs.Modules.{defines-module, holds-module, held-under-more}
-use Rattle.wac_stacks.proofs.laws.module_law.Goals as goal
-
-pub returns : goal.returns
-returns c = record {
-  defines_module = defines-module c.binary_laws.ensures.reads;
-  holds_module = holds-module;
-  held_under_more = held-under-more;
-}

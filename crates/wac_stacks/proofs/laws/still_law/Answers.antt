@@ -1,5 +1,0 @@
-use Rattle.wac_stacks.proofs.Steps.{onward-refl}
-use Rattle.wac_stacks.proofs.laws.still_law.Goals as goal
-
-pub returns : goal.returns
-returns c = onward-refl
