@@ -4,6 +4,7 @@
 //! in which they were added, and none occurs twice. A `clone` is deep, and is `Err(AllocError)` if out of memory.
 
 mod component;
+mod conversions;
 mod core_types;
 mod imports;
 mod mapped;
