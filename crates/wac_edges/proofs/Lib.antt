@@ -14,4 +14,8 @@ pub mod AliasLemmas
 pub mod RisingLemmas
 pub mod FallLemmas
 pub mod CountLemmas
+pub mod KeySets
+pub mod ArrangedLaws
+pub mod ArrangedPlaces
+pub mod ArrangedSteps
 pub mod lemmas

@@ -1,4 +1,5 @@
 pub mod cycles
 pub mod Edge
 pub mod Order
+pub mod Arranged
 pub mod private

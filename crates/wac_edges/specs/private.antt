@@ -3,3 +3,4 @@ pub mod Ends
 pub mod Records
 pub mod Aliases
 pub mod Ready
+pub mod Arranging

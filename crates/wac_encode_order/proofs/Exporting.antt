@@ -10,9 +10,9 @@ use Rattle.wac_types_collection.specs.collection.Bound.{lists_type}
 use Rattle.wac_encode_order.specs.private.TypeItems.{Reaches}
 use Rattle.wac_encode_order.specs.private.Interfaces.{lists_own_resource, lists_other_type, is_other_type_at, others_from, comes_later, is_later_at, IsInterfaceOrder}
 use Rattle.wac_encode_order.specs.private.SideOrder.{positions_of}
-use Rattle.wac_encode_order.specs.private.Arranging.{IsOnce}
-use Rattle.wac_encode_order.proofs.KeySets.{In}
-use Rattle.wac_encode_order.proofs.ArrangedLaws.{in_front, in_behind, in_either, in_contains, contains_in, Once, once_joined, once_at}
+use Rattle.wac_edges.specs.Arranged.{IsOnce}
+use Rattle.wac_edges.proofs.KeySets.{In}
+use Rattle.wac_edges.proofs.ArrangedLaws.{in_front, in_behind, in_either, in_contains, contains_in, Once, once_joined, once_at}
 use Rattle.wac_encode_order.proofs.Siding.{picked-item, item-picked, picked-once, taken-left, left-taken, taken-once}
 
 -- ---- which items come later

@@ -6,10 +6,6 @@ pub mod Naming
 pub mod Taking
 pub mod Chosen
 pub mod Listing
-pub mod KeySets
-pub mod ArrangedLaws
-pub mod ArrangedPlaces
-pub mod ArrangedSteps
 pub mod Siding
 pub mod Exporting
 pub mod Merges

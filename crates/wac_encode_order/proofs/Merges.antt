@@ -19,7 +19,7 @@ use Rattle.wac_encode_order.specs.private.SideOrder.{is_type_at, lists_resource,
 use Rattle.wac_encode_order.specs.private.Graph.{is_set}
 use Rattle.wac_encode_order.specs.private.Merging.{lists_plain_type, taken_below, rest_from, merged}
 use Rattle.wac_encode_order.proofs.Lists.{some-is}
-use Rattle.wac_encode_order.proofs.KeySets.{In}
+use Rattle.wac_edges.proofs.KeySets.{In}
 use Rattle.wac_encode_order.proofs.Naming.{item-one}
 use Rattle.wac_encode_order.proofs.Listing.{get-flag, takes-alike}
 use Rattle.wac_encode_order.proofs.Siding.{picked-item, item-picked}

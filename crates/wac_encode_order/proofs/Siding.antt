@@ -10,12 +10,11 @@ use Rattle.wac_types_collection.specs.collection.Collection.{Collection}
 use Rattle.wac_types_collection.specs.collection.Bound.{lists_type}
 use Rattle.wac_edges.specs.cycles.Cycles.{Path}
 use Rattle.wac_encode_order.specs.private.TypeItems.{Takes}
-use Rattle.wac_encode_order.specs.private.Arranged.{Arranges}
+use Rattle.wac_edges.specs.Arranged.{Arranges, AreAll, IsOnce}
 use Rattle.wac_encode_order.specs.private.SideOrder.{ReachesType, lists_instance, lists_rest, is_type_at, positions_of, counted_from, grouped, AreGroups}
-use Rattle.wac_encode_order.specs.private.Arranging.{AreAll, IsOnce}
 use Rattle.wac_encode_order.proofs.Lists.{some-is, within, there-is}
-use Rattle.wac_encode_order.proofs.KeySets.{In}
-use Rattle.wac_encode_order.proofs.ArrangedLaws.{in_front, in_behind, in_either, in_contains, contains_in, Once, once_joined, once_at, arranges_each, arranges_only, arranges_once}
+use Rattle.wac_edges.proofs.KeySets.{In}
+use Rattle.wac_edges.proofs.ArrangedLaws.{in_front, in_behind, in_either, in_contains, contains_in, Once, once_joined, once_at, arranges_each, arranges_only, arranges_once}
 use Rattle.wac_encode_order.proofs.Listing.{dropped, dropped-all}
 
 -- ---- positions, one after another

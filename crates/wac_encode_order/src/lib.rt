@@ -1,7 +1,6 @@
 //! The order in which the items of instance types and component types are written.
 #![tactic(auto)]
 
-mod arranged;
 mod graph;
 mod interface;
 mod parts;

@@ -1,17 +1,16 @@
 //! The order of the items on a side of a component type.
 ghost use Rattle.std.specs.Prelude.{◌≡◌, ◌+◌, ◌<◌, ◌^◌, ◌++◌, ◌∷◌, ◌↔◌, ℕ, List, Some, drop, if◌then◌else◌, map, length, slice_get, IfOk, OnOk, Contains};
-ghost use Rattle.wac_types_collection.specs.collection.Bound.{lists_type};
 ghost use Rattle.wac_edges.specs.cycles.Cycles.{AreWithin, HasNoCycle, IsStep};
 ghost use Rattle.wac_encode_order.specs.private.TypeItems.{Takes};
 ghost use Rattle.wac_encode_order.specs.private.SideOrder.{AreGroups, IsSideOrder, ReachesType, counted_from, is_type_at, lists_instance as instance_listed, lists_resource as resource_listed, lists_rest as rest_listed, positions_of};
 ghost use Rattle.wac_encode_order.specs.private.Merging.{lists_plain_type, merged, rest_from, taken_below};
 ghost use Rattle.wac_encode_order.specs.private.Graph.{AreHeld};
 
-use crate::arranged::arranged;
 use crate::interface::is_type_item;
 use crate::type_items::order_chosen;
 use std::alloc::{AllocError, Global};
 use std::collections::BTreeSet;
+use wac_edges::arranged::arranged;
 use wac_types_collection::{ItemKind, Named, Type, Types};
 
 /// Whether an item is an instance.

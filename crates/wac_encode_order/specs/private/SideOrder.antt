@@ -7,7 +7,7 @@ use Rattle.wac_types_shapes.specs.declared.shapes.component.«Type».TheVariants
 use Rattle.wac_types_collection.specs.collection.Collection.{Collection}
 use Rattle.wac_types_collection.specs.collection.Bound.{lists_type}
 use Rattle.wac_encode_order.specs.private.TypeItems.{Reaches, Takes}
-use Rattle.wac_encode_order.specs.private.Arranged.{Arranges}
+use Rattle.wac_edges.specs.Arranged.{Arranges}
 
 -- The item is an instance.
 abbrev pub lists_instance : Name × ItemKind → Bool

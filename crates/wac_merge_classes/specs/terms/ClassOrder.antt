@@ -1,6 +1,7 @@
 -- The order of the merged imports: instances, then type items, then the rest, each after the classes that it depends
 -- on.
 use Rattle.std.specs.Prelude.{ℕ, suc, ◌≡◌, ◌≢◌, ◌≤◌, Bool, true, ◌==◌, if◌then◌else◌, List, [], ◌∷◌, ◌++◌, Some, slice_get, Contains}
+use Rattle.wac_edges.specs.Arranged.{Arranges}
 use Rattle.wac_edges.specs.cycles.Cycles.{Path}
 use Rattle.wac_types_shapes.specs.primitives.Name.{Name, same_name}
 use Rattle.wac_types_shapes.specs.primitives.Tree.{Place, position, TypeTree, resource, own, borrow, record_of, variant_of, list_of, fixed_list_of, tuple_of, option_of, result_of, stream_of, future_of, function, instance, component, type_equal, function_item, instance_item, component_item, module_item, value_item}
@@ -86,20 +87,6 @@ in_group g es i (n ∷ ns) = if group_under es n == g then i ∷ in_group g es (
 -- The classes by group, each group in order of first appearance.
 abbrev pub grouped : NameRules → List Entry → List ℕ
 grouped rules es = in_group 0 es 0 (class_names rules es) ++ (in_group 1 es 0 (class_names rules es) ++ in_group 2 es 0 (class_names rules es))
-
--- The second list has the members of the first for which P holds, in order.
-pub data Selects (P : ℕ → Type 0) : List ℕ → List ℕ → Type 0 where
-  none : Selects P [] []
-  takes : (n : ℕ) (ns taken : List ℕ) → P n → Selects P ns taken → Selects P (n ∷ ns) (n ∷ taken)
-  leaves : (n : ℕ) (ns taken : List ℕ) → (P n → ⊥) → Selects P ns taken → Selects P (n ∷ ns) taken
-
--- Each number is appended unless it is there, after the numbers of `all` that it depends on and that are not there yet.
-pub data Arranges (rests : ℕ → ℕ → Type 0) (all : List ℕ) : List ℕ → List ℕ → List ℕ → Type 0 where
-  done : (placed : List ℕ) → Arranges rests all placed [] placed
-  there : (placed after : List ℕ) (n : ℕ) (ns : List ℕ) → Contains placed n → Arranges rests all placed ns after → Arranges rests all placed (n ∷ ns) after
-  new : (placed under before after : List ℕ) (n : ℕ) (ns : List ℕ) → (Contains placed n → ⊥)
-      → Selects (rests n) all under → Arranges rests all placed under before → Arranges rests all (before ++ n ∷ []) ns after
-      → Arranges rests all placed (n ∷ ns) after
 
 -- The numbers of the classes in the order of their imports.
 abbrev pub IsWrittenOrder : NameRules → Collection → List Entry → List ℕ → Type 0

@@ -2,7 +2,7 @@ use Rattle.std.proofs.Common.{sym, subst, ℕ, List, length}
 use Rattle.std.proofs.lemmas.Result.{IfOk-weaker}
 use Rattle.wac_edges.specs.cycles.Cycles.{IsStep}
 use Rattle.wac_encode_order.specs.private.SideOrder.{AreGroups}
-use Rattle.wac_encode_order.specs.private.Arranging.{AreAll, IsOnce}
+use Rattle.wac_edges.specs.Arranged.{AreAll, IsOnce}
 use Rattle.wac_encode_order.proofs.Siding.{are-all, are-once, order-each, order-once}
 use Rattle.wac_encode_order.proofs.side.side_order.Goals as goal
 

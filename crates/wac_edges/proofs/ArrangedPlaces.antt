@@ -10,13 +10,11 @@ use Rattle.std.proofs.lemmas.Bool.{cases_eq}
 use Rattle.std.proofs.lemmas.Cmp.{ranked}
 use Rattle.std.proofs.lemmas.Map.Keys.{sorted_head, sorted_tail}
 use Rattle.std.proofs.lemmas.Option.{get_or_from_slice_get, slice_get-get_or, slice_get_within}
-use Rattle.wac_encode_order.specs.private.Arranged.{Selects, none, takes, leaves}
+use Rattle.wac_edges.specs.Arranged.{Selects, none, takes, leaves, IsOnce, AreAll}
 use Rattle.wac_edges.specs.private.cycles.Numbers.{AreBelow, Has}
-use Rattle.wac_encode_order.specs.private.Arranging.{IsOnce, AreAll, AreRanks}
-use Rattle.wac_encode_order.specs.private.Arranging.{with_all}
-use Rattle.wac_encode_order.proofs.KeySets.{In, has_all, all_new}
-use Rattle.wac_encode_order.proofs.KeySets.{has_in, in_has}
-use Rattle.wac_encode_order.proofs.ArrangedLaws.{at_in, in_at, contains_in}
+use Rattle.wac_edges.specs.private.Arranging.{AreRanks, with_all}
+use Rattle.wac_edges.proofs.KeySets.{In, has_all, all_new, has_in, in_has}
+use Rattle.wac_edges.proofs.ArrangedLaws.{at_in, in_at, contains_in}
 
 -- ---- positions of numbers
 set_same : (xs : List ℕ) (k y : ℕ) → k < length xs → slice_get (set xs k y) k ≡ Some y

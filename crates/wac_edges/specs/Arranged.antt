@@ -1,5 +1,13 @@
 -- Numbers in an order in which each comes directly after those that it depends on.
-use Rattle.std.specs.Prelude.{ℕ, List, [], ◌∷◌, ◌++◌, Contains}
+use Rattle.std.specs.Prelude.{ℕ, ◌≡◌, ◌<◌, ◌↔◌, List, [], ◌∷◌, ◌++◌, Some, slice_get, Contains}
+
+-- Each number is in the list once.
+abbrev pub IsOnce : List ℕ → Type 0
+IsOnce ns = (i j k : ℕ) → slice_get ns i ≡ Some k → slice_get ns j ≡ Some k → i ≡ j
+
+-- The list has the numbers below n.
+abbrev pub AreAll : ℕ → List ℕ → Type 0
+AreAll n ns = (k : ℕ) → (Contains ns k ↔ k < n)
 
 -- The second list has the members of the first for which P holds, in order.
 pub data Selects (P : ℕ → Type 0) : List ℕ → List ℕ → Type 0 where

@@ -1,8 +1,8 @@
 use Rattle.std.proofs.Common.{◌<◌, List, ℕ, map, length, rules, sym, ap, ◌∙◌}
 use Rattle.std.specs.Prelude.{slice_index}
-use Rattle.wac_encode_order.specs.private.Arranging.{with_all}
+use Rattle.wac_edges.specs.private.Arranging.{with_all}
 use Rattle.wac_edges.proofs.lemmas.cycles.CycleSearch.{below_first, below_rest}
-use Rattle.wac_encode_order.proofs.arranged.positions.Goals as goal
+use Rattle.wac_edges.proofs.arranged.positions.Goals as goal
 
 pub offset_bounds-ranks-number : goal.offset_bounds-ranks-number
 offset_bounds-ranks-number c =

@@ -3,19 +3,18 @@ use Rattle.std.proofs.Common.{◌≡◌, ℕ, zero, suc, ◌+◌, ◌-◌, ◌*�
 use Rattle.std.proofs.Math.ListN.{length-set, length-replicate}
 use Rattle.std.specs.Prelude.{◌↔◌, slice_index, slice_index_or, slice_set}
 use Rattle.std.specs.BTreeSet.{BTreeSet}
-use Rattle.std.proofs.lemmas.Option.{get_or_from_slice_get, slice_get-get_or, slice_get_read}
-use Rattle.wac_types_shapes.proofs.lemmas.shapes.Names.{take_at}
-use Rattle.wac_encode_order.specs.declared.arranged.Step.{Step}
-use Rattle.wac_encode_order.specs.declared.arranged.Step.TheVariants.{Open, Place}
-use Rattle.wac_encode_order.specs.private.Arranged.{Arranges, done, there, new, Selects}
+use Rattle.std.proofs.lemmas.Option.{get_or_from_slice_get, slice_get_read}
+use Rattle.std.proofs.Math.Seq.{take-suc}
+use Rattle.wac_edges.specs.declared.arranged.Step.{Step}
+use Rattle.wac_edges.specs.declared.arranged.Step.TheVariants.{Open, Place}
+use Rattle.wac_edges.specs.Arranged.{Arranges, done, there, new, Selects, AreAll}
 use Rattle.wac_edges.specs.cycles.Cycles.{Path, step, further, IsStep, AreWithin, HasNoCycle}
 use Rattle.wac_edges.specs.private.cycles.Numbers.{AreBelow, Has}
 use Rattle.wac_edges.specs.private.cycles.CycleSearch.{is_reached}
-use Rattle.wac_encode_order.specs.private.Arranging.{AreAll, openings}
+use Rattle.wac_edges.specs.private.Arranging.{openings}
 use Rattle.wac_edges.proofs.lemmas.cycles.CycleSearch.{unreached}
-use Rattle.wac_encode_order.proofs.KeySets.{In}
-use Rattle.wac_encode_order.proofs.KeySets.{has_in}
-use Rattle.wac_encode_order.proofs.ArrangedLaws.{in_front, in_behind, in_either, contains_in, in_contains, selects_alike, selects_in, selects_long}
+use Rattle.wac_edges.proofs.KeySets.{In, has_in}
+use Rattle.wac_edges.proofs.ArrangedLaws.{in_front, in_behind, in_either, contains_in, in_contains, selects_alike, selects_in, selects_long}
 
 -- ---- what comes out
 module _ (rests : ℕ → ℕ → Type 0) (all : List ℕ) where
@@ -171,7 +170,7 @@ open_next ns i steps more all some within is old =
     let n = slice_index ns (i - 1) in
     let rest = openings (take (i - 1) ns) in
     let next : i ≡ suc (i - 1) = omega (arith, some) in
-    let parts : take i ns ≡ take (i - 1) ns ++ n ∷ [] = ap (λ k. take k ns) next ∙ take_at ns (i - 1) n (slice_get-get_or ns (i - 1) 0 (omega (arith, some, within))) in
+    let parts : take i ns ≡ take (i - 1) ns ++ n ∷ [] = ap (λ k. take k ns) next ∙ take-suc ns (i - 1) 0 (omega (arith, some, within)) in
     ap (λ l. l ++ rest) is ∙ (append_assoc steps (Open n ∷ []) rest ∙ (ap (λ l. steps ++ l) (sym (openings_push (take (i - 1) ns) n) ∙ ap openings (sym parts)) ∙ old))
 
 -- ---- flags

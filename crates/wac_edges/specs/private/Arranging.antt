@@ -1,21 +1,13 @@
 -- How numbers are arranged; private functions alone cite this.
-use Rattle.std.specs.Prelude.{ℕ, ◌≡◌, ◌<◌, ◌↔◌, List, [], ◌∷◌, ◌++◌, Some, fold, slice_get, Contains}
+use Rattle.std.specs.Prelude.{ℕ, ◌≡◌, List, [], ◌∷◌, ◌++◌, Some, fold, slice_get}
 use Rattle.std.specs.Ordering.{nat_cmp}
 use Rattle.std.specs.BTreeSet.{insert_key}
-use Rattle.wac_encode_order.specs.declared.arranged.Step.{Step}
-use Rattle.wac_encode_order.specs.declared.arranged.Step.TheVariants.{Open}
+use Rattle.wac_edges.specs.declared.arranged.Step.{Step}
+use Rattle.wac_edges.specs.declared.arranged.Step.TheVariants.{Open}
 
 -- The numbers, with more of them added in order.
 abbrev pub with_all : List ℕ → List ℕ → List ℕ
 with_all = fold (insert_key nat_cmp)
-
--- Each number is in the list once.
-abbrev pub IsOnce : List ℕ → Type 0
-IsOnce ns = (i j k : ℕ) → slice_get ns i ≡ Some k → slice_get ns j ≡ Some k → i ≡ j
-
--- The list has the numbers below n.
-abbrev pub AreAll : ℕ → List ℕ → Type 0
-AreAll n ns = (k : ℕ) → (Contains ns k ↔ k < n)
 
 -- The list of ranks has the position of each number.
 abbrev pub AreRanks : List ℕ → List ℕ → Type 0

@@ -1,5 +1,5 @@
-use Rattle.wac_encode_order.proofs.ArrangedSteps.{IsArranging, left_to_do}
-use Rattle.wac_encode_order.proofs.arranged.arranged.Given as goal
+use Rattle.wac_edges.proofs.ArrangedSteps.{IsArranging, left_to_do}
+use Rattle.wac_edges.proofs.arranged.arranged.Given as goal
 
 abbrev pub invariant-loop-step : goal.invariant-loop-step
 invariant-loop-step l = IsArranging l.depends l.all l.opened.items l.steps.items l.order.items

@@ -1,11 +1,12 @@
 use Rattle.std.proofs.Common.{◌≡◌, ◌<◌, ◌++◌, List, [], ◌∷◌, ℕ, length, arith, refl, rules, sym, ap, ◌∙◌, subst, append_assoc}
 use Rattle.std.proofs.lemmas.Option.{slice_get_read}
-use Rattle.wac_encode_order.specs.declared.arranged.Step.{Step}
-use Rattle.wac_encode_order.specs.declared.arranged.Step.TheVariants.{Place}
-use Rattle.wac_encode_order.specs.private.Arranging.{AreAll, openings}
+use Rattle.wac_edges.specs.declared.arranged.Step.{Step}
+use Rattle.wac_edges.specs.declared.arranged.Step.TheVariants.{Place}
+use Rattle.wac_edges.specs.Arranged.{AreAll}
+use Rattle.wac_edges.specs.private.Arranging.{openings}
 use Rattle.wac_edges.proofs.lemmas.cycles.CycleSearch.{below_kept, within_set}
-use Rattle.wac_encode_order.proofs.ArrangedSteps.{IsArranging, all_below, first_step, flag_read, low_taken, open_arranges, open_less, placed_next, there_next}
-use Rattle.wac_encode_order.proofs.arranged.arranged.Goals as goal
+use Rattle.wac_edges.proofs.ArrangedSteps.{IsArranging, all_below, first_step, flag_read, low_taken, open_arranges, open_less, placed_next, there_next}
+use Rattle.wac_edges.proofs.arranged.arranged.Goals as goal
 
 pub ranks-requires-clause-below : goal.ranks-requires-clause-below
 ranks-requires-clause-below c = all_below (length c.args.depends.now) c.args.all.now c.requires.all

@@ -1,8 +1,8 @@
 use Rattle.std.proofs.Common.{◌≡◌, [], length, map}
 use Rattle.std.specs.Prelude.{slice_index}
 use Rattle.wac_edges.specs.private.cycles.Numbers.{AreBelow}
-use Rattle.wac_encode_order.specs.private.Arranging.{with_all}
-use Rattle.wac_encode_order.proofs.arranged.positions.Given as goal
+use Rattle.wac_edges.specs.private.Arranging.{with_all}
+use Rattle.wac_edges.proofs.arranged.positions.Given as goal
 
 abbrev pub invariant-loop-number : goal.invariant-loop-number
 invariant-loop-number l = record {

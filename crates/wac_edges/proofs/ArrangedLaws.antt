@@ -3,9 +3,8 @@ use Rattle.std.proofs.Common.{◌≡◌, ℕ, zero, suc, ◌≤◌, List, [], �
 use Rattle.std.specs.Prelude.{◌↔◌}
 use Rattle.std.proofs.lemmas.Option.{get_or_from_slice_get, slice_get_read, slice_get_within}
 use Rattle.wac_edges.specs.cycles.Cycles.{Path, step, further}
-use Rattle.wac_encode_order.specs.private.Arranged.{Arranges, done, there, new, Selects, none, takes, leaves}
-use Rattle.wac_encode_order.specs.private.Arranging.{IsOnce}
-use Rattle.wac_encode_order.proofs.KeySets.{In}
+use Rattle.wac_edges.specs.Arranged.{Arranges, done, there, new, Selects, none, takes, leaves, IsOnce}
+use Rattle.wac_edges.proofs.KeySets.{In}
 
 -- ---- numbers of lists
 pub in_front : (xs ys : List ℕ) (q : ℕ) → In xs q → In (xs ++ ys) q

@@ -1,6 +1,6 @@
 use Rattle.std.proofs.Common.{◌≡◌, ◌≤◌, ◌++◌, length, take}
-use Rattle.wac_encode_order.specs.private.Arranging.{openings}
-use Rattle.wac_encode_order.proofs.arranged.open_all.Given as goal
+use Rattle.wac_edges.specs.private.Arranging.{openings}
+use Rattle.wac_edges.proofs.arranged.open_all.Given as goal
 
 abbrev pub invariant-loop-i : goal.invariant-loop-i
 invariant-loop-i l = record {

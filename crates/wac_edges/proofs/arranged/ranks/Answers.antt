@@ -2,8 +2,8 @@ use Rattle.std.proofs.Common.{◌<◌, arith, ◌∙◌}
 use Rattle.std.specs.Prelude.{slice_index}
 use Rattle.std.proofs.Math.ListN.{length-set}
 use Rattle.std.proofs.lemmas.Option.{slice_get-get_or}
-use Rattle.wac_encode_order.proofs.ArrangedPlaces.{below_at, ranks_all, ranks_next}
-use Rattle.wac_encode_order.proofs.arranged.ranks.Goals as goal
+use Rattle.wac_edges.proofs.ArrangedPlaces.{below_at, ranks_all, ranks_next}
+use Rattle.wac_edges.proofs.arranged.ranks.Goals as goal
 
 pub index_mut-requires : goal.index_mut-requires
 index_mut-requires c =

@@ -1,6 +1,6 @@
 use Rattle.std.proofs.Common.{arith}
-use Rattle.wac_encode_order.proofs.ArrangedSteps.{open_next}
-use Rattle.wac_encode_order.proofs.arranged.open_all.Goals as goal
+use Rattle.wac_edges.proofs.ArrangedSteps.{open_next}
+use Rattle.wac_edges.proofs.arranged.open_all.Goals as goal
 
 pub loop-i-preserved : goal.loop-i-preserved
 loop-i-preserved c = record {

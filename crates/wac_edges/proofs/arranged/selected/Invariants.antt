@@ -1,8 +1,8 @@
 use Rattle.std.proofs.Common.{◌≡◌, ◌++◌, length, map}
 use Rattle.std.specs.Prelude.{slice_index}
 use Rattle.wac_edges.specs.private.cycles.Numbers.{AreBelow}
-use Rattle.wac_encode_order.proofs.ArrangedPlaces.{positions}
-use Rattle.wac_encode_order.proofs.arranged.selected.Given as goal
+use Rattle.wac_edges.proofs.ArrangedPlaces.{positions}
+use Rattle.wac_edges.proofs.arranged.selected.Given as goal
 
 abbrev pub invariant-loop-position : goal.invariant-loop-position
 invariant-loop-position l = record {

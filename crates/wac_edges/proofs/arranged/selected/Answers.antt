@@ -3,10 +3,10 @@ use Rattle.std.specs.List.Sorted.{IsStrictlySortedBy}
 use Rattle.std.specs.Ordering.{nat_cmp}
 use Rattle.std.specs.Prelude.{slice_index}
 use Rattle.wac_edges.specs.private.cycles.Numbers.{AreBelow, Has}
-use Rattle.wac_encode_order.specs.private.Arranged.{Selects}
+use Rattle.wac_edges.specs.Arranged.{Selects}
 use Rattle.wac_edges.proofs.lemmas.cycles.CycleSearch.{below_first, below_rest}
-use Rattle.wac_encode_order.proofs.ArrangedPlaces.{positions, positions_below, positions_select}
-use Rattle.wac_encode_order.proofs.arranged.selected.Goals as goal
+use Rattle.wac_edges.proofs.ArrangedPlaces.{positions, positions_below, positions_select}
+use Rattle.wac_edges.proofs.arranged.selected.Goals as goal
 
 pub loop-position-init : goal.loop-position-init
 loop-position-init c =

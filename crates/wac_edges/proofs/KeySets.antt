@@ -7,7 +7,7 @@ use Rattle.std.specs.BTreeSet.{insert_key}
 use Rattle.std.proofs.lemmas.Cmp.{ranked}
 use Rattle.wac_edges.specs.private.cycles.Numbers.{Has}
 use Rattle.wac_edges.proofs.lemmas.cycles.Numbers.{has_head, has_tail, has_split, has_insert, has_old, has_new}
-use Rattle.wac_encode_order.specs.private.Arranging.{with_all}
+use Rattle.wac_edges.specs.private.Arranging.{with_all}
 
 -- a number of a list
 abbrev pub In : List ℕ → ℕ → Type 0

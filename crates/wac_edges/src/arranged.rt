@@ -7,15 +7,15 @@ ghost use Rattle.std.specs.BTreeSet as set;
 ghost use Rattle.std.specs.Ordering.{nat_cmp};
 ghost use Rattle.wac_edges.specs.private.cycles.Numbers.{AreBelow, Has};
 ghost use Rattle.wac_edges.specs.cycles.Cycles.{AreWithin, HasNoCycle, IsStep};
-ghost use Rattle.wac_encode_order.specs.private.Arranged.{Arranges, Selects};
-ghost use Rattle.wac_encode_order.specs.private.Arranging.{AreAll, AreRanks, IsOnce, openings, with_all};
+ghost use Rattle.wac_edges.specs.Arranged.{Arranges, Selects, AreAll, IsOnce};
+ghost use Rattle.wac_edges.specs.private.Arranging.{AreRanks, openings, with_all};
 
 use std::alloc::{AllocError, Global};
 use std::collections::BTreeSet;
 
 /// A step of ordering.
 #[derive(Clone, Copy)]
-pub(crate) enum Step {
+enum Step {
     /// Place the numbers that this one depends on first, unless they were opened.
     Open(usize),
     /// Place the number.
@@ -94,8 +94,14 @@ fn open_all(steps: &mut Vec<Step>, numbers: &[usize]) -> Result<(), AllocError>
     Ok(())
 }
 
-/// Returns the numbers of `all` in order, each after those that it depends on and that are not placed yet.
-pub(crate) fn arranged(
+/// Returns the numbers of `all` in order, each directly after those that it depends on and that are not placed yet.
+///
+/// `depends` has the numbers on which each number depends, as sets below the count of numbers. None may depend on itself
+/// through others. `all` must have each number once.
+///
+/// # Errors
+/// - `AllocError` if out of memory.
+pub fn arranged(
     alloc: Global,
     all: &[usize],
     depends: &[BTreeSet<usize>],
