@@ -41,7 +41,8 @@ use Rattle.wac_merge_unions.proofs.lemmas.uses.ClassFolds.{mapped_at}
 use Rattle.wac_merge_unions.proofs.lemmas.uses.NestedBinds.{exports-named, found-using, using-instance, using-there}
 use Rattle.wac_merge_imports.specs.unions.MergedClasses.{class_roots, with_root}
 use Rattle.wac_merge_imports.specs.unions.OneId.{HasOneIdEach}
-use Rattle.wac_merge_agreement.proofs.lemmas.agreement.OrderLaws.{at_in, in_contains, order_each}
+use Rattle.wac_edges.proofs.ArrangedLaws.{at_in, in_contains}
+use Rattle.wac_merge_agreement.proofs.lemmas.agreement.OrderLaws.{order_each}
 use Rattle.wac_merge.specs.Listed.{AreListedInOrder, Unites, as_import, inside, interface_in, united_interfaces}
 use Rattle.wac_merge.proofs.OrderOnce.{order_only}
 use Rattle.wac_merge.proofs.UsedBefore.{canonical-class, instances-alike}

@@ -24,7 +24,8 @@ use Rattle.wac_merge_classes.specs.entries.Classes.{Entry, NameRules, is_instanc
 use Rattle.wac_merge_classes.specs.entries.Binding.{binding_class, class_binds, root_bindings}
 use Rattle.wac_merge_classes.specs.terms.Union.{union, merged}
 use Rattle.wac_merge_classes.specs.entries.Agreement.{IsDisagreement, compared}
-use Rattle.wac_merge_classes.specs.terms.ClassOrder.{grouped, RestsOn, by_use, by_resource, IsWrittenOrder, done, new, leaves, none}
+use Rattle.wac_merge_classes.specs.terms.ClassOrder.{grouped, RestsOn, by_use, by_resource, IsWrittenOrder}
+use Rattle.wac_edges.specs.Arranged.{done, new, leaves, none}
 use Rattle.wac_merge_classes.specs.terms.Merge.{Merged, IsMerge, IsListed, class_id, position_in, bound_resource}
 
 -- names of one number are labels; of two, an interface and its version on one track

@@ -21,8 +21,9 @@ use Rattle.wac_merge_classes.specs.terms.NoDisagreement.{HasNoDisagreement}
 use Rattle.wac_merge_classes.specs.terms.Union.{member_tree, merged, union, union_all}
 use Rattle.wac_merge_classes.proofs.lemmas.terms.Found.{at-filter, no_some, some_same}
 use Rattle.wac_merge_classes.specs.terms.Faults.{HasNoCircle}
-use Rattle.wac_merge_agreement.specs.private.agreement.Order.{IsOnce}
-use Rattle.wac_merge_agreement.proofs.lemmas.agreement.OrderLaws.{contains_in, in_at, order_each, order_once}
+use Rattle.wac_edges.specs.Arranged.{IsOnce}
+use Rattle.wac_edges.proofs.ArrangedLaws.{contains_in, in_at}
+use Rattle.wac_merge_agreement.proofs.lemmas.agreement.OrderLaws.{order_each, order_once}
 use Rattle.wac_merge.proofs.OrderOnce.{order_rests}
 use Rattle.wac_merge_agreement.proofs.lemmas.agreement.Resting.{BindsNothing, IsNoResource, class_none, holding, member_resource, same_member, same_member_instance}
 use Rattle.wac_merge_agreement.proofs.lemmas.agreement.RestCircles.{member_quiet, rests_low}

@@ -3,9 +3,11 @@ use Rattle.std.proofs.Common.{◌≡◌, ℕ, ◌<◌, List, [], ◌∷◌, ◌+
 use Rattle.wac_types_collection.specs.collection.Collection.{Collection}
 use Rattle.wac_merge_classes.specs.entries.Classes.{Entry, by_names, class_names}
 use Rattle.wac_merge_classes.proofs.lemmas.entries.Lists.{at-push, push-cases}
-use Rattle.wac_merge_classes.specs.terms.ClassOrder.{Arranges, done, there, new, Selects, none, takes, leaves, RestsOn, IsWrittenOrder, grouped}
-use Rattle.wac_merge_agreement.proofs.lemmas.agreement.KeySets.{In}
-use Rattle.wac_merge_agreement.proofs.lemmas.agreement.OrderLaws.{arranges_each, in_at, in_grouped}
+use Rattle.wac_edges.specs.Arranged.{Arranges, done, there, new, Selects, none, takes, leaves}
+use Rattle.wac_merge_classes.specs.terms.ClassOrder.{RestsOn, IsWrittenOrder, grouped}
+use Rattle.wac_edges.proofs.KeySets.{In}
+use Rattle.wac_edges.proofs.ArrangedLaws.{arranges_each, in_at}
+use Rattle.wac_merge_agreement.proofs.lemmas.agreement.OrderLaws.{in_grouped}
 use Rattle.std.proofs.lemmas.Option.{slice_get_within}
 
 -- ---- what is selected is one list

@@ -30,7 +30,8 @@ use Rattle.wac_merge_classes.proofs.lemmas.terms.Found.{one_some}
 use Rattle.wac_merge_unions.specs.uses.KeptUses.{imported_interface, instance_of, of_interface}
 use Rattle.wac_merge_imports.proofs.lemmas.unions.AssembledKinds.{the-instance}
 use Rattle.wac_merge_imports.proofs.lemmas.unions.ListedTypes.{listed-type}
-use Rattle.wac_merge_agreement.proofs.lemmas.agreement.OrderLaws.{at_in, in_contains, order_each}
+use Rattle.wac_edges.proofs.ArrangedLaws.{at_in, in_contains}
+use Rattle.wac_merge_agreement.proofs.lemmas.agreement.OrderLaws.{order_each}
 use Rattle.wac_merge.proofs.OrderOnce.{order_rests}
 
 -- what is found by a name among imports: one that stands at a position

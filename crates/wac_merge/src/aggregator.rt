@@ -1,7 +1,8 @@
 //! The aggregator of imports.
-ghost use Rattle.std.specs.Prelude.{Contains, ℕ, ◌≡◌, ◌<◌, ◌∷◌, ◌++◌, ◌⊎◌, ◌↔◌, [], length, slice_get, IfOk, IfErr, IfSome, OnOk, None, Some, true};
+ghost use Rattle.std.specs.Prelude.{Contains, ℕ, ◌≡◌, ◌<◌, ◌∷◌, ◌++◌, ◌⊎◌, ◌↔◌, ◌&&◌, ◌==◌, [], length, slice_get, IfOk, IfErr, IfSome, OnOk, None, Some, true};
 ghost use Rattle.std.specs.Option.{MatchOption};
 ghost use Rattle.std.specs.Result.{IsErrAnd};
+ghost use Rattle.wac_edges.specs.cycles.Cycles.{IsStep};
 ghost use Rattle.wac_types_collection.specs.collection.Collection.{holds_type, IsKeptBy};
 ghost use Rattle.wac_types_shapes.specs.shapes.Kinds.{kind_type};
 ghost use Rattle.wac_types_shapes.specs.primitives.Name.{Name as AName};
@@ -11,7 +12,7 @@ ghost use Rattle.wac_merge_classes.specs.entries.Binding.{binding_class};
 ghost use Rattle.wac_types_collection.specs.subtyping.CalledViews.{path_view};
 ghost use Rattle.wac_merge_classes.specs.entries.Agreement.{AllMembersAgree};
 ghost use Rattle.wac_merge_classes.specs.entries.Bindings.{AreBindings, AreHeld};
-ghost use Rattle.wac_merge_classes.specs.terms.ClassOrder.{IsWrittenOrder};
+ghost use Rattle.wac_merge_classes.specs.terms.ClassOrder.{IsWrittenOrder, RestsOn};
 ghost use Rattle.wac_merge_classes.specs.entries.Classes.{AreClasses, by_names, canonical, class_names, imported_as};
 ghost use Rattle.wac_merge_classes.specs.terms.Faults.{Fault as AFault, HasFault, HasNoCircle, fault_of, use_each_other};
 ghost use Rattle.wac_merge_classes.specs.terms.NoDisagreement.{HasNoDisagreement};
@@ -24,11 +25,12 @@ ghost use Rattle.wac_types_collection.specs.subtyping.TreeLaws.{KeepsTrees};
 ghost use Rattle.wac_types_shapes.specs.declared.shapes.component.ResourceId.{ResourceId as AResource};
 
 use std::alloc::{AllocError, Global};
+use std::collections::BTreeSet;
 use std::marker::Model;
 use wac_edges::cycles::cycles::lowest_on_cycle;
 use wac_merge_agreement::agreement::compared::{entry_items, first_pair};
 use wac_merge_agreement::agreement::order::written_order;
-use wac_merge_agreement::agreement::rests::rests;
+use wac_merge_agreement::agreement::rests::{rests, rests_by_uses};
 use wac_merge_classes::entries::bindings::Bindings;
 use wac_merge_classes::entries::classes::Classes;
 use wac_merge_classes::entries::entry::Entry;
@@ -272,6 +274,47 @@ impl TypeAggregator {
     }
 }
 
+/// Whether each class has one entry and the collection has no resource.
+fn are_single(types: &Types, entries: &[Entry], classes: &Classes) -> bool
+    ensures { result ≡ ((length classes.now.positions.items == length entries.now) && (length types.now.resources == 0)) }
+{
+    classes.positions().len() == entries.len() && types.holds_no_resource()
+}
+
+/// Returns, for each class, the classes that it depends on, or why two entries disagree.
+fn agreed_rests(
+    alloc: Global,
+    types: &Types,
+    entries: &[Entry],
+    classes: &Classes,
+    bindings: &Bindings,
+) -> Result<Vec<BTreeSet<usize>>, MergeFault>
+    requires held { AreHeld types.now entries.now }
+    requires classes { AreClasses by_names entries.now classes.now.numbers.items classes.now.positions.items classes.now.names }
+    requires bindings { AreBindings types.now entries.now bindings.now }
+    ensures agree { OnOk result (HasNoDisagreement by_names types.now entries.now) }
+    ensures agreed { OnOk result (AllMembersAgree by_names types.now entries.now) }
+    ensures fault { IfErr result (λ e. IsFault types.now entries.now e) }
+    ensures counted { IfOk result (λ v. length v.items ≡ length (class_names by_names entries.now)) }
+    ensures rests { IfOk result (λ v. (a b : ℕ) → (IsStep v.items a b ↔ RestsOn by_names types.now entries.now a b)) }
+{
+    // Then nothing is compared, and classes depend on each other by uses alone.
+    if are_single(types, entries, classes) {
+        return Ok(rests_by_uses(alloc, types, entries, classes)?);
+    }
+    let mut nodes = Nodes::new(alloc);
+    let items = entry_items(alloc, &mut nodes, types, entries, classes, bindings)?;
+    let items = items.as_slice();
+    if let Some(pair) = first_pair(alloc, &nodes, types, entries, classes, items)? {
+        return Err(MergeFault::Disagree {
+            first: pair.first,
+            second: pair.second,
+            export: pair.export,
+        });
+    }
+    Ok(rests(alloc, &nodes, types, entries, classes, bindings, items)?)
+}
+
 /// Returns the order in which the classes are written, or why the entries cannot be merged.
 fn check(
     alloc: Global,
@@ -291,17 +334,7 @@ fn check(
     ensures each { IfOk result (λ o. (k : ℕ) → (Contains o.items k ↔ k < length (class_names by_names entries.now))) }
     ensures once { IfOk result (λ o. (i j k : ℕ) → slice_get o.items i ≡ Some k → slice_get o.items j ≡ Some k → i ≡ j) }
 {
-    let mut nodes = Nodes::new(alloc);
-    let items = entry_items(alloc, &mut nodes, types, entries, classes, bindings)?;
-    let items = items.as_slice();
-    if let Some(pair) = first_pair(alloc, &nodes, types, entries, classes, items)? {
-        return Err(MergeFault::Disagree {
-            first: pair.first,
-            second: pair.second,
-            export: pair.export,
-        });
-    }
-    let rests = rests(alloc, &nodes, types, entries, classes, bindings, items)?;
+    let rests = agreed_rests(alloc, types, entries, classes, bindings)?;
     let rests = rests.as_slice();
     if let Some(number) = lowest_on_cycle(alloc, rests)? {
         return Err(circle(alloc, entries, classes, number)?);

@@ -3,7 +3,6 @@ pub mod Unmarked
 pub mod Searching
 pub mod Leading
 pub mod Descending
-pub mod KeySets
 pub mod Reaching
 pub mod Flagging
 pub mod Resting
@@ -15,8 +14,8 @@ pub mod RestNames
 pub mod RestKinds
 pub mod RestSets
 pub mod RestLinks
+pub mod RestUses
+pub mod Single
 pub mod RestCircles
 pub mod OrderLaws
-pub mod OrderSteps
-pub mod OrderPlaces
 pub mod Agreeing

@@ -6,4 +6,3 @@ pub mod Marks
 pub mod Worlds
 pub mod Compared
 pub mod Resting
-pub mod Order

@@ -6,7 +6,8 @@ ghost use Rattle.wac_types_collection.specs.subtyping.CalledViews.{called_view};
 ghost use Rattle.wac_merge_tables.specs.private.tables.Nodes.{and_optional, optionals, seconds, tree_at, type_of, types_of};
 ghost use Rattle.wac_merge_tables.specs.private.tables.NodeViews.{node_view, named, listed, item_view};
 ghost use Rattle.wac_merge_agreement.specs.private.agreement.Reach.{Reaches, IsOfClass};
-ghost use Rattle.wac_merge_agreement.specs.private.agreement.ReachSteps.{AreFlags, class_of, node_class, parts, with_all};
+ghost use Rattle.wac_merge_agreement.specs.private.agreement.ReachSteps.{AreFlags, class_of, node_class, parts};
+ghost use Rattle.wac_edges.specs.private.Arranging.{with_all};
 
 use crate::agreement::flags::flag_of;
 use std::alloc::{AllocError, Global};

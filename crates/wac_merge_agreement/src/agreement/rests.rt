@@ -17,8 +17,9 @@ ghost use Rattle.wac_merge_tables.specs.private.tables.Nodes.{tree_at, type_of a
 ghost use Rattle.wac_merge_tables.specs.private.tables.NodeViews.{item_view};
 ghost use Rattle.wac_merge_agreement.specs.private.agreement.Reach.{IsOfClass, Reaches};
 ghost use Rattle.wac_edges.specs.private.cycles.Numbers.{Has};
-ghost use Rattle.wac_merge_agreement.specs.private.agreement.ReachSteps.{AreFlags, with_all};
-ghost use Rattle.wac_merge_agreement.specs.private.agreement.Resting.{Gains, ItemLeads, classes_used, first_class, interface_class, used_classes};
+ghost use Rattle.wac_merge_agreement.specs.private.agreement.ReachSteps.{AreFlags};
+ghost use Rattle.wac_edges.specs.private.Arranging.{with_all};
+ghost use Rattle.wac_merge_agreement.specs.private.agreement.Resting.{Gains, ItemLeads, KindUses, classes_used, first_class, interface_class, used_classes};
 
 use crate::agreement::flags::flag_through;
 use crate::agreement::reach::{classes_reached, put, put_optional, type_of};
@@ -87,6 +88,21 @@ fn instance_leads(
 {
     types.law(); // proof only
     let mut numbers = classes_reached(types.allocator(), nodes, flags, type_of(item))?;
+    let used = wide_uses(types, id)?;
+    put_used(&mut numbers, types, classes, &used)?;
+    Ok(numbers)
+}
+
+/// Returns the classes of the interfaces that an item uses widely. Only an instance uses any.
+fn used_by(types: &Types, classes: &Classes, kind: ItemKind) -> Result<BTreeSet<usize>, AllocError>
+    requires { holds_type types.now (kind_type kind) ≡ true }
+    ensures { IfOk result (λ s. (b : ℕ) → (Has s.keys b ↔ KindUses types.now classes.now.names kind b)) }
+{
+    types.law(); // proof only
+    let mut numbers = BTreeSet::new(types.allocator());
+    let ItemKind::Instance(id) = kind else {
+        return Ok(numbers);
+    };
     let used = wide_uses(types, id)?;
     put_used(&mut numbers, types, classes, &used)?;
     Ok(numbers)
@@ -186,6 +202,34 @@ pub fn rests(
         let flags = flags.as_slice();
         let leads = item_leads(nodes, flags, types, classes, bindings, kind, items[i])?;
         put_others(&mut rests[numbers[i]], numbers[i], &leads)?;
+    }
+    Ok(rests)
+}
+
+/// Returns, for each class, the classes that it depends on. The collection has no resource, so these are the classes
+/// whose interfaces its entries use widely.
+///
+/// # Errors
+/// - [`AllocError`] if out of memory.
+pub fn rests_by_uses(
+    alloc: Global,
+    types: &Types,
+    entries: &[Entry],
+    classes: &Classes,
+) -> Result<Vec<BTreeSet<usize>>, AllocError>
+    requires held { AreHeld types.now entries.now }
+    requires classes { AreClasses by_names entries.now classes.now.numbers.items classes.now.positions.items classes.now.names }
+    requires none { length types.now.resources ≡ 0 }
+    ensures counted { IfOk result (λ v. length v.items ≡ length (class_names by_names entries.now)) }
+    ensures rests { IfOk result (λ v. (a b : ℕ) → (IsStep v.items a b ↔ RestsOn by_names types.now entries.now a b)) }
+{
+    types.law(); // proof only
+    let numbers = classes.numbers();
+    let mut rests = empty_sets(alloc, classes.positions().len())?;
+    for i in 0..entries.len() {
+        let kind = entries[i].kind();
+        let used = used_by(types, classes, kind)?;
+        put_others(&mut rests[numbers[i]], numbers[i], &used)?;
     }
     Ok(rests)
 }

@@ -10,7 +10,7 @@ use Rattle.wac_merge_tables.proofs.lemmas.tables.NodeLaws.{deep}
 use Rattle.wac_edges.specs.private.cycles.Numbers.{Has}
 use Rattle.wac_merge_agreement.specs.private.agreement.Reach.{Reaches, IsOfClass}
 use Rattle.wac_merge_agreement.specs.private.agreement.ReachSteps.{node_class, parts, flag_of, AreFlags}
-use Rattle.wac_merge_agreement.proofs.lemmas.agreement.KeySets.{In}
+use Rattle.wac_edges.proofs.KeySets.{In}
 use Rattle.wac_merge_agreement.proofs.lemmas.agreement.Reaching.{node_in, node_names, node_out, parts_low}
 
 -- ---- one of a list passes

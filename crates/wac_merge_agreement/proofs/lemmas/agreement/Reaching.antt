@@ -13,9 +13,10 @@ use Rattle.wac_types_collection.specs.subtyping.Called.{Called, of_class, bound_
 use Rattle.wac_types_collection.specs.collection.Held.{part_at}
 use Rattle.wac_merge_tables.specs.private.tables.Nodes.{Node, of_resource, of_primitive, of_own, of_borrow, of_record, of_variant, of_list, of_fixed_list, of_tuple, of_flags, of_enum, of_option, of_result, of_stream, of_future, of_function, of_instance, of_component, of_module, Item, a_type, a_func, an_instance, a_component, a_module, a_value, type_of, types_of, item_tree, listed_tree, Sorted, IsSorted, and_optional, optionals, seconds, mentions, optional_tree, node_tree, tree_to, tree_at, IsTable}
 use Rattle.wac_merge_agreement.specs.private.agreement.Reach.{Reaches, as_resource, as_own, as_borrow, in_field, in_case, in_list, in_fixed_list, in_tuple, in_option, in_ok, in_err, in_stream, in_future, in_parameter, in_result, in_instance, in_type_item, in_function_item, in_instance_item, in_component_item, in_module_item, in_value_item, IsOfClass}
-use Rattle.wac_merge_agreement.specs.private.agreement.ReachSteps.{class_of, node_class, parts, with_all, AreReached}
+use Rattle.wac_merge_agreement.specs.private.agreement.ReachSteps.{class_of, node_class, parts, AreReached}
+use Rattle.wac_edges.specs.private.Arranging.{with_all}
 use Rattle.wac_edges.specs.private.cycles.Numbers.{Has}
-use Rattle.wac_merge_agreement.proofs.lemmas.agreement.KeySets.{In, has_all, all_old, all_new, above, above_le, above_last, below_all, below_others}
+use Rattle.wac_edges.proofs.KeySets.{In, has_all, all_old, all_new, above, above_le, above_last, below_all, below_others}
 use Rattle.wac_edges.proofs.lemmas.cycles.Numbers.{has_front, has_last, has_either}
 use Rattle.wac_merge_tables.proofs.lemmas.tables.NodeLaws.{deep}
 

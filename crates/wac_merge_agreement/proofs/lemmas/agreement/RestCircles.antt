@@ -39,17 +39,18 @@ module _ (c : Collection) (es : List Entry) where
     split None more h = let low : b < suc k + length ns = more h in omega arith
     split (Some path) more h = let same : k ≡ b = ap number_in h in omega (arith, same)
 
-  -- where no class stands at the position b
-  module _ (place : ℕ → ℕ) (b : ℕ) (past : (k : ℕ) → k < length (class_names by_names es) → place k ≡ b → ⊥) where
+  -- where no class stands at the position b, nothing is bound there
+  root_nothing : (place : ℕ → ℕ) (b : ℕ) → ((k : ℕ) → k < length (class_names by_names es) → place k ≡ b → ⊥) → Nothing b (root_bindings by_names c es place)
+  root_nothing place b past r = split (binding_class by_names c es r) (λ j p is. number_low (class_names by_names es) 0 r j p is) where
+    split : (o : Option (ℕ × List Place)) → ((j : ℕ) (p : List Place) → o ≡ Some (j, p) → j < 0 + length (class_names by_names es))
+        → No b (option_case o None (λ x. Some (record { out = 0; side = imported; path = position (place x.0) ∷ x.1 })))
+    split None low = no_none b
+    split (Some (j, p)) low = no_some b (record { out = 0; side = imported; path = position (place j) ∷ p }) (λ h. let less : j < 0 + length (class_names by_names es) = low j p refl in past j (omega (arith, less)) h)
+
+  -- where nothing is bound there, no entry mentions it
+  module _ (place : ℕ → ℕ) (b : ℕ) (nothing : Nothing b (root_bindings by_names c es place)) where
     abbrev root : ResourceId → Option Leaf
     root = root_bindings by_names c es place
-
-    root_nothing : Nothing b root
-    root_nothing r = split (binding_class by_names c es r) (λ j p is. number_low (class_names by_names es) 0 r j p is) where
-      split : (o : Option (ℕ × List Place)) → ((j : ℕ) (p : List Place) → o ≡ Some (j, p) → j < 0 + length (class_names by_names es))
-          → No b (option_case o None (λ x. Some (record { out = 0; side = imported; path = position (place x.0) ∷ x.1 })))
-      split None low = no_none b
-      split (Some (j, p)) low = no_some b (record { out = 0; side = imported; path = position (place j) ∷ p }) (λ h. let less : j < 0 + length (class_names by_names es) = low j p refl in past j (omega (arith, less)) h)
 
     own_nothing : (o : Option Name) → No b (option_case o None (λ n. Some (record { out = 0; side = exported; path = named n ∷ [] })))
     own_nothing None = no_none b
@@ -64,11 +65,11 @@ module _ (c : Collection) (es : List Entry) where
         no_first b (option_case (own_name c it.uses it.exports r) None (λ n. Some (record { out = 0; side = exported; path = named n ∷ [] }))) _
         (own_nothing (own_name c it.uses it.exports r))
         (no_first b (option_case (class_binds by_names c es class r) None (λ path. Some (record { out = 0; side = exported; path = path }))) _
-        (class_nothing (class_binds by_names c es class r) (free_class b by_names c es class r)) (no_outer b (root r) (root_nothing r)))
+        (class_nothing (class_binds by_names c es class r) (free_class b by_names c es class r)) (no_outer b (root r) (nothing r)))
 
-    pub member_quiet : (class : Name) (a : ℕ) (k : ItemKind) → Quiet b (member_tree by_names c es class a root k)
+    pub quiet_member : (class : Name) (a : ℕ) (k : ItemKind) → Quiet b (member_tree by_names c es class a root k)
     unfolding held_tree
-    member_quiet class a (kind.Instance i) = at (item_at c.interfaces i.0) where
+    quiet_member class a (kind.Instance i) = at (item_at c.interfaces i.0) where
       at : (o : Option Interface)
           → Quiet b (option_case o absent (λ it. instance_item (instance (items_under (map (λ e. (e.0, held_item c (inside_member by_names c es class it root) exported (named e.0 ∷ []) e.1)) it.exports)))))
       at None h = held b absent h
@@ -78,11 +79,14 @@ module _ (c : Collection) (es : List Entry) where
           let (n, g) = held b (instance exports) (held b (instance_item (instance exports)) h) in
           quiet_items b (λ e. held_item c m exported (named e.0 ∷ []) e.1)
           (λ e. quiet_item b (unfolded (by_place c) c m) (λ t. quiet_to b c (suc (size c)) m (inside_nothing class it) t) (binds_here c m exported (named e.0 ∷ []) e.1) e.1) it.exports n g
-    member_quiet class a (kind.TypeItem t) = quiet_item b (unfolded (by_place c) c root) (λ x. quiet_to b c (suc (size c)) root root_nothing x) (binds_here c root imported (position a ∷ []) (kind.TypeItem t)) (kind.TypeItem t)
-    member_quiet class a (kind.Func f) = quiet_item b (unfolded (by_place c) c root) (λ x. quiet_to b c (suc (size c)) root root_nothing x) (binds_here c root imported (position a ∷ []) (kind.Func f)) (kind.Func f)
-    member_quiet class a (kind.Component w) = quiet_item b (unfolded (by_place c) c root) (λ x. quiet_to b c (suc (size c)) root root_nothing x) (binds_here c root imported (position a ∷ []) (kind.Component w)) (kind.Component w)
-    member_quiet class a (kind.Module m) = quiet_item b (unfolded (by_place c) c root) (λ x. quiet_to b c (suc (size c)) root root_nothing x) (binds_here c root imported (position a ∷ []) (kind.Module m)) (kind.Module m)
-    member_quiet class a (kind.Value v) = quiet_item b (unfolded (by_place c) c root) (λ x. quiet_to b c (suc (size c)) root root_nothing x) (binds_here c root imported (position a ∷ []) (kind.Value v)) (kind.Value v)
+    quiet_member class a (kind.TypeItem t) = quiet_item b (unfolded (by_place c) c root) (λ x. quiet_to b c (suc (size c)) root nothing x) (binds_here c root imported (position a ∷ []) (kind.TypeItem t)) (kind.TypeItem t)
+    quiet_member class a (kind.Func f) = quiet_item b (unfolded (by_place c) c root) (λ x. quiet_to b c (suc (size c)) root nothing x) (binds_here c root imported (position a ∷ []) (kind.Func f)) (kind.Func f)
+    quiet_member class a (kind.Component w) = quiet_item b (unfolded (by_place c) c root) (λ x. quiet_to b c (suc (size c)) root nothing x) (binds_here c root imported (position a ∷ []) (kind.Component w)) (kind.Component w)
+    quiet_member class a (kind.Module m) = quiet_item b (unfolded (by_place c) c root) (λ x. quiet_to b c (suc (size c)) root nothing x) (binds_here c root imported (position a ∷ []) (kind.Module m)) (kind.Module m)
+    quiet_member class a (kind.Value v) = quiet_item b (unfolded (by_place c) c root) (λ x. quiet_to b c (suc (size c)) root nothing x) (binds_here c root imported (position a ∷ []) (kind.Value v)) (kind.Value v)
+
+  pub member_quiet : (place : ℕ → ℕ) (b : ℕ) → ((k : ℕ) → k < length (class_names by_names es) → place k ≡ b → ⊥) → (class : Name) (a : ℕ) (k : ItemKind) → Quiet b (member_tree by_names c es class a (root_bindings by_names c es place) k)
+  member_quiet place b past = quiet_member place b (root_nothing place b past)
 
   -- what a class rests on is a class
   pub rests_low : (a b : ℕ) → RestsOn by_names c es a b → b < length (class_names by_names es)

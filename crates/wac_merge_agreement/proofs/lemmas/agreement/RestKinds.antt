@@ -174,7 +174,7 @@ module _ {X : Type 0} (f : X → Bool) where
     | inr h ↦ let w = filter-at xs j x at t in (w.0, subst (λ (b : Bool). slice_get (cond b (y ∷ filter f xs) (filter f xs)) w.0 ≡ Some x) (sym h) w.1)
   ]
 
-  all-filtered : (P : X → Type 0) (xs : List X) → ((j : ℕ) (x : X) → slice_get xs j ≡ Some x → f x ≡ true → P x) → AllByRecursion P (filter f xs)
+  pub all-filtered : (P : X → Type 0) (xs : List X) → ((j : ℕ) (x : X) → slice_get xs j ≡ Some x → f x ≡ true → P x) → AllByRecursion P (filter f xs)
   all-filtered P [] h = tt
   all-filtered P (x ∷ xs) h = elim (cases_Bool (f x)) [
     | inl t ↦ subst (λ (b : Bool). AllByRecursion P (cond b (x ∷ filter f xs) (filter f xs))) (sym t) (h 0 x refl t, all-filtered P xs (λ j y at. h (suc j) y at))

@@ -8,7 +8,7 @@ use Rattle.std.proofs.lemmas.Option.{get_or_from_slice_get, slice_get_read, slic
 use Rattle.wac_types_shapes.specs.primitives.Name.{Name, same_name, find_name, option_case}
 use Rattle.wac_types_shapes.specs.primitives.Tree.{Place, TypeTree, Leaf, type_equal, function_item, instance_item, component_item, module_item, value_item}
 use Rattle.wac_types_collection.specs.collection.Collection.{Collection, IsWellFormed, item_at}
-use Rattle.wac_types_collection.specs.wide.Wide.{each_once, wide_uses}
+use Rattle.wac_types_collection.specs.wide.Wide.{UsesWidely, each_once, wide_uses}
 use Rattle.wac_types_collection.proofs.lemmas.wide.Members.{in_none, in_first, in_rest, in_parts}
 use Rattle.wac_types_collection.proofs.lemmas.wide.Once.{each_new}
 use Rattle.wac_types_collection.proofs.lemmas.wide.Wide.{wide_law}
@@ -35,14 +35,14 @@ use Rattle.wac_merge_agreement.specs.private.agreement.Resting.{EntryLeads, Item
 use Rattle.wac_merge_classes.specs.terms.Union.{member_tree}
 use Rattle.wac_merge_classes.proofs.lemmas.entries.Canonical.{class_name-asked}
 use Rattle.wac_merge_classes.proofs.lemmas.entries.ClassFacts.{class-sym, class-trans, one-position}
-use Rattle.wac_merge_agreement.proofs.lemmas.agreement.KeySets.{In}
+use Rattle.wac_edges.proofs.KeySets.{In, has_in, in_has}
 use Rattle.wac_merge_classes.proofs.lemmas.entries.Lists.{any-at, any-found, some-at}
 use Rattle.wac_merge_agreement.proofs.lemmas.agreement.Reaching.{inside}
 use Rattle.wac_merge_agreement.proofs.lemmas.agreement.Resting.{BindsNothing, IsNoResource, Same, class_none, member_resource, same_member, same_member_instance}
 use Rattle.wac_merge_agreement.proofs.lemmas.agreement.RestKinds.{all_nothing, filter-at}
 use Rattle.wac_merge_classes.proofs.lemmas.terms.Found.{at-filter}
 use Rattle.wac_merge_agreement.proofs.lemmas.agreement.RestNames.{compared-same}
-use Rattle.wac_merge_agreement.proofs.lemmas.agreement.RestSets.{has_in, in_has, used_widely}
+use Rattle.wac_merge_agreement.proofs.lemmas.agreement.RestSets.{used_widely}
 
 pub contains_at : {X : Type 0} (xs : List X) (k : ℕ) (x : X) → slice_get xs k ≡ Some x → Contains xs x
 contains_at xs k x at = (k, slice_get_within xs k x at, get_or_from_slice_get xs k x x at)
@@ -141,15 +141,58 @@ asked_one es n k m at t = elim (or_cases (same_name n m) (same_track (by_names.t
       asked_instance es n (and_parts (names_instance es n) (names_instance es m) p.1).0
 ]
 
+-- ---- members of classes, and the classes that they use
+module _ (c : Collection) (es : List Entry) (numbers positions : List ℕ) (names : List (Name × ℕ)) (classes : AreClasses by_names es numbers positions names) (wf : IsWellFormed c) where
+  -- a member of a class stands somewhere, with the number of the class
+  pub record IsMember (a : ℕ) (class : Name) (e : Entry) : Type 0 where
+    pub at : ℕ
+    pub is_entry : slice_get es at ≡ Some e
+    pub is_number : slice_get numbers at ≡ Some a
+    pub of : same_class by_names es class e.name ≡ true
+
+  pub is_member : (a : ℕ) (class : Name) (e : Entry) → slice_get (class_names by_names es) a ≡ Some class → Contains (members by_names es class) e → IsMember a class e
+  is_member a class e is has =
+      let m = at_contains (members by_names es class) e has in
+      let w = at-filter (λ y. same_class by_names es class y.name) es m.0 e m.1 in
+      let low = slice_get_within es w.0 e w.1 in
+      let n = some-at numbers w.0 (omega (arith, classes.counted, low)) in
+      let d = classes.numbered w.0 n.0 e w.1 n.1 in
+      let same : n.0 ≡ a = one-position by_names es es n.0 a d.0 class d.1 is (class-trans by_names es d.0 e.name class d.2 (class-sym by_names es class e.name w.2)) in
+      record { at = w.0; is_entry = w.1; is_number = n.1 ∙ ap (λ (y : ℕ). Some y) same; of = w.2 }
+
+  -- a member that uses an interface of the class b
+  pub use_rests : (a b : ℕ) (class : Name) (e : Entry) → a ≢ b → slice_get (class_names by_names es) a ≡ Some class → Contains (members by_names es class) e → (j : InterfaceId) → e.kind ≡ kind.Instance j → Has (classes_used c names j) b
+      → RestsOn by_names c es a b
+  use_rests a b class e other is_class member j is h =
+      let once = each_once (wide_uses c j) in
+      let w = find_used c names once b (has_in (used_classes c names once) b h) in
+      let u = has_class c names w.0 b w.2 in
+      let d = classes.classed u.id b u.found in
+      by_use a b class d.0 u.id e j w.0 u.it other is_class d.1 member is (used_widely c wf j w.0 w.1) u.is_held u.is_id (class-sym by_names es d.0 u.id d.2)
+
+  found_class : (id : Name) (b : ℕ) (m : Name) → slice_get (class_names by_names es) b ≡ Some m → same_class by_names es id m ≡ true → is_asked es id ≡ true → find_name names id ≡ Some b
+  found_class id b m is one asked = split (find_name names id) refl ((classes.found id).1 asked) where
+    split : (o : Option ℕ) → find_name names id ≡ o → IsSome o → find_name names id ≡ Some b
+    split None at h = cc
+    split (Some k) at h =
+        let d = classes.classed id k at in
+        let same : k ≡ b = one-position by_names es es k b d.0 m d.1 is (class-trans by_names es d.0 id m d.2 one) in
+        at ∙ ap (λ (y : ℕ). Some y) same
+
+  -- the class of an interface that is used
+  pub used_class : (b : ℕ) (name_of id : Name) (i j : InterfaceId) (used : Interface) → slice_get (class_names by_names es) b ≡ Some name_of → UsesWidely c i j → item_at c.interfaces j.0 ≡ Some used → used.id ≡ Some id → same_class by_names es id name_of ≡ true
+      → Has (classes_used c names i) b
+  used_class b name_of id i j used is_other widely is_used has_id one =
+      let found = found_class id b name_of is_other one (asked_one es id b name_of is_other one) in
+      let known : interface_class c names j ≡ Some b = of_class c names j b (record { it = used; id = id; is_held = is_used; is_id = has_id; found = found }) in
+      let among : Contains (each_once (wide_uses c i)) j = each_new [] (wide_uses c i) j ((wide_law c wf i j).0 widely) in
+      in_has (classes_used c names i) b (used_there c names (each_once (wide_uses c i)) j b among known)
+
 module _ (ns : List Node) (c : Collection) (es : List Entry) (xs : List Item) (numbers positions : List ℕ) (names : List (Name × ℕ)) (bs : ClassBindings)
     (classes : AreClasses by_names es numbers positions names) (bindings : AreBindings c es bs) (counted : length xs ≡ length es) (items : AreCompared ns c es xs)
     (agree : HasNoDisagreement by_names c es) (wf : IsWellFormed c) where
   abbrev root : ResourceId → Option Leaf
   root = root_bindings by_names c es (λ k. k)
-
-  -- two class names of one class stand at one position
-  one_number : (k l : ℕ) (m n : Name) → slice_get (class_names by_names es) k ≡ Some m → slice_get (class_names by_names es) l ≡ Some n → same_class by_names es m n ≡ true → k ≡ l
-  one_number k l m n mt nt t = one-position by_names es es k l m n mt nt t
 
   -- ---- one entry
   module _ (i a b : ℕ) (class : Name) (e : Entry) (x : Item) (at : slice_get es i ≡ Some e) (x_at : slice_get xs i ≡ Some x) (is_class : slice_get (class_names by_names es) a ≡ Some class)
@@ -197,12 +240,7 @@ module _ (ns : List Node) (c : Collection) (es : List Entry) (xs : List Item) (n
 
     -- a use of an interface of the class b
     uses : (j : InterfaceId) → e.kind ≡ kind.Instance j → Has (classes_used c names j) b → RestsOn by_names c es a b
-    uses j is h =
-        let once = each_once (wide_uses c j) in
-        let w = find_used c names once b (has_in (used_classes c names once) b h) in
-        let u = has_class c names w.0 b w.2 in
-        let d = classes.classed u.id b u.found in
-        by_use a b class d.0 u.id e j w.0 u.it other is_class d.1 inside_class is (used_widely c wf j w.0 w.1) u.is_held u.is_id (class-sym by_names es d.0 u.id d.2)
+    uses = use_rests c es numbers positions names classes wf a b class e other is_class inside_class
 
     means : (k : ItemKind) → e.kind ≡ k → Means k → RestsOn by_names c es a b
     means k is h = by_resource a b class e other is_class inside_class (subst Means (sym is) h)
@@ -255,14 +293,10 @@ module _ (ns : List Node) (c : Collection) (es : List Entry) (xs : List Item) (n
 
   is_there : (a : ℕ) (class : Name) (e : Entry) → slice_get (class_names by_names es) a ≡ Some class → Contains (members by_names es class) e → IsThere a class e
   is_there a class e is has =
-      let m = at_contains (members by_names es class) e has in
-      let w = at-filter (λ y. same_class by_names es class y.name) es m.0 e m.1 in
-      let low = slice_get_within es w.0 e w.1 in
-      let x = some-at xs w.0 (omega (arith, counted, low)) in
-      let n = some-at numbers w.0 (omega (arith, classes.counted, low)) in
-      let d = classes.numbered w.0 n.0 e w.1 n.1 in
-      let same : n.0 ≡ a = one_number n.0 a d.0 class d.1 is (class-trans by_names es d.0 e.name class d.2 (class-sym by_names es class e.name w.2)) in
-      record { at = w.0; item = x.0; is_entry = w.1; is_item = x.1; is_number = n.1 ∙ ap (λ (y : ℕ). Some y) same; of = w.2 }
+      let m = is_member c es numbers positions names classes wf a class e is has in
+      let low = slice_get_within es m.at e m.is_entry in
+      let x = some-at xs m.at (omega (arith, counted, low)) in
+      record { at = m.at; item = x.0; is_entry = m.is_entry; is_item = x.1; is_number = m.is_number; of = m.of }
 
   led : (a b : ℕ) (class : Name) (e : Entry) → a ≢ b → (t : IsThere a class e) → ItemLeads ns c names bs e.kind t.item b → Entries a b
   led a b class e other t h = record {
@@ -280,21 +314,8 @@ module _ (ns : List Node) (c : Collection) (es : List Entry) (xs : List Item) (n
   rests_leads : (a b : ℕ) → RestsOn by_names c es a b → Entries a b
   rests_leads a b (by_use _ _ class name_of id e i j used other is_class is_other member is widely is_used has_id one) =
       let t = is_there a class e is_class member in
-      let asked = asked_one es id b name_of is_other one in
-      let found = found_class id b name_of is_other one asked in
-      let known : interface_class c names j ≡ Some b = of_class c names j b (record { it = used; id = id; is_held = is_used; is_id = has_id; found = found }) in
-      let among : Contains (each_once (wide_uses c i)) j = each_new [] (wide_uses c i) j ((wide_law c wf i j).0 widely) in
-      let all : Has (classes_used c names i) b = in_has (classes_used c names i) b (used_there c names (each_once (wide_uses c i)) j b among known) in
+      let all = used_class c es numbers positions names classes wf b name_of id i j used is_other widely is_used has_id one in
       led a b class e other t (subst (λ (y : ItemKind). ItemLeads ns c names bs y t.item b) (sym is) (inr all))
-    where
-      found_class : (id : Name) (b : ℕ) (m : Name) → slice_get (class_names by_names es) b ≡ Some m → same_class by_names es id m ≡ true → is_asked es id ≡ true → find_name names id ≡ Some b
-      found_class id b m is one asked = split (find_name names id) refl ((classes.found id).1 asked) where
-        split : (o : Option ℕ) → find_name names id ≡ o → IsSome o → find_name names id ≡ Some b
-        split None at h = cc
-        split (Some k) at h =
-            let d = classes.classed id k at in
-            let same : k ≡ b = one_number k b d.0 m d.1 is (class-trans by_names es d.0 id m d.2 one) in
-            at ∙ ap (λ (y : ℕ). Some y) same
   rests_leads a b (by_resource _ _ class e other is_class member h) =
       let t = is_there a class e is_class member in
       led a b class e other t (meant t.at a b class e t.item t.is_entry t.is_item is_class t.of other e.kind refl h)

@@ -21,22 +21,14 @@ use Rattle.wac_edges.specs.cycles.Cycles.{IsStep}
 use Rattle.wac_merge_classes.specs.entries.Classes.{Entry}
 use Rattle.wac_merge_tables.specs.private.tables.Nodes.{Node, Item, and_optional}
 use Rattle.wac_edges.specs.private.cycles.Numbers.{Has}
-use Rattle.wac_merge_agreement.specs.private.agreement.ReachSteps.{with_all}
+use Rattle.wac_edges.specs.private.Arranging.{with_all}
 use Rattle.wac_merge_agreement.specs.private.agreement.Resting.{EntryLeads, Gains, ItemLeads, classes_used, interface_class, used_classes}
-use Rattle.wac_merge_agreement.proofs.lemmas.agreement.KeySets.{In, has_all, all_old, all_new}
+use Rattle.wac_edges.proofs.KeySets.{has_in, in_has, has_all, all_old, all_new}
 use Rattle.wac_edges.proofs.lemmas.cycles.Numbers.{has_head, has_tail, has_split, has_insert, has_old, has_new}
 use Rattle.wac_merge_classes.proofs.lemmas.entries.Lists.{set-cases}
 use Rattle.wac_merge_classes.proofs.lemmas.entries.Places.{uses_held}
 
 -- ---- numbers of lists
-pub has_in : (ns : List ℕ) (q : ℕ) → Has ns q → In ns q
-has_in [] q h = cc
-has_in (n ∷ ns) q h = elim (has_split q n ns h) [ inl e ↦ inl e | inr r ↦ inr (has_in ns q r) ]
-
-pub in_has : (ns : List ℕ) (q : ℕ) → In ns q → Has ns q
-in_has [] q h = absurd h
-in_has (n ∷ ns) q h = elim h [ inl e ↦ has_head q n ns e | inr r ↦ has_tail q n ns (in_has ns q r) ]
-
 -- ---- used interfaces
 module _ (c : Collection) where
   pub there_if_held : (i : InterfaceId) → holds_type c (ty.Interface i) ≡ true → HasInterface c i

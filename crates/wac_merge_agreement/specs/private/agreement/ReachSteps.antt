@@ -1,7 +1,5 @@
 -- How the classes whose resources a type mentions are found. Only contracts inside the merge cite this file.
-use Rattle.std.specs.Prelude.{ℕ, ◌≡◌, ◌<◌, ◌⊎◌, ◌↔◌, Bool, true, false, List, [], Option, Some, None, length, fold, slice_get}
-use Rattle.std.specs.Ordering.{nat_cmp}
-use Rattle.std.specs.BTreeSet.{insert_key}
+use Rattle.std.specs.Prelude.{ℕ, ◌≡◌, ◌<◌, ◌⊎◌, ◌↔◌, Bool, true, false, List, [], Option, Some, None, length, slice_get}
 use Rattle.wac_types_shapes.specs.primitives.Name.{option_case}
 use Rattle.wac_edges.specs.private.cycles.Numbers.{Has}
 use Rattle.wac_types_collection.specs.subtyping.Called.{Called, of_class}
@@ -24,10 +22,6 @@ node_class (of_resource r) = class_of r
 node_class (of_own r) = class_of r
 node_class (of_borrow r) = class_of r
 node_class _ = None
-
--- The numbers, with more of them added in order.
-abbrev pub with_all : List ℕ → List ℕ → List ℕ
-with_all = fold (insert_key nat_cmp)
 
 -- The flag of a node; false if the node was not examined.
 abbrev pub flag_of : List Bool → ℕ → Bool

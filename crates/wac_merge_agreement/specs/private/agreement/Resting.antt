@@ -29,6 +29,11 @@ used_classes c names (i ∷ is) = and_optional (interface_class c names i) (used
 abbrev pub classes_used : Collection → List (Name × ℕ) → InterfaceId → List ℕ
 classes_used c names i = used_classes c names (each_once (wide_uses c i))
 
+-- The item is an instance that uses an interface of the class with this number widely.
+abbrev pub KindUses : Collection → List (Name × ℕ) → ItemKind → ℕ → Type 0
+KindUses c names (kind.Instance i) b = Has (classes_used c names i) b
+KindUses c names k b = ⊥
+
 -- The first class that binds a resource, after aliases are resolved.
 abbrev pub first_class : Collection → ClassBindings → ResourceId → Option ℕ
 first_class c bs q = option_map (λ p. p.0) (first_in bs (resolved c q))

@@ -3,9 +3,10 @@ use Rattle.std.proofs.lemmas.Result.{IfOk-weaker}
 use Rattle.wac_edges.specs.cycles.Cycles.{IsStep}
 use Rattle.wac_merge_classes.specs.entries.Classes.{by_names}
 use Rattle.wac_merge_classes.specs.terms.ClassOrder.{RestsOn, grouped}
-use Rattle.wac_merge_agreement.specs.private.agreement.Order.{AreAll, IsOnce}
+use Rattle.wac_edges.specs.Arranged.{AreAll, IsOnce}
 use Rattle.wac_edges.proofs.lemmas.cycles.CycleSearch.{along}
-use Rattle.wac_merge_agreement.proofs.lemmas.agreement.OrderLaws.{grouped_all, grouped_once, once_at, order_each, order_once, written_from}
+use Rattle.wac_merge_agreement.proofs.lemmas.agreement.OrderLaws.{grouped_all, grouped_once, order_each, order_once, written_from}
+use Rattle.wac_edges.proofs.ArrangedLaws.{once_at}
 use Rattle.wac_merge_agreement.proofs.lemmas.agreement.RestCircles.{are_within}
 use Rattle.wac_merge_agreement.proofs.agreement.order.written_order.Goals as goal
 

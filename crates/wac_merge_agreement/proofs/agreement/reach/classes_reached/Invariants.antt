@@ -1,5 +1,5 @@
 use Rattle.wac_merge_agreement.specs.private.agreement.ReachSteps.{AreReached}
-use Rattle.wac_merge_agreement.proofs.lemmas.agreement.KeySets.{above}
+use Rattle.wac_edges.proofs.KeySets.{above}
 use Rattle.wac_merge_agreement.proofs.agreement.reach.classes_reached.Given as goal
 
 abbrev pub invariant-loop-next : goal.invariant-loop-next

@@ -1,5 +1,5 @@
 use Rattle.std.proofs.Common.{◌≡◌, drop}
-use Rattle.wac_merge_agreement.specs.private.agreement.ReachSteps.{with_all}
+use Rattle.wac_edges.specs.private.Arranging.{with_all}
 use Rattle.wac_merge_agreement.proofs.agreement.reach.put_all.Given as goal
 
 abbrev pub invariant-loop-number : goal.invariant-loop-number

@@ -1,7 +1,7 @@
 use Rattle.std.proofs.Common.{◌≡◌, drop}
 use Rattle.wac_merge_tables.specs.private.tables.Nodes.{optionals}
 use Rattle.wac_merge_tables.specs.private.tables.NodeViews.{named}
-use Rattle.wac_merge_agreement.specs.private.agreement.ReachSteps.{with_all}
+use Rattle.wac_edges.specs.private.Arranging.{with_all}
 use Rattle.wac_merge_agreement.proofs.agreement.reach.put_cases.Given as goal
 
 abbrev pub invariant-loop-case : goal.invariant-loop-case

@@ -2,7 +2,7 @@ use Rattle.std.proofs.Common.{◌+◌, List, [], ℕ, Option, drop, sym, ap, ◌
 use Rattle.std.proofs.lemmas.List.{drop_all}
 use Rattle.wac_types_shapes.specs.declared.shapes.component.InterfaceId.{InterfaceId}
 use Rattle.wac_merge_tables.specs.private.tables.Nodes.{and_optional}
-use Rattle.wac_merge_agreement.specs.private.agreement.ReachSteps.{with_all}
+use Rattle.wac_edges.specs.private.Arranging.{with_all}
 use Rattle.wac_merge_agreement.specs.private.agreement.Resting.{used_classes}
 use Rattle.wac_merge_agreement.proofs.lemmas.agreement.RestSets.{used_at, used_next}
 use Rattle.wac_merge_agreement.proofs.agreement.rests.put_used.Goals as goal

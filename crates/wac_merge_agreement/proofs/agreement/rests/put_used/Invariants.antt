@@ -1,5 +1,5 @@
 use Rattle.std.proofs.Common.{◌≡◌, drop}
-use Rattle.wac_merge_agreement.specs.private.agreement.ReachSteps.{with_all}
+use Rattle.wac_edges.specs.private.Arranging.{with_all}
 use Rattle.wac_merge_agreement.specs.private.agreement.Resting.{used_classes}
 use Rattle.wac_merge_agreement.proofs.agreement.rests.put_used.Given as goal
 
