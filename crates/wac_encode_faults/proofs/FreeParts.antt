@@ -48,7 +48,7 @@ inserted_law rs now q is r = by (list_any ((IdEq.ghosts).eq q) rs) refl is
       λ h. subst (λ l. Contains l r) (sym same) (elim h [ inl w ↦ in_left rs (q ∷ []) r w | inr w ↦ in_right rs (q ∷ []) r (subst (λ z. Contains (z ∷ []) r) w (in_first r [])) ]),
     )
 
-one_resource : (a b : ResourceId) → ty.Resource a ≡ ty.Resource b → a ≡ b
+pub one_resource : (a b : ResourceId) → ty.Resource a ≡ ty.Resource b → a ≡ b
 one_resource a b e = cc
 
 pub added_resource : (c : Collection) (rs now : List ResourceId) (t : AnyType) (q : ResourceId) → t ≡ ty.Resource q → now ≡ insert_key (IdEq.ghosts).eq rs (resolved c q) → (r : ResourceId)
@@ -124,7 +124,7 @@ is_contained [] t h = absurd h
 is_contained (u ∷ ts) t (inl e) = subst (λ z. Contains (z ∷ ts) t) e (in_first t ts)
 is_contained (u ∷ ts) t (inr h) = in_rest u t ts (is_contained ts t h)
 
-contained_is : (ts : List AnyType) (t : AnyType) → Contains ts t → IsIn t ts
+pub contained_is : (ts : List AnyType) (t : AnyType) → Contains ts t → IsIn t ts
 contained_is [] t h = absurd (in_none t h)
 contained_is (u ∷ ts) t h = elim (in_parts u t ts h) [ inl e ↦ inl e | inr w ↦ inr (contained_is ts t w) ]
 
@@ -207,6 +207,16 @@ free_law c t old now start found slice other one same all added r = (to, from)
     from (inr w) =
         let m = made_of c t r other w in
         (added r).1 (inr (ty.Resource m.0, subst (IsIn (ty.Resource m.0)) (sym same) ((all (ty.Resource m.0)).1 (subst (λ l. IsPart c l (ty.Resource m.0)) (sym one) m.1)), (m.0, refl, m.2)))
+
+-- what holds of the end of each resource among the parts of a type holds of its free resources
+pub free_among : (c : Collection) (ts : List AnyType) (P : ResourceId → Type 0) → ((t u : AnyType) → IsIn t ts → IsIn u (parts c t) → IsIn u ts) → ((q : ResourceId) → IsIn (ty.Resource q) ts → P (resolved c q))
+    → (t : AnyType) (r : ResourceId) → ((i : InterfaceId) → t ≡ ty.Interface i → ⊥) → IsIn t ts → IsFree c t r → P r
+unfolding NoInterface
+free_among c ts P closed each _ _ other there (free.itself q) = each q there
+free_among c ts P closed each t r other there (free.in_part _ u _ h f) =
+    let here = contained_is (parts c t) u h in
+    free_among c ts P closed each u r (part_no_interface c t u here) (closed t u there here) f
+free_among c ts P closed each _ r other there (free.in_export i it n k _ at h own f) = absurd (other i refl)
 
 -- ---- free resources of several types
 part_root : (c : Collection) (ts : List AnyType) (t : AnyType) → IsPart c ts t → (s : AnyType) × IsIn s ts × IsPart c (s ∷ []) t

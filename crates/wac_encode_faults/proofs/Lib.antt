@@ -14,6 +14,7 @@ pub mod FreeParts
 pub mod Entries
 pub mod Owned
 pub mod FreeSets
+pub mod NoResources
 pub mod Binding
 pub mod TypeItems
 pub mod Completed
@@ -22,6 +23,7 @@ pub mod Owning
 pub mod Numbered
 pub mod Supplying
 pub mod Steps
+pub mod OwnedSteps
 pub mod ItemSteps
 pub mod Depending
 pub mod ItemCycles
@@ -30,4 +32,5 @@ pub mod WorldFaults
 pub mod NestedFaults
 pub mod ComponentFaults
 pub mod RootFaults
+pub mod Bounding
 pub mod Examples

@@ -1,5 +1,6 @@
 -- What was found is what types are made of.
-use Rattle.std.proofs.Common.{ℕ, ◌+◌, ◌<◌, ◌≤◌, true, List, length, Some, ◌≡◌, ◌⊎◌, ◌↔◌, inl, inr, sym, subst, arith, slice_get}
+use Rattle.std.proofs.Common.{ℕ, zero, suc, ◌+◌, ◌<◌, ◌≤◌, true, List, [], ◌∷◌, ◌++◌, length, Some, ◌≡◌, ◌⊎◌, ◌↔◌, inl, inr, ap, sym, ◌∙◌, subst, append_assoc, arith, slice_get}
+use Rattle.std.proofs.lemmas.List.{append-nil}
 use Rattle.wac_types_shapes.specs.declared.shapes.component.«Type».{«Type» as AnyType}
 use Rattle.wac_types_shapes.specs.declared.shapes.component.«Type».TheVariants as ty
 use Rattle.wac_types_collection.specs.collection.Collection.{Collection, IsWellFormed, holds_type}
@@ -27,10 +28,27 @@ pub record AreParts (c : Collection) (old found : List AnyType) (next : ℕ) : T
   pub seeds : (t : AnyType) → IsIn t old → IsIn t found
   pub closed : (p : ℕ) (u t : AnyType) → p < next → slice_get found p ≡ Some u → IsIn t (parts c u) → IsIn t found
 
-pub parts_first : (c : Collection) (old : List AnyType) → ((t : AnyType) → IsIn t old → holds_type c t ≡ true) → AreParts c old old 0
-parts_first c old held = record { sound = λ t h. first t h; held = held; seeds = λ t h. h; closed = λ p u t l at h. absurd (omega (arith, l)) }
+pub parts_first : (c : Collection) (old : List AnyType) (from : ℕ) → ((t : AnyType) → IsIn t old → holds_type c t ≡ true) → ((p : ℕ) (u t : AnyType) → p < from → slice_get old p ≡ Some u → IsIn t (parts c u) → IsIn t old)
+    → AreParts c old old from
+parts_first c old from held before = record { sound = λ t h. first t h; held = held; seeds = λ t h. h; closed = before }
+
+-- before the first position there is nothing
+pub nothing_before : (c : Collection) (old : List AnyType) (p : ℕ) (u t : AnyType) → p < 0 → slice_get old p ≡ Some u → IsIn t (parts c u) → IsIn t old
+nothing_before c old p u t l at h = absurd (omega (arith, l))
+
+-- types with more of them appended
+pub grown_not : (ts : List AnyType) → (more : List AnyType) × (ts ≡ ts ++ more)
+grown_not ts = ([], sym (append-nil ts))
+
+pub grown_with : (old ts now us : List AnyType) → (more : List AnyType) × (ts ≡ old ++ more) → now ≡ with_all ts us → (more : List AnyType) × (now ≡ old ++ more)
+grown_with old ts now us (more, is) step =
+    let (added, e) = all_grown ts us in
+    (more ++ added, step ∙ (e ∙ (ap (λ l. l ++ added) is ∙ append_assoc old more added)))
 
 module _ (c : Collection) (wf : IsWellFormed c) (old found : List AnyType) (next : ℕ) (u : AnyType) (at : slice_get found next ≡ Some u) (a : AreParts c old found next) where
+  pub parts_grown : (now : List AnyType) → (more : List AnyType) × (found ≡ old ++ more) → now ≡ with_all found (parts c u) → (more : List AnyType) × (now ≡ old ++ more)
+  parts_grown now grown is = grown_with old found now (parts c u) grown is
+
   pub parts_next : (now : List AnyType) → now ≡ with_all found (parts c u) → AreParts c old now (next + 1)
   parts_next now is = subst (λ l. AreParts c old l (next + 1)) (sym is) (record {
     sound = λ t h. elim (all_only found (parts c u) t h) [ inl w ↦ a.sound t w | inr w ↦ onward u t (a.sound u (in_at u found next at)) w ];
@@ -54,3 +72,9 @@ parts_done c old found next past a t = (a.sound t, back t)
     back : (t : AnyType) → IsPart c old t → IsIn t found
     back t (first _ h) = a.seeds t h
     back t (onward u _ r h) = let (p, l, at) = at_in u found (back u r) in a.closed p u t (omega (arith, l, past)) at h
+
+-- what is at a position of the first ones is one of them
+pub in_front : (old more : List AnyType) (i : ℕ) (t : AnyType) → i < length old → slice_get (old ++ more) i ≡ Some t → IsIn t old
+in_front [] more i t l at = absurd (omega (arith, l))
+in_front (u ∷ old) more zero t l at = let same : u ≡ t = cc in inl (sym same)
+in_front (u ∷ old) more (suc i) t l at = inr (in_front old more i t (omega (arith, l)) at)

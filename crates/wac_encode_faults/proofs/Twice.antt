@@ -15,7 +15,7 @@ use Rattle.wac_types_collection.specs.collection.Collection.{Collection, item_at
 use Rattle.wac_encode_faults.specs.Sides.{under_id}
 use Rattle.wac_encode_faults.specs.Faults.{HasNameTwice, of_import, of_additional}
 use Rattle.wac_encode_faults.specs.private.Search.{IsIdOf, named, sides_of, IsNamedAgain, IsNoImport}
-use Rattle.wac_types_collection.proofs.lemmas.wide.Members.{in_none, in_first, in_rest, in_parts, in_one, at_in, in_flat, flat_in, flat_joined}
+use Rattle.wac_types_collection.proofs.lemmas.wide.Members.{in_none, in_first, in_rest, in_right, in_parts, in_one, at_in, in_flat, flat_in, flat_joined}
 use Rattle.wac_types_collection.proofs.lemmas.wide.Once.{id_itself}
 use Rattle.wac_encode_faults.proofs.Dependencies.{AllBefore, all_before}
 
@@ -39,6 +39,29 @@ module _ {V : Type 0} where
         | inl same ↦ let is : true ≡ false = sym (same_name-refl n) ∙ ap (same_name n) (ap (λ (z : Name × V). z.0) same) ∙ other in cc
         | inr w ↦ rest w g
       ]
+
+  -- A list in which no name is there twice does not go on with a name that it has.
+  pub twice_last : (es : List (Name × V)) (n : Name) (v : V) → IsSome (find_name es n) → NoNameTwice (es ++ (n, v) ∷ []) → ⊥
+  twice_last [] n v h once = let no : false ≡ true = h in cc
+  twice_last (e ∷ es) n v h once = by (same_name n e.0) refl h (λ k. twice_last es n v k once.1)
+    where
+      by : (b : Bool) → same_name n e.0 ≡ b → IsSome (if b then Some e.1 else find_name es n) → (IsSome (find_name es n) → ⊥) → ⊥
+      by true same _ _ =
+          in_found (es ++ (n, v) ∷ []) n v (in_right es ((n, v) ∷ []) (n, v) (in_first (n, v) [])) (ap (find_name (es ++ (n, v) ∷ [])) (same_name-true n e.0 same) ∙ once.0)
+      by false _ k rest = rest k
+
+  none_first : (es fs : List (Name × V)) (n : Name) → find_name (es ++ fs) n ≡ None → find_name es n ≡ None
+  none_first [] fs n h = refl
+  none_first (e ∷ es) fs n h = by (same_name n e.0) h (none_first es fs n)
+    where
+      by : (b : Bool) → (if b then Some e.1 else find_name (es ++ fs) n) ≡ None → (find_name (es ++ fs) n ≡ None → find_name es n ≡ None) → (if b then Some e.1 else find_name es n) ≡ None
+      by true k rest = k
+      by false k rest = rest k
+
+  -- So is its beginning.
+  pub once_first : (es fs : List (Name × V)) → NoNameTwice (es ++ fs) → NoNameTwice es
+  once_first [] fs h = tt
+  once_first (e ∷ es) fs h = (none_first es fs e.0 h.0, once_first es fs h.1)
 
   named_once : (es : List (Name × V)) (n : Name) (v w : V) → NoNameTwice es → Contains es (n, v) → Contains es (n, w) → v ≡ w
   named_once [] n v w once h g = absurd (in_none (n, v) h)
@@ -72,10 +95,10 @@ name_none : (x : Name × InterfaceId) → Contains [] x → ⊥
 name_none x h = in_none x h
 
 -- ---- an interface under its id
-abbrev under_of : InterfaceId → Option Name → List (Name × ItemKind)
+abbrev pub under_of : InterfaceId → Option Name → List (Name × ItemKind)
 under_of i d = option_case d [] (λ id. (id, kind.Instance i) ∷ [])
 
-abbrev under_in : InterfaceId → Option Interface → List (Name × ItemKind)
+abbrev pub under_in : InterfaceId → Option Interface → List (Name × ItemKind)
 under_in i o = option_case o [] (λ it. under_of i it.id)
 
 abbrev named_of : InterfaceId → Option Name → List (Name × InterfaceId)

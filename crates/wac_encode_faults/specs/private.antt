@@ -2,7 +2,10 @@ pub mod Search
 pub mod Near
 pub mod Order
 pub mod Owners
+pub mod DefinitionOwners
 pub mod Roots
 pub mod Sets
 pub mod Binding
 pub mod Ids
+pub mod Plain
+pub mod BoundTypes

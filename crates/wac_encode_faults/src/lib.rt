@@ -7,13 +7,16 @@
 //! - [`item_dependencies`]: which imports and exports of a component type depend on each other, over all imports as
 //!   [`join_imports`] makes them.
 //! - [`item_owners`]: which of them binds each resource.
-//! - [`lowest_fault`]: the lowest fault of an item that is imported or defined.
+//! - [`lowest_fault`]: the lowest fault of an item that is imported or defined. [`BoundTypes`]: items without a fault,
+//!   found together.
 #![tactic(auto)]
 
 mod additional;
 mod bound;
+mod bound_types;
 mod component;
 mod cycle;
+mod definition_owners;
 mod definitions;
 mod fault;
 mod faults;
@@ -37,6 +40,7 @@ mod uses;
 mod worlds;
 
 pub use additional::{interface_additional, world_additional};
+pub use bound_types::BoundTypes;
 pub use cycle::item_dependencies;
 pub use definitions::definition_exports;
 pub use fault::{EncodeFault, WriteFault};

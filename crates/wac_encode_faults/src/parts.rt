@@ -1,5 +1,5 @@
 //! The types that function types and value types are made of.
-ghost use Rattle.std.specs.Prelude.{◌≡◌, ◌↔◌, ◌∷◌, [], true, OnOk};
+ghost use Rattle.std.specs.Prelude.{ℕ, ◌≡◌, ◌<◌, ◌↔◌, ◌++◌, ◌∷◌, [], List, true, Some, OnOk, slice_get};
 ghost use Rattle.wac_types_shapes.specs.declared.shapes.component.«Type».{«Type» as AnyType};
 ghost use Rattle.wac_types_shapes.specs.declared.shapes.component.«Type».TheVariants as ty_of;
 ghost use Rattle.wac_types_collection.specs.collection.Collection.{seconds, and_maybe, case_values, value_types, func_mentions, defined_mentions, holds_type};
@@ -102,7 +102,11 @@ fn add_value(found: &mut IndexSet<Type>, types: &Types, value: ValueType) -> Res
 }
 
 /// Adds what a function type or a value type is made of.
-fn add_parts(found: &mut IndexSet<Type>, types: &Types, ty: Type) -> Result<(), AllocError>
+pub(crate) fn add_parts(
+    found: &mut IndexSet<Type>,
+    types: &Types,
+    ty: Type,
+) -> Result<(), AllocError>
     requires { holds_type types.now ty ≡ true }
     ensures { OnOk result (found.new.keys ≡ with_all found.old.keys (parts types.now ty)) }
 {
@@ -113,17 +117,24 @@ fn add_parts(found: &mut IndexSet<Type>, types: &Types, ty: Type) -> Result<(), 
     }
 }
 
-/// Adds what the found types are made of, and what these are made of, and so on. Takes linear time, without recursion.
+/// Adds what the found types are made of, and what these are made of, and so on. Those before the position `from` must be
+/// made of found types alone. Takes time linear in the others, without recursion.
 ///
 /// # Errors
 /// - `AllocError` if out of memory.
-pub(crate) fn add_all_parts(found: &mut IndexSet<Type>, types: &Types) -> Result<(), AllocError>
-    requires { (t : AnyType) → IsIn t found.old.keys → holds_type types.now t ≡ true }
+pub(crate) fn add_all_parts(
+    found: &mut IndexSet<Type>,
+    types: &Types,
+    from: usize,
+) -> Result<(), AllocError>
+    requires held { (t : AnyType) → IsIn t found.old.keys → holds_type types.now t ≡ true }
+    requires before { (p : ℕ) (u t : AnyType) → p < from → slice_get found.old.keys p ≡ Some u → IsIn t (parts types.now u) → IsIn t found.old.keys }
     ensures parts { OnOk result ((t : AnyType) → IsIn t found.new.keys ↔ IsPart types.now found.old.keys t) }
     ensures held { OnOk result ((t : AnyType) → IsIn t found.new.keys → holds_type types.now t ≡ true) }
+    ensures grown { OnOk result ((more : List AnyType) × (found.new.keys ≡ found.old.keys ++ more)) }
 {
     types.law();
-    let mut next = 0;
+    let mut next = from;
     while next < found.len() {
         let ty = found.as_slice()[next];
         add_parts(found, types, ty)?;

@@ -82,7 +82,7 @@ pub(crate) fn add_free_of_others(
 {
     let mut found = IndexSet::new(types.allocator());
     add_others(&mut found, items)?;
-    add_all_parts(&mut found, types)?;
+    add_all_parts(&mut found, types, 0)?;
     add_resources(resources, types, found.as_slice())
 }
 
@@ -101,6 +101,6 @@ pub(crate) fn add_free(
 {
     let mut found = IndexSet::new(types.allocator());
     found.insert(ty)?;
-    add_all_parts(&mut found, types)?;
+    add_all_parts(&mut found, types, 0)?;
     add_resources(resources, types, found.as_slice())
 }

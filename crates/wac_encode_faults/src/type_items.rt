@@ -73,7 +73,7 @@ fn add_free_of_others_alone(
 {
     let mut found = IndexSet::new(types.allocator());
     add_others_alone(&mut found, items)?;
-    add_all_parts(&mut found, types)?;
+    add_all_parts(&mut found, types, 0)?;
     add_resources(resources, types, found.as_slice())
 }
 

@@ -79,6 +79,10 @@ pub(crate) fn add_free_of_items(
     requires { AreHeld types.now items.now }
     ensures { OnOk result ((r : Resources) → Contains found.new.keys r ↔ (Contains found.old.keys r ⊎ IsFreeInItems types.now items.now r)) }
 {
+    types.law(); // proof only
+    if types.holds_no_resource() {
+        return Ok(());
+    }
     add_free_of_others(found, types, items)?;
     let mut interfaces = IndexSet::new(types.allocator());
     add_interfaces(&mut interfaces, items)?;
@@ -94,6 +98,10 @@ pub(crate) fn add_free_of_type(
     requires { holds_type types.now ty ≡ true }
     ensures { OnOk result ((r : Resources) → Contains found.new.keys r ↔ (Contains found.old.keys r ⊎ IsFree types.now ty r)) }
 {
+    types.law(); // proof only
+    if types.holds_no_resource() {
+        return Ok(());
+    }
     let Type::Interface(id) = ty else {
         return add_free(found, types, ty);
     };

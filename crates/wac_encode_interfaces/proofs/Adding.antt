@@ -14,14 +14,14 @@ use Rattle.wac_binary.specs.Unfold.{Scope, with_item}
 use Rattle.wac_encode_stacks.specs.Scopes.{env, envs}
 use Rattle.wac_encode_stacks.specs.Good.{At, Good, Grown, IsHeld, Keeps, Kept, innermost, top}
 use Rattle.wac_encode_stacks.specs.Listed.{IsItem, on_side, other}
-use Rattle.wac_encode_stacks.specs.Brought.{GoodOnce}
+use Rattle.wac_encode_stacks.specs.private.Brought.{GoodOnce}
 use Rattle.wac_encode_stacks.proofs.Meant.{value-type}
 use Rattle.wac_encode_scopes.specs.declared.scope.Scope.{Scope as OpenScope}
 use Rattle.wac_encode_scopes.specs.declared.state.State.{State}
 use Rattle.wac_encode_scopes.specs.Books.{opened}
 use Rattle.wac_encode_scopes.specs.States.{outward, stack, Goes, KeepsRecords}
-use Rattle.wac_encode_scopes.specs.Listing.{Describes, RefersTo, ListsItem}
-use Rattle.wac_encode_interfaces.specs.Items.{IsTypeOf, DescribesItem, AddsItem, RefersToItem}
+use Rattle.wac_encode_scopes.specs.private.Listing.{Describes, RefersTo, ListsItem}
+use Rattle.wac_encode_interfaces.specs.private.Items.{IsTypeOf, DescribesItem, AddsItem, RefersToItem}
 use Rattle.wac_encode_interfaces.specs.private.Names.{NamesType}
 
 -- scopes that grow

@@ -29,7 +29,7 @@ use Rattle.wac_encode_stacks.proofs.Unfolded.{func_same, defined_same, item_same
 use Rattle.wac_encode_stacks.proofs.Whole.{here-inside, items-found}
 use Rattle.wac_encode_faults.specs.Free.{parts, IsFree, itself, in_part, in_export, IsFreeInTypes}
 use Rattle.wac_encode_faults.specs.Trees.{item_trees, types_tree}
-use Rattle.wac_encode_interfaces.specs.Trees.{interface_tree as tree_of_interface, IsInterfaceHeld}
+use Rattle.wac_encode_interfaces.specs.private.Trees.{interface_tree as tree_of_interface, IsInterfaceHeld}
 
 -- Both bind each free resource of the type to the same leaf.
 abbrev pub Agree : Collection → Bindings → Bindings → AnyType → Type 0

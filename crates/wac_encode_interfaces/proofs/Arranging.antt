@@ -7,7 +7,7 @@ use Rattle.wac_types_shapes.specs.primitives.Tree.{Side}
 use Rattle.wac_types_shapes.specs.declared.shapes.component.ItemKind.{ItemKind}
 use Rattle.wac_types_collection.proofs.lemmas.wide.Members.{in_first, in_rest, in_none, in_parts, in_one, in_left, in_right, in_either, in_flat, flat_in, at_in}
 use Rattle.wac_encode_faults.specs.Free.{SideItem}
-use Rattle.wac_encode_order.specs.private.Arranged.{Selects, none, takes, leaves, Arranges, done, there, new}
+use Rattle.wac_edges.specs.Arranged.{Selects, none, takes, leaves, Arranges, done, there, new}
 use Rattle.wac_encode_interfaces.specs.private.Written.{side_item, items_written, IsAfter}
 
 selects-has : (P : ℕ → Type 0) (ns taken : List ℕ) (m : ℕ) → Selects P ns taken → Contains ns m → P m → Contains taken m

@@ -1,6 +1,5 @@
 -- A component type is begun and finished.
 use Rattle.std.proofs.Common.{ℕ, ◌≡◌, ◌+◌, ◌<◌, Bool, true, false, List, [], ◌∷◌, ◌++◌, take, drop, length, arith, Option, Some, None, Contains, refl, ap, sym, ◌∙◌, subst, inl, inr}
-use Rattle.std.specs.Prelude.{Result, Ok, IfOk}
 use Rattle.std.specs.List.{flat_map}
 use Rattle.std.proofs.Math.Path.{fun_ext}
 use Rattle.wac_types_shapes.specs.primitives.Name.{Name, option_case}
@@ -22,16 +21,16 @@ use Rattle.wac_encode_stacks.specs.Listed.{on_side}
 use Rattle.wac_encode_scopes.specs.declared.encodable.Encodable.{Encodable}
 use Rattle.wac_encode_scopes.specs.declared.encodable.Encodable.TheVariants.{Component}
 use Rattle.wac_encode_scopes.specs.declared.state.State.{State}
-use Rattle.wac_encode_scopes.specs.Components.{IsComponentType}
+use Rattle.wac_encode_scopes.specs.private.Components.{IsComponentType}
 use Rattle.wac_encode_scopes.specs.Contents.{content_of}
 use Rattle.wac_encode_scopes.specs.States.{outward, stack}
 use Rattle.wac_encode_faults.specs.Sides.{Sides, all_imports, parted_sides, export_bindings, under_id}
 use Rattle.wac_encode_faults.specs.Cycle.{numbered_items, AreOwners}
 use Rattle.wac_encode_interfaces.specs.declared.sides.Sides.{Sides as GivenSides}
 use Rattle.wac_encode_interfaces.specs.declared.sides.Parts.{Parts}
-use Rattle.wac_encode_interfaces.specs.Given.{sides_of, AreHeldItems, AreHeldSides, HaveSidesWorlds}
-use Rattle.wac_encode_interfaces.specs.Ready.{AreSidesClean}
-use Rattle.wac_encode_interfaces.specs.Worlds.{Worlds, HaveWorlds, HaveInterfaceWorlds}
+use Rattle.wac_encode_interfaces.specs.private.Given.{sides_of, AreHeldItems, AreHeldSides, HaveSidesWorlds}
+use Rattle.wac_encode_interfaces.specs.private.Ready.{AreSidesClean}
+use Rattle.wac_encode_interfaces.specs.private.Worlds.{Worlds, HaveWorlds, HaveInterfaceWorlds}
 use Rattle.wac_encode_interfaces.specs.private.Written.{bound_so_far, listed_so_far, IsWritten, IsItemOf, AreWritable}
 use Rattle.wac_encode_interfaces.specs.private.Parts.{sides_in, ArePlanned}
 use Rattle.wac_encode_interfaces.proofs.Bound.{no-some}
@@ -133,9 +132,6 @@ planned-parts c ws x held clean worlds y uses listed all exports imports_once ex
   writable = subst (λ (s : Sides). AreWritable c ws s) (sym (parts-are c x y uses listed all exports)) (writable c ws x held clean worlds (subst NoNameTwice all imports_once) exports_once);
   owners = owners (length y.listed.now);
 }
-
-pub of-ok : {A E : Type 0} (P : A → Type 0) (r : Result A E) (x : A) → r ≡ Ok x → IfOk r P → P x
-of-ok P r x is h = subst (λ o. IfOk o P) is h
 
 -- The sides with all imports in one list are the given sides.
 pub parted-are : (c : Collection) (x : GivenSides) (imports : List (Name × ItemKind)) → imports ≡ x.imports.now ++ flat_map (under_id c) x.additional.now → parted_sides x.uses.now (length x.imports.now) imports x.exports.now ≡ sides_of c x

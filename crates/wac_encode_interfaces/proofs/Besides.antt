@@ -7,7 +7,7 @@ use Rattle.wac_types_shapes.specs.primitives.Tree.{Side}
 use Rattle.wac_types_collection.specs.collection.Collection.{Collection}
 use Rattle.wac_binary.specs.declared.sorts.Description.{Description}
 use Rattle.wac_encode_stacks.specs.Scopes.{Open, Stack}
-use Rattle.wac_encode_stacks.specs.Beside.{written_as, all_written_as}
+use Rattle.wac_encode_stacks.specs.private.Beside.{written_as, all_written_as}
 use Rattle.wac_encode_scopes.specs.declared.book.Book.{Book}
 use Rattle.wac_encode_scopes.specs.declared.encodable.Encodable.{Encodable}
 use Rattle.wac_encode_scopes.specs.declared.scope.Scope.{Scope}
@@ -16,7 +16,7 @@ use Rattle.wac_encode_scopes.specs.Contents.{AddsTypes, content_of, and_item}
 use Rattle.wac_encode_scopes.specs.Books.{opened, recorded, book_of}
 use Rattle.wac_encode_scopes.specs.States.{outward, stack, Goes, KeepsRecords, RecordsHere}
 use Rattle.wac_encode_scopes.proofs.Stepped.{same-as, same-stack}
-use Rattle.wac_encode_interfaces.specs.Items.{AddsBeside}
+use Rattle.wac_encode_interfaces.specs.private.Items.{AddsBeside}
 
 abbrev Added : Scope → Scope → Type 0
 Added s t = AddsTypes s.content t.content

@@ -23,7 +23,7 @@ use Rattle.wac_encode_faults.specs.Free.{SideItem, IsFreeInItem}
 use Rattle.wac_encode_faults.specs.Faults.{unbound}
 use Rattle.wac_encode_faults.specs.declared.fault.WriteFault.TheVariants as fault
 use Rattle.wac_encode_faults.specs.Cycle.{IsBindingOf, ItemDependsOn, by_resource}
-use Rattle.wac_encode_interfaces.specs.Ready.{AreSidesClean}
+use Rattle.wac_encode_interfaces.specs.private.Ready.{AreSidesClean}
 use Rattle.wac_encode_interfaces.specs.private.Written.{side_item, begins_with, is_bound_at, bound_so_far, IsItemOf}
 
 pub true-false : {A : Type 0} (b : Bool) → b ≡ true → b ≡ false → A

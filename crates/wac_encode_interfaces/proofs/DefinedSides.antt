@@ -17,9 +17,9 @@ use Rattle.wac_encode_faults.specs.Faults.{IsDefinedFault}
 use Rattle.wac_encode_faults.specs.private.Ids.{HaveIds}
 use Rattle.wac_encode_faults.specs.Sides.{Sides, under_id, reached, unlisted, id_or_empty, interface_sides, completed_sides, defined_sides}
 use Rattle.wac_encode_interfaces.specs.declared.sides.Sides.{Sides as GivenSides}
-use Rattle.wac_encode_interfaces.specs.Definitions.{HaveWorldsInside, AreDefinitionRoots}
-use Rattle.wac_encode_interfaces.specs.Given.{sides_of, AreHeldItems, AreHeldSides, HaveSidesWorlds}
-use Rattle.wac_encode_interfaces.specs.Worlds.{Worlds}
+use Rattle.wac_encode_interfaces.specs.private.Definitions.{HaveWorldsInside, AreDefinitionRoots}
+use Rattle.wac_encode_interfaces.specs.private.Given.{sides_of, AreHeldItems, AreHeldSides, HaveSidesWorlds}
+use Rattle.wac_encode_interfaces.specs.private.Worlds.{Worlds}
 use Rattle.wac_encode_interfaces.specs.private.Defined.{AreSideRoots, AreDefinedRoots}
 use Rattle.wac_encode_interfaces.specs.private.Roots.{side_roots}
 use Rattle.wac_encode_interfaces.proofs.Begun.{under-instance, one-instance}

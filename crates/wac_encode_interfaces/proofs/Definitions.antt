@@ -18,24 +18,24 @@ use Rattle.wac_binary.specs.HasMeaning.{IsFree}
 use Rattle.wac_binary.specs.Unfold.{with_item}
 use Rattle.wac_encode_stacks.specs.Scopes.{env, envs, scope_of}
 use Rattle.wac_encode_stacks.specs.Good.{At, Good, innermost, nothing_bound, top}
-use Rattle.wac_encode_stacks.specs.Laws.{IsItsTree}
+use Rattle.wac_encode_stacks.specs.private.Laws.{IsItsTree}
 use Rattle.wac_encode_stacks.specs.Listed.{on_side}
 use Rattle.wac_encode_scopes.specs.declared.encodable.Encodable.{Encodable}
 use Rattle.wac_encode_scopes.specs.declared.encodable.Encodable.TheVariants.{Component}
 use Rattle.wac_encode_scopes.specs.declared.scope.Scope.{Scope as OpenScope}
 use Rattle.wac_encode_scopes.specs.declared.state.State.{State}
 use Rattle.wac_encode_scopes.specs.Books.{opened}
-use Rattle.wac_encode_scopes.specs.Components.{ComponentHasMeaning, component_tree, DefinesComponent}
+use Rattle.wac_encode_scopes.specs.private.Components.{ComponentHasMeaning, component_tree, DefinesComponent}
 use Rattle.wac_encode_scopes.specs.Contents.{content_of}
-use Rattle.wac_encode_scopes.specs.Listing.{ListsItem}
+use Rattle.wac_encode_scopes.specs.private.Listing.{ListsItem}
 use Rattle.wac_encode_scopes.specs.States.{outward, stack, Goes, KeepsRecords}
 use Rattle.wac_encode_faults.specs.declared.fault.WriteFault.TheVariants as fault
 use Rattle.wac_encode_faults.specs.Faults.{IsDefinedFault, definition_fault, unnamed}
 use Rattle.wac_encode_faults.specs.Sides.{Sides, interface_sides, completed_sides}
 use Rattle.wac_encode_faults.specs.Trees.{sides_tree, world_definition, definition_tree}
-use Rattle.wac_encode_interfaces.specs.Definitions.{IsDefinable, IsOfDefinition, IsDefinitionAt}
-use Rattle.wac_encode_interfaces.specs.Items.{IsItemReady, IsTypeIndex, IsTypeOf}
-use Rattle.wac_encode_interfaces.specs.Worlds.{Worlds}
+use Rattle.wac_encode_interfaces.specs.private.Definitions.{IsDefinable, IsOfDefinition, IsDefinitionAt}
+use Rattle.wac_encode_interfaces.specs.private.Items.{IsItemReady, IsTypeIndex, IsTypeOf}
+use Rattle.wac_encode_interfaces.specs.private.Worlds.{Worlds}
 use Rattle.wac_encode_interfaces.specs.private.Defined.{HasDefinition, HasDefinedSides, IsComponentOf, exporting_one, IsDefinition, IsScopeType, IsPlainType}
 use Rattle.wac_encode_interfaces.proofs.Adding.{side-kept}
 use Rattle.wac_encode_interfaces.proofs.Agreeing.{held-free}

@@ -16,26 +16,26 @@ use Rattle.wac_types_collection.specs.collection.Bound.{Bindings}
 use Rattle.wac_binary.specs.HasMeaning.{IsInstance}
 use Rattle.wac_encode_stacks.specs.Scopes.{How, Stack}
 use Rattle.wac_encode_stacks.specs.Good.{At, Good, innermost, top}
-use Rattle.wac_encode_stacks.specs.Laws.{Follows}
+use Rattle.wac_encode_stacks.specs.private.Laws.{Follows}
 use Rattle.wac_encode_stacks.specs.Listed.{AreListed, FreshInInterface, HoldsInterface, ListsInAnyOrder, ListsOneMore}
-use Rattle.wac_encode_stacks.specs.Brought.{GoodOnce}
+use Rattle.wac_encode_stacks.specs.private.Brought.{GoodOnce}
 use Rattle.wac_encode_scopes.specs.declared.encodable.Encodable.{Encodable}
 use Rattle.wac_encode_scopes.specs.declared.encodable.Encodable.TheVariants.{Builder, Instance, Component}
 use Rattle.wac_encode_scopes.specs.declared.scope.Scope.{Scope}
 use Rattle.wac_encode_scopes.specs.declared.state.State.{State}
 use Rattle.wac_encode_scopes.specs.Contents.{AddsTypes, HasSide, IsInstanceType}
 use Rattle.wac_encode_scopes.specs.private.Interfaces.{BeginsInterface}
-use Rattle.wac_encode_scopes.specs.Listing.{Closes, ClosesInto, IsNonempty}
+use Rattle.wac_encode_scopes.specs.private.Listing.{Closes, ClosesInto, IsNonempty}
 use Rattle.wac_encode_scopes.specs.States.{stack, Goes, IsRecordedAt}
 use Rattle.wac_encode_scopes.proofs.Stepped.{goes-both}
 use Rattle.wac_encode_stacks.proofs.Unfolded.{held_item}
 use Rattle.wac_encode_values.proofs.Waiting.{unit, effort, waits-less}
 use Rattle.wac_encode_order.specs.private.Interfaces.{comes_later}
-use Rattle.wac_encode_interfaces.specs.Refused.{KeepsScopes}
-use Rattle.wac_encode_interfaces.specs.Trees.{IsInterfaceHeld}
-use Rattle.wac_encode_interfaces.specs.Ready.{IsInterfaceAt, IsInterfaceReady}
-use Rattle.wac_encode_interfaces.specs.Items.{AddsBeside, AddsItem, HasInterfaceOf}
-use Rattle.wac_encode_interfaces.specs.Worlds.{Worlds}
+use Rattle.wac_encode_interfaces.specs.private.Refused.{KeepsScopes}
+use Rattle.wac_encode_interfaces.specs.private.Trees.{IsInterfaceHeld}
+use Rattle.wac_encode_interfaces.specs.private.Ready.{IsInterfaceAt, IsInterfaceReady}
+use Rattle.wac_encode_interfaces.specs.private.Items.{AddsBeside, AddsItem, HasInterfaceOf}
+use Rattle.wac_encode_interfaces.specs.private.Worlds.{Worlds}
 use Rattle.wac_encode_interfaces.specs.declared.level.Level.{Level}
 use Rattle.wac_encode_interfaces.specs.private.Nests.{IsLevel, IsNewLevel, IsNextItem, following, listed_items, WaitsFor, IsNest, Nest, IsUnderWay, KeepsLevels, IsClosedInto, IsEnded, HasNext}
 use Rattle.wac_encode_interfaces.proofs.Refused.{keeps-none as scopes-none, keeps-both as scopes-both}

@@ -11,7 +11,7 @@ use Rattle.wac_encode_faults.specs.declared.faults.Role.TheVariants as role
 use Rattle.wac_encode_faults.specs.Faults.{IsImportFault, IsDefinedFault, import_fault, definition_fault}
 use Rattle.wac_encode_faults.specs.Free.{IsUnbound}
 use Rattle.wac_encode_faults.specs.Sides.{Sides, defined_sides}
-use Rattle.wac_encode_interfaces.specs.Clean.{BindsFree, AreCleanOrBound, IsImportOfNoFault, IsDefinitionOfNoFault}
+use Rattle.wac_encode_interfaces.specs.private.Clean.{BindsFree, AreCleanOrBound, IsImportOfNoFault, IsDefinitionOfNoFault}
 
 never-some : (o : Option WriteFault) → ((f : WriteFault) → o ≡ Some f → ⊥) → o ≡ None
 never-some None h = refl

@@ -25,29 +25,29 @@ use Rattle.wac_binary.specs.Meaning.{Root, start, read, read_all, meaning}
 use Rattle.wac_binary.specs.Unfold.{Scope, module_tree, described_item}
 use Rattle.wac_modules.specs.private.Declarations.{MeansModule}
 use Rattle.wac_encode_stacks.specs.Scopes.{Open, envs, scope_of}
-use Rattle.wac_encode_stacks.specs.Beside.{all_written_as}
-use Rattle.wac_encode_stacks.specs.Brought.{GoodOnce}
+use Rattle.wac_encode_stacks.specs.private.Beside.{all_written_as}
+use Rattle.wac_encode_stacks.specs.private.Brought.{GoodOnce}
 use Rattle.wac_encode_stacks.specs.Good.{At, Good, IsHeld, Keeps, innermost, top}
 use Rattle.wac_encode_stacks.specs.Instances.{ListsImport}
-use Rattle.wac_encode_stacks.specs.Laws.{Follows, IsItsTree}
+use Rattle.wac_encode_stacks.specs.private.Laws.{Follows, IsItsTree}
 use Rattle.wac_encode_stacks.specs.private.Modules.{HoldsModule}
 use Rattle.wac_encode_stacks.proofs.Grow.{at-type_at}
 use Rattle.wac_encode_scopes.specs.declared.encodable.Encodable.{Encodable}
 use Rattle.wac_encode_scopes.specs.declared.encodable.Encodable.TheVariants.{Builder, Instance, Component}
 use Rattle.wac_encode_scopes.specs.declared.scope.Scope.{Scope as OpenScope}
 use Rattle.wac_encode_scopes.specs.declared.state.State.{State}
-use Rattle.wac_encode_scopes.specs.Components.{DefinesModuleType}
+use Rattle.wac_encode_scopes.specs.private.Components.{DefinesModuleType}
 use Rattle.wac_encode_scopes.specs.Contents.{AddsTypes, IsTypeItem, content_of, count_of}
-use Rattle.wac_encode_scopes.specs.Listing.{Describes}
+use Rattle.wac_encode_scopes.specs.private.Listing.{Describes}
 use Rattle.wac_encode_scopes.specs.Roots.{IsRoot, items_of, and_import, ImportRefersTo, ImportsItem}
 use Rattle.wac_encode_scopes.specs.States.{outward, stack, Goes, IsTypeAt, KeepsRecords, RecordsHere}
-use Rattle.wac_encode_values.specs.Values.{IsReady}
+use Rattle.wac_encode_values.specs.private.Values.{IsReady}
 use Rattle.wac_encode_faults.specs.Faults.{import_fault, listed_fault}
 use Rattle.wac_encode_faults.specs.declared.fault.WriteFault.TheVariants as fault
-use Rattle.wac_encode_interfaces.specs.Imports.{DescribesImport, ImportsBeside, ImportsOf, IsImportReady, IsModuleAt, RefersToImport, import_sort, module_type_of, next_place}
-use Rattle.wac_encode_interfaces.specs.Items.{DescribesItem, HasInterfaceOf, IsItemReady}
-use Rattle.wac_encode_interfaces.specs.Ready.{IsClean, IsInterfaceReady}
-use Rattle.wac_encode_interfaces.specs.Worlds.{Worlds}
+use Rattle.wac_encode_interfaces.specs.private.Imports.{DescribesImport, ImportsBeside, ImportsOf, IsImportReady, IsModuleAt, RefersToImport, import_sort, module_type_of, next_place}
+use Rattle.wac_encode_interfaces.specs.private.Items.{DescribesItem, HasInterfaceOf, IsItemReady}
+use Rattle.wac_encode_interfaces.specs.private.Ready.{IsClean, IsInterfaceReady}
+use Rattle.wac_encode_interfaces.specs.private.Worlds.{Worlds}
 use Rattle.wac_encode_interfaces.specs.private.Names.{NamesType}
 use Rattle.wac_encode_interfaces.specs.private.Sorts.{component_world}
 use Rattle.wac_encode_interfaces.proofs.Adding.{of-item}

@@ -23,7 +23,7 @@ use Rattle.wac_types_collection.proofs.lemmas.wide.Wide.{all_at}
 use Rattle.wac_encode_faults.specs.Faults.{listed_items, IsListed, in_item}
 use Rattle.wac_encode_interfaces.specs.declared.inside.Step.{Step}
 use Rattle.wac_encode_interfaces.specs.declared.inside.Step.TheVariants as step
-use Rattle.wac_encode_interfaces.specs.Ready.{IsClean}
+use Rattle.wac_encode_interfaces.specs.private.Ready.{IsClean}
 use Rattle.wac_encode_interfaces.specs.private.InnerTypes.{interface_or_world, interfaces_and_worlds, inner_types, is_done, enter_all, step_type, IsInnerFirst, IsCleanType, AreCleanTypes, TakesStep}
 
 -- ---- interfaces and worlds among items

@@ -26,8 +26,8 @@ use Rattle.wac_encode_faults.specs.Faults.{IsInside, IsListed, listed_items}
 use Rattle.wac_encode_faults.specs.Free as free
 use Rattle.wac_encode_faults.specs.Free.{parts, IsFree, SideItem, IsFreeInItem}
 use Rattle.wac_encode_faults.specs.Sides.{world_sides, side_bindings, import_bindings, export_bindings}
-use Rattle.wac_encode_interfaces.specs.Leaves as leaves
-use Rattle.wac_encode_interfaces.specs.Leaves.{HasNoLeaf, IsUnboundInWorld, LeavesByFree}
+use Rattle.wac_encode_interfaces.specs.private.Leaves as leaves
+use Rattle.wac_encode_interfaces.specs.private.Leaves.{HasNoLeaf, IsUnboundInWorld, LeavesByFree}
 
 -- bindings inside an interface
 

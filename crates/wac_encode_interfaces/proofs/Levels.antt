@@ -12,7 +12,7 @@ use Rattle.wac_binary.specs.declared.sorts.Description.{Description}
 use Rattle.wac_binary.specs.Items.{instance_def, Decl, import_decl, decls, core_type_decl, type_decl, alias_decl, export_decl}
 use Rattle.wac_binary.specs.HasMeaning.{ImportNothing}
 use Rattle.wac_encode_stacks.specs.Scopes.{Content, Open, Stack, opening}
-use Rattle.wac_encode_stacks.specs.Beside.{written_as, all_written_as}
+use Rattle.wac_encode_stacks.specs.private.Beside.{written_as, all_written_as}
 use Rattle.wac_encode_scopes.specs.declared.book.Book.{Book}
 use Rattle.wac_encode_scopes.specs.declared.encodable.Encodable.{Encodable}
 use Rattle.wac_encode_scopes.specs.declared.encodable.Encodable.TheVariants.{Builder, Instance, Component}
@@ -22,10 +22,10 @@ use Rattle.wac_encode_scopes.specs.Contents.{AddsTypes, IsTypeDecl, declarations
 use Rattle.wac_encode_scopes.specs.Books.{opened, book_of, recorded}
 use Rattle.wac_encode_scopes.specs.States.{outward, stack, Goes, AllAddTypes}
 use Rattle.wac_encode_scopes.specs.private.Interfaces.{BeginsInterface, own_items, fresh_exports}
-use Rattle.wac_encode_scopes.specs.Listing.{ClosesInto}
+use Rattle.wac_encode_scopes.specs.private.Listing.{ClosesInto}
 use Rattle.wac_encode_scopes.proofs.Added.{adds-none, adds-def, adds-both}
 use Rattle.wac_encode_scopes.proofs.Stepped.{same-as, same-stack}
-use Rattle.wac_encode_interfaces.specs.Items.{AddsBeside}
+use Rattle.wac_encode_interfaces.specs.private.Items.{AddsBeside}
 use Rattle.wac_encode_interfaces.specs.private.Levels.{IsLevelContent, opens, AreLevels}
 use Rattle.wac_encode_interfaces.proofs.Besides.{Long, as-twice}
 

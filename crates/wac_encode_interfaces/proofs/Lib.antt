@@ -20,6 +20,7 @@ pub mod OwnTests
 pub mod Turns
 pub mod Positions
 pub mod Begun
+pub mod JoinedOnce
 pub mod Writes
 pub mod Sided
 pub mod InnerTypes

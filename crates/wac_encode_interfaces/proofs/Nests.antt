@@ -16,11 +16,11 @@ use Rattle.wac_encode_stacks.specs.Listed.{AreListed, IsItem, IsUnder, ListsOneM
 use Rattle.wac_encode_scopes.specs.declared.state.State.{State}
 use Rattle.wac_encode_scopes.specs.Books.{opened}
 use Rattle.wac_encode_scopes.specs.private.Interfaces.{BeginsInterface, own_items}
-use Rattle.wac_encode_scopes.specs.Listing.{Closes, ClosesInto}
+use Rattle.wac_encode_scopes.specs.private.Listing.{Closes, ClosesInto}
 use Rattle.wac_encode_scopes.specs.States.{outward, stack, Goes}
 use Rattle.wac_encode_interfaces.specs.declared.level.Level.{Level}
 use Rattle.wac_encode_interfaces.specs.private.Nests.{IsLevel, following, items_at, listed_items, HasListed, IsInsideLevel, WaitsFor, IsNextItem, IsNest, Nest}
-use Rattle.wac_encode_interfaces.specs.Items.{AddsBeside, AddsItem, AddsTree}
+use Rattle.wac_encode_interfaces.specs.private.Items.{AddsBeside, AddsItem, AddsTree}
 use Rattle.wac_encode_interfaces.proofs.Adding.{grown-on}
 use Rattle.wac_encode_interfaces.proofs.Levels.{levels-on, levels-ended, levels-closed, levels-exported, levels-first, levels-inner, outward-snoc}
 

@@ -33,16 +33,16 @@ use Rattle.wac_encode_scopes.specs.declared.encodable.Encodable.TheVariants.{Bui
 use Rattle.wac_encode_scopes.specs.declared.scope.Scope.{Scope as OpenScope}
 use Rattle.wac_encode_scopes.specs.declared.state.State.{State}
 use Rattle.wac_encode_scopes.specs.Books.{opened}
-use Rattle.wac_encode_scopes.specs.Components.{IsComponentType}
+use Rattle.wac_encode_scopes.specs.private.Components.{IsComponentType}
 use Rattle.wac_encode_scopes.specs.Contents.{AddsTypes, and_item}
 use Rattle.wac_encode_scopes.specs.States.{outward, stack, AllAddTypes, Goes}
 use Rattle.wac_encode_scopes.specs.States.{KeepsRecords}
-use Rattle.wac_encode_scopes.specs.Listing.{ListsItem, ListsResource}
+use Rattle.wac_encode_scopes.specs.private.Listing.{ListsItem, ListsResource}
 use Rattle.wac_binary.specs.declared.sorts.Description.{Description}
 use Rattle.wac_binary.specs.declared.sorts.Description.TheVariants as e
 use Rattle.wac_encode_stacks.specs.Listed.{calling, listed_leaf}
-use Rattle.wac_encode_interfaces.specs.Ready.{IsInterfaceAt}
-use Rattle.wac_encode_values.specs.Values.{IsReady}
+use Rattle.wac_encode_interfaces.specs.private.Ready.{IsInterfaceAt}
+use Rattle.wac_encode_values.specs.private.Values.{IsReady}
 use Rattle.wac_encode_faults.specs.declared.fault.WriteFault.{WriteFault}
 use Rattle.wac_encode_faults.specs.Faults.{listed_fault, unbound, of_items}
 use Rattle.wac_encode_faults.specs.declared.fault.WriteFault.TheVariants as fault
@@ -50,11 +50,11 @@ use Rattle.wac_encode_faults.specs.Sides.{Sides, all_imports, export_bindings, s
 use Rattle.wac_encode_faults.specs.Free.{SideItem, IsFree, IsFreeInTypes, IsFreeInItem}
 use Rattle.wac_encode_faults.specs.Free as free
 use Rattle.wac_encode_faults.specs.Cycle.{ItemDependsOn}
-use Rattle.wac_encode_interfaces.specs.Items.{IsItemReady, HasInterfaceOf, AddsItem, AddsBeside, AddsTree}
-use Rattle.wac_encode_interfaces.specs.Ready.{IsClean, IsInterfaceClean, IsInterfaceReady, AreSidesClean}
+use Rattle.wac_encode_interfaces.specs.private.Items.{IsItemReady, HasInterfaceOf, AddsItem, AddsBeside, AddsTree}
+use Rattle.wac_encode_interfaces.specs.private.Ready.{IsClean, IsInterfaceClean, IsInterfaceReady, AreSidesClean}
 use Rattle.wac_encode_faults.specs.Trees.{types_tree, additional_tree, side_trees}
-use Rattle.wac_encode_interfaces.specs.Trees.{interface_tree, IsInterfaceHeld}
-use Rattle.wac_encode_interfaces.specs.Worlds.{Worlds, HaveWorlds, HaveInterfaceWorlds}
+use Rattle.wac_encode_interfaces.specs.private.Trees.{interface_tree, IsInterfaceHeld}
+use Rattle.wac_encode_interfaces.specs.private.Worlds.{Worlds, HaveWorlds, HaveInterfaceWorlds}
 use Rattle.wac_encode_interfaces.specs.private.Written.{side_item, is_bound_at, begins_with, bound_so_far, listed_so_far, IsWritten, IsNext, IsItemOf, AreWritable, AddsToSide}
 use Rattle.wac_encode_interfaces.specs.private.Parts.{ListsInterface, interface_of, resource_of}
 use Rattle.wac_encode_interfaces.proofs.Adding.{side-kept}

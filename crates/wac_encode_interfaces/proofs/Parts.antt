@@ -25,10 +25,10 @@ use Rattle.wac_encode_scopes.specs.declared.state.State.{State}
 use Rattle.wac_encode_scopes.specs.States.{stack, IsRecordedAt}
 use Rattle.wac_encode_faults.specs.declared.fault.WriteFault.{WriteFault}
 use Rattle.wac_encode_faults.specs.Faults.{IsListed, itself, in_item, listed_fault, of_listed}
-use Rattle.wac_encode_interfaces.specs.Trees.{IsInterfaceHeld}
-use Rattle.wac_encode_interfaces.specs.Worlds.{Worlds, HaveWorlds, HaveInterfaceWorlds}
-use Rattle.wac_encode_interfaces.specs.Ready.{IsClean, IsInterfaceClean}
-use Rattle.wac_encode_interfaces.specs.Items.{HasInterfaceOf, IsItemReady}
+use Rattle.wac_encode_interfaces.specs.private.Trees.{IsInterfaceHeld}
+use Rattle.wac_encode_interfaces.specs.private.Worlds.{Worlds, HaveWorlds, HaveInterfaceWorlds}
+use Rattle.wac_encode_interfaces.specs.private.Ready.{IsClean, IsInterfaceClean}
+use Rattle.wac_encode_interfaces.specs.private.Items.{HasInterfaceOf, IsItemReady}
 use Rattle.wac_encode_interfaces.specs.declared.level.Level.{Level}
 use Rattle.wac_encode_interfaces.specs.private.Nests.{IsLevel, IsNextItem, IsInsideLevel, HasListed, interface_of, WaitsFor, IsNest, IsUnderWay, KeepsLevels, HasNext, StaysReady}
 use Rattle.wac_encode_interfaces.proofs.Shown.{Items, In, in-contains, in-name, some-is, next-there, next-found, next-type, unbound-here}

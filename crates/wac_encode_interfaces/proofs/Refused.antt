@@ -18,11 +18,11 @@ use Rattle.wac_encode_scopes.specs.declared.scope.Scope.{Scope}
 use Rattle.wac_encode_scopes.specs.declared.state.State.{State}
 use Rattle.wac_encode_scopes.specs.Contents.{AddsTypes, and_item, and_type, declarations_of}
 use Rattle.wac_encode_scopes.specs.private.Interfaces.{BeginsInterface}
-use Rattle.wac_encode_scopes.specs.Listing.{ClosesInto, IsSame}
+use Rattle.wac_encode_scopes.specs.private.Listing.{ClosesInto, IsSame}
 use Rattle.wac_encode_scopes.specs.Roots.{IsRoot, and_import}
 use Rattle.wac_encode_scopes.specs.States.{AllAddTypes}
 use Rattle.wac_encode_scopes.proofs.Added.{adds-def}
-use Rattle.wac_encode_interfaces.specs.Refused.{BeginsWith, open_scopes, AreStillOpen, KeepsScopes}
+use Rattle.wac_encode_interfaces.specs.private.Refused.{BeginsWith, open_scopes, AreStillOpen, KeepsScopes}
 use Rattle.wac_encode_interfaces.specs.private.Levels.{AreLevels}
 use Rattle.wac_encode_interfaces.proofs.Besides.{same-items}
 

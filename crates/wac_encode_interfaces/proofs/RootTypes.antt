@@ -14,9 +14,9 @@ use Rattle.wac_encode_faults.specs.Sides.{under_id}
 use Rattle.wac_encode_faults.specs.private.Ids.{HasInterfaceId, HaveIds}
 use Rattle.wac_encode_faults.specs.Faults.{IsListed, IsSidesFault}
 use Rattle.wac_encode_interfaces.specs.declared.sides.Sides.{Sides as GivenSides}
-use Rattle.wac_encode_interfaces.specs.Given.{sides_of, AreHeldSides, HaveSidesWorlds}
-use Rattle.wac_encode_interfaces.specs.Ready.{IsClean, AreSidesClean}
-use Rattle.wac_encode_interfaces.specs.Worlds.{Worlds, HaveWorlds}
+use Rattle.wac_encode_interfaces.specs.private.Given.{sides_of, AreHeldSides, HaveSidesWorlds}
+use Rattle.wac_encode_interfaces.specs.private.Ready.{IsClean, AreSidesClean}
+use Rattle.wac_encode_interfaces.specs.private.Worlds.{Worlds, HaveWorlds}
 use Rattle.wac_encode_interfaces.specs.private.Roots.{item_root, type_item_root, additional_roots, side_roots}
 use Rattle.wac_encode_interfaces.proofs.InnerTypes.{listed-held}
 

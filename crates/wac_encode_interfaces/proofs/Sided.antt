@@ -19,9 +19,9 @@ use Rattle.wac_encode_faults.specs.Sides.{Sides, all_imports}
 use Rattle.wac_encode_faults.specs.Free.{SideItem}
 use Rattle.wac_encode_faults.specs.Cycle.{numbered_items}
 use Rattle.wac_encode_interfaces.specs.declared.sides.Parts.{Parts}
-use Rattle.wac_encode_interfaces.specs.Given.{AreHeldItems}
+use Rattle.wac_encode_interfaces.specs.private.Given.{AreHeldItems}
 use Rattle.wac_encode_faults.specs.Trees.{sides_tree}
-use Rattle.wac_encode_interfaces.specs.Worlds.{Worlds}
+use Rattle.wac_encode_interfaces.specs.private.Worlds.{Worlds}
 use Rattle.wac_encode_interfaces.specs.private.Written.{side_item, items_written, IsItemOf, IsWritten, AreWritable}
 use Rattle.wac_encode_interfaces.specs.private.Parts.{sides_in, ArePlanned, MayFollow, WritesItem}
 use Rattle.wac_encode_interfaces.specs.private.Ordered.{side_list, first_number, is_additional, IsOrdered, AreDependencies, IsBefore, IsSideWritten, MayBegin, WritesSide, AreSidesWritten}

@@ -20,12 +20,12 @@ use Rattle.wac_encode_stacks.specs.Scopes.{Open}
 use Rattle.wac_encode_stacks.specs.Good.{At, Good, IsHeld, Onward, innermost, top}
 use Rattle.wac_encode_stacks.specs.Listed.{FreshInInterface, IsItem}
 use Rattle.wac_encode_stacks.specs.Instances.{ShowsWhole, taken_leaf}
-use Rattle.wac_encode_stacks.specs.Brought.{GoodOnce}
+use Rattle.wac_encode_stacks.specs.private.Brought.{GoodOnce}
 use Rattle.wac_encode_scopes.specs.declared.state.State.{State}
 use Rattle.wac_encode_scopes.specs.States.{stack, AllAddTypes, Goes, RecordsHere}
 use Rattle.wac_encode_scopes.specs.private.Telling.{is_one_of, with_own_names, TellsInstance}
-use Rattle.wac_encode_interfaces.specs.Items.{AddsItem, RefersToItem}
-use Rattle.wac_encode_interfaces.specs.Worlds.{Worlds}
+use Rattle.wac_encode_interfaces.specs.private.Items.{AddsItem, RefersToItem}
+use Rattle.wac_encode_interfaces.specs.private.Worlds.{Worlds}
 use Rattle.wac_encode_interfaces.specs.declared.level.Level.{Level}
 use Rattle.wac_encode_interfaces.specs.private.Names.{HasInstance}
 use Rattle.wac_encode_interfaces.specs.private.Nests.{IsLevel, IsNextItem, IsNest, IsUnderWay}

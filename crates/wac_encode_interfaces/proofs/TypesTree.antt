@@ -20,7 +20,7 @@ use Rattle.wac_encode_stacks.specs.Listed.{IsItem, IsUnder, AreListed, HoldsInte
 use Rattle.wac_encode_stacks.proofs.Moved.{on, changed, own_leaf, held-moves, moved-moved, moved-id, carries-inside}
 use Rattle.wac_encode_stacks.proofs.Whole.{items-found, here-inside}
 use Rattle.wac_encode_faults.specs.Trees.{item_trees, types_tree}
-use Rattle.wac_encode_interfaces.specs.Trees.{IsInterfaceHeld}
+use Rattle.wac_encode_interfaces.specs.private.Trees.{IsInterfaceHeld}
 use Rattle.wac_encode_interfaces.proofs.Shown.{shown}
 
 -- ---- a type that changes inside the interface as it does outside is held there

@@ -14,7 +14,7 @@ use Rattle.wac_encode_stacks.proofs.Moved.{changed, held-moves}
 use Rattle.wac_encode_stacks.proofs.Whole.{world-step}
 use Rattle.wac_encode_faults.specs.Sides.{world_sides, import_bindings, export_bindings}
 use Rattle.wac_encode_faults.specs.Trees.{item_trees, sides_tree}
-use Rattle.wac_encode_interfaces.specs.WorldTrees.{IsTreeOfItsSides}
+use Rattle.wac_encode_interfaces.specs.private.WorldTrees.{IsTreeOfItsSides}
 
 imports-same : (c : Collection) (x : World) → import_bindings c (world_sides x) ≡ bound_by_imports c x
 imports-same c x = ap (first_bound c x.uses imported) (append-nil x.imports)

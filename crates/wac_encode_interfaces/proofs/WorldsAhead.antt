@@ -16,7 +16,7 @@ use Rattle.wac_types_collection.specs.collection.Collection.{Collection, IsWellF
 use Rattle.wac_types_collection.proofs.lemmas.wide.Members.{in_none, in_first, in_one, in_either, in_flat}
 use Rattle.wac_binary.specs.Items.{Decl}
 use Rattle.wac_encode_stacks.specs.Good.{IsHeld}
-use Rattle.wac_encode_scopes.specs.Components.{ComponentHasMeaning, component_tree}
+use Rattle.wac_encode_scopes.specs.private.Components.{ComponentHasMeaning, component_tree}
 use Rattle.wac_encode_faults.specs.Sides.{Sides, world_sides}
 use Rattle.wac_encode_faults.specs.Faults as faults
 use Rattle.wac_encode_faults.specs.Faults.{listed_items, IsListed, IsInside, IsFaultInside, IsFaultOfListed, IsFaultOfItems, IsSidesFault, HasNameTwice}
@@ -24,10 +24,10 @@ use Rattle.wac_encode_faults.specs.declared.fault.WriteFault.{WriteFault}
 use Rattle.wac_encode_faults.specs.declared.fault.WriteFault.TheVariants as fault
 use Rattle.wac_encode_interfaces.specs.declared.sides.Sides.{Sides as GivenSides}
 use Rattle.wac_encode_interfaces.specs.declared.worlds.WorldTypes.{WorldTypes}
-use Rattle.wac_encode_interfaces.specs.Given.{AreHeldSides, HaveSidesWorlds}
+use Rattle.wac_encode_interfaces.specs.private.Given.{AreHeldSides, HaveSidesWorlds}
 use Rattle.wac_encode_faults.specs.Trees.{sides_tree}
-use Rattle.wac_encode_interfaces.specs.Worlds.{Worlds, AreWorldTypes, HaveWorlds, written_in}
-use Rattle.wac_encode_interfaces.specs.Ready.{IsClean, AreSidesClean}
+use Rattle.wac_encode_interfaces.specs.private.Worlds.{Worlds, AreWorldTypes, HaveWorlds, written_in}
+use Rattle.wac_encode_interfaces.specs.private.Ready.{IsClean, AreSidesClean}
 use Rattle.wac_encode_interfaces.specs.private.InnerTypes.{interface_or_world, IsInnerFirst, IsWorldType, HaveInner, KeepsWorlds}
 use Rattle.wac_encode_interfaces.proofs.InnerTypes.{listed-held, listed-inner}
 use Rattle.wac_encode_interfaces.proofs.WorldSides.{world-held}

@@ -21,9 +21,9 @@ use Rattle.wac_encode_stacks.specs.Instances.{ShowsWhole}
 use Rattle.wac_encode_scopes.specs.declared.encodable.Encodable.{Encodable}
 use Rattle.wac_encode_scopes.specs.declared.encodable.Encodable.TheVariants.{Builder, Instance, Component}
 use Rattle.wac_encode_scopes.specs.declared.state.State.{State}
-use Rattle.wac_encode_scopes.specs.Components.{IsComponentType}
+use Rattle.wac_encode_scopes.specs.private.Components.{IsComponentType}
 use Rattle.wac_encode_scopes.specs.Contents.{HasSide, and_item}
-use Rattle.wac_encode_scopes.specs.Listing.{ListsResource}
+use Rattle.wac_encode_scopes.specs.private.Listing.{ListsResource}
 use Rattle.wac_encode_scopes.specs.States.{AllAddTypes, Goes, IsRecordedAt}
 use Rattle.wac_encode_scopes.specs.private.Telling.{is_one_of, TellsInstance}
 use Rattle.wac_encode_stacks.specs.Scopes.{How}
@@ -32,10 +32,10 @@ use Rattle.wac_encode_faults.specs.Sides.{Sides, export_bindings}
 use Rattle.wac_encode_faults.specs.Free.{SideItem, IsFree}
 use Rattle.wac_encode_faults.specs.Cycle.{numbered_items, owner_of}
 use Rattle.wac_encode_interfaces.specs.declared.sides.Parts.{Parts}
-use Rattle.wac_encode_interfaces.specs.Items.{IsItemReady, HasInterfaceOf, AddsItem, AddsBeside}
-use Rattle.wac_encode_interfaces.specs.Ready.{IsClean, IsInterfaceReady}
-use Rattle.wac_encode_interfaces.specs.Trees.{interface_tree}
-use Rattle.wac_encode_interfaces.specs.Worlds.{Worlds, HaveWorlds, HaveInterfaceWorlds}
+use Rattle.wac_encode_interfaces.specs.private.Items.{IsItemReady, HasInterfaceOf, AddsItem, AddsBeside}
+use Rattle.wac_encode_interfaces.specs.private.Ready.{IsClean, IsInterfaceReady}
+use Rattle.wac_encode_interfaces.specs.private.Trees.{interface_tree}
+use Rattle.wac_encode_interfaces.specs.private.Worlds.{Worlds, HaveWorlds, HaveInterfaceWorlds}
 use Rattle.wac_encode_interfaces.specs.private.Written.{side_item, is_bound_at, bound_so_far, IsWritten, IsNext, IsItemOf, AreWritable}
 use Rattle.wac_encode_interfaces.specs.private.Parts.{sides_in, ArePlanned, MayFollow, WritesItem, ListsInterface, is_number, is_owned, interface_of, resource_of, type_interface}
 use Rattle.wac_encode_interfaces.proofs.Written.{if-both}

@@ -24,8 +24,8 @@ use Rattle.wac_binary.specs.declared.types.ComponentValType.{ComponentValType}
 use Rattle.wac_binary.specs.declared.types.ComponentValType.TheVariants.{Primitive, Index}
 use Rattle.wac_encode_stacks.specs.Scopes.{How, Indexed}
 use Rattle.wac_encode_stacks.specs.Good.{Good, At, IsHeld, top, innermost}
-use Rattle.wac_encode_stacks.specs.Laws.{StandsRecorded, IsItsTree}
-use Rattle.wac_encode_stacks.specs.Brought.{GoodOnce}
+use Rattle.wac_encode_stacks.specs.private.Laws.{StandsRecorded, IsItsTree}
+use Rattle.wac_encode_stacks.specs.private.Brought.{GoodOnce}
 use Rattle.wac_encode_stacks.specs.private.HeldParts.{ResourceIsBound}
 use Rattle.wac_encode_stacks.proofs.Aliases.{end-held}
 use Rattle.wac_encode_stacks.proofs.Values.{primitive-held, resource-held}
@@ -35,14 +35,14 @@ use Rattle.wac_encode_scopes.specs.declared.encodable.Encodable.{Encodable}
 use Rattle.wac_encode_scopes.specs.declared.encodable.Encodable.TheVariants.{Builder, Instance, Component}
 use Rattle.wac_encode_scopes.specs.Contents.{AddsTypes, HasSide}
 use Rattle.wac_encode_scopes.specs.Books.{opened}
-use Rattle.wac_encode_scopes.specs.Closed.{AreClosedTypes}
+use Rattle.wac_encode_scopes.specs.private.Closed.{AreClosedTypes}
 use Rattle.wac_encode_scopes.specs.States.{stack, outward, Goes, IsBound, IsRecordedAt, IsResourceAt, IsTypeAt}
-use Rattle.wac_encode_scopes.specs.Components.{component_tree, DefinesComponent, DefinesPrimitiveType}
-use Rattle.wac_encode_values.specs.Values.{IsReady, IsWrittenAs}
+use Rattle.wac_encode_scopes.specs.private.Components.{component_tree, DefinesComponent, DefinesPrimitiveType}
+use Rattle.wac_encode_values.specs.private.Values.{IsReady, IsWrittenAs}
 use Rattle.wac_encode_faults.specs.Faults.{itself, listed_fault}
 use Rattle.wac_encode_faults.specs.declared.fault.WriteFault.TheVariants as fault
-use Rattle.wac_encode_interfaces.specs.Worlds.{Worlds, AreWorldTypes, HaveWorlds}
-use Rattle.wac_encode_interfaces.specs.Items.{IsItemReady, IsTypeIndex, DescribesItem}
+use Rattle.wac_encode_interfaces.specs.private.Worlds.{Worlds, AreWorldTypes, HaveWorlds}
+use Rattle.wac_encode_interfaces.specs.private.Items.{IsItemReady, IsTypeIndex, DescribesItem}
 use Rattle.wac_encode_interfaces.specs.private.Names.{NamesType, recorded_type}
 
 -- results of calls

@@ -1,14 +1,1 @@
-pub mod Worlds
-pub mod Items
-pub mod Imports
-pub mod FreeTrees
-pub mod Writers
-pub mod Trees
-pub mod Ready
-pub mod Clean
-pub mod Given
-pub mod WorldTrees
-pub mod Definitions
-pub mod Refused
-pub mod Leaves
 pub mod private

@@ -8,3 +8,16 @@ pub mod Ordered
 pub mod InnerTypes
 pub mod Roots
 pub mod Defined
+pub mod Clean
+pub mod Definitions
+pub mod FreeTrees
+pub mod Given
+pub mod Imports
+pub mod Items
+pub mod Leaves
+pub mod Ready
+pub mod Refused
+pub mod Trees
+pub mod WorldTrees
+pub mod Worlds
+pub mod Writers

@@ -5,11 +5,11 @@ ghost use Rattle.std.specs.Prelude.{◌≡◌, true, Contains, IfOk, OnOk};
 ghost use Rattle.wac_types_shapes.specs.declared.shapes.component.«Type».{«Type» as AnyType};
 ghost use Rattle.wac_types_shapes.specs.declared.shapes.component.«Type».TheVariants as ty_of;
 ghost use Rattle.wac_types_collection.specs.collection.Collection.{holds_type};
-ghost use Rattle.wac_encode_scopes.specs.Closed.{AreClosedTypes};
+ghost use Rattle.wac_encode_scopes.specs.private.Closed.{AreClosedTypes};
 ghost use Rattle.wac_encode_faults.specs.private.Ids.{HaveIds};
-ghost use Rattle.wac_encode_interfaces.specs.Given.{sides_of, AreHeldSides, HaveSidesWorlds};
-ghost use Rattle.wac_encode_interfaces.specs.Ready.{AreSidesClean, IsClean};
-ghost use Rattle.wac_encode_interfaces.specs.Worlds.{AreWorldTypes, HaveWorlds, written_in};
+ghost use Rattle.wac_encode_interfaces.specs.private.Given.{sides_of, AreHeldSides, HaveSidesWorlds};
+ghost use Rattle.wac_encode_interfaces.specs.private.Ready.{AreSidesClean, IsClean};
+ghost use Rattle.wac_encode_interfaces.specs.private.Worlds.{AreWorldTypes, HaveWorlds, written_in};
 ghost use Rattle.wac_encode_interfaces.specs.private.InnerTypes.{AreCleanTypes, HaveInner, IsCleanType, IsInnerFirst, IsWorldType, KeepsWorlds};
 
 use crate::inside::{type_at, types_inside};

@@ -1,8 +1,10 @@
 //! Component types.
 ghost use Rattle.std.specs.Prelude.{◌≡◌, ◌≤◌, ◌<◌, ◌+◌, ◌^◌, ◌∷◌, ◌++◌, [], ℕ, true, false, Some, None, IfOk, OnOk, OnErr, Contains, length, slice_get};
+ghost use Rattle.std.specs.List.{IsDistinct, flat_map};
 ghost use Rattle.wac_types_shapes.specs.primitives.Name.{Name as AnyName};
 ghost use Rattle.wac_types_shapes.specs.primitives.Tree.{imported, exported};
 ghost use Rattle.wac_types_shapes.specs.shapes.Kinds.{kind_type};
+ghost use Rattle.wac_types_shapes.specs.contracts.shapes.component.InterfaceIdPartialEq.TheImpl as IdEq;
 ghost use Rattle.wac_types_shapes.specs.declared.shapes.component.ItemKind.{ItemKind as AKind};
 ghost use Rattle.wac_types_shapes.specs.declared.shapes.component.ItemKind.TheVariants as kind_of;
 ghost use Rattle.wac_types_shapes.specs.declared.shapes.component.InterfaceId.{InterfaceId as AnInterfaceId};
@@ -11,18 +13,18 @@ ghost use Rattle.wac_types_shapes.specs.declared.shapes.component.«Type».TheVa
 ghost use Rattle.wac_types_collection.specs.collection.Collection.{HasInterface};
 ghost use Rattle.wac_types_collection.specs.collection.Held.{resolved};
 ghost use Rattle.wac_edges.specs.cycles.Cycles.{HasNoCycle};
-ghost use Rattle.wac_encode_scopes.specs.Components.{ComponentHasMeaning, component_tree, IsComponentType};
+ghost use Rattle.wac_encode_scopes.specs.private.Components.{ComponentHasMeaning, component_tree, IsComponentType};
 ghost use Rattle.wac_encode_scopes.specs.Contents.{side_of};
 ghost use Rattle.wac_encode_scopes.specs.States.{Goes};
 ghost use Rattle.wac_encode_faults.specs.Cycle.{numbered_items, owner_of};
-ghost use Rattle.wac_encode_faults.specs.Sides.{export_bindings};
-ghost use Rattle.wac_encode_interfaces.specs.Items.{HasInterfaceOf};
+ghost use Rattle.wac_encode_faults.specs.Sides.{export_bindings, under_id};
+ghost use Rattle.wac_encode_interfaces.specs.private.Items.{HasInterfaceOf};
 ghost use Rattle.wac_encode_faults.specs.Trees.{sides_tree};
-ghost use Rattle.wac_encode_interfaces.specs.Given.{sides_of, AreHeldItems, AreHeldSides, HaveSidesWorlds};
-ghost use Rattle.wac_encode_interfaces.specs.Ready.{AreSidesClean, IsInterfaceReady};
-ghost use Rattle.wac_encode_interfaces.specs.Refused.{KeepsScopes};
-ghost use Rattle.wac_encode_interfaces.specs.Worlds.{HaveInterfaceWorlds, written_in};
-ghost use Rattle.wac_encode_interfaces.specs.Writers.{IsWriter};
+ghost use Rattle.wac_encode_interfaces.specs.private.Given.{sides_of, AreHeldItems, AreHeldSides, HaveSidesWorlds};
+ghost use Rattle.wac_encode_interfaces.specs.private.Ready.{AreSidesClean, IsInterfaceReady};
+ghost use Rattle.wac_encode_interfaces.specs.private.Refused.{KeepsScopes};
+ghost use Rattle.wac_encode_interfaces.specs.private.Worlds.{HaveInterfaceWorlds, written_in};
+ghost use Rattle.wac_encode_interfaces.specs.private.Writers.{IsWriter};
 ghost use Rattle.wac_encode_interfaces.specs.private.Written.{side_item, is_bound_at, IsItemOf, IsWritten};
 ghost use Rattle.wac_encode_interfaces.specs.private.Parts.{sides_in, ArePlanned, MayFollow, WritesItem, is_number, interface_of, resource_of, type_interface};
 ghost use Rattle.wac_encode_interfaces.specs.private.Ordered.{side_list, first_number, IsOrdered, AreDependencies, AreSidesWritten, MayBegin, WritesSide};
@@ -35,7 +37,7 @@ use wac_binary::{BinaryFault, ComponentType};
 use wac_encode_faults::{item_dependencies, item_owners, join_imports};
 use wac_encode_scopes::{Side, State};
 use wac_encode_stacks::still_law;
-use wac_types_collection::{InterfaceId, ItemKind, ResourceId, Type};
+use wac_types_collection::{InterfaceId, ItemKind, Named, ResourceId, ShapeError, Type, Types};
 
 /// Returns the interface of an instance.
 fn instance_in(item: ItemKind) -> Option<InterfaceId>
@@ -74,6 +76,21 @@ fn has_number(parts: &Parts<'_>, resource: ResourceId, number: usize) -> bool
     match parts.owners.get(&resource) {
         Some(owner) => *owner == number,
         None => false,
+    }
+}
+
+/// Returns all imports of a component type. No interface may be additional twice.
+fn all_imports(types: &Types, sides: &Sides<'_>) -> Result<Named<ItemKind>, BinaryFault>
+    requires held { AreHeldSides types.now sides.now }
+    requires once { IsDistinct (IdEq.ghosts).eq sides.now.additional.now }
+    requires clean { AreSidesClean types.now (sides_of types.now sides.now) }
+    ensures { IfOk result (λ n. n ≡ sides.now.imports.now ++ flat_map (under_id types.now) sides.now.additional.now) }
+{
+    sides.imports.law(); // proof only
+    match join_imports(types, sides.imports, sides.additional) {
+        Ok(imports) => Ok(imports),
+        Err(ShapeError::NameTwice) => unreachable!(),
+        Err(ShapeError::OutOfMemory) => Err(BinaryFault::OutOfMemory),
     }
 }
 
@@ -387,21 +404,20 @@ impl<'a> TypeWriter<'a> {
     ///
     /// Imports come first. On each side instances come first, then type items, then the rest, each directly after the items
     /// that it depends on. A resource is fresh where it is bound first: by an instance before a type item, by an import
-    /// before an export. A component type sees nothing outside it.
+    /// before an export. A component type sees nothing outside it. No interface may be additional twice.
     ///
     /// # Errors
     /// - `TooLarge` if the content of a scope would not fit 32-bit sizes.
-    /// - `OutOfMemory`, also if two imports have the same name.
+    /// - `OutOfMemory`.
     pub fn component_type(&self, sides: &Sides<'_>) -> Result<ComponentType, BinaryFault>
         requires writer { IsWriter self.now }
         requires held { AreHeldSides self.now.types.now sides.now }
+        requires once { IsDistinct (IdEq.ghosts).eq sides.now.additional.now }
         requires clean { AreSidesClean self.now.types.now (sides_of self.now.types.now sides.now) }
         requires worlds { HaveSidesWorlds self.now.types.now (written_in self.now.worlds.now) sides.now }
         ensures meaning { IfOk result (λ ds. ComponentHasMeaning ds × (component_tree ds ≡ sides_tree self.now.types.now (sides_of self.now.types.now sides.now))) }
     {
-        let Ok(imports) = join_imports(self.types, sides.imports, sides.additional) else {
-            return Err(BinaryFault::OutOfMemory);
-        };
+        let imports = all_imports(self.types, sides)?;
         let owners = item_owners(self.types, sides.uses, &imports, sides.exports)?;
         imports.law(); // proof only
         sides.exports.law(); // proof only

@@ -2,11 +2,11 @@
 ghost use Rattle.std.specs.Prelude.{◌≡◌, true, None, IfOk, IfSome, OnOk};
 ghost use Rattle.wac_types_shapes.specs.declared.shapes.component.«Type».TheVariants as ty_of;
 ghost use Rattle.wac_types_collection.specs.collection.Collection.{HasInterface, holds_type};
-ghost use Rattle.wac_encode_scopes.specs.Components.{ComponentHasMeaning, component_tree};
+ghost use Rattle.wac_encode_scopes.specs.private.Components.{ComponentHasMeaning, component_tree};
 ghost use Rattle.wac_encode_scopes.specs.States.{AllAddTypes, Goes};
-ghost use Rattle.wac_encode_interfaces.specs.Definitions.{HaveDefinedWorlds, IsDefinable, IsDefinitionAt};
-ghost use Rattle.wac_encode_interfaces.specs.Worlds.{written_in};
-ghost use Rattle.wac_encode_interfaces.specs.Writers.{IsWriter};
+ghost use Rattle.wac_encode_interfaces.specs.private.Definitions.{HaveDefinedWorlds, IsDefinable, IsDefinitionAt};
+ghost use Rattle.wac_encode_interfaces.specs.private.Worlds.{written_in};
+ghost use Rattle.wac_encode_interfaces.specs.private.Writers.{IsWriter};
 ghost use Rattle.wac_encode_interfaces.specs.private.Defined.{HasDefinedSides, HasDefinition, IsCleanDefined, IsComponentOf, IsDefinition, IsPlainType, exporting_one};
 
 use crate::sides::Sides;

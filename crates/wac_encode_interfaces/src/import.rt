@@ -6,11 +6,11 @@ ghost use Rattle.wac_types_shapes.specs.declared.shapes.component.«Type».TheVa
 ghost use Rattle.wac_types_collection.specs.collection.Collection.{holds_type};
 ghost use Rattle.wac_encode_scopes.specs.Roots.{IsRoot};
 ghost use Rattle.wac_encode_scopes.specs.States.{AllAddTypes, Goes};
-ghost use Rattle.wac_encode_values.specs.Values.{IsReady};
-ghost use Rattle.wac_encode_interfaces.specs.Imports.{DescribesImport, ImportsBeside, ImportsOf, IsImportReady, IsModuleAt, module_type_of};
-ghost use Rattle.wac_encode_interfaces.specs.Refused.{KeepsScopes};
-ghost use Rattle.wac_encode_interfaces.specs.Worlds.{written_in};
-ghost use Rattle.wac_encode_interfaces.specs.Writers.{IsWriter};
+ghost use Rattle.wac_encode_values.specs.private.Values.{IsReady};
+ghost use Rattle.wac_encode_interfaces.specs.private.Imports.{DescribesImport, ImportsBeside, ImportsOf, IsImportReady, IsModuleAt, module_type_of};
+ghost use Rattle.wac_encode_interfaces.specs.private.Refused.{KeepsScopes};
+ghost use Rattle.wac_encode_interfaces.specs.private.Worlds.{written_in};
+ghost use Rattle.wac_encode_interfaces.specs.private.Writers.{IsWriter};
 ghost use Rattle.wac_encode_interfaces.specs.private.Sorts.{component_world};
 
 use crate::writer::TypeWriter;

@@ -6,16 +6,16 @@ ghost use Rattle.wac_types_shapes.specs.declared.shapes.component.Interface.{Int
 ghost use Rattle.wac_types_shapes.specs.declared.shapes.component.ItemKind.TheVariants as kind_of;
 ghost use Rattle.wac_types_shapes.specs.declared.shapes.component.«Type».TheVariants as ty_of;
 ghost use Rattle.wac_types_collection.specs.collection.Collection.{HasInterface, item_at};
-ghost use Rattle.wac_encode_scopes.specs.Components.{IsComponentType};
+ghost use Rattle.wac_encode_scopes.specs.private.Components.{IsComponentType};
 ghost use Rattle.wac_encode_scopes.specs.Contents.{side_of};
 ghost use Rattle.wac_encode_stacks.specs.Scopes.{How as AnyHow};
 ghost use Rattle.wac_encode_scopes.specs.States.{Goes, IsRecordedAt};
 ghost use Rattle.wac_encode_scopes.specs.private.Telling.{is_one_of};
 ghost use Rattle.wac_encode_faults.specs.Cycle.{numbered_items};
-ghost use Rattle.wac_encode_interfaces.specs.Ready.{IsInterfaceAt, IsInterfaceReady};
-ghost use Rattle.wac_encode_interfaces.specs.Refused.{KeepsScopes};
-ghost use Rattle.wac_encode_interfaces.specs.Worlds.{HaveInterfaceWorlds, written_in};
-ghost use Rattle.wac_encode_interfaces.specs.Writers.{IsWriter};
+ghost use Rattle.wac_encode_interfaces.specs.private.Ready.{IsInterfaceAt, IsInterfaceReady};
+ghost use Rattle.wac_encode_interfaces.specs.private.Refused.{KeepsScopes};
+ghost use Rattle.wac_encode_interfaces.specs.private.Worlds.{HaveInterfaceWorlds, written_in};
+ghost use Rattle.wac_encode_interfaces.specs.private.Writers.{IsWriter};
 ghost use Rattle.wac_encode_interfaces.specs.private.Written.{side_item, IsItemOf};
 ghost use Rattle.wac_encode_interfaces.specs.private.Parts.{sides_in, ArePlanned, MayFollow, WritesItem, ListsInterface, is_owned, is_that, owned_in};
 

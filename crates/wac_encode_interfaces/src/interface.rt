@@ -11,10 +11,10 @@ ghost use Rattle.wac_encode_scopes.specs.declared.state.State.{State as AState};
 ghost use Rattle.wac_encode_scopes.specs.private.Interfaces.{BeginsInterface};
 ghost use Rattle.wac_encode_scopes.specs.States.{AllAddTypes, Goes, IsRecordedAt};
 ghost use Rattle.wac_encode_interfaces.specs.declared.level.Level.{Level as ALevel};
-ghost use Rattle.wac_encode_interfaces.specs.Ready.{IsInterfaceAt, IsInterfaceReady};
-ghost use Rattle.wac_encode_interfaces.specs.Refused.{AreStillOpen, KeepsScopes};
-ghost use Rattle.wac_encode_interfaces.specs.Worlds.{HaveInterfaceWorlds, written_in};
-ghost use Rattle.wac_encode_interfaces.specs.Writers.{IsWriter};
+ghost use Rattle.wac_encode_interfaces.specs.private.Ready.{IsInterfaceAt, IsInterfaceReady};
+ghost use Rattle.wac_encode_interfaces.specs.private.Refused.{AreStillOpen, KeepsScopes};
+ghost use Rattle.wac_encode_interfaces.specs.private.Worlds.{HaveInterfaceWorlds, written_in};
+ghost use Rattle.wac_encode_interfaces.specs.private.Writers.{IsWriter};
 ghost use Rattle.wac_encode_interfaces.specs.private.Names.{HasInstance};
 ghost use Rattle.wac_encode_interfaces.specs.private.Nests.{HasNext, IsClosedInto, IsEnded, IsFilled, IsLevel, IsNewLevel, IsNextItem, IsUnderWay, KeepsLevels, Nest, WaitsFor, following, interface_of as interface_in};
 

@@ -8,11 +8,11 @@ ghost use Rattle.wac_types_collection.specs.collection.Collection.{holds_type};
 ghost use Rattle.wac_encode_stacks.specs.Scopes.{Open};
 ghost use Rattle.wac_encode_scopes.specs.Contents.{HasSide, side_of};
 ghost use Rattle.wac_encode_scopes.specs.States.{AllAddTypes, Goes, IsTypeAt, RecordsHere};
-ghost use Rattle.wac_encode_values.specs.Values.{IsReady};
-ghost use Rattle.wac_encode_interfaces.specs.Worlds.{HaveWorlds, written_in};
-ghost use Rattle.wac_encode_interfaces.specs.Items.{AddsBeside, AddsItem, DescribesItem, IsItemReady, IsTypeIndex};
-ghost use Rattle.wac_encode_interfaces.specs.Refused.{KeepsScopes};
-ghost use Rattle.wac_encode_interfaces.specs.Writers.{IsWriter};
+ghost use Rattle.wac_encode_values.specs.private.Values.{IsReady};
+ghost use Rattle.wac_encode_interfaces.specs.private.Worlds.{HaveWorlds, written_in};
+ghost use Rattle.wac_encode_interfaces.specs.private.Items.{AddsBeside, AddsItem, DescribesItem, IsItemReady, IsTypeIndex};
+ghost use Rattle.wac_encode_interfaces.specs.private.Refused.{KeepsScopes};
+ghost use Rattle.wac_encode_interfaces.specs.private.Writers.{IsWriter};
 ghost use Rattle.wac_encode_interfaces.specs.private.Names.{NamesType, recorded_type};
 
 use crate::writer::TypeWriter;

@@ -1,10 +1,10 @@
 //! Laws of the trees of interfaces and component types, and of items without a fault.
 //!
 //! Each function does nothing. Its contract is a law that a caller cites by a call (docs/PROOFS.md, 'Laws').
-ghost use Rattle.wac_encode_interfaces.specs.Clean.{IsDefinitionOfNoFault, IsImportOfNoFault};
-ghost use Rattle.wac_encode_interfaces.specs.FreeTrees.{TreesByFree};
-ghost use Rattle.wac_encode_interfaces.specs.Leaves.{LeavesByFree};
-ghost use Rattle.wac_encode_interfaces.specs.WorldTrees.{IsTreeOfItsSides};
+ghost use Rattle.wac_encode_interfaces.specs.private.Clean.{IsDefinitionOfNoFault, IsImportOfNoFault};
+ghost use Rattle.wac_encode_interfaces.specs.private.FreeTrees.{TreesByFree};
+ghost use Rattle.wac_encode_interfaces.specs.private.Leaves.{LeavesByFree};
+ghost use Rattle.wac_encode_interfaces.specs.private.WorldTrees.{IsTreeOfItsSides};
 
 /// The tree of a world is the tree of the component type with its sides.
 #[tactic(auto, using(crate::proofs::WorldSides::world_tree_of_sides))]

@@ -3,7 +3,7 @@ ghost use Rattle.std.specs.Prelude.{◌≡◌, ◌≤◌, ◌<◌, ◌+◌, true
 ghost use Rattle.std.specs.BTreeSet.{contains};
 ghost use Rattle.std.specs.Ordering.{nat_cmp};
 ghost use Rattle.wac_edges.specs.cycles.Cycles.{HasNoCycle};
-ghost use Rattle.wac_encode_interfaces.specs.Given.{AreHeldItems};
+ghost use Rattle.wac_encode_interfaces.specs.private.Given.{AreHeldItems};
 ghost use Rattle.wac_encode_interfaces.specs.private.Ordered.{AddsMoved, AreMoved, IsOrdered};
 
 use std::alloc::{AllocError, Global};

@@ -5,8 +5,8 @@ ghost use Rattle.wac_types_shapes.specs.declared.shapes.component.«Type».TheVa
 ghost use Rattle.wac_types_collection.specs.collection.Collection.{HasInterface, holds_type};
 ghost use Rattle.wac_types_collection.specs.wide.Wide.{AreThere};
 ghost use Rattle.wac_encode_faults.specs.private.Ids.{HaveIds};
-ghost use Rattle.wac_encode_interfaces.specs.Definitions.{AreDefinitionRoots};
-ghost use Rattle.wac_encode_interfaces.specs.Given.{sides_of, AreHeldSides};
+ghost use Rattle.wac_encode_interfaces.specs.private.Definitions.{AreDefinitionRoots};
+ghost use Rattle.wac_encode_interfaces.specs.private.Given.{sides_of, AreHeldSides};
 ghost use Rattle.wac_encode_interfaces.specs.private.Defined.{AreDefinedRoots, AreSideRoots};
 ghost use Rattle.wac_encode_interfaces.specs.private.Roots.{item_root, type_item_root, type_item_roots, additional_roots, side_roots as side_roots_of};
 

@@ -3,7 +3,7 @@ ghost use Rattle.std.specs.Prelude.{◌≡◌, cond, None, Some, OnOk};
 ghost use Rattle.std.specs.Option.{option_copied};
 ghost use Rattle.wac_types_shapes.specs.contracts.shapes.component.WorldIdPartialEq.TheImpl as IdEq;
 ghost use Rattle.wac_types_shapes.specs.declared.shapes.component.WorldId.{WorldId as AnyWorld};
-ghost use Rattle.wac_encode_interfaces.specs.Worlds.{written_in};
+ghost use Rattle.wac_encode_interfaces.specs.private.Worlds.{written_in};
 
 use indexmap::IndexMap;
 use std::alloc::Global;

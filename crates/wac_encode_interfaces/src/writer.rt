@@ -1,8 +1,8 @@
 //! The writer of interfaces and component types.
 ghost use Rattle.std.specs.Prelude.{◌≡◌};
-ghost use Rattle.wac_encode_scopes.specs.Closed.{AreClosedTypes};
-ghost use Rattle.wac_encode_interfaces.specs.Worlds.{AreWorldTypes, written_in};
-ghost use Rattle.wac_encode_interfaces.specs.Writers.{IsWriter};
+ghost use Rattle.wac_encode_scopes.specs.private.Closed.{AreClosedTypes};
+ghost use Rattle.wac_encode_interfaces.specs.private.Worlds.{AreWorldTypes, written_in};
+ghost use Rattle.wac_encode_interfaces.specs.private.Writers.{IsWriter};
 
 use crate::worlds::WorldTypes;
 use wac_encode_scopes::ClosedTypes;

@@ -19,8 +19,8 @@ use Rattle.wac_merge.specs.Aggregate.{Aggregate}
 use Rattle.wac_merge.specs.ImportFaults.{ImportFaultLaw}
 use Rattle.wac_encode_faults.specs.declared.fault.WriteFault.TheVariants as fault
 use Rattle.wac_encode_faults.specs.Faults.{IsDefinitionFault, IsImportFault, inside, unbound}
-use Rattle.wac_encode_interfaces.specs.Imports.{import_sort}
-use Rattle.wac_encode_interfaces.specs.Ready.{IsClean}
+use Rattle.wac_encode_interfaces.specs.private.Imports.{import_sort}
+use Rattle.wac_encode_interfaces.specs.private.Ready.{IsClean}
 use Rattle.wac_encode_scopes.specs.declared.state.State.{State}
 use Rattle.wac_encode_imports.specs.private.Imports.{AreImported, HasNoImportFault}
 use Rattle.wac_encode_imports.specs.private.ToldGraph.{HasNoUnbound}

@@ -19,7 +19,7 @@ use Rattle.wac_merge.specs.MergedPlaces.{MentionsBefore}
 use Rattle.wac_graph.specs.private.Kept.{KeepsImports}
 use Rattle.wac_merge.specs.Listed.{AreListedInOrder, Unites, as_import, inside, united_interfaces}
 use Rattle.wac_merge_classes.specs.terms.Faults.{HasNoCircle}
-use Rattle.wac_merge_agreement.proofs.lemmas.agreement.OrderLaws.{arranges_alike}
+use Rattle.wac_edges.proofs.ArrangedLaws.{arranges_alike}
 use Rattle.wac_graph_model.specs.nodes.Graph.{Graph}
 use Rattle.wac_graph_model.specs.nodes.Entries.{asked_entries, to_merge}
 use Rattle.wac_graph_model.specs.nodes.OuterImports.{outer_entries}

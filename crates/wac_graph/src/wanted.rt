@@ -11,6 +11,7 @@ ghost use Rattle.wac_graph_model.specs.nodes.Entries.{asked_entries};
 ghost use Rattle.wac_graph_model.specs.nodes.Graph.{node_at, definition, instantiation};
 ghost use Rattle.wac_graph_model.specs.nodes.Nodes.{kind_of};
 ghost use Rattle.wac_graph_model.specs.declared.nodes.options.EncodeOptions.{EncodeOptions as Asked};
+ghost use Rattle.wac_encode_faults.specs.private.BoundTypes.{AreBoundTypes};
 ghost use Rattle.wac_encode_faults.specs.Faults.{IsLowest};
 ghost use Rattle.wac_graph.specs.private.Bound.{AreBound};
 ghost use Rattle.wac_graph.specs.private.Kept.{KeepsImports};
@@ -19,7 +20,7 @@ ghost use Rattle.wac_graph_encode.specs.private.places.Places.{IsMergedFor};
 use crate::graph::CompositionGraph;
 use indexmap::IndexSet;
 use std::alloc::AllocError;
-use wac_encode_faults::{Role, WriteFault, lowest_fault};
+use wac_encode_faults::{BoundTypes, Role, WriteFault, lowest_fault};
 use wac_graph_fields::{AskedEntry, Asking};
 use wac_graph_model::{EncodeError, NodeId, NodeKind};
 use wac_merge::TypeAggregator;
@@ -70,9 +71,10 @@ impl CompositionGraph {
         self.law(); // proof only
         self.types.law(); // proof only
         let wanted = self.wanted_of_asked(entries, defined, define_components)?;
+        let mut faultless = BoundTypes::new(self.alloc);
         for i in 0..wanted.len() {
             let entry = wanted[i];
-            if let Some(fault) = self.entry_fault(bound, entry)? {
+            if let Some(fault) = self.entry_fault(bound, &mut faultless, entry)? {
                 return Err(EncodeError::TypeNotWritable {
                     node: NodeId(entry.node),
                     fault,
@@ -86,12 +88,18 @@ impl CompositionGraph {
     fn entry_fault(
         &self,
         bound: &IndexSet<ResourceId>,
+        faultless: &mut BoundTypes,
         entry: AskedEntry<'_>,
     ) -> Result<Option<WriteFault>, AllocError>
         requires bound { AreBound self.now bound.now.keys }
         requires held { IsHeldKind self.now.types entry.kind }
-        ensures { IfOk result (IsLowest (IsEntryFault self.now (entry_view entry.entry))) }
+        requires faultless { AreBoundTypes self.now.types bound.now.keys faultless.old }
+        ensures lowest { IfOk result (IsLowest (IsEntryFault self.now (entry_view entry.entry))) }
+        ensures faultless { OnOk result (AreBoundTypes self.now.types bound.now.keys faultless.new) }
     {
+        if faultless.is_faultless(&self.types, bound, entry.kind)? {
+            return Ok(None);
+        }
         lowest_fault(&self.types, bound, self.role_at(entry.node), entry.kind)
     }
 

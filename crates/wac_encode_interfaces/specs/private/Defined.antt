@@ -8,13 +8,13 @@ use Rattle.wac_types_collection.specs.collection.Collection.{Collection, holds_t
 use Rattle.wac_types_collection.specs.collection.Held.{items_under}
 use Rattle.wac_types_collection.specs.collection.Bound.{Bindings}
 use Rattle.wac_binary.specs.Items.{Decl}
-use Rattle.wac_encode_scopes.specs.Components.{ComponentHasMeaning, component_tree}
+use Rattle.wac_encode_scopes.specs.private.Components.{ComponentHasMeaning, component_tree}
 use Rattle.wac_encode_faults.specs.Faults.{definition_fault}
 use Rattle.wac_encode_faults.specs.Sides.{Sides, defined_sides}
 use Rattle.wac_encode_faults.specs.Trees.{sides_tree, definition_tree}
-use Rattle.wac_encode_interfaces.specs.Definitions.{HaveWorldsInside, HaveDefinedWorlds}
-use Rattle.wac_encode_interfaces.specs.Ready.{AreSidesClean, IsClean}
-use Rattle.wac_encode_interfaces.specs.Worlds.{Worlds, HaveWorlds}
+use Rattle.wac_encode_interfaces.specs.private.Definitions.{HaveWorldsInside, HaveDefinedWorlds}
+use Rattle.wac_encode_interfaces.specs.private.Ready.{AreSidesClean, IsClean}
+use Rattle.wac_encode_interfaces.specs.private.Worlds.{Worlds, HaveWorlds}
 
 -- If the definition of the type is a component type, it has no fault.
 abbrev pub IsCleanDefined : Collection → AnyType → Type 0

@@ -13,12 +13,12 @@ use Rattle.wac_types_collection.specs.collection.Collection.{Collection, holds_t
 use Rattle.wac_types_collection.specs.collection.Bound.{Bindings}
 use Rattle.wac_binary.specs.Items.{Decl}
 use Rattle.wac_encode_stacks.specs.Good.{IsHeld}
-use Rattle.wac_encode_scopes.specs.Components.{ComponentHasMeaning, component_tree}
+use Rattle.wac_encode_scopes.specs.private.Components.{ComponentHasMeaning, component_tree}
 use Rattle.wac_encode_faults.specs.Faults.{listed_items, IsListed}
 use Rattle.wac_encode_interfaces.specs.declared.inside.Step.{Step}
 use Rattle.wac_encode_interfaces.specs.declared.inside.Step.TheVariants as step
-use Rattle.wac_encode_interfaces.specs.Worlds.{Worlds, HaveWorlds}
-use Rattle.wac_encode_interfaces.specs.Ready.{IsClean}
+use Rattle.wac_encode_interfaces.specs.private.Worlds.{Worlds, HaveWorlds}
+use Rattle.wac_encode_interfaces.specs.private.Ready.{IsClean}
 
 -- The type itself, if it is an interface or a world.
 abbrev pub interface_or_world : AnyType → List AnyType

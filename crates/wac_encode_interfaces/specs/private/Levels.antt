@@ -4,7 +4,7 @@ use Rattle.std.specs.List.{AllZip, AllByRecursion}
 use Rattle.wac_binary.specs.Items.{decls}
 use Rattle.wac_binary.specs.HasMeaning.{ImportNothing}
 use Rattle.wac_encode_stacks.specs.Scopes.{Stack, opening}
-use Rattle.wac_encode_stacks.specs.Beside.{all_written_as}
+use Rattle.wac_encode_stacks.specs.private.Beside.{all_written_as}
 use Rattle.wac_encode_scopes.specs.declared.encodable.Encodable.{Encodable}
 use Rattle.wac_encode_scopes.specs.declared.scope.Scope.{Scope}
 use Rattle.wac_encode_scopes.specs.declared.state.State.{State}

@@ -11,7 +11,7 @@ use Rattle.wac_binary.specs.Unfold.{Bound}
 use Rattle.wac_encode_stacks.specs.Good.{At, Good, IsHeld, innermost, top}
 use Rattle.wac_encode_scopes.specs.declared.state.State.{State}
 use Rattle.wac_encode_scopes.specs.States.{stack}
-use Rattle.wac_encode_interfaces.specs.Items.{IsTypeIndex}
+use Rattle.wac_encode_interfaces.specs.private.Items.{IsTypeIndex}
 
 -- If the item is a type item, the type index in the innermost scope refers to its type.
 abbrev pub NamesType : Collection → Bool → State → ItemKind → ℕ → Type 0

@@ -20,11 +20,11 @@ use Rattle.wac_encode_scopes.specs.private.Interfaces.{own_items}
 use Rattle.wac_encode_scopes.specs.declared.state.State.{State}
 use Rattle.wac_encode_scopes.specs.States.{stack, Goes}
 use Rattle.wac_encode_order.specs.private.Interfaces.{is_later_at}
-use Rattle.wac_encode_values.specs.Values.{IsReady}
+use Rattle.wac_encode_values.specs.private.Values.{IsReady}
 use Rattle.wac_encode_faults.specs.Faults.{listed_fault}
-use Rattle.wac_encode_interfaces.specs.Worlds.{Worlds, HaveWorlds, HaveInterfaceWorlds}
-use Rattle.wac_encode_interfaces.specs.Items.{HasInterfaceOf}
-use Rattle.wac_encode_interfaces.specs.Ready.{IsInterfaceAt, IsInterfaceReady}
+use Rattle.wac_encode_interfaces.specs.private.Worlds.{Worlds, HaveWorlds, HaveInterfaceWorlds}
+use Rattle.wac_encode_interfaces.specs.private.Items.{HasInterfaceOf}
+use Rattle.wac_encode_interfaces.specs.private.Ready.{IsInterfaceAt, IsInterfaceReady}
 use Rattle.wac_encode_interfaces.specs.declared.level.Level.{Level}
 use Rattle.wac_encode_interfaces.specs.private.Levels.{AreLevels}
 

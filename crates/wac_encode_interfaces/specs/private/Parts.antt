@@ -15,13 +15,13 @@ use Rattle.wac_encode_stacks.specs.Good.{At, Good, innermost}
 use Rattle.wac_encode_stacks.specs.Listed.{on_side}
 use Rattle.wac_encode_scopes.specs.declared.state.State.{State}
 use Rattle.wac_encode_scopes.specs.States.{stack}
-use Rattle.wac_encode_scopes.specs.Components.{IsComponentType}
+use Rattle.wac_encode_scopes.specs.private.Components.{IsComponentType}
 use Rattle.wac_encode_faults.specs.Sides.{Sides, parted_sides, export_bindings}
 use Rattle.wac_encode_faults.specs.Free.{SideItem}
 use Rattle.wac_encode_faults.specs.Cycle.{numbered_items, owner_of, AreOwners}
 use Rattle.wac_encode_interfaces.specs.declared.sides.Parts.{Parts}
-use Rattle.wac_encode_interfaces.specs.Trees.{IsInterfaceHeld}
-use Rattle.wac_encode_interfaces.specs.Worlds.{Worlds}
+use Rattle.wac_encode_interfaces.specs.private.Trees.{IsInterfaceHeld}
+use Rattle.wac_encode_interfaces.specs.private.Worlds.{Worlds}
 use Rattle.wac_encode_interfaces.specs.private.Written.{side_item, IsWritten, IsNext, AreWritable, AddsToSide}
 
 -- The sides with these parts.

@@ -15,14 +15,14 @@ use Rattle.wac_binary.specs.Unfold.{with_item}
 use Rattle.wac_encode_stacks.specs.Good.{Good, innermost}
 use Rattle.wac_encode_stacks.specs.Listed.{on_side, other}
 use Rattle.wac_encode_scopes.specs.declared.state.State.{State}
-use Rattle.wac_encode_scopes.specs.Components.{IsComponentType}
+use Rattle.wac_encode_scopes.specs.private.Components.{IsComponentType}
 use Rattle.wac_encode_scopes.specs.States.{stack}
 use Rattle.wac_encode_faults.specs.Sides.{Sides, all_imports, export_bindings}
 use Rattle.wac_encode_faults.specs.Free.{SideItem}
 use Rattle.wac_encode_faults.specs.Cycle.{ItemDependsOn}
 use Rattle.wac_encode_faults.specs.Trees.{side_trees}
-use Rattle.wac_encode_interfaces.specs.Ready.{AreSidesClean}
-use Rattle.wac_encode_interfaces.specs.Worlds.{Worlds, HaveWorlds, HaveInterfaceWorlds}
+use Rattle.wac_encode_interfaces.specs.private.Ready.{AreSidesClean}
+use Rattle.wac_encode_interfaces.specs.private.Worlds.{Worlds, HaveWorlds, HaveInterfaceWorlds}
 
 -- The item of a side under a name.
 abbrev pub side_item : Side → Name → SideItem

@@ -10,9 +10,9 @@ join_imports-requires c = subst (AreThere c.args.types.now) (sym c.as_slice.ensu
 
 pub has_item_cycle-requires-clause-imports : goal.has_item_cycle-requires-clause-imports
 has_item_cycle-requires-clause-imports c =
-    joined_held c.args.types.now c.args.imports.now c.as_slice.result.now c.in-Ok.all c.requires.imports (subst (AreThere c.args.types.now) (sym c.as_slice.ensures.keys) c.requires.additional) c.in-Ok.ensures
+    joined_held c.args.types.now c.args.imports.now c.as_slice.result.now c.in-Ok.all c.requires.imports (subst (AreThere c.args.types.now) (sym c.as_slice.ensures.keys) c.requires.additional) c.in-Ok.ensures.joined
 
 pub returns : goal.returns
 returns c =
-    let same = parted_with c.args.types.now c.args.uses.now c.len-own.result c.args.imports.now c.in-Ok.all c.args.exports.now c.args.additional.now.keys c.as_slice.result.now c.len-own.ensures c.as_slice.ensures.keys c.in-Ok.ensures in
+    let same = parted_with c.args.types.now c.args.uses.now c.len-own.result c.args.imports.now c.in-Ok.all c.args.exports.now c.args.additional.now.keys c.as_slice.result.now c.len-own.ensures c.as_slice.ensures.keys c.in-Ok.ensures.joined in
     subst (λ s. IfOk c.has_item_cycle.result (λ b. IsTrue b ↔ HasItemCycle c.args.types.now s)) same c.has_item_cycle.ensures

@@ -2,12 +2,16 @@ use Rattle.std.proofs.Common.{ap, ◌∙◌}
 use Rattle.std.proofs.lemmas.Result.{on_ok_weaker}
 use Rattle.wac_types_collection.specs.private.reach.Found.{with_all}
 use Rattle.wac_encode_faults.specs.private.Sets.{others_of}
+use Rattle.wac_encode_faults.proofs.Mentioned.{nothing_before}
 use Rattle.wac_encode_faults.proofs.FreeParts.{frees_law}
 use Rattle.wac_encode_faults.proofs.FreeSets.{others_held, others_no_interface}
 use Rattle.wac_encode_faults.proofs.resources.add_free_of_others.Goals as goal
 
-pub add_all_parts-requires : goal.add_all_parts-requires
-add_all_parts-requires c = others_held c.args.types.now c.args.items.now c.add_others.new.found.keys (c.in_ok-add_others.ensures ∙ ap (λ ts. with_all ts (others_of c.args.items.now)) c.new-found.ensures.empty) c.requires
+pub add_all_parts-requires-clause-held : goal.add_all_parts-requires-clause-held
+add_all_parts-requires-clause-held c = others_held c.args.types.now c.args.items.now c.add_others.new.found.keys (c.in_ok-add_others.ensures ∙ ap (λ ts. with_all ts (others_of c.args.items.now)) c.new-found.ensures.empty) c.requires
+
+pub add_all_parts-requires-clause-before : goal.add_all_parts-requires-clause-before
+add_all_parts-requires-clause-before c = nothing_before c.args.types.now c.add_others.new.found.keys
 
 pub returns : goal.returns
 returns c =

@@ -1,6 +1,6 @@
 use Rattle.std.proofs.Common.{subst}
 use Rattle.std.proofs.lemmas.Result.{on_ok_weaker}
-use Rattle.wac_encode_interfaces.specs.Worlds.{written_in}
+use Rattle.wac_encode_interfaces.specs.private.Worlds.{written_in}
 use Rattle.wac_encode_interfaces.specs.private.InnerTypes.{IsCleanType, HaveInner}
 use Rattle.wac_encode_interfaces.proofs.WorldsAhead.{put-types, put-there, other-there, same-kept}
 use Rattle.wac_encode_interfaces.proofs.ahead.add_world.Goals as goal

@@ -1,8 +1,8 @@
 use Rattle.std.proofs.Common.{Contains, sym, ◌∙◌, subst}
 use Rattle.wac_types_shapes.specs.declared.shapes.component.«Type».{«Type» as AnyType}
 use Rattle.wac_encode_interfaces.specs.declared.worlds.WorldTypes.{WorldTypes}
-use Rattle.wac_encode_interfaces.specs.Given.{HaveSidesWorlds}
-use Rattle.wac_encode_interfaces.specs.Worlds.{HaveWorlds, written_in}
+use Rattle.wac_encode_interfaces.specs.private.Given.{HaveSidesWorlds}
+use Rattle.wac_encode_interfaces.specs.private.Worlds.{HaveWorlds, written_in}
 use Rattle.wac_encode_interfaces.proofs.Written.{if-ok}
 use Rattle.wac_encode_interfaces.proofs.RootTypes.{roots-held, roots-clean, roots-worlds}
 use Rattle.wac_encode_interfaces.proofs.ahead.side_world_types.Goals as goal

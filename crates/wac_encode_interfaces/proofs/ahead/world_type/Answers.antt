@@ -1,10 +1,11 @@
+use Rattle.std.specs.List.{IsDistinct}
 use Rattle.std.proofs.Common.{◌≡◌, ap, sym, ◌∙◌, subst}
 use Rattle.wac_types_collection.specs.collection.Collection.{Collection}
 use Rattle.wac_types_collection.proofs.lemmas.wide.Members.{in_none, in_left, in_right}
 use Rattle.wac_encode_faults.specs.Sides.{world_sides}
-use Rattle.wac_encode_scopes.specs.Components.{ComponentHasMeaning, component_tree}
-use Rattle.wac_encode_interfaces.specs.Worlds.{written_in}
-use Rattle.wac_encode_interfaces.specs.Ready.{AreSidesClean}
+use Rattle.wac_encode_scopes.specs.private.Components.{ComponentHasMeaning, component_tree}
+use Rattle.wac_encode_interfaces.specs.private.Worlds.{written_in}
+use Rattle.wac_encode_interfaces.specs.private.Ready.{AreSidesClean}
 use Rattle.wac_encode_faults.specs.Trees.{sides_tree}
 use Rattle.wac_encode_interfaces.specs.private.InnerTypes.{IsWorldType}
 use Rattle.wac_encode_interfaces.proofs.Written.{if-ok}
@@ -23,6 +24,10 @@ component_type-requires-clause-held c =
       exports = λ e h. world-held-items types c.law.ensures c.args.world x c.index-item.ensures e (in_right x.imports x.exports e h);
       additional = λ i h. absurd (in_none i h);
     })
+
+pub component_type-requires-clause-once : goal.component_type-requires-clause-once
+unfolding IsDistinct
+component_type-requires-clause-once c = tt
 
 pub component_type-requires-clause-clean : goal.component_type-requires-clause-clean
 component_type-requires-clause-clean c =

@@ -1,6 +1,6 @@
 use Rattle.std.proofs.Common.{Contains, sym, subst}
 use Rattle.wac_types_shapes.specs.declared.shapes.component.«Type».{«Type» as AnyType}
-use Rattle.wac_encode_interfaces.specs.Worlds.{HaveWorlds, written_in}
+use Rattle.wac_encode_interfaces.specs.private.Worlds.{HaveWorlds, written_in}
 use Rattle.wac_encode_interfaces.specs.declared.worlds.WorldTypes.{WorldTypes}
 use Rattle.wac_encode_interfaces.specs.private.InnerTypes.{AreCleanTypes, IsInnerFirst}
 use Rattle.wac_encode_interfaces.proofs.Written.{if-ok}

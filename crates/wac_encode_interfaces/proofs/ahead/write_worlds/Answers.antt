@@ -1,6 +1,6 @@
 use Rattle.std.proofs.Common.{arith}
 use Rattle.wac_types_collection.proofs.lemmas.wide.Members.{at_in}
-use Rattle.wac_encode_interfaces.specs.Worlds.{written_in}
+use Rattle.wac_encode_interfaces.specs.private.Worlds.{written_in}
 use Rattle.wac_encode_interfaces.proofs.WorldsAhead.{none-written, first-none, first-inner, first-next, first-all}
 use Rattle.wac_encode_interfaces.proofs.ahead.write_worlds.Goals as goal
 

@@ -1,4 +1,4 @@
-use Rattle.wac_encode_interfaces.specs.Worlds.{AreWorldTypes, written_in}
+use Rattle.wac_encode_interfaces.specs.private.Worlds.{AreWorldTypes, written_in}
 use Rattle.wac_encode_interfaces.proofs.WorldsAhead.{HaveFirst}
 use Rattle.wac_encode_interfaces.proofs.ahead.write_worlds.Given as goal
 

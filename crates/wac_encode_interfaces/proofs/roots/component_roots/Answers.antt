@@ -1,6 +1,6 @@
 use Rattle.std.proofs.Common.{sym, subst}
 use Rattle.std.proofs.lemmas.Result.{IfOk-weaker}
-use Rattle.wac_encode_interfaces.specs.Given.{sides_of}
+use Rattle.wac_encode_interfaces.specs.private.Given.{sides_of}
 use Rattle.wac_encode_interfaces.specs.private.Defined.{AreSideRoots}
 use Rattle.wac_encode_interfaces.proofs.DefinedSides.{are-roots}
 use Rattle.wac_encode_interfaces.proofs.roots.component_roots.Goals as goal

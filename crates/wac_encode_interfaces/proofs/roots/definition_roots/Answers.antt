@@ -6,7 +6,7 @@ use Rattle.wac_types_shapes.specs.declared.shapes.component.«Type».TheVariants
 use Rattle.wac_types_collection.specs.collection.Collection.{holds_type}
 use Rattle.wac_types_collection.proofs.lemmas.collection.Steady.{within}
 use Rattle.wac_encode_faults.specs.Sides.{interface_sides, completed_sides}
-use Rattle.wac_encode_interfaces.specs.Definitions.{AreDefinitionRoots}
+use Rattle.wac_encode_interfaces.specs.private.Definitions.{AreDefinitionRoots}
 use Rattle.wac_encode_interfaces.proofs.DefinedSides.{world-defined, definition-roots, no-roots, no-sides}
 use Rattle.wac_encode_interfaces.proofs.Writes.{item-held}
 use Rattle.wac_encode_interfaces.proofs.roots.definition_roots.Goals as goal

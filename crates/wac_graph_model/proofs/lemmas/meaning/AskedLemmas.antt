@@ -7,6 +7,7 @@ use Rattle.std.specs.Ordering.{eq_by_cmp}
 use Rattle.wac_types_shapes.specs.primitives.Name.{Name}
 use Rattle.wac_types_shapes.specs.declared.shapes.component.ItemKind.{ItemKind}
 use Rattle.wac_merge_classes.specs.entries.Classes.{by_names}
+use Rattle.wac_edges.specs.Arranged as arranged
 use Rattle.wac_merge_classes.specs.terms.ClassOrder as classes
 use Rattle.wac_edges.specs.declared.edges.Edge.{Edge}
 use Rattle.wac_edges.specs.declared.node.NodeId.{NodeId}
@@ -24,7 +25,7 @@ use Rattle.wac_graph_model.proofs.lemmas.meaning.ThingLemmas.{IsPlain}
 pub no_imports : (g : Graph) → asked g ≡ [] → AreOuterImports g []
 no_imports g none = record {
   order = [];
-  written = subst (λ es. classes.IsWrittenOrder by_names g.types (to_merge (once (flat_map (with_used g.types) es))) []) (sym none) (classes.done []);
+  written = subst (λ es. classes.IsWrittenOrder by_names g.types (to_merge (once (flat_map (with_used g.types) es))) []) (sym none) (arranged.done []);
   count = refl;
   each = λ p k class e at _ _. absurd (nothing at);
 } where

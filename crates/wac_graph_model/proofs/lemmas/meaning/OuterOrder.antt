@@ -1,7 +1,8 @@
 -- There is one order in which the classes of what a graph asks for are written.
 use Rattle.std.proofs.Common.{◌≡◌, ℕ, List, [], ◌∷◌, ◌++◌, refl, ap, sym, subst}
 use Rattle.wac_merge_classes.specs.entries.Classes.{by_names}
-use Rattle.wac_merge_classes.specs.terms.ClassOrder.{RestsOn, Selects, none, takes, leaves, Arranges, done, there, new, grouped}
+use Rattle.wac_merge_classes.specs.terms.ClassOrder.{RestsOn, grouped}
+use Rattle.wac_edges.specs.Arranged.{Selects, none, takes, leaves, Arranges, done, there, new}
 use Rattle.wac_graph_model.specs.nodes.Graph.{Graph}
 use Rattle.wac_graph_model.specs.nodes.OuterImports.{outer_entries, IsOuterOrder}
 

@@ -4,8 +4,8 @@ use Rattle.wac_types_shapes.specs.declared.shapes.component.«Type».TheVariants
 use Rattle.wac_encode_stacks.specs.Scopes.{defined}
 use Rattle.wac_encode_scopes.specs.States.{IsTypeAt}
 use Rattle.wac_encode_scopes.proofs.Stepped.{goes-none}
-use Rattle.wac_encode_interfaces.specs.Ready.{IsInterfaceAt}
-use Rattle.wac_encode_interfaces.specs.Worlds.{written_in}
+use Rattle.wac_encode_interfaces.specs.private.Ready.{IsInterfaceAt}
+use Rattle.wac_encode_interfaces.specs.private.Worlds.{written_in}
 use Rattle.wac_encode_interfaces.proofs.Ended.{level-around, closed-level, closed-at, closed-into}
 use Rattle.wac_encode_interfaces.proofs.Refused.{closed-open, dropped-open, err-of}
 use Rattle.wac_encode_interfaces.proofs.writer.TypeWriter.close_level.Goals as goal

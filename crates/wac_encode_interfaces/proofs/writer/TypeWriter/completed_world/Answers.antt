@@ -1,14 +1,16 @@
+use Rattle.std.specs.List.{IsDistinct}
 use Rattle.std.proofs.Common.{◌≡◌, sym, ◌∙◌, subst}
 use Rattle.std.proofs.lemmas.Result.{IfOk-weaker}
+use Rattle.wac_types_shapes.specs.contracts.shapes.component.InterfaceIdPartialEq.TheImpl as IdEq
 use Rattle.wac_types_collection.specs.wide.Wide.{AreThere}
 use Rattle.wac_types_collection.proofs.lemmas.wide.Members.{in_left, in_right}
-use Rattle.wac_encode_scopes.specs.Components.{ComponentHasMeaning, component_tree}
+use Rattle.wac_encode_scopes.specs.private.Components.{ComponentHasMeaning, component_tree}
 use Rattle.wac_encode_faults.specs.private.Ids.{HaveIds}
 use Rattle.wac_encode_faults.specs.Sides.{Sides, completed_sides}
 use Rattle.wac_encode_faults.specs.Trees.{sides_tree}
-use Rattle.wac_encode_interfaces.specs.Definitions.{HaveWorldsInside}
-use Rattle.wac_encode_interfaces.specs.Ready.{AreSidesClean}
-use Rattle.wac_encode_interfaces.specs.Worlds.{written_in}
+use Rattle.wac_encode_interfaces.specs.private.Definitions.{HaveWorldsInside}
+use Rattle.wac_encode_interfaces.specs.private.Ready.{AreSidesClean}
+use Rattle.wac_encode_interfaces.specs.private.Worlds.{written_in}
 use Rattle.wac_encode_interfaces.proofs.DefinedSides.{world-sides, world-defined, one-sides, worlds-given}
 use Rattle.wac_encode_interfaces.proofs.WorldsAhead.{world-held-items}
 use Rattle.wac_encode_interfaces.proofs.writer.TypeWriter.completed_world.Goals as goal
@@ -22,6 +24,9 @@ component_type-requires-clause-held c =
       exports = λ e h. world-held-items types c.law.ensures c.args.world x c.index-item.ensures e (in_right x.imports x.exports e h);
       additional = subst (AreThere types) (sym c.as_slice.ensures.keys) c.in_ok-additional.ensures.there;
     }
+
+pub component_type-requires-clause-once : goal.component_type-requires-clause-once
+component_type-requires-clause-once c = subst (IsDistinct (IdEq.ghosts).eq) (sym c.as_slice.ensures.keys) c.as_slice.ensures.unique
 
 pub component_type-requires-clause-clean : goal.component_type-requires-clause-clean
 component_type-requires-clause-clean c =

@@ -3,7 +3,7 @@ use Rattle.std.specs.BTreeSet.{BTreeSet}
 use Rattle.wac_edges.specs.cycles.Cycles.{IsStep}
 use Rattle.wac_encode_faults.specs.Sides.{parted_sides}
 use Rattle.wac_encode_faults.specs.Cycle.{DependsByNumber}
-use Rattle.wac_encode_interfaces.specs.Worlds.{written_in}
+use Rattle.wac_encode_interfaces.specs.private.Worlds.{written_in}
 use Rattle.wac_encode_interfaces.specs.private.Parts.{sides_in}
 use Rattle.wac_encode_interfaces.specs.private.Ordered.{AreDependencies}
 use Rattle.wac_encode_interfaces.proofs.Begun.{start-written}

@@ -1,22 +1,21 @@
 use Rattle.std.specs.Prelude.{IfOk}
-use Rattle.std.specs.List.{flat_map}
-use Rattle.std.proofs.Common.{◌≡◌, ◌++◌, List, refl, subst}
-use Rattle.wac_encode_scopes.specs.Components.{ComponentHasMeaning, component_tree}
-use Rattle.wac_encode_faults.specs.Sides.{Sides, under_id}
-use Rattle.wac_encode_interfaces.specs.Given.{sides_of}
+use Rattle.std.proofs.Common.{◌≡◌, refl, subst}
+use Rattle.wac_encode_scopes.specs.private.Components.{ComponentHasMeaning, component_tree}
+use Rattle.wac_encode_faults.specs.Sides.{Sides}
+use Rattle.wac_encode_interfaces.specs.private.Given.{sides_of}
 use Rattle.wac_encode_faults.specs.Trees.{sides_tree}
-use Rattle.wac_encode_interfaces.specs.Worlds.{written_in}
-use Rattle.wac_encode_interfaces.proofs.Begun.{joined-held, planned-parts, parted-are, of-ok}
+use Rattle.wac_encode_interfaces.specs.private.Worlds.{written_in}
+use Rattle.wac_encode_interfaces.proofs.Begun.{joined-held, planned-parts, parted-are}
 use Rattle.wac_encode_interfaces.proofs.writer.TypeWriter.component_type.Goals as goal
 
 pub item_owners-requires-clause-imports : goal.item_owners-requires-clause-imports
-item_owners-requires-clause-imports c = joined-held c.args.self.now.types.now (written_in c.args.self.now.worlds.now) c.args.sides.now c.requires.held c.requires.clean c.requires.worlds c.in-Ok.imports (of-ok (λ n. n ≡ c.args.sides.now.imports.now ++ flat_map (under_id c.args.self.now.types.now) c.args.sides.now.additional.now) c.join_imports.result c.in-Ok.imports c.in-Ok.is c.join_imports.ensures)
+item_owners-requires-clause-imports c = joined-held c.args.self.now.types.now (written_in c.args.self.now.worlds.now) c.args.sides.now c.requires.held c.requires.clean c.requires.worlds c.in_ok-imports.imports c.in_ok-imports.ensures
 
 pub component_of-requires-clause-planned : goal.component_of-requires-clause-planned
-component_of-requires-clause-planned c = planned-parts c.args.self.now.types.now (written_in c.args.self.now.worlds.now) c.args.sides.now c.requires.held c.requires.clean c.requires.worlds _ refl refl (of-ok (λ n. n ≡ c.args.sides.now.imports.now ++ flat_map (under_id c.args.self.now.types.now) c.args.sides.now.additional.now) c.join_imports.result c.in-Ok.imports c.in-Ok.is c.join_imports.ensures) refl c.law.ensures c.law-2.ensures c.in_ok-owners.ensures
+component_of-requires-clause-planned c = planned-parts c.args.self.now.types.now (written_in c.args.self.now.worlds.now) c.args.sides.now c.requires.held c.requires.clean c.requires.worlds _ refl refl c.in_ok-imports.ensures refl c.law.ensures c.law-2.ensures c.in_ok-owners.ensures
 
 pub returns : goal.returns
 returns c = record {
   meaning =
-      subst (λ (s : Sides). IfOk c.component_of.result (λ ds. ComponentHasMeaning ds × (component_tree ds ≡ sides_tree c.args.self.now.types.now s))) (parted-are c.args.self.now.types.now c.args.sides.now c.in-Ok.imports (of-ok (λ n. n ≡ c.args.sides.now.imports.now ++ flat_map (under_id c.args.self.now.types.now) c.args.sides.now.additional.now) c.join_imports.result c.in-Ok.imports c.in-Ok.is c.join_imports.ensures)) c.component_of.ensures.meaning;
+      subst (λ (s : Sides). IfOk c.component_of.result (λ ds. ComponentHasMeaning ds × (component_tree ds ≡ sides_tree c.args.self.now.types.now s))) (parted-are c.args.self.now.types.now c.args.sides.now c.in_ok-imports.imports c.in_ok-imports.ensures) c.component_of.ensures.meaning;
 }

@@ -1,9 +1,9 @@
 use Rattle.std.proofs.Common.{ℕ, length, Option, IfSome, subst}
 use Rattle.wac_types_collection.proofs.lemmas.collection.Steady.{within}
-use Rattle.wac_encode_scopes.specs.Components.{DefinesModuleType}
+use Rattle.wac_encode_scopes.specs.private.Components.{DefinesModuleType}
 use Rattle.wac_encode_scopes.specs.States.{Goes}
 use Rattle.wac_encode_scopes.proofs.Stepped.{all-none, goes-none}
-use Rattle.wac_encode_interfaces.specs.Imports.{IsModuleAt}
+use Rattle.wac_encode_interfaces.specs.private.Imports.{IsModuleAt}
 use Rattle.wac_encode_interfaces.proofs.Written.{if-ok, ok-of}
 use Rattle.wac_encode_interfaces.proofs.Importing.{module-goes, module-at}
 use Rattle.wac_encode_interfaces.proofs.writer.TypeWriter.core_module.Goals as goal

@@ -1,11 +1,11 @@
 use Rattle.std.specs.Prelude.{List, Option, None, IfSome}
 use Rattle.std.proofs.Common.{subst}
 use Rattle.wac_binary.specs.Items.{Decl}
-use Rattle.wac_encode_scopes.specs.Components.{DefinesComponent}
+use Rattle.wac_encode_scopes.specs.private.Components.{DefinesComponent}
 use Rattle.wac_encode_scopes.specs.States.{Goes}
-use Rattle.wac_encode_interfaces.specs.Definitions.{IsDefinitionAt}
-use Rattle.wac_encode_interfaces.specs.Items.{IsTypeIndex}
-use Rattle.wac_encode_interfaces.specs.Worlds.{written_in}
+use Rattle.wac_encode_interfaces.specs.private.Definitions.{IsDefinitionAt}
+use Rattle.wac_encode_interfaces.specs.private.Items.{IsTypeIndex}
+use Rattle.wac_encode_interfaces.specs.private.Worlds.{written_in}
 use Rattle.wac_encode_interfaces.specs.private.Defined.{IsDefinition}
 use Rattle.wac_encode_interfaces.proofs.Definitions.{has-definition, plain-ready, plain-at, component-goes, component-at}
 use Rattle.wac_encode_interfaces.proofs.Written.{if-ok, ok-of}

@@ -2,7 +2,7 @@ use Rattle.std.specs.Prelude.{length}
 use Rattle.std.proofs.Common.{sym, subst}
 use Rattle.wac_types_shapes.specs.declared.shapes.component.«Type».{«Type» as AnyType}
 use Rattle.wac_types_collection.proofs.lemmas.collection.Steady.{within}
-use Rattle.wac_encode_interfaces.specs.Worlds.{written_in}
+use Rattle.wac_encode_interfaces.specs.private.Worlds.{written_in}
 use Rattle.wac_encode_interfaces.specs.private.Defined.{HasDefinition, IsDefinition}
 use Rattle.wac_encode_interfaces.proofs.Definitions.{interface-is, is-plain}
 use Rattle.wac_encode_interfaces.proofs.writer.TypeWriter.definition_component.Goals as goal

@@ -1,8 +1,8 @@
 use Rattle.std.proofs.Common.{sym, subst}
 use Rattle.wac_types_shapes.specs.declared.shapes.component.ItemKind.TheVariants as kind
 use Rattle.wac_types_shapes.specs.declared.shapes.component.«Type».{«Type» as AnyType}
-use Rattle.wac_encode_interfaces.specs.Items.{IsItemReady}
-use Rattle.wac_encode_interfaces.specs.Worlds.{written_in}
+use Rattle.wac_encode_interfaces.specs.private.Items.{IsItemReady}
+use Rattle.wac_encode_interfaces.specs.private.Worlds.{written_in}
 use Rattle.wac_encode_interfaces.proofs.Written.{type-ready, describes-type, describes-func, describes-instance, no-component, no-core, no-value}
 use Rattle.wac_encode_interfaces.proofs.writer.TypeWriter.describe.Goals as goal
 

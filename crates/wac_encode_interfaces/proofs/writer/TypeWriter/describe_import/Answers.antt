@@ -4,11 +4,11 @@ use Rattle.wac_types_shapes.specs.declared.shapes.component.ItemKind.{ItemKind}
 use Rattle.wac_types_shapes.specs.declared.shapes.component.«Type».{«Type» as AnyType}
 use Rattle.wac_types_collection.specs.collection.Collection.{holds_type}
 use Rattle.wac_types_collection.proofs.lemmas.collection.Steady.{within}
-use Rattle.wac_encode_values.specs.Values.{IsReady}
+use Rattle.wac_encode_values.specs.private.Values.{IsReady}
 use Rattle.wac_encode_scopes.proofs.Stepped.{goes-both}
-use Rattle.wac_encode_interfaces.specs.Imports.{DescribesImport}
-use Rattle.wac_encode_interfaces.specs.Items.{DescribesItem}
-use Rattle.wac_encode_interfaces.specs.Worlds.{HaveWorlds, written_in}
+use Rattle.wac_encode_interfaces.specs.private.Imports.{DescribesImport}
+use Rattle.wac_encode_interfaces.specs.private.Items.{DescribesItem}
+use Rattle.wac_encode_interfaces.specs.private.Worlds.{HaveWorlds, written_in}
 use Rattle.wac_encode_interfaces.proofs.Written.{if-ok, on-ok}
 use Rattle.wac_encode_interfaces.proofs.Importing.{component-is, described-component, described-item, interface-ready, item-after}
 use Rattle.wac_encode_interfaces.proofs.Refused.{keeps-types, keeps-both, err-of}

@@ -1,5 +1,5 @@
 use Rattle.std.proofs.Common.{ap, add-one}
-use Rattle.wac_encode_interfaces.specs.Worlds.{written_in}
+use Rattle.wac_encode_interfaces.specs.private.Worlds.{written_in}
 use Rattle.wac_encode_interfaces.proofs.Parts.{stays-ready, item-ready, next-type-held}
 use Rattle.wac_encode_interfaces.proofs.Told.{has-instance}
 use Rattle.wac_encode_interfaces.proofs.Ended.{export-keeps, level-side, one-further}

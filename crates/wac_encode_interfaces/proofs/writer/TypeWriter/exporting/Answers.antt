@@ -2,7 +2,7 @@ use Rattle.std.proofs.Common.{sym, ◌∙◌, subst}
 use Rattle.wac_types_shapes.specs.primitives.Tree.{exported}
 use Rattle.wac_binary.specs.declared.sorts.Description.TheVariants as e
 use Rattle.wac_encode_stacks.specs.Good.{nothing_bound}
-use Rattle.wac_encode_scopes.specs.Components.{IsComponentType}
+use Rattle.wac_encode_scopes.specs.private.Components.{IsComponentType}
 use Rattle.wac_encode_scopes.specs.Contents.{HasSide}
 use Rattle.wac_encode_interfaces.proofs.Definitions.{exports-one}
 use Rattle.wac_encode_interfaces.proofs.Items.{bottom-alone, component-more, component-item}

@@ -1,5 +1,5 @@
 use Rattle.std.proofs.Common.{arith}
-use Rattle.wac_encode_interfaces.specs.Worlds.{written_in}
+use Rattle.wac_encode_interfaces.specs.private.Worlds.{written_in}
 use Rattle.wac_encode_interfaces.proofs.Parts.{under-way-on}
 use Rattle.wac_encode_interfaces.proofs.Ended.{filling-none, filling-on, filling-less}
 use Rattle.wac_encode_interfaces.proofs.Refused.{keeps-both}

@@ -1,13 +1,15 @@
+use Rattle.std.specs.List.{IsDistinct}
 use Rattle.std.proofs.Common.{◌≡◌, sym, ◌∙◌, subst, refl}
 use Rattle.std.proofs.lemmas.Result.{IfOk-weaker}
+use Rattle.wac_types_shapes.specs.contracts.shapes.component.InterfaceIdPartialEq.TheImpl as IdEq
 use Rattle.wac_types_collection.specs.wide.Wide.{AreThere}
-use Rattle.wac_encode_scopes.specs.Components.{ComponentHasMeaning, component_tree}
+use Rattle.wac_encode_scopes.specs.private.Components.{ComponentHasMeaning, component_tree}
 use Rattle.wac_encode_faults.specs.private.Ids.{HaveIds}
 use Rattle.wac_encode_faults.specs.Sides.{Sides, id_or_empty, interface_sides}
 use Rattle.wac_encode_faults.specs.Trees.{sides_tree}
-use Rattle.wac_encode_interfaces.specs.Definitions.{HaveWorldsInside}
-use Rattle.wac_encode_interfaces.specs.Ready.{AreSidesClean}
-use Rattle.wac_encode_interfaces.specs.Worlds.{written_in}
+use Rattle.wac_encode_interfaces.specs.private.Definitions.{HaveWorldsInside}
+use Rattle.wac_encode_interfaces.specs.private.Ready.{AreSidesClean}
+use Rattle.wac_encode_interfaces.specs.private.Worlds.{written_in}
 use Rattle.wac_encode_interfaces.proofs.DefinedSides.{none-items, one-items, interface-sides, one-sides, worlds-given}
 use Rattle.wac_encode_interfaces.proofs.writer.TypeWriter.interface_definition.Goals as goal
 
@@ -19,6 +21,9 @@ component_type-requires-clause-held c =
       exports = one-items types c.args.interface (id_or_empty types c.args.interface) c.in_ok-exports.exports c.requires.held c.in_ok-exports.ensures;
       additional = subst (AreThere types) (sym c.as_slice.ensures.keys) c.in_ok-additional.ensures.there;
     }
+
+pub component_type-requires-clause-once : goal.component_type-requires-clause-once
+component_type-requires-clause-once c = subst (IsDistinct (IdEq.ghosts).eq) (sym c.as_slice.ensures.keys) c.as_slice.ensures.unique
 
 pub component_type-requires-clause-clean : goal.component_type-requires-clause-clean
 component_type-requires-clause-clean c =

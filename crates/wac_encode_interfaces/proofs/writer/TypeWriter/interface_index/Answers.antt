@@ -2,7 +2,7 @@ use Rattle.std.specs.Prelude.{Bool}
 use Rattle.std.proofs.Common.{sym, subst}
 use Rattle.wac_types_shapes.specs.declared.shapes.component.«Type».TheVariants as ty
 use Rattle.wac_encode_scopes.proofs.Stepped.{goes-none}
-use Rattle.wac_encode_interfaces.specs.Ready.{IsInterfaceAt}
+use Rattle.wac_encode_interfaces.specs.private.Ready.{IsInterfaceAt}
 use Rattle.wac_encode_interfaces.proofs.Written.{indexed-at}
 use Rattle.wac_encode_interfaces.proofs.writer.TypeWriter.interface_index.Goals as goal
 

@@ -1,6 +1,6 @@
 use Rattle.wac_binary.specs.declared.sorts.Description.TheVariants as e
 use Rattle.wac_encode_scopes.specs.Contents.{side_of, and_item}
-use Rattle.wac_encode_scopes.specs.Listing.{ListsItem}
+use Rattle.wac_encode_scopes.specs.private.Listing.{ListsItem}
 use Rattle.wac_encode_scopes.specs.States.{KeepsRecords}
 use Rattle.std.specs.Prelude.{◌≡◌}
 use Rattle.wac_encode_interfaces.specs.private.Parts.{ListsInterface}

@@ -1,7 +1,7 @@
 use Rattle.wac_types_shapes.specs.declared.shapes.component.ValueType.TheVariants as val
 use Rattle.wac_types_shapes.specs.declared.shapes.component.«Type».TheVariants as ty
 use Rattle.wac_encode_scopes.specs.States.{Goes, IsTypeAt}
-use Rattle.wac_encode_scopes.specs.Components.{DefinesPrimitiveType}
+use Rattle.wac_encode_scopes.specs.private.Components.{DefinesPrimitiveType}
 use Rattle.wac_encode_scopes.proofs.Stepped.{goes-none, all-none}
 use Rattle.wac_encode_interfaces.proofs.Written.{if-ok, ok-of, indexed-at, primitive-goes, primitive-at}
 use Rattle.wac_encode_interfaces.proofs.writer.TypeWriter.primitive.Goals as goal

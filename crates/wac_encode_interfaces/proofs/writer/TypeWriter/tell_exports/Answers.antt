@@ -1,5 +1,5 @@
 use Rattle.wac_types_shapes.specs.declared.shapes.component.Interface.{Interface}
-use Rattle.wac_encode_scopes.specs.Closed.{is_closed_in}
+use Rattle.wac_encode_scopes.specs.private.Closed.{is_closed_in}
 use Rattle.wac_encode_scopes.specs.private.Telling.{is_one_of, telling}
 use Rattle.wac_encode_scopes.proofs.Stepped.{all-none, goes-none, on-ok}
 use Rattle.wac_encode_interfaces.proofs.Told.{told-ok, instance-held, empty-keys}

@@ -7,8 +7,8 @@ use Rattle.wac_types_collection.specs.collection.Collection.{Collection, HasFunc
 use Rattle.wac_types_collection.proofs.lemmas.collection.Steady.{within}
 use Rattle.wac_encode_scopes.specs.States.{IsTypeAt, IsResourceAt}
 use Rattle.wac_encode_scopes.proofs.Stepped.{goes-none, all-none}
-use Rattle.wac_encode_interfaces.specs.Items.{IsItemReady, IsTypeIndex}
-use Rattle.wac_encode_interfaces.specs.Worlds.{written_in}
+use Rattle.wac_encode_interfaces.specs.private.Items.{IsItemReady, IsTypeIndex}
+use Rattle.wac_encode_interfaces.specs.private.Worlds.{written_in}
 use Rattle.wac_encode_interfaces.proofs.Written.{on-ok, if-ok, goes-as, type-as, ready-as, closed-as, indexed-at, resource-bound, resource-index, has-index, no-module}
 use Rattle.wac_encode_interfaces.proofs.writer.TypeWriter.type_index.Goals as goal
 

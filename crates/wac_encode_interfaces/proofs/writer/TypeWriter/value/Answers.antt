@@ -5,7 +5,7 @@ use Rattle.wac_types_shapes.specs.declared.shapes.component.«Type».TheVariants
 use Rattle.wac_types_collection.specs.collection.Collection.{Collection, holds_value}
 use Rattle.wac_encode_scopes.specs.States.{Goes, IsTypeAt}
 use Rattle.wac_encode_scopes.proofs.Stepped.{goes-both, all-both}
-use Rattle.wac_encode_values.specs.Values.{IsWrittenAs}
+use Rattle.wac_encode_values.specs.private.Values.{IsWrittenAs}
 use Rattle.wac_encode_values.proofs.Ready.{ready-on}
 use Rattle.wac_encode_interfaces.proofs.Written.{on-ok, if-both, goes-as, written-as, ready-as, closed-as, index-at, primitive-ready, primitive-value}
 use Rattle.wac_encode_interfaces.proofs.writer.TypeWriter.value.Goals as goal

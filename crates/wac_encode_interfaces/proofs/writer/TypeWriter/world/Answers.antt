@@ -3,9 +3,9 @@ use Rattle.std.proofs.Common.{sym}
 use Rattle.wac_types_shapes.specs.declared.shapes.component.«Type».TheVariants as ty
 use Rattle.wac_encode_stacks.specs.Scopes.{defined}
 use Rattle.wac_encode_scopes.specs.States.{Goes, IsRecordedAt, IsTypeAt}
-use Rattle.wac_encode_scopes.specs.Components.{DefinesComponent}
+use Rattle.wac_encode_scopes.specs.private.Components.{DefinesComponent}
 use Rattle.wac_encode_scopes.proofs.Stepped.{goes-none, all-none}
-use Rattle.wac_encode_interfaces.specs.Worlds.{written_in}
+use Rattle.wac_encode_interfaces.specs.private.Worlds.{written_in}
 use Rattle.wac_encode_interfaces.proofs.Written.{if-ok, ok-of, indexed-at, type-at, has-world, world-goes}
 use Rattle.wac_encode_interfaces.proofs.writer.TypeWriter.world.Goals as goal
 

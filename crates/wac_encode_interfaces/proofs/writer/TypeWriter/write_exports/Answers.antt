@@ -1,5 +1,5 @@
 use Rattle.std.proofs.Common.{ℕ, ◌≡◌, ◌+◌, length, sym, arith}
-use Rattle.wac_encode_interfaces.specs.Worlds.{written_in}
+use Rattle.wac_encode_interfaces.specs.private.Worlds.{written_in}
 use Rattle.wac_encode_interfaces.proofs.Positions.{ordered-as}
 use Rattle.wac_encode_interfaces.proofs.Sided.{clean-steps, exports-held}
 use Rattle.wac_encode_interfaces.proofs.writer.TypeWriter.write_exports.Goals as goal

@@ -1,5 +1,5 @@
 use Rattle.wac_encode_scopes.specs.Contents.{side_of}
-use Rattle.wac_encode_interfaces.specs.Worlds.{written_in}
+use Rattle.wac_encode_interfaces.specs.private.Worlds.{written_in}
 use Rattle.wac_encode_interfaces.proofs.Writes.{has-side, fresh-writes}
 use Rattle.wac_encode_interfaces.proofs.writer.TypeWriter.write_fresh.Goals as goal
 

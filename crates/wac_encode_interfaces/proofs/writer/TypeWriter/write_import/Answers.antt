@@ -3,7 +3,7 @@ use Rattle.wac_types_shapes.specs.primitives.Name.{Name}
 use Rattle.wac_types_shapes.specs.primitives.Tree.{imported, exported}
 use Rattle.wac_types_shapes.specs.declared.shapes.component.ItemKind.{ItemKind}
 use Rattle.wac_encode_faults.specs.Cycle.{numbered_items}
-use Rattle.wac_encode_interfaces.specs.Worlds.{written_in}
+use Rattle.wac_encode_interfaces.specs.private.Worlds.{written_in}
 use Rattle.wac_encode_interfaces.specs.private.Written.{side_item}
 use Rattle.wac_encode_interfaces.specs.private.Parts.{sides_in, WritesItem}
 use Rattle.wac_encode_interfaces.proofs.Bound.{one-some}

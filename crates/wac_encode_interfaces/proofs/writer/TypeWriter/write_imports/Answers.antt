@@ -1,6 +1,6 @@
 use Rattle.std.proofs.Common.{ℕ, ◌≡◌, ◌+◌, ◌-◌, List, length, ap, sym, ◌∙◌, subst, arith}
 use Rattle.wac_types_shapes.specs.primitives.Tree.{imported}
-use Rattle.wac_encode_interfaces.specs.Worlds.{written_in}
+use Rattle.wac_encode_interfaces.specs.private.Worlds.{written_in}
 use Rattle.wac_encode_interfaces.specs.private.Ordered.{IsOrdered}
 use Rattle.wac_encode_interfaces.proofs.Sided.{clean-steps, listed-held, listed-fit}
 use Rattle.wac_encode_interfaces.proofs.writer.TypeWriter.write_imports.Goals as goal

@@ -1,7 +1,7 @@
 use Rattle.std.proofs.Common.{length}
 use Rattle.wac_types_collection.proofs.lemmas.collection.Steady.{within}
 use Rattle.wac_encode_scopes.specs.Contents.{side_of}
-use Rattle.wac_encode_interfaces.specs.Worlds.{written_in}
+use Rattle.wac_encode_interfaces.specs.private.Worlds.{written_in}
 use Rattle.wac_encode_interfaces.proofs.Written.{on-ok}
 use Rattle.wac_encode_interfaces.proofs.Writes.{instance-held, instance-worlds, instance-may, instance-writes}
 use Rattle.wac_encode_interfaces.proofs.writer.TypeWriter.write_instance.Goals as goal

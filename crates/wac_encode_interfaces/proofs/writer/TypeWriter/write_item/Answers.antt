@@ -1,7 +1,7 @@
 use Rattle.std.proofs.Common.{◌≡◌, sym, ◌∙◌, subst}
 use Rattle.wac_types_shapes.specs.declared.shapes.component.ItemKind.{ItemKind}
 use Rattle.wac_encode_scopes.specs.Contents.{side_of}
-use Rattle.wac_encode_interfaces.specs.Worlds.{written_in}
+use Rattle.wac_encode_interfaces.specs.private.Worlds.{written_in}
 use Rattle.wac_encode_interfaces.specs.private.Written.{IsItemOf}
 use Rattle.wac_encode_interfaces.specs.private.Parts.{sides_in}
 use Rattle.wac_encode_interfaces.proofs.Others.{instance-is, plain-item}

@@ -1,7 +1,7 @@
 use Rattle.std.proofs.Common.{length}
 use Rattle.wac_types_collection.proofs.lemmas.collection.Steady.{within}
 use Rattle.wac_encode_scopes.specs.Contents.{side_of}
-use Rattle.wac_encode_interfaces.specs.Worlds.{written_in}
+use Rattle.wac_encode_interfaces.specs.private.Worlds.{written_in}
 use Rattle.wac_encode_interfaces.proofs.Writes.{has-side, still-component, other-may, other-holds, other-worlds, other-item-ready, other-writes}
 use Rattle.wac_encode_interfaces.proofs.writer.TypeWriter.write_other.Goals as goal
 

@@ -5,7 +5,7 @@ use Rattle.wac_types_shapes.specs.declared.shapes.component.«Type».TheVariants
 use Rattle.wac_types_collection.specs.collection.Held.{resolved}
 use Rattle.wac_encode_scopes.specs.Contents.{side_of}
 use Rattle.wac_encode_faults.specs.Cycle.{owner_of}
-use Rattle.wac_encode_interfaces.specs.Worlds.{written_in}
+use Rattle.wac_encode_interfaces.specs.private.Worlds.{written_in}
 use Rattle.wac_encode_interfaces.specs.private.Parts.{sides_in, is_number}
 use Rattle.wac_encode_interfaces.proofs.Writes.{number-made, alias-nothing}
 use Rattle.wac_encode_interfaces.proofs.writer.TypeWriter.write_resource.Goals as goal

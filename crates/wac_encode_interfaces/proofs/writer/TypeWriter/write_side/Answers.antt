@@ -1,7 +1,7 @@
 use Rattle.std.proofs.Common.{ℕ, ◌≡◌, Some, slice_get, arith}
 use Rattle.std.proofs.lemmas.Option.{slice_get-get_or}
 use Rattle.wac_encode_scopes.specs.Contents.{side_of}
-use Rattle.wac_encode_interfaces.specs.Worlds.{written_in}
+use Rattle.wac_encode_interfaces.specs.private.Worlds.{written_in}
 use Rattle.wac_encode_interfaces.proofs.Sided.{position-below, so-far-first, so-far-may, so-far-more, so-far-all}
 use Rattle.wac_encode_interfaces.proofs.writer.TypeWriter.write_side.Goals as goal
 

@@ -1,4 +1,4 @@
-use Rattle.wac_encode_interfaces.specs.Worlds.{written_in}
+use Rattle.wac_encode_interfaces.specs.private.Worlds.{written_in}
 use Rattle.wac_encode_interfaces.proofs.Written.{on-ok}
 use Rattle.wac_encode_interfaces.proofs.Sided.{begins, turn, both-written}
 use Rattle.wac_encode_interfaces.proofs.writer.TypeWriter.write_sides.Goals as goal

@@ -33,7 +33,10 @@ entry_fault-requires-clause-held c =
     all_slice (λ (e : Entry). IsHeldKind g.types e.kind) (wanted_entries g d) c.loop-i.i (entry_view c.index-entry.result.now) (held_wanted g c.law.ensures wf d) at
 
 pub loop-i-init : goal.loop-i-init
-loop-i-init c = λ i e f l is h. absurd (omega (arith, l))
+loop-i-init c = record {
+  none = λ i e f l is h. absurd (omega (arith, l));
+  faultless = c.new-faultless.ensures c.args.self.now.types c.args.bound.now.keys;
+}
 
 pub loop-i-preserved : goal.loop-i-preserved
 loop-i-preserved c =
@@ -43,7 +46,10 @@ loop-i-preserved c =
     let counted = c.len-i-end.ensures in
     let whole = c.in_ok-wanted.wanted.ok in
     let at = entry_there c.in_ok-wanted.wanted.items (wanted_entries g d) c.len-i-end.result c.loop-i.i c.index-entry.result.now (omega (arith, counted, whole)) c.loop-i-test.true c.index-entry.ensures c.in_ok-wanted.ensures in
-    none_before_next g d c.loop-i.i x at (subst (IsLowest (IsEntryFault g x)) c.in_default.is c.in_ok-fault.ensures) c.loop-i.invariant
+    record {
+      none = none_before_next g d c.loop-i.i x at (subst (IsLowest (IsEntryFault g x)) c.in_default.is c.in_ok-fault.ensures.lowest) c.loop-i.invariant.none;
+      faultless = c.in_ok-fault.ensures.faultless;
+    }
 
 pub returns-clause-none : goal.returns-clause-none
 returns-clause-none c = λ i e f is h.
@@ -54,7 +60,7 @@ returns-clause-none c = λ i e f is h.
     let count = c.len-i-end.ensures in
     let whole = c.in_ok-wanted.wanted.ok in
     let past = c.loop-i-test.false in
-    c.loop-i.invariant i e f (omega (arith, within, many, count, whole, past)) is h
+    c.loop-i.invariant.none i e f (omega (arith, within, many, count, whole, past)) is h
 
 pub returns-in-Some-clause-refused : goal.returns-in-Some-clause-refused
 returns-in-Some-clause-refused c =
@@ -67,4 +73,4 @@ returns-in-Some-clause-refused c =
     λ (o : EncodeOptions) is.
     at_type_fault g o (node_number x.node) c.in-Some.fault c.requires.acyclic c.requires.apart c.requires.merges
     (subst (λ (b : Bool). IsTypeFault g b (node_number x.node) c.in-Some.fault) (sym is)
-    (first_fault g d c.loop-i.i x c.in-Some.fault at (subst (IsLowest (IsEntryFault g x)) c.in-Some.is c.in_ok-fault.ensures) c.loop-i.invariant))
+    (first_fault g d c.loop-i.i x c.in-Some.fault at (subst (IsLowest (IsEntryFault g x)) c.in-Some.is c.in_ok-fault.ensures.lowest) c.loop-i.invariant.none))

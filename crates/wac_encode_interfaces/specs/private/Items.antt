@@ -18,14 +18,14 @@ use Rattle.wac_encode_stacks.specs.Scopes.{How, envs}
 use Rattle.wac_encode_stacks.specs.Good.{At, Good, Grown, innermost, Keeps, top, IsHeld, IsOf}
 use Rattle.wac_encode_stacks.specs.Listed.{IsItem, IsNewName, on_side, other}
 use Rattle.wac_encode_scopes.specs.declared.state.State.{State}
-use Rattle.wac_encode_stacks.specs.Beside.{all_written_as}
+use Rattle.wac_encode_stacks.specs.private.Beside.{all_written_as}
 use Rattle.wac_encode_scopes.specs.declared.encodable.Encodable.{Encodable}
 use Rattle.wac_encode_scopes.specs.Contents.{AddsTypes, and_item}
 use Rattle.wac_encode_scopes.specs.Books.{opened}
 use Rattle.wac_encode_scopes.specs.States.{outward, stack, IsRecordedAt, IsTypeAt}
-use Rattle.wac_encode_values.specs.Values.{IsReady}
+use Rattle.wac_encode_values.specs.private.Values.{IsReady}
 use Rattle.wac_encode_faults.specs.Faults.{listed_fault}
-use Rattle.wac_encode_interfaces.specs.Worlds.{Worlds, HaveWorlds}
+use Rattle.wac_encode_interfaces.specs.private.Worlds.{Worlds, HaveWorlds}
 
 -- If the item is an instance or a type item of an interface, the innermost scope records the interface.
 abbrev pub HasInterfaceOf : Bool → State → ItemKind → Type 0

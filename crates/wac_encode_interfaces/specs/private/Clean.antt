@@ -11,7 +11,7 @@ use Rattle.wac_encode_faults.specs.declared.faults.Role.TheVariants as role
 use Rattle.wac_encode_faults.specs.Faults.{IsLowest, HasFault, import_fault, definition_fault}
 use Rattle.wac_encode_faults.specs.Free.{IsFree}
 use Rattle.wac_encode_faults.specs.Sides.{Sides, defined_sides}
-use Rattle.wac_encode_interfaces.specs.Ready.{IsClean, AreSidesClean}
+use Rattle.wac_encode_interfaces.specs.private.Ready.{IsClean, AreSidesClean}
 
 -- The bindings have each free resource of the type.
 abbrev pub BindsFree : Collection → Bindings → AnyType → Type 0

@@ -16,10 +16,10 @@ use Rattle.wac_encode_faults.specs.declared.fault.WriteFault.{WriteFault}
 use Rattle.wac_encode_faults.specs.Faults.{IsDefinitionFault}
 use Rattle.wac_encode_faults.specs.Sides.{Sides, defined_sides}
 use Rattle.wac_encode_faults.specs.Trees.{definition_tree}
-use Rattle.wac_encode_interfaces.specs.Given.{HaveItemWorlds}
-use Rattle.wac_encode_interfaces.specs.Items.{IsTypeOf}
-use Rattle.wac_encode_interfaces.specs.Ready.{IsClean}
-use Rattle.wac_encode_interfaces.specs.Worlds.{Worlds, HaveWorlds, HaveInterfaceWorlds}
+use Rattle.wac_encode_interfaces.specs.private.Given.{HaveItemWorlds}
+use Rattle.wac_encode_interfaces.specs.private.Items.{IsTypeOf}
+use Rattle.wac_encode_interfaces.specs.private.Ready.{IsClean}
+use Rattle.wac_encode_interfaces.specs.private.Worlds.{Worlds, HaveWorlds, HaveInterfaceWorlds}
 
 -- The worlds inside the imports and exports of a component type are written. Of an additional import, those inside its types.
 pub record HaveWorldsInside (c : Collection) (ws : Worlds) (s : Sides) : Type 0 where

@@ -9,7 +9,7 @@ use Rattle.wac_types_collection.specs.collection.Collection.{Collection, holds_t
 use Rattle.wac_types_collection.specs.wide.Wide.{AreThere}
 use Rattle.wac_encode_faults.specs.Sides.{Sides, under_id}
 use Rattle.wac_encode_interfaces.specs.declared.sides.Sides.{Sides as GivenSides}
-use Rattle.wac_encode_interfaces.specs.Worlds.{Worlds, HaveWorlds, HaveInterfaceWorlds}
+use Rattle.wac_encode_interfaces.specs.private.Worlds.{Worlds, HaveWorlds, HaveInterfaceWorlds}
 
 -- The sides, in which additional imports are instances under the ids of their interfaces.
 abbrev pub sides_of : Collection → GivenSides → Sides

@@ -18,18 +18,18 @@ use Rattle.wac_binary.specs.Meaning.{meaning}
 use Rattle.wac_binary.specs.HasMeaning.{IsModule}
 use Rattle.wac_binary.specs.Unfold.{Scope}
 use Rattle.wac_encode_stacks.specs.Good.{At, Good, innermost, IsHeld, Onward}
-use Rattle.wac_encode_stacks.specs.Beside.{all_written_as}
+use Rattle.wac_encode_stacks.specs.private.Beside.{all_written_as}
 use Rattle.wac_encode_stacks.specs.Instances.{position_of}
 use Rattle.wac_encode_scopes.specs.declared.encodable.Encodable.{Encodable}
 use Rattle.wac_encode_scopes.specs.declared.state.State.{State}
 use Rattle.wac_encode_scopes.specs.Contents.{AddsTypes, count_of}
 use Rattle.wac_encode_scopes.specs.Roots.{items_of, and_import}
 use Rattle.wac_encode_scopes.specs.States.{stack, IsTypeAt}
-use Rattle.wac_encode_values.specs.Values.{IsReady}
+use Rattle.wac_encode_values.specs.private.Values.{IsReady}
 use Rattle.wac_encode_faults.specs.Faults.{import_fault}
-use Rattle.wac_encode_interfaces.specs.Items.{DescribesItem}
-use Rattle.wac_encode_interfaces.specs.Ready.{IsClean}
-use Rattle.wac_encode_interfaces.specs.Worlds.{Worlds, HaveWorlds}
+use Rattle.wac_encode_interfaces.specs.private.Items.{DescribesItem}
+use Rattle.wac_encode_interfaces.specs.private.Ready.{IsClean}
+use Rattle.wac_encode_interfaces.specs.private.Worlds.{Worlds, HaveWorlds}
 
 -- An item can be imported, if it is no fresh resource: the resources that it mentions are bound, neither it nor anything
 -- inside it has a fault, and the worlds inside are written.

@@ -13,7 +13,7 @@ use Rattle.wac_encode_scopes.specs.States.{stack}
 use Rattle.wac_encode_faults.specs.declared.fault.WriteFault.{WriteFault}
 use Rattle.wac_encode_faults.specs.Sides.{Sides}
 use Rattle.wac_encode_faults.specs.Faults.{IsFaultInside, IsFaultOfTypes, IsSidesFault}
-use Rattle.wac_encode_interfaces.specs.Trees.{IsInterfaceHeld}
+use Rattle.wac_encode_interfaces.specs.private.Trees.{IsInterfaceHeld}
 
 -- Nothing inside the type has a fault.
 abbrev pub IsClean : Collection → AnyType → Type 0

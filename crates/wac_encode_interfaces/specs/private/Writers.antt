@@ -1,8 +1,8 @@
 -- What holds of a writer of types.
 use Rattle.std.specs.Prelude.{◌≡◌}
-use Rattle.wac_encode_scopes.specs.Closed.{AreClosedTypes}
+use Rattle.wac_encode_scopes.specs.private.Closed.{AreClosedTypes}
 use Rattle.wac_encode_interfaces.specs.declared.writer.TypeWriter.{TypeWriter}
-use Rattle.wac_encode_interfaces.specs.Worlds.{AreWorldTypes, written_in}
+use Rattle.wac_encode_interfaces.specs.private.Worlds.{AreWorldTypes, written_in}
 
 -- The writer of value types has the same collection, and what the writer is given of the collection is true.
 pub record IsWriter (w : TypeWriter) : Type 0 where

@@ -11,7 +11,7 @@ use Rattle.wac_types_collection.specs.collection.Collection.{Collection, interfa
 use Rattle.wac_types_collection.specs.collection.Bound.{Bindings}
 use Rattle.wac_binary.specs.Items.{Decl}
 use Rattle.wac_encode_stacks.specs.Good.{IsHeld}
-use Rattle.wac_encode_scopes.specs.Components.{ComponentHasMeaning, component_tree}
+use Rattle.wac_encode_scopes.specs.private.Components.{ComponentHasMeaning, component_tree}
 use Rattle.wac_encode_faults.specs.Faults.{IsInside, IsListed}
 use Rattle.wac_encode_interfaces.specs.declared.worlds.WorldTypes.{WorldTypes}
 
