@@ -18,11 +18,11 @@ use Rattle.wac_encode_faults.specs.Faults.{HasFault, IsFaultInside, IsImportFaul
 use Rattle.wac_encode_faults.specs.Free.{IsFree, IsUnbound}
 use Rattle.wac_encode_faults.proofs.Lowest.{lowest_same}
 use Rattle.wac_encode_stacks.specs.Good.{IsHeld}
-use Rattle.wac_encode_interfaces.specs.Definitions.{HaveDefinedWorlds, IsDefinable}
-use Rattle.wac_encode_interfaces.specs.FreeTrees.{TreesByFree}
-use Rattle.wac_encode_interfaces.specs.Ready.{IsClean, IsInterfaceReady}
-use Rattle.wac_encode_interfaces.specs.Worlds.{Worlds}
-use Rattle.wac_encode_values.specs.Values.{IsReady}
+use Rattle.wac_encode_interfaces.specs.private.Definitions.{HaveDefinedWorlds, IsDefinable}
+use Rattle.wac_encode_interfaces.specs.private.FreeTrees.{TreesByFree}
+use Rattle.wac_encode_interfaces.specs.private.Ready.{IsClean, IsInterfaceReady}
+use Rattle.wac_encode_interfaces.specs.private.Worlds.{Worlds}
+use Rattle.wac_encode_values.specs.private.Values.{IsReady}
 use Rattle.wac_encode.specs.declared.state.State.{State}
 use Rattle.wac_encode.specs.Errors.{HasTypeFault}
 use Rattle.wac_encode.specs.Root.{IsStateFor}

@@ -5,10 +5,10 @@ use Rattle.wac_types_shapes.specs.declared.shapes.component.ResourceId.{Resource
 use Rattle.wac_types_collection.specs.collection.Collection.{Collection}
 use Rattle.wac_types_collection.specs.collection.Bound.{Bindings}
 use Rattle.wac_binary.specs.Unfold.{Scope}
-use Rattle.wac_encode_stacks.specs.Brought.{FindsOrUnbound}
+use Rattle.wac_encode_stacks.specs.private.Brought.{FindsOrUnbound}
 use Rattle.wac_encode_stacks.specs.Good.{Stands}
-use Rattle.wac_encode_stacks.specs.Laws.{Reaches}
-use Rattle.wac_encode_stacks.specs.Parts.{IsReached}
+use Rattle.wac_encode_stacks.specs.private.Laws.{Reaches}
+use Rattle.wac_encode_stacks.specs.private.Parts.{IsReached}
 use Rattle.wac_encode_stacks.specs.Scopes.{Where}
 use Rattle.wac_encode_scopes.specs.declared.scope.Scope.{Scope as OpenScope}
 use Rattle.wac_encode_scopes.specs.Books.{opened}

@@ -17,10 +17,10 @@ use Rattle.wac_binary.specs.Unfold.{Scope}
 use Rattle.wac_encode_faults.specs.declared.fault.WriteFault.{WriteFault}
 use Rattle.wac_encode_faults.specs.declared.fault.WriteFault.TheVariants as fault
 use Rattle.wac_encode_faults.specs.Faults.{IsLowest, fault_rank}
-use Rattle.wac_encode_stacks.specs.Beside.{GoesOnBeside, all_written_as, written_as}
+use Rattle.wac_encode_stacks.specs.private.Beside.{GoesOnBeside, all_written_as, written_as}
 use Rattle.wac_encode_stacks.specs.Good.{At, Good, Keeps, Onward, innermost, top}
 use Rattle.wac_encode_stacks.specs.Instances.{ListsImport, import_leaf}
-use Rattle.wac_encode_stacks.specs.Laws.{Follows}
+use Rattle.wac_encode_stacks.specs.private.Laws.{Follows}
 use Rattle.wac_encode_stacks.specs.Listed.{calling}
 use Rattle.wac_encode_stacks.specs.Scopes.{Open}
 use Rattle.wac_encode_stacks.proofs.Grow.{at-type_at}

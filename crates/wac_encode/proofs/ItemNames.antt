@@ -22,12 +22,12 @@ use Rattle.wac_binary.specs.declared.types.ComponentValType.{ComponentValType}
 use Rattle.wac_encode_stacks.specs.Scopes.{How, Indexed, Open, Where, at_type, at_export, defined, brought, listed}
 use Rattle.wac_encode_scopes.specs.declared.closed.ClosedTypes.{ClosedTypes}
 use Rattle.wac_encode_scopes.specs.Books.{opened}
-use Rattle.wac_encode_scopes.specs.Closed.{AreClosedTypes, SaysClosed, is_closed_in}
+use Rattle.wac_encode_scopes.specs.private.Closed.{AreClosedTypes, SaysClosed, is_closed_in}
 use Rattle.wac_encode_scopes.specs.private.Interfaces.{own_in}
 use Rattle.wac_encode_scopes.specs.States.{named_by, named_in, named_of, IsRecordedAt}
 use Rattle.wac_encode_scopes.specs.private.Telling.{all_own, definition_in, definition_of, is_one_of, telling, value_name}
 use Rattle.wac_encode_scopes.proofs.Owned.{own-lists, own-there}
-use Rattle.wac_encode_values.specs.Values.{IsByName}
+use Rattle.wac_encode_values.specs.private.Values.{IsByName}
 use Rattle.wac_encode.specs.declared.state.State.{State}
 use Rattle.wac_encode.specs.Named.{HasNameIn, IsUsedByName}
 use Rattle.wac_encode.specs.Root.{IsStateFor}

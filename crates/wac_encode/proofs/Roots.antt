@@ -7,7 +7,7 @@ use Rattle.wac_types_collection.specs.collection.Bound.{Bindings}
 use Rattle.wac_binary.specs.Items.{Item}
 use Rattle.wac_binary.specs.Meaning.{meaning}
 use Rattle.wac_binary.specs.Unfold.{Scope}
-use Rattle.wac_encode_stacks.specs.Beside.{GoesOnBeside}
+use Rattle.wac_encode_stacks.specs.private.Beside.{GoesOnBeside}
 use Rattle.wac_encode_stacks.specs.Good.{Good, Keeps, Onward, innermost}
 use Rattle.wac_encode_stacks.specs.Scopes.{Open, Stack, envs, scope_of}
 use Rattle.wac_encode_scopes.specs.declared.encodable.Encodable.{Encodable}
@@ -20,7 +20,7 @@ use Rattle.wac_encode_scopes.specs.Lending.{GoesOnLent}
 use Rattle.wac_encode_scopes.specs.Roots.{IsRoot, items_of}
 use Rattle.wac_encode_scopes.specs.States.{outward, stack, AllAddTypes, Goes}
 use Rattle.wac_encode_scopes.proofs.Stepped.{same-stack}
-use Rattle.wac_encode_interfaces.specs.Refused.{AreStillOpen, BeginsWith, KeepsScopes}
+use Rattle.wac_encode_interfaces.specs.private.Refused.{AreStillOpen, BeginsWith, KeepsScopes}
 use Rattle.wac_encode_interfaces.proofs.Refused.{keeps-none, keeps-types}
 use Rattle.wac_encode.specs.declared.state.State.{State}
 use Rattle.wac_encode.specs.Lending.{StaysWhenLent, with_component}

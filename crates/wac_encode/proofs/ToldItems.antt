@@ -18,8 +18,8 @@ use Rattle.wac_types_collection.specs.collection.Collection.{Collection, IsWellF
 use Rattle.wac_types_collection.specs.collection.Held.{resolved}
 use Rattle.wac_types_collection.specs.collection.Bound.{Bindings, own_name}
 use Rattle.wac_binary.specs.Unfold.{Scope, Bound}
-use Rattle.wac_encode_stacks.specs.Beside.{GoesOnBeside}
-use Rattle.wac_encode_stacks.specs.Brought.{GoodOnce}
+use Rattle.wac_encode_stacks.specs.private.Beside.{GoesOnBeside}
+use Rattle.wac_encode_stacks.specs.private.Brought.{GoodOnce}
 use Rattle.wac_encode_stacks.specs.Good.{At, Good, IsHeld, IsOf, innermost, top}
 use Rattle.wac_encode_stacks.specs.Instances.{taken_leaf}
 use Rattle.wac_encode_stacks.specs.Listed.{calling}
@@ -28,8 +28,8 @@ use Rattle.wac_encode_stacks.proofs.Aliases.{end-held}
 use Rattle.wac_encode_scopes.specs.declared.closed.ClosedTypes.{ClosedTypes}
 use Rattle.wac_encode_scopes.specs.declared.scope.Scope.{Scope as OpenScope}
 use Rattle.wac_encode_scopes.specs.Books.{opened}
-use Rattle.wac_encode_scopes.specs.Closed.{AreClosedTypes, is_closed_in}
-use Rattle.wac_encode_scopes.specs.Listing.{BindsType}
+use Rattle.wac_encode_scopes.specs.private.Closed.{AreClosedTypes, is_closed_in}
+use Rattle.wac_encode_scopes.specs.private.Listing.{BindsType}
 use Rattle.wac_encode_scopes.specs.Roots.{IsRoot, items_of}
 use Rattle.wac_encode_scopes.specs.States.{outward, stack, Goes, IsRecordedAt, IsTypeAt, RecordsHere}
 use Rattle.wac_encode_scopes.specs.private.Telling.{is_one_of, telling, with_own_names, TellsInstance}

@@ -13,14 +13,14 @@ use Rattle.wac_binary.specs.Unfold.{Scope}
 use Rattle.wac_binary.specs.declared.types.ComponentValType.{ComponentValType}
 use Rattle.wac_encode_faults.specs.Trees.{definition_tree}
 use Rattle.wac_encode_stacks.specs.Good.{At, Means, innermost}
-use Rattle.wac_encode_stacks.specs.Laws.{IsItsTree}
+use Rattle.wac_encode_stacks.specs.private.Laws.{IsItsTree}
 use Rattle.wac_encode_scopes.specs.States.{stack, IsTypeAt}
-use Rattle.wac_encode_values.specs.Values.{IsWrittenAs}
+use Rattle.wac_encode_values.specs.private.Values.{IsWrittenAs}
 use Rattle.wac_encode_interfaces.specs.declared.worlds.WorldTypes.{WorldTypes}
 use Rattle.wac_encode_interfaces.specs.declared.writer.TypeWriter.{TypeWriter}
-use Rattle.wac_encode_interfaces.specs.Definitions.{IsDefinitionAt}
-use Rattle.wac_encode_interfaces.specs.Imports.{IsModuleAt}
-use Rattle.wac_encode_interfaces.specs.Ready.{IsInterfaceAt}
+use Rattle.wac_encode_interfaces.specs.private.Definitions.{IsDefinitionAt}
+use Rattle.wac_encode_interfaces.specs.private.Imports.{IsModuleAt}
+use Rattle.wac_encode_interfaces.specs.private.Ready.{IsInterfaceAt}
 use Rattle.wac_encode.specs.declared.state.State.{State}
 use Rattle.wac_encode.specs.Root.{component_scope, IsStateFor, RefersToType}
 use Rattle.wac_encode.proofs.Roots.{innermost-is}

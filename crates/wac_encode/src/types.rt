@@ -5,12 +5,12 @@ ghost use Rattle.wac_types_shapes.specs.declared.shapes.component.«Type».TheVa
 ghost use Rattle.wac_types_collection.specs.collection.Bound.{Bindings, held_tree};
 ghost use Rattle.wac_types_collection.specs.collection.Collection.{holds_type};
 ghost use Rattle.wac_encode_faults.specs.Trees.{definition_tree};
-ghost use Rattle.wac_encode_scopes.specs.Closed.{AreClosedTypes};
+ghost use Rattle.wac_encode_scopes.specs.private.Closed.{AreClosedTypes};
 ghost use Rattle.wac_encode_stacks.specs.Good.{At, Means};
-ghost use Rattle.wac_encode_interfaces.specs.Definitions.{HaveDefinedWorlds};
-ghost use Rattle.wac_encode_interfaces.specs.Ready.{IsClean};
-ghost use Rattle.wac_encode_interfaces.specs.Refused.{KeepsScopes};
-ghost use Rattle.wac_encode_interfaces.specs.Worlds.{AreWorldTypes, HaveWorlds, written_in};
+ghost use Rattle.wac_encode_interfaces.specs.private.Definitions.{HaveDefinedWorlds};
+ghost use Rattle.wac_encode_interfaces.specs.private.Ready.{IsClean};
+ghost use Rattle.wac_encode_interfaces.specs.private.Refused.{KeepsScopes};
+ghost use Rattle.wac_encode_interfaces.specs.private.Worlds.{AreWorldTypes, HaveWorlds, written_in};
 ghost use Rattle.wac_encode.specs.Named.{IsUsedByName};
 ghost use Rattle.wac_encode.specs.Root.{component_scope, IsStateFor, RefersToType, WritesTypes};
 ghost use Rattle.wac_encode.specs.private.Ready.{IsWritable, MayDefine};

@@ -13,8 +13,8 @@ use Rattle.wac_merge_classes.specs.entries.Classes.{Entry}
 use Rattle.wac_merge_classes.specs.terms.Merge.{Merged, import_entries}
 use Rattle.wac_merge_classes.proofs.lemmas.terms.Found.{get_map}
 use Rattle.wac_encode_faults.specs.Faults as faults
-use Rattle.wac_encode_interfaces.specs.Ready.{IsClean}
-use Rattle.wac_encode_interfaces.specs.Worlds.{Worlds, HaveWorlds}
+use Rattle.wac_encode_interfaces.specs.private.Ready.{IsClean}
+use Rattle.wac_encode_interfaces.specs.private.Worlds.{Worlds, HaveWorlds}
 use Rattle.wac_encode_imports.specs.private.Imports.{HasNoImportFault}
 use Rattle.wac_encode_imports.specs.private.Written.{AreCleanImports, HaveImportWorlds}
 use Rattle.wac_encode_imports.proofs.Bound.{no-some, one-some}

@@ -11,7 +11,7 @@ use Rattle.wac_types_collection.specs.collection.Collection.{Collection}
 use Rattle.wac_encode_stacks.specs.Good.{Keeps, innermost}
 use Rattle.wac_encode_scopes.specs.declared.state.State.{State}
 use Rattle.wac_encode_scopes.specs.States.{stack}
-use Rattle.wac_encode_interfaces.specs.Imports.{IsModuleAt, module_type_of}
+use Rattle.wac_encode_interfaces.specs.private.Imports.{IsModuleAt, module_type_of}
 use Rattle.wac_encode_imports.specs.declared.import.ImportWriter.{ImportWriter}
 use Rattle.wac_encode_imports.specs.private.Modules.{AreModulesAt}
 use Rattle.wac_encode_imports.specs.private.Written.{MayWrite, WritesImport}

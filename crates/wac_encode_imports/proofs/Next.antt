@@ -20,7 +20,7 @@ use Rattle.wac_binary.specs.Meaning.{meaning}
 use Rattle.wac_binary.specs.Unfold.{Bound}
 use Rattle.wac_merge_classes.specs.entries.Classes.{Entry}
 use Rattle.wac_merge_classes.specs.terms.Merge.{Merged}
-use Rattle.wac_encode_stacks.specs.Beside.{written_as, all_written_as}
+use Rattle.wac_encode_stacks.specs.private.Beside.{written_as, all_written_as}
 use Rattle.wac_encode_stacks.specs.Good.{At, Good, IsHeld, Onward, innermost}
 use Rattle.wac_encode_stacks.specs.Instances.{Shows, ShowsWhole, ListsImport, taken_leaf, import_leaf}
 use Rattle.wac_encode_stacks.specs.Listed.{calling}
@@ -36,9 +36,9 @@ use Rattle.wac_encode_scopes.specs.States.{outward, stack, RecordsHere}
 use Rattle.wac_encode_scopes.specs.private.Telling.{MayBind, TellsInstance, with_own_names}
 use Rattle.wac_encode_scopes.proofs.Added.{adds-none}
 use Rattle.wac_encode_scopes.proofs.Stepped.{same-as, same-stack}
-use Rattle.wac_encode_interfaces.specs.FreeTrees.{TreesByFree}
-use Rattle.wac_encode_interfaces.specs.Imports.{ImportsBeside, ImportsOf, ImportsTree, RefersToImport, next_place}
-use Rattle.wac_encode_interfaces.specs.Worlds.{Worlds}
+use Rattle.wac_encode_interfaces.specs.private.FreeTrees.{TreesByFree}
+use Rattle.wac_encode_interfaces.specs.private.Imports.{ImportsBeside, ImportsOf, ImportsTree, RefersToImport, next_place}
+use Rattle.wac_encode_interfaces.specs.private.Worlds.{Worlds}
 use Rattle.wac_encode_interfaces.proofs.Adding.{grown-on}
 use Rattle.wac_encode_imports.specs.private.Imports.{merged_bindings, import_tree}
 use Rattle.wac_encode_imports.specs.private.Classes.{interface_of, resource_of}

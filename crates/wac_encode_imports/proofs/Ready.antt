@@ -28,9 +28,9 @@ use Rattle.wac_encode_faults.specs.Free.{IsFree}
 use Rattle.wac_encode_faults.specs.Free as free
 use Rattle.wac_encode_faults.specs.declared.fault.WriteFault.{WriteFault}
 use Rattle.wac_encode_faults.specs.declared.fault.WriteFault.TheVariants as fault
-use Rattle.wac_encode_interfaces.specs.FreeTrees.{TreesByFree}
-use Rattle.wac_encode_interfaces.specs.Imports.{IsImportReady}
-use Rattle.wac_encode_interfaces.specs.Worlds.{Worlds}
+use Rattle.wac_encode_interfaces.specs.private.FreeTrees.{TreesByFree}
+use Rattle.wac_encode_interfaces.specs.private.Imports.{IsImportReady}
+use Rattle.wac_encode_interfaces.specs.private.Worlds.{Worlds}
 use Rattle.wac_encode_interfaces.proofs.Items.{free-not-own}
 use Rattle.wac_encode_imports.specs.private.Imports.{merged_bindings}
 use Rattle.wac_encode_imports.specs.private.Written.{begins_at as begins_with, begins_below, is_bound_at, is_bound_below, bound_before, AreWritten, AreWritable}

@@ -44,7 +44,7 @@ use Rattle.wac_encode_stacks.proofs.Aliases.{end-held, is-its-end}
 use Rattle.wac_encode_stacks.proofs.HeldParts.{closed-carried, held-under-more}
 use Rattle.wac_encode_stacks.proofs.HeldValues.{holds-value}
 use Rattle.wac_encode_stacks.proofs.Moved.{changed, held-here, held-moves, on, taken}
-use Rattle.wac_encode_interfaces.specs.Imports.{RefersToImport}
+use Rattle.wac_encode_interfaces.specs.private.Imports.{RefersToImport}
 use Rattle.wac_encode_interfaces.proofs.Agreeing.{held-free}
 use Rattle.wac_encode_imports.specs.private.Imports.{merged_bindings}
 use Rattle.wac_encode_imports.specs.private.ToldGraph.{entry_bindings}

@@ -18,7 +18,7 @@ use Rattle.wac_binary.specs.Indexes.{space, described_sort, indexes}
 use Rattle.wac_binary.specs.Items.{Item, import_item}
 use Rattle.wac_binary.specs.Meaning.{meaning}
 use Rattle.wac_binary.specs.Unfold.{Scope}
-use Rattle.wac_encode_stacks.specs.Beside.{GoesOnBeside, all_written_as}
+use Rattle.wac_encode_stacks.specs.private.Beside.{GoesOnBeside, all_written_as}
 use Rattle.wac_encode_stacks.specs.Good.{At, Good, Extends, Keeps, Onward, innermost, nothing_bound}
 use Rattle.wac_encode_stacks.specs.private.HeldParts.{HeldUnderMore}
 use Rattle.wac_encode_stacks.specs.Instances.{ListsImport}
@@ -29,7 +29,7 @@ use Rattle.wac_encode_scopes.specs.Contents.{AddsTypes, IsTypeItem, count_of}
 use Rattle.wac_encode_scopes.specs.Roots.{IsRoot, items_of, and_import}
 use Rattle.wac_encode_scopes.specs.States.{stack}
 use Rattle.wac_encode_scopes.proofs.Stepped.{same-stack}
-use Rattle.wac_encode_interfaces.specs.Imports.{RefersToImport, import_sort, next_place}
+use Rattle.wac_encode_interfaces.specs.private.Imports.{RefersToImport, import_sort, next_place}
 use Rattle.wac_encode_imports.specs.private.Imports.{merged_bindings, import_tree, HasDistinctClasses, AreImported, ImportsFirst, IsImportedAt, IsImportOrType}
 use Rattle.wac_encode_imports.specs.private.Written.{bound_before, AreWritten, Brings}
 use Rattle.wac_encode_imports.proofs.Binders.{binder-low}

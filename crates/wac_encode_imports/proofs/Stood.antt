@@ -18,7 +18,7 @@ use Rattle.wac_binary.specs.Unfold.{Scope, bound_type}
 use Rattle.wac_encode_stacks.specs.Good.{At, Stands}
 use Rattle.wac_encode_stacks.specs.Scopes.{at_export}
 use Rattle.wac_encode_stacks.proofs.Moved.{held-here}
-use Rattle.wac_encode_interfaces.specs.Imports.{RefersToImport}
+use Rattle.wac_encode_interfaces.specs.private.Imports.{RefersToImport}
 
 -- where a binding is
 

@@ -40,12 +40,12 @@ use Rattle.wac_encode_stacks.specs.Scopes.{Open, Stack, at_type, at_export, bind
 use Rattle.wac_encode_scopes.specs.declared.scope.Scope.{Scope as TheScope}
 use Rattle.wac_encode_scopes.specs.declared.state.State.{State}
 use Rattle.wac_encode_scopes.specs.Books.{opened}
-use Rattle.wac_encode_scopes.specs.Closed.{SaysClosed, is_closed_in}
+use Rattle.wac_encode_scopes.specs.private.Closed.{SaysClosed, is_closed_in}
 use Rattle.wac_encode_scopes.specs.Contents.{content_of}
 use Rattle.wac_encode_scopes.specs.States.{RecordsHere, outward, stack}
 use Rattle.wac_encode_scopes.specs.private.Telling.{definition_in, definition_of}
 use Rattle.wac_encode_imports.specs.declared.told.Teller.{Teller}
-use Rattle.wac_encode_interfaces.specs.Imports.{RefersToImport}
+use Rattle.wac_encode_interfaces.specs.private.Imports.{RefersToImport}
 use Rattle.wac_encode_imports.specs.private.Imports.{AreImported, merged_bindings}
 use Rattle.wac_encode_imports.specs.private.ToldGraph.{IsTold}
 use Rattle.wac_encode_imports.specs.private.Told.{BindsAll, BindsBelow, BindsOne, ChangesRecords, HasImports, AreWhole, HaveExports, IsDefinitionAt, IsGood, IsImportOf, IsTeller, IsTypeImport, KeepsGood, ReferToImports, bound_below, end_bindings, told_in}

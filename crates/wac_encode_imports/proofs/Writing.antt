@@ -19,14 +19,14 @@ use Rattle.wac_binary.specs.Indexes.{space, described_sort}
 use Rattle.wac_encode_stacks.specs.Instances.{ShowsWhole, ListsImport}
 use Rattle.wac_encode_stacks.specs.Scopes.{Open}
 use Rattle.wac_encode_scopes.specs.declared.state.State.{State}
-use Rattle.wac_encode_scopes.specs.Closed.{AreClosedTypes}
+use Rattle.wac_encode_scopes.specs.private.Closed.{AreClosedTypes}
 use Rattle.wac_encode_scopes.specs.Contents.{count_of}
 use Rattle.wac_encode_scopes.specs.Roots.{ImportsResource, and_import}
 use Rattle.wac_encode_scopes.specs.States.{RecordsHere}
 use Rattle.wac_encode_scopes.specs.private.Telling.{TellsInstance}
-use Rattle.wac_encode_interfaces.specs.FreeTrees.{TreesByFree}
-use Rattle.wac_encode_interfaces.specs.Imports.{ImportsBeside, ImportsOf, IsImportReady}
-use Rattle.wac_encode_interfaces.specs.Worlds.{written_in}
+use Rattle.wac_encode_interfaces.specs.private.FreeTrees.{TreesByFree}
+use Rattle.wac_encode_interfaces.specs.private.Imports.{ImportsBeside, ImportsOf, IsImportReady}
+use Rattle.wac_encode_interfaces.specs.private.Worlds.{written_in}
 use Rattle.wac_encode_imports.specs.declared.import.ImportWriter.{ImportWriter}
 use Rattle.wac_encode_imports.specs.private.Imports.{merged_bindings}
 use Rattle.wac_encode_imports.specs.private.Classes.{interface_of, is_class, is_first_of, resource_of}

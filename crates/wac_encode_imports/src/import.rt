@@ -7,9 +7,9 @@ ghost use Rattle.wac_types_shapes.specs.declared.shapes.component.«Type».TheVa
 ghost use Rattle.wac_types_collection.specs.collection.Held.{resolved};
 ghost use Rattle.wac_merge_classes.specs.entries.Bindings.{AreBindings};
 ghost use Rattle.wac_merge_classes.specs.terms.Merge.{Merged as AMerge};
-ghost use Rattle.wac_encode_scopes.specs.Closed.{AreClosedTypes};
-ghost use Rattle.wac_encode_interfaces.specs.Imports.{module_type_of};
-ghost use Rattle.wac_encode_interfaces.specs.Worlds.{AreWorldTypes, written_in};
+ghost use Rattle.wac_encode_scopes.specs.private.Closed.{AreClosedTypes};
+ghost use Rattle.wac_encode_interfaces.specs.private.Imports.{module_type_of};
+ghost use Rattle.wac_encode_interfaces.specs.private.Worlds.{AreWorldTypes, written_in};
 ghost use Rattle.wac_encode_imports.specs.private.Imports.{merged_bindings};
 ghost use Rattle.wac_encode_imports.specs.private.Classes.{interface_of, resource_of};
 ghost use Rattle.wac_encode_imports.specs.private.Modules.{AreModulesAt, module_index};

@@ -14,7 +14,7 @@ ghost use Rattle.wac_merge_classes.specs.entries.Classes.{by_names};
 ghost use Rattle.wac_merge_classes.specs.terms.Faults.{HasNoCircle};
 ghost use Rattle.wac_merge_classes.specs.terms.Merge.{IsMerge};
 ghost use Rattle.wac_merge_imports.specs.unions.MergedScope.{BindsAsClasses};
-ghost use Rattle.wac_encode_scopes.specs.Closed.{is_closed_in};
+ghost use Rattle.wac_encode_scopes.specs.private.Closed.{is_closed_in};
 ghost use Rattle.wac_encode_scopes.specs.private.Telling.{definition_in};
 ghost use Rattle.wac_encode_stacks.specs.Scopes.{at_export};
 ghost use Rattle.wac_encode_imports.specs.private.Imports.{AreImported};

@@ -15,11 +15,11 @@ use Rattle.wac_encode_scopes.specs.declared.state.State.{State}
 use Rattle.wac_encode_scopes.specs.Contents.{content_of, and_type, AddsTypes}
 use Rattle.wac_encode_scopes.specs.Books.{recorded, book_of, opened}
 use Rattle.wac_encode_scopes.specs.States.{outward}
-use Rattle.wac_encode_scopes.specs.Components.{ComponentHasMeaning, component_tree, DefinesComponent, DefinesModuleType, DefinesPrimitiveType}
+use Rattle.wac_encode_scopes.specs.private.Components.{ComponentHasMeaning, component_tree, DefinesComponent, DefinesModuleType, DefinesPrimitiveType}
 use Rattle.wac_encode_scopes.specs.private.Steps.{ScopeChanges, and_core_type}
 use Rattle.wac_encode_stacks.specs.Scopes.{Open, Stack, env, envs, next_type, type_count, with_def, defined, index_at, opening}
 use Rattle.wac_encode_stacks.specs.Good.{At, Good, IsHeld, nothing_bound, Onward}
-use Rattle.wac_encode_stacks.specs.Laws.{Adds, RecordsType, Follows, DefinesPrimitive}
+use Rattle.wac_encode_stacks.specs.private.Laws.{Adds, RecordsType, Follows, DefinesPrimitive}
 use Rattle.wac_types_shapes.specs.primitives.Tree.{primitive}
 use Rattle.wac_types_shapes.specs.declared.primitives.component.PrimitiveType.{PrimitiveType}
 use Rattle.wac_encode_stacks.specs.Listed.{declaring, ClosesComponent}

@@ -18,7 +18,7 @@ use Rattle.wac_encode_scopes.specs.private.Steps.{ScopeChanges, StateChanges, se
 use Rattle.wac_encode_stacks.specs.Scopes.{Where, at_type, at_export, How, defined, brought, listed, Indexed, Open, Stack, next_type, with_alias_of, index_at, export_at}
 use Rattle.wac_encode_stacks.specs.Good.{At, IsClosed, Good, Onward}
 use Rattle.wac_encode_stacks.specs.private.Inside.{changed_at, next_type_at}
-use Rattle.wac_encode_stacks.specs.Brought.{IsIndexOf, AllPass, KnowsType, KnowsExport, aliased_value, SettlesValueThere, BringsFrom, StillPass}
+use Rattle.wac_encode_stacks.specs.private.Brought.{IsIndexOf, AllPass, KnowsType, KnowsExport, aliased_value, SettlesValueThere, BringsFrom, StillPass}
 use Rattle.wac_encode_scopes.proofs.Looked.{exported-there}
 use Rattle.wac_encode_scopes.proofs.Stepped.{Added, goes-here, indexed-there}
 use Rattle.wac_types_shapes.specs.declared.shapes.component.«Type».{«Type» as AnyType}

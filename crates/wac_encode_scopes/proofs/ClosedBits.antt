@@ -1,7 +1,8 @@
 -- A definition is closed if all its parts are, and reaches a resource if one of them does.
-use Rattle.std.specs.Prelude.{ℕ, zero, suc, ◌<◌, ◌+◌, ◌-◌, ◌≡◌, Bool, true, false, List, [], ◌∷◌, ◌++◌, length, nat_eq, nat_lt, Option, Some, None, slice_get}
+use Rattle.std.specs.Prelude.{ℕ, zero, suc, ◌<◌, ◌+◌, ◌-◌, ◌≡◌, ◌==◌, Bool, true, false, List, [], ◌∷◌, ◌++◌, length, nat_eq, nat_lt, Option, Some, None, slice_get}
 use Rattle.std.specs.List.{AllByRecursion}
 use Rattle.std.proofs.Common.{refl, ap, ◌∙◌, sym, subst, arith, inl, inr}
+use Rattle.std.proofs.lemmas.Bool.{eqb-true, lt-ltb}
 use Rattle.wac_types_shapes.specs.primitives.Name.{option_case}
 use Rattle.wac_types_shapes.specs.primitives.Tree.{Leaf, moved}
 use Rattle.wac_types_shapes.specs.declared.shapes.component.DefinedType.{DefinedType}
@@ -12,15 +13,17 @@ use Rattle.wac_types_shapes.specs.declared.shapes.component.ValueType.TheVariant
 use Rattle.wac_types_shapes.specs.declared.shapes.component.«Type».{«Type» as AnyType}
 use Rattle.wac_types_shapes.specs.declared.shapes.component.«Type».TheVariants as ty
 use Rattle.wac_types_shapes.specs.primitives.Tree.{primitive}
-use Rattle.wac_types_collection.specs.collection.Collection.{Collection, HasDefined, IsWellFormed, IsPartBelow, item_at, defined_values, defined_mentions, value_types}
+use Rattle.wac_types_collection.specs.declared.collection.collection.Held.{Held}
+use Rattle.wac_types_collection.specs.collection.Collection.{Collection, HasDefined, IsWellFormed, IsPartBelow, item_at, defined_values, defined_mentions, holds_type, value_types}
 use Rattle.wac_types_collection.specs.collection.Bound.{Bindings}
 use Rattle.wac_types_collection.specs.reach.Reach.{IsIn, Reaches, at_once, further, mentions}
+use Rattle.wac_types_collection.proofs.lemmas.reach.Reaching.{mentioned_held}
 use Rattle.wac_encode_stacks.specs.Good.{IsClosed, nothing_bound}
 use Rattle.wac_encode_stacks.proofs.Moved.{held-here, moved-defined}
 use Rattle.wac_encode_stacks.proofs.Unfolded.{defined_same}
 use Rattle.wac_encode_stacks.proofs.Values.{held_value, defined-step, primitive-held}
 use Rattle.wac_encode_scopes.specs.private.Parts.{parts}
-use Rattle.wac_encode_scopes.specs.Closed.{bit_at, SaysClosed}
+use Rattle.wac_encode_scopes.specs.private.Closed.{bit_at, bit_or_default, SaysClosed}
 use Rattle.wac_encode_scopes.specs.private.Bits.{value_bit, part_bit, SaysParts}
 use Rattle.wac_encode_scopes.proofs.PartLists.{in-parts, part-below, somes-parts, somes}
 
@@ -114,6 +117,34 @@ fewer-left n bits more b is h =
 
 pub all-said : (c : Collection) (bits : List Bool) → nat_lt (length bits) (length c.defined) ≡ false → BitsSay c bits → (d : DefinedTypeId) → HasDefined c d → SaysClosed c d (bit_at (slice_get bits d.0))
 all-said c bits h say d held = let lt : d.0 < length bits = grind (arith, h, held) in say d.0 lt
+
+-- without resources each definition is closed
+
+no-resource : (c : Collection) (r : ResourceId) → length c.resources ≡ 0 → nat_lt r.0 (length c.resources) ≡ true → ⊥
+no-resource c r none held = let low : r.0 < length c.resources = grind (arith, held) in omega (arith, low, none)
+
+closed-value : (c : Collection) → length c.resources ≡ 0 → (n : ℕ) → ((d : DefinedTypeId) → d.0 < n → HasDefined c d → IsClosed c (ty.Value (val.Defined d))) → (v : ValueType) → IsPartBelow n v → holds_type c (ty.Value v) ≡ true → IsClosed c (ty.Value v)
+closed-value c none n before (val.Primitive p) b held = (primitive p, primitive-held c nothing_bound p)
+closed-value c none n before (val.Own r) b held = absurd (no-resource c r none held)
+closed-value c none n before (val.Borrow r) b held = absurd (no-resource c r none held)
+closed-value c none n before (val.Defined d) b held = let has : d.0 < length c.defined = grind (arith, held) in before d b has
+
+item-there : (xs : List (Held DefinedType)) (i : ℕ) → i < length xs → (x : DefinedType) × (item_at xs i ≡ Some x)
+item-there [] i low = absurd (omega (arith, low))
+item-there (h ∷ xs) zero low = (h.item, refl)
+item-there (h ∷ xs) (suc i) low = item-there xs i (omega (arith, low))
+
+closed-before : (c : Collection) → IsWellFormed c → length c.resources ≡ 0 → (n : ℕ) (d : DefinedTypeId) → d.0 < n → HasDefined c d → IsClosed c (ty.Value (val.Defined d))
+closed-before c wf none zero d low has = absurd (omega (arith, low))
+closed-before c wf none (suc n) d low has =
+    let (x, at) = item-there c.defined d.0 has in
+    let held = lt-ltb d.0 (length c.defined) has in
+    closed-whole c wf d x at (in-parts (λ v. IsClosed c (ty.Value v)) x (λ k v part.
+    closed-value c none d.0 (λ e lt h. closed-before c wf none n e (omega (arith, lt, low)) h) v (part-below c wf d x k v at part)
+    (mentioned_held c wf (ty.Value (val.Defined d)) (ty.Value v) held (part-mentioned c d x k v at part))))
+
+pub none-open : (c : Collection) → IsWellFormed c → (length c.resources == 0) ≡ true → (bits : List Bool) → bits ≡ [] → (d : DefinedTypeId) → HasDefined c d → SaysClosed c d (bit_or_default true (slice_get bits d.0))
+none-open c wf none bits is d has = subst (λ (bs : List Bool). SaysClosed c d (bit_or_default true (slice_get bs d.0))) (sym is) (closed-before c wf (eqb-true (length c.resources) 0 none) (suc d.0) d (omega arith) has)
 
 -- parts by positions
 

@@ -10,7 +10,7 @@ use Rattle.wac_encode_scopes.specs.Books.{opened}
 use Rattle.wac_encode_scopes.specs.States.{outward, named_in, IsNamedAt, named_by, named_of, Crosses}
 use Rattle.wac_encode_stacks.specs.Scopes.{Where, Open, Stack, at_type, at_export, How, defined, brought, listed, Indexed}
 use Rattle.wac_types_shapes.specs.declared.shapes.component.DefinedTypeId.{DefinedTypeId}
-use Rattle.wac_encode_stacks.specs.Brought.{AllPass}
+use Rattle.wac_encode_stacks.specs.private.Brought.{AllPass}
 use Rattle.wac_encode_scopes.proofs.Outward.{outward-at, outward-length, past, past-length, split-at, asked-at, drop-here}
 use Rattle.wac_types_shapes.specs.primitives.Name.{Name}
 

@@ -18,11 +18,11 @@ use Rattle.wac_encode_scopes.specs.Contents.{content_of, and_type, and_item, Has
 use Rattle.wac_binary.specs.Indexes.{space, described_sort, declared}
 use Rattle.wac_encode_scopes.specs.Books.{binds_in, types_in, exports_in, recorded, book_of, opened}
 use Rattle.wac_encode_scopes.specs.States.{outward, stack, KeepsRecords}
-use Rattle.wac_encode_scopes.specs.Listing.{Describes, RefersTo, ListsItem, ListsResource, BindsExport, BindsType, Opens, ClosesInto}
+use Rattle.wac_encode_scopes.specs.private.Listing.{Describes, RefersTo, ListsItem, ListsResource, BindsExport, BindsType, Opens, ClosesInto}
 use Rattle.wac_encode_scopes.specs.private.Steps.{empty_scope, either, ScopeChanges, and_fresh, with_fresh}
 use Rattle.wac_encode_stacks.specs.Scopes.{Content, declarations, root, Open, Stack, env, envs, next_type, type_count, and_def, with_def, opening, at_type, at_export, bind_at}
 use Rattle.wac_encode_stacks.specs.Good.{At, Good, nothing_bound, innermost, Stands, Onward, top}
-use Rattle.wac_encode_stacks.specs.Laws.{Adds}
+use Rattle.wac_encode_stacks.specs.private.Laws.{Adds}
 use Rattle.wac_encode_stacks.specs.Listed.{side_decl, IsNewName, Lists, ListsEqual, ListsFunc, ListsInstance, ListsComponent, ListsModule, ClosesInstance, OpensWorld, calling, listed_leaf, RecordsNoType, ListsFresh, ListsOwn, BindsMore}
 use Rattle.wac_encode_stacks.specs.private.Inside.{StartsRoot}
 use Rattle.wac_encode_scopes.proofs.Outward.{outward-append}

@@ -10,7 +10,7 @@ use Rattle.wac_encode_scopes.specs.declared.scope.Scope.{Scope}
 use Rattle.wac_encode_scopes.specs.Books.{opened}
 use Rattle.wac_encode_scopes.specs.States.{outward, IsPlace}
 use Rattle.wac_encode_stacks.specs.Scopes.{Where, Open, Stack, next_type, at_type, at_export}
-use Rattle.wac_encode_stacks.specs.Parts.{IsReached}
+use Rattle.wac_encode_stacks.specs.private.Parts.{IsReached}
 use Rattle.wac_encode_stacks.specs.private.Inside.{changed_at, next_type_at}
 use Rattle.wac_encode_scopes.specs.private.Steps.{export_of}
 

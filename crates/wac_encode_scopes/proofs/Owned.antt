@@ -30,7 +30,7 @@ use Rattle.wac_binary.specs.HasMeaning.{IsFree}
 use Rattle.wac_binary.specs.Unfold.{with_item}
 use Rattle.wac_encode_stacks.specs.Scopes.{declarations, at_type, Open, Stack, env, envs, next_type, opening}
 use Rattle.wac_encode_stacks.specs.Good.{Good, top, innermost}
-use Rattle.wac_encode_stacks.specs.Beside.{written_as}
+use Rattle.wac_encode_stacks.specs.private.Beside.{written_as}
 use Rattle.wac_encode_scopes.specs.declared.encodable.Encodable.{Encodable}
 use Rattle.wac_encode_scopes.specs.declared.encodable.Encodable.TheVariants.{Instance}
 use Rattle.wac_encode_scopes.specs.declared.scope.Scope.{Scope}

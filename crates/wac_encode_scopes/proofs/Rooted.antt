@@ -20,13 +20,13 @@ use Rattle.wac_encode_scopes.specs.declared.state.State.{State}
 use Rattle.wac_encode_scopes.specs.Contents.{content_of, count_of}
 use Rattle.wac_encode_scopes.specs.Books.{recorded, book_of, opened}
 use Rattle.wac_encode_scopes.specs.States.{outward, stack}
-use Rattle.wac_encode_scopes.specs.Listing.{Describes}
+use Rattle.wac_encode_scopes.specs.private.Listing.{Describes}
 use Rattle.wac_encode_scopes.specs.Roots.{IsRoot, items_of, and_import, ImportRefersTo, ImportsItem, ImportsResource}
 use Rattle.wac_encode_scopes.specs.Lending.{GoesOnLent}
 use Rattle.wac_encode_scopes.specs.private.Steps.{ScopeChanges, and_fresh_import, with_fresh_import}
 use Rattle.wac_encode_stacks.specs.Scopes.{root, at_type, Open, Stack, env, envs, next_type, type_count, bind_at, Content}
 use Rattle.wac_encode_stacks.specs.Good.{Good, Onward}
-use Rattle.wac_encode_stacks.specs.Laws.{Adds}
+use Rattle.wac_encode_stacks.specs.private.Laws.{Adds}
 use Rattle.wac_encode_stacks.specs.Listed.{calling}
 use Rattle.wac_encode_stacks.specs.Instances.{position_of, import_leaf, ImportsInstance, ImportsType, ImportsFresh, ImportsFunc, ImportsModule, ImportsComponent}
 use Rattle.wac_encode_stacks.specs.private.Inside.{RootGoesOn}

@@ -13,16 +13,16 @@ use Rattle.wac_encode_scopes.specs.Books.{opened, recorded, book_of}
 use Rattle.wac_encode_scopes.specs.States.{outward, stack, AllAddTypes, Goes, GoesForAll, SaysWritten, SaysWrittenFunc, IsPlace, IsBound, IsResourceAt, IsTypeAt, RecordsHere}
 use Rattle.wac_encode_scopes.specs.private.Steps.{Records, ScopeChanges, StateChanges, settled, settled_from}
 use Rattle.wac_encode_stacks.specs.Scopes.{Content, Open, Stack, Where, at_type, at_export, next_type, with_alias_of, bind_at, How, defined, index_at, with_def}
-use Rattle.wac_encode_stacks.specs.Beside.{SameWritten, written_as, all_written_as}
+use Rattle.wac_encode_stacks.specs.private.Beside.{SameWritten, written_as, all_written_as}
 use Rattle.wac_encode_stacks.specs.private.Inside.{changed_at, aliased_there, next_type_at, brought, SettlesThere, HasIndexAround, HasIndexHere}
 use Rattle.wac_encode_scopes.proofs.Added.{adds-none, adds-both}
 use Rattle.wac_encode_scopes.proofs.Outward.{changed-there, set-outward, split-at}
 use Rattle.std.proofs.lemmas.Bool.{eq-eqb}
 use Rattle.wac_types_shapes.specs.primitives.Name.{Name}
-use Rattle.wac_encode_stacks.specs.Parts.{IsReached}
+use Rattle.wac_encode_stacks.specs.private.Parts.{IsReached}
 use Rattle.wac_encode_stacks.specs.Good.{Good, Onward, top}
-use Rattle.wac_encode_stacks.specs.Laws.{StaysOnward, Follows, DefinesValue, DefinesFunc, DefinesHandles, RecordsType, Reaches}
-use Rattle.wac_encode_stacks.specs.Brought.{FindsOrUnbound}
+use Rattle.wac_encode_stacks.specs.private.Laws.{StaysOnward, Follows, DefinesValue, DefinesFunc, DefinesHandles, RecordsType, Reaches}
+use Rattle.wac_encode_stacks.specs.private.Brought.{FindsOrUnbound}
 use Rattle.wac_types_collection.specs.collection.Collection.{Collection, IsWellFormed, item_at}
 use Rattle.wac_types_collection.specs.collection.Bound.{Bindings}
 use Rattle.wac_binary.specs.declared.sorts.Sort.TheVariants as s

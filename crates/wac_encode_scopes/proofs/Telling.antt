@@ -31,8 +31,8 @@ use Rattle.wac_types_collection.proofs.lemmas.collection.Ends.{end_is_held}
 use Rattle.wac_binary.specs.Unfold.{Bound}
 use Rattle.wac_encode_stacks.specs.Scopes.{Where, at_export, Open, Stack, env, envs, bind_at, export_at}
 use Rattle.wac_encode_stacks.specs.Good.{At, Stands, IsHeld, IsClosed, nothing_bound, Good, Onward}
-use Rattle.wac_encode_stacks.specs.Beside.{written_as}
-use Rattle.wac_encode_stacks.specs.Laws.{IsItsEnd, StaysOnward}
+use Rattle.wac_encode_stacks.specs.private.Beside.{written_as}
+use Rattle.wac_encode_stacks.specs.private.Laws.{IsItsEnd, StaysOnward}
 use Rattle.wac_encode_stacks.specs.Listed.{calling, BindsMore, IsItem}
 use Rattle.wac_encode_stacks.specs.Instances.{BindsInstance, Shows, taken_leaf, HasOwn, HasExported}
 use Rattle.wac_encode_scopes.specs.declared.closed.ClosedTypes.{ClosedTypes}
@@ -40,7 +40,7 @@ use Rattle.wac_encode_scopes.specs.declared.scope.Scope.{Scope}
 use Rattle.wac_encode_scopes.specs.declared.state.State.{State}
 use Rattle.wac_encode_scopes.specs.Books.{opened}
 use Rattle.wac_encode_scopes.specs.States.{outward, stack, named_in}
-use Rattle.wac_encode_scopes.specs.Closed.{AreClosedTypes, SaysClosed, is_closed_in}
+use Rattle.wac_encode_scopes.specs.private.Closed.{AreClosedTypes, SaysClosed, is_closed_in}
 use Rattle.wac_encode_scopes.specs.private.Interfaces.{own_in}
 use Rattle.wac_encode_scopes.specs.private.Telling.{with_own_names, all_own, definition_of, definition_in, binding_own, exporting_values, telling, MayBind, TellsInstance}
 use Rattle.wac_encode_scopes.specs.private.Steps.{ScopeChanges, that_passes, bound_to, told_to}

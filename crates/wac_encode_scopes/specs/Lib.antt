@@ -1,9 +1,6 @@
 pub mod Contents
 pub mod Books
 pub mod States
-pub mod Listing
-pub mod Closed
-pub mod Components
 pub mod Roots
 pub mod Lending
 pub mod private

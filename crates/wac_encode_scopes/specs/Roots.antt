@@ -15,11 +15,11 @@ use Rattle.wac_encode_scopes.specs.declared.state.State.{State}
 use Rattle.wac_encode_scopes.specs.Contents.{content_of}
 use Rattle.wac_encode_scopes.specs.Books.{opened}
 use Rattle.wac_encode_scopes.specs.States.{stack}
-use Rattle.wac_encode_scopes.specs.Listing.{Describes}
+use Rattle.wac_encode_scopes.specs.private.Listing.{Describes}
 use Rattle.wac_encode_stacks.specs.Scopes.{at_type, bind_at}
-use Rattle.wac_encode_stacks.specs.Beside.{written_as}
+use Rattle.wac_encode_stacks.specs.private.Beside.{written_as}
 use Rattle.wac_encode_stacks.specs.Good.{At, Good, innermost, Onward}
-use Rattle.wac_encode_stacks.specs.Laws.{Adds}
+use Rattle.wac_encode_stacks.specs.private.Laws.{Adds}
 use Rattle.wac_encode_stacks.specs.Listed.{calling}
 use Rattle.wac_encode_stacks.specs.Instances.{position_of, import_leaf}
 

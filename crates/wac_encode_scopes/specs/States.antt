@@ -14,13 +14,13 @@ use Rattle.wac_encode_scopes.specs.Contents.{AddsTypes}
 use Rattle.wac_encode_scopes.specs.Books.{opened, book_of}
 use Rattle.wac_encode_stacks.specs.Scopes.{Where, at_type, at_export, Stack, How, defined, brought, listed, Indexed, Open}
 use Rattle.wac_encode_stacks.specs.Good.{At, Good, top, Onward, innermost, IsHeld, IsOf}
-use Rattle.wac_encode_stacks.specs.Beside.{all_written_as}
-use Rattle.wac_encode_stacks.specs.Parts.{IsWritten, IsWrittenFunc}
+use Rattle.wac_encode_stacks.specs.private.Beside.{all_written_as}
+use Rattle.wac_encode_stacks.specs.private.Parts.{IsWritten, IsWrittenFunc}
 use Rattle.wac_binary.specs.Items.{ValueDef, TypeDef}
 use Rattle.wac_types_shapes.specs.declared.shapes.component.DefinedType.{DefinedType}
 use Rattle.wac_types_shapes.specs.declared.shapes.component.FuncType.{FuncType}
 use Rattle.wac_types_shapes.specs.declared.shapes.component.«Type».{«Type» as AnyType}
-use Rattle.wac_encode_stacks.specs.Brought.{AllPass}
+use Rattle.wac_encode_stacks.specs.private.Brought.{AllPass}
 use Rattle.wac_types_shapes.specs.declared.shapes.component.DefinedTypeId.{DefinedTypeId}
 
 -- The scopes of a list that begins with the bottom one, the innermost first.

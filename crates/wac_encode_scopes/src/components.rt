@@ -9,7 +9,7 @@ ghost use Rattle.wac_encode_stacks.specs.Scopes.{defined};
 ghost use Rattle.wac_encode_stacks.specs.Good.{Good, innermost};
 ghost use Rattle.wac_encode_scopes.specs.Contents.{declarations_of};
 ghost use Rattle.wac_encode_scopes.specs.States.{stack, AllAddTypes, KeepsRecords, IsRecordedAt};
-ghost use Rattle.wac_encode_scopes.specs.Components.{IsComponentType, ComponentHasMeaning, component_tree, DefinesComponent, DefinesModuleType, DefinesPrimitiveType};
+ghost use Rattle.wac_encode_scopes.specs.private.Components.{IsComponentType, ComponentHasMeaning, component_tree, DefinesComponent, DefinesModuleType, DefinesPrimitiveType};
 
 use crate::encodable::Encodable;
 use crate::state::State;

@@ -5,7 +5,7 @@ ghost use Rattle.wac_types_shapes.specs.primitives.Name.{option_case};
 ghost use Rattle.wac_types_collection.specs.collection.Uses.{named_right};
 ghost use Rattle.wac_types_shapes.specs.declared.shapes.component.Interface.{Interface as AnInterface};
 ghost use Rattle.wac_types_collection.specs.collection.Collection.{HasInterface, item_at};
-ghost use Rattle.wac_encode_scopes.specs.Closed.{AreClosedTypes, is_closed_in};
+ghost use Rattle.wac_encode_scopes.specs.private.Closed.{AreClosedTypes, is_closed_in};
 ghost use Rattle.wac_encode_scopes.specs.States.{AllAddTypes, RecordsHere};
 ghost use Rattle.wac_encode_scopes.specs.private.Interfaces.{own_in};
 ghost use Rattle.wac_encode_scopes.specs.private.Telling.{is_one_of, all_own, definition_in, binding_own, exporting_values, telling, TellsInstance};

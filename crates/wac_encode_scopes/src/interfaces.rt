@@ -4,11 +4,11 @@ ghost use Rattle.std.specs.Prelude.{◌≡◌, true, false, not, Some, IfOk, OnO
 ghost use Rattle.wac_types_shapes.specs.declared.shapes.component.Interface.{Interface as AnInterface};
 ghost use Rattle.wac_types_collection.specs.collection.Collection.{HasInterface, item_at};
 ghost use Rattle.wac_encode_stacks.specs.Scopes.{opening};
-ghost use Rattle.wac_encode_stacks.specs.Beside.{written_as};
+ghost use Rattle.wac_encode_stacks.specs.private.Beside.{written_as};
 ghost use Rattle.wac_encode_scopes.specs.declared.encodable.Encodable.TheVariants.{Instance};
 ghost use Rattle.wac_encode_scopes.specs.Contents.{IsInstanceType};
 ghost use Rattle.wac_encode_scopes.specs.Books.{opened};
-ghost use Rattle.wac_encode_scopes.specs.Listing.{IsSame};
+ghost use Rattle.wac_encode_scopes.specs.private.Listing.{IsSame};
 ghost use Rattle.wac_encode_scopes.specs.private.Interfaces.{own_in, own_items, fresh_exports, BindsNone, BindsOne, BeginsInterface};
 ghost use Rattle.wac_encode_scopes.specs.private.Steps.{with_own_in, with_own, exporting, OwnIsBound};
 

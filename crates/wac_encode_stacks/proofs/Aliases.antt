@@ -12,7 +12,7 @@ use Rattle.wac_types_collection.specs.collection.Collection.{Collection, IsWellF
 use Rattle.wac_types_collection.specs.collection.Aliases.{aliased, value_resolved, value_resolved_in}
 use Rattle.wac_types_collection.specs.collection.Bound.{Bindings}
 use Rattle.wac_encode_stacks.specs.Good.{IsHeld}
-use Rattle.wac_encode_stacks.specs.Laws.{IsItsEnd}
+use Rattle.wac_encode_stacks.specs.private.Laws.{IsItsEnd}
 use Rattle.wac_encode_stacks.proofs.Values.{alias-held, alias-end}
 
 ends-held : (n : ℕ) (c : Collection) → IsWellFormed c → (m : Bindings) (v : ValueType) (t : Tree) → IsHeld c m (ty.Value (value_resolved_in n c v)) t → IsHeld c m (ty.Value v) t

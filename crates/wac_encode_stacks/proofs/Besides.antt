@@ -8,7 +8,7 @@ use Rattle.wac_binary.specs.Items.{Item}
 use Rattle.wac_binary.specs.Unfold.{Scope}
 use Rattle.wac_encode_stacks.specs.Scopes.{Content, root, ContentHasMeaning, Open, Stack, env, envs, scope_of}
 use Rattle.wac_encode_stacks.specs.Good.{Keeps, Grown, is_bottom, GoodScope, Good, top}
-use Rattle.wac_encode_stacks.specs.Beside.{SameWritten, written_as, all_written_as, GoesOnBeside}
+use Rattle.wac_encode_stacks.specs.private.Beside.{SameWritten, written_as, all_written_as, GoesOnBeside}
 use Rattle.wac_encode_stacks.proofs.Grow.{stands-keeps}
 use Rattle.wac_encode_stacks.proofs.Moved.{ap2}
 

@@ -16,7 +16,7 @@ use Rattle.wac_encode_stacks.specs.private.Reads.{Reads}
 use Rattle.wac_encode_stacks.specs.Scopes.{Where, at_type, at_export, brought, Open, Stack, env, envs, with_alias_of}
 use Rattle.wac_encode_stacks.specs.Good.{Stands, IsHeld, IsOf, Carries, seen_inside, Good, top, GoodScope}
 use Rattle.wac_encode_stacks.specs.private.Inside.{changed_at}
-use Rattle.wac_encode_stacks.specs.Brought.{bindings_at, AllPass, MayCross, GoodOnce, FindsOrUnbound, KnowsType, KnowsExport, aliased_value, SettlesValueThere, BringsFrom, StillPass}
+use Rattle.wac_encode_stacks.specs.private.Brought.{bindings_at, AllPass, MayCross, GoodOnce, FindsOrUnbound, KnowsType, KnowsExport, aliased_value, SettlesValueThere, BringsFrom, StillPass}
 use Rattle.wac_encode_stacks.proofs.Moved.{ap2}
 use Rattle.wac_encode_stacks.proofs.Meant.{value-type}
 use Rattle.wac_encode_stacks.proofs.Steps.{OneMore, some-equal, one-more-outer, outer-onward}

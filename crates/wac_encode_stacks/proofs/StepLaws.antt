@@ -13,8 +13,8 @@ use Rattle.wac_binary.specs.Unfold.{Scope, scope_at, value_tree, tree_of}
 use Rattle.wac_encode_stacks.specs.private.Reads.{Reads}
 use Rattle.wac_encode_stacks.specs.Scopes.{at_type, Open, Stack, env, envs, next_type, with_alias_of, bind_at, defined, at_export, How, index_at, export_at}
 use Rattle.wac_encode_stacks.specs.Good.{IsHeld, Good, top, seen_inside, IsOf}
-use Rattle.wac_encode_stacks.specs.Parts.{IsWrittenFunc}
-use Rattle.wac_encode_stacks.specs.Laws.{Adds, DefinesValue, DefinesFunc, DefinesPrimitive, DefinesHandles, Reaches, BringsResource, BringsType, SettlesResource, SettlesValue, GoesOnAround, Follows, StaysIs, IsRecorded, StandsRecorded, IsItsTree, RecordsType, IsExported}
+use Rattle.wac_encode_stacks.specs.private.Parts.{IsWrittenFunc}
+use Rattle.wac_encode_stacks.specs.private.Laws.{Adds, DefinesValue, DefinesFunc, DefinesPrimitive, DefinesHandles, Reaches, BringsResource, BringsType, SettlesResource, SettlesValue, GoesOnAround, Follows, StaysIs, IsRecorded, StandsRecorded, IsItsTree, RecordsType, IsExported}
 use Rattle.wac_encode_stacks.proofs.Meant.{value-type}
 use Rattle.wac_encode_stacks.proofs.Grow.{grown-at, kept-refl}
 use Rattle.wac_encode_stacks.proofs.Moved.{held-here}

@@ -26,7 +26,7 @@ use Rattle.wac_binary.specs.Items.{ValueDef, record_def, variant_def, list_def, 
 use Rattle.wac_binary.specs.Unfold.{Scope, type_at, val as val_in, option_val, value_tree, tree_of}
 use Rattle.wac_binary.specs.HasMeaning.{IsValue, IsResource, IsFunction, ValHasMeaning, OptionHasMeaning, ValueHasMeaning, TypeHasMeaning}
 use Rattle.wac_encode_stacks.specs.Good.{At, Keeps, Means, IsHeld, Carries}
-use Rattle.wac_encode_stacks.specs.Parts.{Is, MaybeIs, IsWritten, IsWrittenFunc}
+use Rattle.wac_encode_stacks.specs.private.Parts.{Is, MaybeIs, IsWritten, IsWrittenFunc}
 use Rattle.wac_encode_stacks.proofs.Grow.{at-type_at}
 use Rattle.wac_encode_stacks.proofs.Moved.{ap2}
 

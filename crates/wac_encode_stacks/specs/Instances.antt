@@ -23,7 +23,7 @@ use Rattle.wac_binary.specs.Meaning.{import_at, stands_for, meaning}
 use Rattle.wac_binary.specs.HasMeaning.{IsType, IsFunction, IsInstance, IsComponent, IsModule}
 use Rattle.wac_encode_stacks.specs.Scopes.{root, at_type, at_export, Open, Stack, env, envs, next_type, next_instance, bind_at, export_at}
 use Rattle.wac_encode_stacks.specs.Good.{At, Stands, IsHeld, IsClosed, Good, Onward}
-use Rattle.wac_encode_stacks.specs.Laws.{Adds}
+use Rattle.wac_encode_stacks.specs.private.Laws.{Adds}
 use Rattle.wac_encode_stacks.specs.Listed.{IsItem, calling}
 
 -- The bindings m bind each own resource of the interface to the export of its instance at this path.

@@ -1,9 +1,5 @@
 pub mod Scopes
 pub mod Good
-pub mod Parts
-pub mod Laws
 pub mod Listed
 pub mod Instances
-pub mod Brought
-pub mod Beside
 pub mod private

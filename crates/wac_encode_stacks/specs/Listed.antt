@@ -23,7 +23,7 @@ use Rattle.wac_binary.specs.Unfold.{Scope, with_item}
 use Rattle.wac_binary.specs.HasMeaning.{IsType, IsFunction, IsInstance, IsComponent, IsModule, IsFree, ImportNothing}
 use Rattle.wac_encode_stacks.specs.Scopes.{declarations, Where, at_type, Open, Stack, env, envs, next_type, next_instance, with_def, bind_at, opening}
 use Rattle.wac_encode_stacks.specs.Good.{At, Keeps, Stands, Extends, IsHeld, seen_inside, nothing_bound, Good, top, Onward}
-use Rattle.wac_encode_stacks.specs.Laws.{Adds}
+use Rattle.wac_encode_stacks.specs.private.Laws.{Adds}
 
 -- The tree of an item under a name. A type item is fresh if it binds a resource here, or else equals the type's tree.
 abbrev pub IsItem : Collection → Bindings → Side → Name → ItemKind → Tree → Type 0

@@ -1,13 +1,13 @@
 //! Laws of the steps of a type encoder, for proofs. A function here proves its laws and does nothing when it runs
 //! (docs/PROOFS.md, 'Laws').
 
-ghost use Rattle.wac_encode_stacks.specs.Laws.{DefinesValue, DefinesFunc, DefinesPrimitive, DefinesHandles, Reaches, BringsResource, BringsType, SettlesResource, SettlesValue, RecordsType, GoesOnAround, Follows, StaysIs, IsRecorded, IsExported, StandsRecorded, IsItsTree, IsItsEnd, StaysOnward};
+ghost use Rattle.wac_encode_stacks.specs.private.Laws.{DefinesValue, DefinesFunc, DefinesPrimitive, DefinesHandles, Reaches, BringsResource, BringsType, SettlesResource, SettlesValue, RecordsType, GoesOnAround, Follows, StaysIs, IsRecorded, IsExported, StandsRecorded, IsItsTree, IsItsEnd, StaysOnward};
 ghost use Rattle.wac_encode_stacks.specs.Listed.{ListsEqual, ListsFresh, ListsOwn, ListsFunc, ListsComponent, ListsModule, ListsInstance, ListsOneMore, ListsInAnyOrder, ListedUnderMore, OpensInterface, CallsOneMore, CallsNoMore, CallsAll, ClosesInstance, HoldsInterface, OpensWorld, BindsMore, ClosesComponent, HoldsWorld, FreshInInterface, CallsOwn};
 ghost use Rattle.wac_encode_stacks.specs.Instances.{ShowsWhole, HasOwn, HasExported, ImportsInstance, ImportsType, ImportsFresh, ImportsFunc, ImportsModule, ImportsComponent, ListsImport};
 ghost use Rattle.wac_encode_stacks.specs.private.Inside.{ByStep, ByItem, ByBoth, KeepsIs, SettlesThere, HasIndexHere, HasIndexAround, StartsRoot, RootGoesOn};
-ghost use Rattle.wac_encode_stacks.specs.Brought.{GoodOnce, FindsOrUnbound, KnowsType, KnowsExport, SettlesValueThere, BringsFrom, StillPass};
+ghost use Rattle.wac_encode_stacks.specs.private.Brought.{GoodOnce, FindsOrUnbound, KnowsType, KnowsExport, SettlesValueThere, BringsFrom, StillPass};
 ghost use Rattle.wac_encode_stacks.specs.private.HeldParts.{HeldCarried, HeldFurtherIn, HeldUnderMore, HoldsValue, HoldsParts, HoldsFuncParts, HoldsItems, HandlesAreBound, ResourceIsBound};
-ghost use Rattle.wac_encode_stacks.specs.Beside.{GoesOnBeside};
+ghost use Rattle.wac_encode_stacks.specs.private.Beside.{GoesOnBeside};
 ghost use Rattle.wac_encode_stacks.specs.private.Reads.{Reads};
 ghost use Rattle.wac_encode_stacks.specs.private.Modules.{DefinesModule, HoldsModule};
 

@@ -19,7 +19,7 @@ use Rattle.wac_binary.specs.Items.{ValueDef, record_def, variant_def, list_def, 
 use Rattle.wac_binary.specs.Unfold.{Scope as Env}
 use Rattle.wac_binary.specs.Views.{named, texts_of}
 use Rattle.wac_encode_stacks.specs.Good.{Good, top, innermost}
-use Rattle.wac_encode_stacks.specs.Parts.{MaybeIs, AreValues, AreFields, AreCases, IsWritten}
+use Rattle.wac_encode_stacks.specs.private.Parts.{MaybeIs, AreValues, AreFields, AreCases, IsWritten}
 use Rattle.wac_encode_scopes.specs.declared.state.State.{State}
 use Rattle.wac_encode_scopes.specs.States.{stack, SaysWritten}
 use Rattle.wac_encode_scopes.specs.private.Parts.{parts, some_of, second_of, some_second_of}

@@ -18,7 +18,7 @@ use Rattle.wac_encode_stacks.specs.private.HeldParts.{HoldsParts, HoldsFuncParts
 use Rattle.wac_encode_scopes.specs.declared.state.State.{State}
 use Rattle.wac_encode_scopes.specs.private.Parts.{parts}
 use Rattle.wac_encode_scopes.proofs.PartLists.{part-in}
-use Rattle.wac_encode_values.specs.Values.{IsReady}
+use Rattle.wac_encode_values.specs.private.Values.{IsReady}
 use Rattle.wac_encode_values.specs.private.Parts.{IsPartReady, AreReady}
 use Rattle.wac_encode_values.proofs.Ready.{ready-part}
 

@@ -13,13 +13,13 @@ use Rattle.wac_binary.specs.declared.types.ComponentValType.{ComponentValType}
 use Rattle.wac_binary.specs.Items.{func_def}
 use Rattle.wac_binary.specs.Views.{named}
 use Rattle.wac_encode_stacks.specs.Good.{top, innermost}
-use Rattle.wac_encode_stacks.specs.Parts.{Is}
-use Rattle.wac_encode_stacks.specs.Laws.{StaysIs, Follows}
-use Rattle.wac_encode_stacks.specs.Brought.{GoodOnce}
+use Rattle.wac_encode_stacks.specs.private.Parts.{Is}
+use Rattle.wac_encode_stacks.specs.private.Laws.{StaysIs, Follows}
+use Rattle.wac_encode_stacks.specs.private.Brought.{GoodOnce}
 use Rattle.wac_encode_scopes.specs.declared.state.State.{State}
 use Rattle.wac_encode_scopes.specs.States.{stack, Goes, SaysWrittenFunc}
 use Rattle.wac_encode_scopes.proofs.Stepped.{goes-both}
-use Rattle.wac_encode_values.specs.Values.{IsReady}
+use Rattle.wac_encode_values.specs.private.Values.{IsReady}
 use Rattle.wac_encode_values.specs.private.Parts.{IsParam, MaybeWrittenAs, AreReady, IsPartReady}
 use Rattle.wac_encode_values.proofs.Ready.{ready-on, written-on}
 use Rattle.wac_encode_values.proofs.Made.{zip-as, zip-map, zip-further, maybe-is}

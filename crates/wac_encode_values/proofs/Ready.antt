@@ -19,9 +19,9 @@ use Rattle.wac_binary.specs.declared.types.ComponentValType.{ComponentValType}
 use Rattle.wac_binary.specs.declared.types.ComponentValType.TheVariants.{Primitive, Index}
 use Rattle.wac_encode_stacks.specs.Scopes.{Where, at_type, How, defined, brought, listed, Indexed}
 use Rattle.wac_encode_stacks.specs.Good.{Holds, IsHeld, IsClosed, top, innermost}
-use Rattle.wac_encode_stacks.specs.Parts.{Is}
-use Rattle.wac_encode_stacks.specs.Laws.{StaysIs, IsRecorded, IsExported, StandsRecorded, IsItsEnd}
-use Rattle.wac_encode_stacks.specs.Brought.{GoodOnce}
+use Rattle.wac_encode_stacks.specs.private.Parts.{Is}
+use Rattle.wac_encode_stacks.specs.private.Laws.{StaysIs, IsRecorded, IsExported, StandsRecorded, IsItsEnd}
+use Rattle.wac_encode_stacks.specs.private.Brought.{GoodOnce}
 use Rattle.wac_encode_stacks.specs.private.HeldParts.{HoldsParts, HandlesAreBound}
 use Rattle.wac_encode_stacks.proofs.Aliases.{end-held}
 use Rattle.wac_encode_stacks.proofs.Values.{primitive-held}
@@ -29,10 +29,10 @@ use Rattle.wac_encode_scopes.specs.declared.state.State.{State}
 use Rattle.wac_encode_scopes.specs.declared.closed.ClosedTypes.{ClosedTypes}
 use Rattle.wac_encode_scopes.specs.Books.{opened}
 use Rattle.wac_encode_scopes.specs.States.{outward, stack, IsNamedAt, Crosses, named_by, named_of, named_in, Goes, IsBound, IsRecordedAt, IsTypeAt}
-use Rattle.wac_encode_scopes.specs.Closed.{is_closed_in, SaysClosed}
+use Rattle.wac_encode_scopes.specs.private.Closed.{is_closed_in, SaysClosed}
 use Rattle.wac_encode_scopes.specs.private.Parts.{parts}
 use Rattle.wac_encode_scopes.proofs.PartLists.{part-in}
-use Rattle.wac_encode_values.specs.Values.{IsReady, IsWrittenAs, HasName, IsByName}
+use Rattle.wac_encode_values.specs.private.Values.{IsReady, IsWrittenAs, HasName, IsByName}
 use Rattle.wac_encode_values.specs.private.Parts.{IsFound, IsFoundByName, IsNameFirst, MaybeWrittenAs, CanBegin}
 use Rattle.wac_encode_values.specs.declared.task.Part.{Part}
 use Rattle.wac_encode_values.specs.declared.task.Part.TheVariants.{Written, Missing}

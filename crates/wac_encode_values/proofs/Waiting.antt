@@ -10,14 +10,14 @@ use Rattle.wac_types_shapes.specs.declared.shapes.component.ValueType.TheVariant
 use Rattle.wac_types_shapes.specs.declared.shapes.component.«Type».TheVariants as ty
 use Rattle.wac_types_collection.specs.collection.Collection.{Collection, IsWellFormed, item_at}
 use Rattle.wac_binary.specs.declared.types.ComponentValType.{ComponentValType}
-use Rattle.wac_encode_stacks.specs.Laws.{StaysIs, IsItsEnd, Follows}
-use Rattle.wac_encode_stacks.specs.Brought.{GoodOnce}
+use Rattle.wac_encode_stacks.specs.private.Laws.{StaysIs, IsItsEnd, Follows}
+use Rattle.wac_encode_stacks.specs.private.Brought.{GoodOnce}
 use Rattle.wac_encode_stacks.specs.private.HeldParts.{HoldsParts}
 use Rattle.wac_encode_scopes.specs.declared.state.State.{State}
 use Rattle.wac_encode_scopes.specs.States.{Goes}
 use Rattle.wac_encode_scopes.specs.private.Parts.{parts}
 use Rattle.wac_encode_scopes.proofs.PartLists.{part-end-below}
-use Rattle.wac_encode_values.specs.Values.{IsWrittenAs}
+use Rattle.wac_encode_values.specs.private.Values.{IsWrittenAs}
 use Rattle.wac_encode_values.specs.private.Parts.{MaybeWrittenAs, CanBegin, WaitsFor, IsPartReady, AreFirstParts, AreParts, AreWaiting, IsAdded, IsFilled}
 use Rattle.wac_encode_values.specs.declared.task.Task.{Task}
 use Rattle.wac_encode_values.proofs.Ready.{ready-on, maybe-on, ready-end, ready-part, written-end}

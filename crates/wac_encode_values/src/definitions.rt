@@ -6,8 +6,8 @@ ghost use Rattle.wac_types_shapes.specs.declared.shapes.component.DefinedType.{D
 ghost use Rattle.wac_types_collection.specs.collection.Collection.{item_at};
 ghost use Rattle.wac_binary.specs.Views.{defined_of};
 ghost use Rattle.wac_encode_scopes.specs.States.{AllAddTypes, Goes, SaysWritten};
-ghost use Rattle.wac_encode_scopes.specs.Closed.{AreClosedTypes};
-ghost use Rattle.wac_encode_values.specs.Values.{IsWrittenAs};
+ghost use Rattle.wac_encode_scopes.specs.private.Closed.{AreClosedTypes};
+ghost use Rattle.wac_encode_values.specs.private.Values.{IsWrittenAs};
 ghost use Rattle.wac_encode_values.specs.private.Parts.{CanBegin, IsPartReady, IsAdded, AreFirstParts, AreParts, IsFilled, IsAdvanced};
 
 use crate::encoder::ValueEncoder;

@@ -6,8 +6,8 @@ ghost use Rattle.wac_types_shapes.specs.declared.shapes.component.«Type».TheVa
 ghost use Rattle.wac_types_collection.specs.collection.Collection.{HasDefined, holds_value};
 ghost use Rattle.wac_binary.specs.declared.types.ComponentValType.TheVariants.{Index};
 ghost use Rattle.wac_encode_scopes.specs.States.{AllAddTypes, Goes};
-ghost use Rattle.wac_encode_scopes.specs.Closed.{AreClosedTypes};
-ghost use Rattle.wac_encode_values.specs.Values.{IsReady, IsWrittenAs, IsByName};
+ghost use Rattle.wac_encode_scopes.specs.private.Closed.{AreClosedTypes};
+ghost use Rattle.wac_encode_values.specs.private.Values.{IsReady, IsWrittenAs, IsByName};
 ghost use Rattle.wac_encode_values.specs.private.Parts.{IsFound, IsFoundByName, IsNameFirst};
 
 use crate::task::Part;

@@ -5,8 +5,8 @@ ghost use Rattle.std.specs.List.{AllZip};
 ghost use Rattle.wac_types_shapes.specs.declared.shapes.component.«Type».TheVariants as ty;
 ghost use Rattle.wac_types_collection.specs.collection.Collection.{HasFunc};
 ghost use Rattle.wac_encode_scopes.specs.States.{AllAddTypes, Goes, IsTypeAt};
-ghost use Rattle.wac_encode_scopes.specs.Closed.{AreClosedTypes};
-ghost use Rattle.wac_encode_values.specs.Values.{IsReady};
+ghost use Rattle.wac_encode_scopes.specs.private.Closed.{AreClosedTypes};
+ghost use Rattle.wac_encode_values.specs.private.Values.{IsReady};
 ghost use Rattle.wac_encode_values.specs.private.Parts.{IsPartReady, AreReady, IsParam, MaybeWrittenAs};
 
 use crate::encoder::ValueEncoder;

@@ -12,7 +12,7 @@ use Rattle.wac_binary.specs.declared.fault.BinaryFault.TheVariants as binary
 use Rattle.wac_encode_faults.specs.declared.fault.EncodeFault.{EncodeFault}
 use Rattle.wac_encode_faults.specs.declared.fault.EncodeFault.TheVariants as e
 use Rattle.wac_encode_faults.specs.declared.fault.WriteFault.{WriteFault}
-use Rattle.wac_encode_interfaces.specs.Definitions.{IsFaultlessDefinition}
+use Rattle.wac_encode_interfaces.specs.private.Definitions.{IsFaultlessDefinition}
 use Rattle.wac_encode.specs.declared.state.State.{State}
 use Rattle.wac_encode.specs.Errors.{HasTypeFault}
 use Rattle.wac_encode.specs.Root.{IsStateFor}

@@ -21,7 +21,7 @@ use Rattle.wac_encode_scopes.specs.declared.state.State.{State}
 use Rattle.wac_encode_scopes.specs.Contents.{IsTypeItem}
 use Rattle.wac_encode_scopes.specs.Roots.{IsRoot, items_of}
 use Rattle.wac_encode_scopes.specs.States.{stack}
-use Rattle.wac_encode_interfaces.specs.Imports.{RefersToImport, import_sort}
+use Rattle.wac_encode_interfaces.specs.private.Imports.{RefersToImport, import_sort}
 
 -- The leaf of each resource of the merged types at the root.
 abbrev pub merged_bindings : Merged → Bindings

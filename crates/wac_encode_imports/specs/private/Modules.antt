@@ -4,7 +4,7 @@ use Rattle.indexmap.specs.IndexMap.{get_by}
 use Rattle.wac_types_shapes.specs.contracts.shapes.component.ModuleTypeIdPartialEq.TheImpl as IdEq
 use Rattle.wac_types_shapes.specs.declared.shapes.component.ModuleTypeId.{ModuleTypeId}
 use Rattle.wac_encode_scopes.specs.declared.state.State.{State}
-use Rattle.wac_encode_interfaces.specs.Imports.{IsModuleAt}
+use Rattle.wac_encode_interfaces.specs.private.Imports.{IsModuleAt}
 use Rattle.wac_encode_imports.specs.declared.import.ImportWriter.{ImportWriter}
 use Rattle.wac_encode_imports.specs.declared.modules.ModuleIndexes.{ModuleIndexes}
 

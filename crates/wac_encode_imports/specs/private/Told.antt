@@ -26,10 +26,10 @@ use Rattle.wac_binary.specs.HasMeaning.{IsValue}
 use Rattle.wac_encode_stacks.specs.Good.{Good, IsHeld, Stands, innermost, nothing_bound}
 use Rattle.wac_encode_stacks.specs.Scopes.{Open, Where, at_type, at_export}
 use Rattle.wac_encode_scopes.specs.declared.state.State.{State}
-use Rattle.wac_encode_scopes.specs.Closed.{AreClosedTypes, is_closed_in}
+use Rattle.wac_encode_scopes.specs.private.Closed.{AreClosedTypes, is_closed_in}
 use Rattle.wac_encode_scopes.specs.private.Telling.{definition_in}
 use Rattle.wac_encode_scopes.specs.States.{stack, RecordsHere}
-use Rattle.wac_encode_interfaces.specs.Imports.{RefersToImport}
+use Rattle.wac_encode_interfaces.specs.private.Imports.{RefersToImport}
 use Rattle.wac_encode_imports.specs.declared.told.Teller.{Teller}
 use Rattle.wac_encode_imports.specs.private.Imports.{merged_bindings}
 use Rattle.wac_encode_imports.specs.private.ToldGraph.{entry_bindings, HasNoUnbound}

@@ -15,13 +15,13 @@ use Rattle.wac_binary.specs.declared.sorts.Sort.{Sort}
 use Rattle.wac_binary.specs.Meaning.{meaning}
 use Rattle.wac_encode_stacks.specs.Good.{Good, Onward, innermost, nothing_bound}
 use Rattle.wac_encode_scopes.specs.declared.state.State.{State}
-use Rattle.wac_encode_scopes.specs.Closed.{AreClosedTypes}
+use Rattle.wac_encode_scopes.specs.private.Closed.{AreClosedTypes}
 use Rattle.wac_encode_scopes.specs.Roots.{IsRoot, items_of}
 use Rattle.wac_encode_scopes.specs.States.{stack}
-use Rattle.wac_encode_interfaces.specs.Imports.{ImportsBeside, RefersToImport}
-use Rattle.wac_encode_interfaces.specs.Ready.{IsClean}
-use Rattle.wac_encode_interfaces.specs.Worlds.{Worlds, HaveWorlds, written_in}
-use Rattle.wac_encode_interfaces.specs.Writers.{IsWriter}
+use Rattle.wac_encode_interfaces.specs.private.Imports.{ImportsBeside, RefersToImport}
+use Rattle.wac_encode_interfaces.specs.private.Ready.{IsClean}
+use Rattle.wac_encode_interfaces.specs.private.Worlds.{Worlds, HaveWorlds, written_in}
+use Rattle.wac_encode_interfaces.specs.private.Writers.{IsWriter}
 use Rattle.wac_encode_imports.specs.private.Imports.{merged_bindings, import_tree, HasDistinctClasses, HasNoImportFault, ImportsFirst}
 use Rattle.wac_encode_imports.specs.private.Exports.{ExportNoNameTwice}
 use Rattle.wac_encode_imports.specs.declared.import.ImportWriter.{ImportWriter}

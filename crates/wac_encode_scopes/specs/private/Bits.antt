@@ -4,7 +4,7 @@ use Rattle.wac_types_shapes.specs.declared.shapes.component.DefinedType.{Defined
 use Rattle.wac_types_shapes.specs.declared.shapes.component.ValueType.{ValueType}
 use Rattle.wac_types_shapes.specs.declared.shapes.component.ValueType.TheVariants as val
 use Rattle.wac_encode_scopes.specs.private.Parts.{parts}
-use Rattle.wac_encode_scopes.specs.Closed.{bit_at}
+use Rattle.wac_encode_scopes.specs.private.Closed.{bit_at}
 
 abbrev pub value_bit : List Bool → ValueType → Bool
 value_bit bits (val.Primitive p) = true

@@ -18,7 +18,7 @@ use Rattle.wac_encode_scopes.specs.declared.state.State.{State}
 use Rattle.wac_encode_scopes.specs.Books.{opened}
 use Rattle.wac_encode_scopes.specs.States.{stack}
 use Rattle.wac_encode_stacks.specs.Scopes.{at_type, Open, opening}
-use Rattle.wac_encode_stacks.specs.Beside.{written_as}
+use Rattle.wac_encode_stacks.specs.private.Beside.{written_as}
 use Rattle.wac_encode_stacks.specs.Good.{Good, top, innermost}
 use Rattle.wac_encode_stacks.specs.Listed.{AreListed, RecordsNoType}
 

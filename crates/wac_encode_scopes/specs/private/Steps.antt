@@ -14,10 +14,10 @@ use Rattle.wac_encode_scopes.specs.private.Interfaces.{own_in}
 use Rattle.wac_encode_scopes.specs.Books.{recorded, opened}
 use Rattle.wac_encode_scopes.specs.States.{stack, named_in}
 use Rattle.wac_encode_stacks.specs.Scopes.{Content, Where, How, defined, brought, listed, at_type, at_export, Open, opening, declarations, root, next_type, bind_at, export_at}
-use Rattle.wac_encode_stacks.specs.Beside.{written_as, all_written_as}
+use Rattle.wac_encode_stacks.specs.private.Beside.{written_as, all_written_as}
 use Rattle.wac_encode_stacks.specs.private.Inside.{changed_at, aliased_there}
 use Rattle.wac_types_shapes.specs.declared.shapes.component.DefinedTypeId.{DefinedTypeId}
-use Rattle.wac_encode_stacks.specs.Brought.{aliased_value}
+use Rattle.wac_encode_stacks.specs.private.Brought.{aliased_value}
 use Rattle.wac_types_shapes.specs.primitives.Name.{Name, option_case}
 use Rattle.wac_types_shapes.specs.primitives.Tree.{Side, exported, Leaf}
 use Rattle.wac_types_shapes.specs.declared.shapes.component.UsedType.{UsedType}

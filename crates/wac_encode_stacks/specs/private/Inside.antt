@@ -12,8 +12,8 @@ use Rattle.wac_binary.specs.Items.{Item, export_alias, outer_alias}
 use Rattle.wac_binary.specs.HasMeaning.{HasMeaning}
 use Rattle.wac_encode_stacks.specs.Scopes.{at_type, at_export, Open, Stack, env, envs, next_type, with_alias_of, bind_at, opening}
 use Rattle.wac_encode_stacks.specs.Good.{At, Keeps, Grown, nothing_bound, Good, Onward}
-use Rattle.wac_encode_stacks.specs.Parts.{Is, IsReached}
-use Rattle.wac_encode_stacks.specs.Laws.{Adds}
+use Rattle.wac_encode_stacks.specs.private.Parts.{Is, IsReached}
+use Rattle.wac_encode_stacks.specs.private.Laws.{Adds}
 use Rattle.wac_encode_stacks.specs.Listed.{Lists}
 use Rattle.wac_encode_stacks.specs.Instances.{holding}
 

@@ -22,7 +22,7 @@ use Rattle.wac_encode_scopes.specs.private.Parts.{parts}
 use Rattle.wac_encode_values.specs.declared.task.Part.{Part}
 use Rattle.wac_encode_values.specs.declared.task.Part.TheVariants.{Written, Missing}
 use Rattle.wac_encode_values.specs.declared.task.Task.{Task}
-use Rattle.wac_encode_values.specs.Values.{IsReady, IsWrittenAs, HasName, IsByName}
+use Rattle.wac_encode_values.specs.private.Values.{IsReady, IsWrittenAs, HasName, IsByName}
 
 -- The same of an optional value type.
 abbrev pub MaybeWrittenAs : Collection → Bool → State → Option ValueType → Option ComponentValType → Type 0

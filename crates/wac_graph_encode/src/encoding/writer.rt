@@ -22,10 +22,10 @@ ghost use Rattle.wac_graph_model.specs.private.meaning.MergedImports.{merged_imp
 ghost use Rattle.wac_graph_model.specs.private.meaning.Writing.{IsArgumentItem, AreArgumentItems};
 ghost use Rattle.wac_graph_model.specs.private.meaning.WrittenSoFar.{IsWrittenSoFar};
 ghost use Rattle.wac_graph_model.specs.nodes.Graph.{node_at, package_at, imports_of, instantiation, definition, IsArgumentOf, IsUnsatisfied};
-ghost use Rattle.wac_encode_scopes.specs.Closed.{AreClosedTypes};
+ghost use Rattle.wac_encode_scopes.specs.private.Closed.{AreClosedTypes};
 ghost use Rattle.wac_encode_scopes.specs.Roots.{IsRoot, items_of};
-ghost use Rattle.wac_encode_interfaces.specs.Worlds.{AreWorldTypes, written_in};
-ghost use Rattle.wac_encode_interfaces.specs.Writers.{IsWriter};
+ghost use Rattle.wac_encode_interfaces.specs.private.Worlds.{AreWorldTypes, written_in};
+ghost use Rattle.wac_encode_interfaces.specs.private.Writers.{IsWriter};
 ghost use Rattle.wac_encode_imports.specs.private.Imports.{AreImported};
 ghost use Rattle.wac_encode_imports.specs.private.ToldGraph.{HasNoUnbound};
 ghost use Rattle.wac_graph_reader.specs.private.reading.EncoderView.{progress};

@@ -1,7 +1,7 @@
 use Rattle.std.proofs.Common.{Contains, ◌∙◌}
 use Rattle.wac_types_shapes.specs.declared.shapes.component.«Type».{«Type» as AnyType}
 use Rattle.wac_merge_classes.specs.terms.Merge.{import_entries}
-use Rattle.wac_encode_interfaces.specs.Worlds.{HaveWorlds, written_in}
+use Rattle.wac_encode_interfaces.specs.private.Worlds.{HaveWorlds, written_in}
 use Rattle.wac_encode_imports.specs.private.Written.{HaveImportWorlds}
 use Rattle.wac_encode_imports.proofs.Given.{clean-types, held-types, worlds-of}
 use Rattle.wac_encode_imports.proofs.Writing.{if-ok}

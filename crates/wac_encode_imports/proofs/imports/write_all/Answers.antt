@@ -4,7 +4,7 @@ use Rattle.wac_types_shapes.specs.primitives.Name.{Name}
 use Rattle.wac_types_shapes.specs.declared.shapes.component.ItemKind.{ItemKind}
 use Rattle.wac_binary.specs.declared.sorts.Sort.{Sort}
 use Rattle.wac_merge_classes.specs.entries.Classes.{Entry}
-use Rattle.wac_encode_interfaces.specs.Imports.{import_sort}
+use Rattle.wac_encode_interfaces.specs.private.Imports.{import_sort}
 use Rattle.wac_encode_imports.specs.private.Modules.{module_index}
 use Rattle.wac_encode_imports.specs.private.Written.{merge_of, AreWritten}
 use Rattle.wac_encode_imports.proofs.ModuleTypes.{none-known}

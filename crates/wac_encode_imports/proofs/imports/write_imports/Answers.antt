@@ -3,8 +3,8 @@ use Rattle.wac_types_collection.specs.collection.Collection.{Collection, IsWellF
 use Rattle.wac_merge_classes.specs.entries.Bindings.{AreBindings, AreHeld}
 use Rattle.wac_merge_classes.specs.entries.Classes.{Entry}
 use Rattle.wac_merge_classes.specs.terms.Merge.{Merged}
-use Rattle.wac_encode_scopes.specs.Closed.{AreClosedTypes}
-use Rattle.wac_encode_interfaces.specs.Worlds.{AreWorldTypes, written_in}
+use Rattle.wac_encode_scopes.specs.private.Closed.{AreClosedTypes}
+use Rattle.wac_encode_interfaces.specs.private.Worlds.{AreWorldTypes, written_in}
 use Rattle.wac_encode_imports.specs.private.Imports.{AreImported}
 use Rattle.wac_encode_imports.specs.private.Exports.{ExportNoNameTwice}
 use Rattle.wac_encode_imports.specs.private.Written.{AreCleanImports, AreWritable, HaveImportWorlds, IsImportWriter}

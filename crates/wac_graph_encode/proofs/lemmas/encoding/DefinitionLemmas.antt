@@ -11,8 +11,8 @@ use Rattle.wac_binary.specs.Indexes.{space, indexes}
 use Rattle.wac_edges.specs.declared.node.NodeId.{NodeId}
 use Rattle.wac_encode_faults.specs.Trees.{definition_tree}
 use Rattle.wac_encode_scopes.specs.declared.state.State.{State}
-use Rattle.wac_encode_interfaces.specs.Definitions.{IsDefinable}
-use Rattle.wac_encode_interfaces.specs.Worlds.{Worlds}
+use Rattle.wac_encode_interfaces.specs.private.Definitions.{IsDefinable}
+use Rattle.wac_encode_interfaces.specs.private.Worlds.{Worlds}
 use Rattle.wac_graph_model.specs.declared.nodes.options.EncodeOptions.{EncodeOptions}
 use Rattle.wac_graph_model.specs.declared.nodes.packages.PackageId.{PackageId}
 use Rattle.wac_graph_model.specs.nodes.Graph as graph

@@ -18,9 +18,9 @@ use Rattle.wac_binary.specs.Meaning.{meaning}
 use Rattle.wac_binary.specs.Unfold.{Scope}
 use Rattle.wac_edges.specs.declared.node.NodeId.{NodeId}
 use Rattle.wac_encode_faults.specs.Trees.{definition_tree}
-use Rattle.wac_encode_stacks.specs.Brought.{GoodOnce}
+use Rattle.wac_encode_stacks.specs.private.Brought.{GoodOnce}
 use Rattle.wac_encode_stacks.specs.Good.{At, IsHeld, innermost, top}
-use Rattle.wac_encode_stacks.specs.Laws.{StaysOnward}
+use Rattle.wac_encode_stacks.specs.private.Laws.{StaysOnward}
 use Rattle.wac_encode_stacks.proofs.Aliases.{end-held}
 use Rattle.wac_encode_stacks.proofs.Grow.{at-type_at}
 use Rattle.wac_encode_scopes.specs.declared.state.State.{State}
@@ -28,7 +28,7 @@ use Rattle.wac_encode_scopes.specs.Lending.{with_items}
 use Rattle.wac_encode_scopes.specs.Roots.{items_of}
 use Rattle.wac_encode_scopes.specs.States.{stack, Goes, IsTypeAt}
 use Rattle.wac_encode_scopes.proofs.Stepped.{goes-none}
-use Rattle.wac_encode_interfaces.specs.Definitions.{IsDefinitionAt, IsFaultlessDefinition}
+use Rattle.wac_encode_interfaces.specs.private.Definitions.{IsDefinitionAt, IsFaultlessDefinition}
 use Rattle.wac_graph_model.specs.nodes.Definitions.{IsResource}
 use Rattle.wac_graph_model.specs.nodes.Graph as graph
 use Rattle.wac_graph_model.specs.nodes.Graph.{Graph, GraphNode, node_at}

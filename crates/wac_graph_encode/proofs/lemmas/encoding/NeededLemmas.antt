@@ -11,9 +11,9 @@ use Rattle.wac_types_collection.specs.collection.Collection.{holds_type}
 use Rattle.wac_types_collection.specs.collection.Package.{PackageParts}
 use Rattle.wac_types_collection.proofs.lemmas.wide.Members.{in_none, in_one, in_left, in_right, in_either, in_at, in_first}
 use Rattle.wac_edges.specs.declared.node.NodeId.{NodeId}
-use Rattle.wac_encode_interfaces.specs.Definitions.{AreDefinitionRoots, HaveDefinedWorlds}
-use Rattle.wac_encode_interfaces.specs.Ready.{IsClean}
-use Rattle.wac_encode_interfaces.specs.Worlds.{Worlds, HaveWorlds}
+use Rattle.wac_encode_interfaces.specs.private.Definitions.{AreDefinitionRoots, HaveDefinedWorlds}
+use Rattle.wac_encode_interfaces.specs.private.Ready.{IsClean}
+use Rattle.wac_encode_interfaces.specs.private.Worlds.{Worlds, HaveWorlds}
 use Rattle.wac_graph_model.specs.declared.nodes.packages.PackageId.{PackageId}
 use Rattle.wac_graph_model.specs.nodes.Graph as graph
 use Rattle.wac_graph_model.specs.nodes.Graph.{Graph, GraphNode, Kind, node_at, package_at}

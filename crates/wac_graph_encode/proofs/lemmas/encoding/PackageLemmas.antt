@@ -26,11 +26,11 @@ use Rattle.wac_encode_scopes.specs.declared.state.State.{State}
 use Rattle.wac_encode_scopes.specs.Contents.{count_of}
 use Rattle.wac_encode_scopes.specs.Roots.{IsRoot, items_of, and_import}
 use Rattle.wac_encode_faults.specs.Free.{IsFree, itself, in_part, in_export, parts}
-use Rattle.wac_encode_interfaces.specs.FreeTrees.{TreesByFree}
-use Rattle.wac_encode_interfaces.specs.Imports.{ImportsBeside, ImportsOf, IsImportReady}
-use Rattle.wac_encode_interfaces.specs.Ready.{IsClean}
-use Rattle.wac_encode_interfaces.specs.WorldTrees.{IsTreeOfItsSides}
-use Rattle.wac_encode_interfaces.specs.Worlds.{Worlds, HaveWorlds, written_in}
+use Rattle.wac_encode_interfaces.specs.private.FreeTrees.{TreesByFree}
+use Rattle.wac_encode_interfaces.specs.private.Imports.{ImportsBeside, ImportsOf, IsImportReady}
+use Rattle.wac_encode_interfaces.specs.private.Ready.{IsClean}
+use Rattle.wac_encode_interfaces.specs.private.WorldTrees.{IsTreeOfItsSides}
+use Rattle.wac_encode_interfaces.specs.private.Worlds.{Worlds, HaveWorlds, written_in}
 use Rattle.wac_edges.specs.declared.node.NodeId.{NodeId}
 use Rattle.wac_graph_model.specs.declared.nodes.options.EncodeOptions.{EncodeOptions}
 use Rattle.wac_graph_model.specs.declared.nodes.packages.PackageId.{PackageId}

@@ -23,7 +23,7 @@ use Rattle.wac_encode_scopes.specs.Lending.{GoesOnLent, with_items}
 use Rattle.wac_encode_scopes.specs.Roots.{IsRoot, items_of}
 use Rattle.wac_encode_scopes.specs.States.{outward, stack, Goes}
 use Rattle.wac_encode_faults.specs.Trees.{definition_tree}
-use Rattle.wac_encode_interfaces.specs.Definitions.{IsDefinitionAt, IsOfDefinition}
+use Rattle.wac_encode_interfaces.specs.private.Definitions.{IsDefinitionAt, IsOfDefinition}
 use Rattle.wac_graph_model.specs.nodes.Graph.{Graph}
 use Rattle.wac_graph_model.specs.private.meaning.Encoding.{IsTypeAlone}
 use Rattle.wac_graph_model.specs.private.meaning.Writing.{WritesTypeWith}

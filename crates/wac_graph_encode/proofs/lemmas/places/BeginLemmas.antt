@@ -33,7 +33,7 @@ use Rattle.wac_encode_scopes.specs.declared.state.State.{State}
 use Rattle.wac_encode_scopes.specs.Contents.{content_of}
 use Rattle.wac_encode_scopes.specs.Roots.{IsRoot, items_of}
 use Rattle.wac_encode_scopes.specs.States.{stack}
-use Rattle.wac_encode_interfaces.specs.Imports.{RefersToImport, import_sort}
+use Rattle.wac_encode_interfaces.specs.private.Imports.{RefersToImport, import_sort}
 use Rattle.wac_encode_imports.specs.private.Imports.{merged_bindings, import_tree, AreImported, IsImportOrType}
 
 -- ---- imports, types and aliases of types add nothing else

@@ -9,11 +9,11 @@ use Rattle.wac_binary.specs.Indexes.{space, indexes}
 use Rattle.wac_binary.specs.Items.{Item, export_item}
 use Rattle.wac_binary.specs.Meaning.{meaning}
 use Rattle.wac_binary.specs.Unfold.{type_at}
-use Rattle.wac_encode_stacks.specs.Brought.{GoodOnce}
+use Rattle.wac_encode_stacks.specs.private.Brought.{GoodOnce}
 use Rattle.wac_encode_scopes.specs.Lending.{GoesOnLent}
-use Rattle.wac_encode_interfaces.specs.Clean.{IsDefinitionOfNoFault}
-use Rattle.wac_encode_interfaces.specs.FreeTrees.{TreesByFree}
-use Rattle.wac_encode_interfaces.specs.WorldTrees.{IsTreeOfItsSides}
+use Rattle.wac_encode_interfaces.specs.private.Clean.{IsDefinitionOfNoFault}
+use Rattle.wac_encode_interfaces.specs.private.FreeTrees.{TreesByFree}
+use Rattle.wac_encode_interfaces.specs.private.WorldTrees.{IsTreeOfItsSides}
 
 -- What the type index of an export refers to.
 pub record ExportLaws : Type 0 where

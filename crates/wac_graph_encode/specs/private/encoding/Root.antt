@@ -13,10 +13,10 @@ use Rattle.wac_encode_stacks.specs.Good.{Good}
 use Rattle.wac_encode_scopes.specs.declared.state.State.{State}
 use Rattle.wac_encode_scopes.specs.Roots.{IsRoot, items_of}
 use Rattle.wac_encode_scopes.specs.States.{stack, Goes, IsTypeAt}
-use Rattle.wac_encode_interfaces.specs.Definitions.{IsFaultlessDefinition, HaveDefinedWorlds}
-use Rattle.wac_encode_interfaces.specs.Ready.{IsClean}
-use Rattle.wac_encode_interfaces.specs.Worlds.{Worlds, HaveWorlds, written_in}
-use Rattle.wac_encode_interfaces.specs.Writers.{IsWriter}
+use Rattle.wac_encode_interfaces.specs.private.Definitions.{IsFaultlessDefinition, HaveDefinedWorlds}
+use Rattle.wac_encode_interfaces.specs.private.Ready.{IsClean}
+use Rattle.wac_encode_interfaces.specs.private.Worlds.{Worlds, HaveWorlds, written_in}
+use Rattle.wac_encode_interfaces.specs.private.Writers.{IsWriter}
 use Rattle.wac_graph_model.specs.declared.nodes.options.EncodeOptions.{EncodeOptions}
 use Rattle.wac_graph_model.specs.declared.nodes.packages.PackageId.{PackageId}
 use Rattle.wac_graph_model.specs.nodes.OuterImports.{IsOuterOrder, outer_bindings}

@@ -1,6 +1,6 @@
 use Rattle.std.proofs.Common.{List, Contains, sym, subst}
 use Rattle.wac_types_shapes.specs.declared.shapes.component.«Type».{«Type» as AnyType}
-use Rattle.wac_encode_interfaces.specs.Worlds.{written_in}
+use Rattle.wac_encode_interfaces.specs.private.Worlds.{written_in}
 use Rattle.wac_encode_interfaces.proofs.Refused.{keeps-none}
 use Rattle.wac_encode.proofs.Results.{err-of}
 use Rattle.wac_encode.proofs.encoder.TypeEncoder.define.Goals as goal

@@ -1,6 +1,6 @@
 use Rattle.wac_encode_scopes.specs.States.{Goes}
-use Rattle.wac_encode_interfaces.specs.Definitions.{IsDefinable, IsDefinitionAt}
-use Rattle.wac_encode_interfaces.specs.Worlds.{written_in}
+use Rattle.wac_encode_interfaces.specs.private.Definitions.{IsDefinable, IsDefinitionAt}
+use Rattle.wac_encode_interfaces.specs.private.Worlds.{written_in}
 use Rattle.wac_encode_interfaces.proofs.Refused.{keeps-types}
 use Rattle.wac_encode.specs.declared.state.State.{State}
 use Rattle.wac_encode.proofs.Results.{err-of, if-ok, on-ok}

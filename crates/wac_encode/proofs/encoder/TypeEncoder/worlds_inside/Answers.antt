@@ -2,7 +2,7 @@ use Rattle.std.proofs.Common.{◌≡◌, true, List, [], ◌∷◌, ◌++◌, Co
 use Rattle.wac_types_shapes.specs.declared.shapes.component.«Type».{«Type» as AnyType}
 use Rattle.wac_types_collection.specs.collection.Collection.{holds_type}
 use Rattle.wac_types_collection.proofs.lemmas.wide.Members.{in_first, in_one}
-use Rattle.wac_encode_interfaces.specs.Ready.{IsClean}
+use Rattle.wac_encode_interfaces.specs.private.Ready.{IsClean}
 use Rattle.wac_encode.proofs.Results.{if-ok}
 use Rattle.wac_encode.proofs.encoder.TypeEncoder.worlds_inside.Goals as goal
 

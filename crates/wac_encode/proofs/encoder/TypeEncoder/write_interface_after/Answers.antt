@@ -2,8 +2,8 @@ use Rattle.std.proofs.Common.{false, length}
 use Rattle.wac_types_collection.specs.collection.Collection.{HasInterface}
 use Rattle.wac_types_collection.proofs.lemmas.collection.Steady.{within}
 use Rattle.wac_encode_scopes.specs.States.{Goes}
-use Rattle.wac_encode_interfaces.specs.Ready.{IsInterfaceAt, IsInterfaceReady}
-use Rattle.wac_encode_interfaces.specs.Worlds.{HaveInterfaceWorlds, written_in}
+use Rattle.wac_encode_interfaces.specs.private.Ready.{IsInterfaceAt, IsInterfaceReady}
+use Rattle.wac_encode_interfaces.specs.private.Worlds.{HaveInterfaceWorlds, written_in}
 use Rattle.wac_encode.specs.declared.state.State.{State}
 use Rattle.wac_encode.proofs.Results.{if-ok, on-ok}
 use Rattle.wac_encode.proofs.Roots.{writes-types}

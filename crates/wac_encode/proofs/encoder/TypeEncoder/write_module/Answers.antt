@@ -1,7 +1,7 @@
 use Rattle.std.proofs.Common.{length}
 use Rattle.wac_types_shapes.specs.declared.shapes.component.«Type».TheVariants as ty
 use Rattle.wac_types_collection.proofs.lemmas.collection.Steady.{within}
-use Rattle.wac_encode_scopes.specs.Components.{DefinesModuleType}
+use Rattle.wac_encode_scopes.specs.private.Components.{DefinesModuleType}
 use Rattle.wac_encode_interfaces.proofs.Importing.{module-at, module-goes}
 use Rattle.wac_encode_interfaces.proofs.Refused.{keeps-none, keeps-types}
 use Rattle.wac_encode.specs.Root.{WritesTypes}

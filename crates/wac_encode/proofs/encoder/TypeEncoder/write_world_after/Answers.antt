@@ -1,11 +1,11 @@
 use Rattle.std.proofs.Common.{Some, sym}
 use Rattle.wac_types_shapes.specs.declared.shapes.component.«Type».TheVariants as ty
 use Rattle.wac_encode_stacks.specs.Scopes.{defined}
-use Rattle.wac_encode_scopes.specs.Components.{DefinesComponent}
+use Rattle.wac_encode_scopes.specs.private.Components.{DefinesComponent}
 use Rattle.wac_encode_scopes.specs.States.{IsRecordedAt}
 use Rattle.wac_encode_interfaces.proofs.Refused.{keeps-types}
 use Rattle.wac_encode_interfaces.proofs.Written.{has-world, type-at, world-goes}
-use Rattle.wac_encode_interfaces.specs.Worlds.{written_in}
+use Rattle.wac_encode_interfaces.specs.private.Worlds.{written_in}
 use Rattle.wac_encode.specs.Root.{WritesTypes}
 use Rattle.wac_encode.specs.declared.state.State.{State}
 use Rattle.wac_encode.proofs.Results.{err-of, if-ok, ok-of}

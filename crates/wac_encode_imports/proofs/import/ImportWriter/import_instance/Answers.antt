@@ -1,4 +1,4 @@
-use Rattle.wac_encode_scopes.specs.Closed.{is_closed_in}
+use Rattle.wac_encode_scopes.specs.private.Closed.{is_closed_in}
 use Rattle.wac_encode_scopes.specs.private.Telling.{is_one_of, telling}
 use Rattle.wac_encode_imports.proofs.Writing.{instance-held, ready-instance, writes-instance}
 use Rattle.wac_encode_imports.proofs.import.ImportWriter.import_instance.Goals as goal

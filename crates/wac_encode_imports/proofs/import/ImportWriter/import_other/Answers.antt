@@ -1,4 +1,4 @@
-use Rattle.wac_encode_interfaces.specs.Imports.{ImportsBeside, ImportsOf}
+use Rattle.wac_encode_interfaces.specs.private.Imports.{ImportsBeside, ImportsOf}
 use Rattle.wac_encode_imports.specs.private.Written.{WritesImport}
 use Rattle.wac_encode_imports.proofs.Writing.{if-two, ready-plain, writes-plain}
 use Rattle.wac_encode_imports.proofs.import.ImportWriter.import_other.Goals as goal

@@ -1,7 +1,7 @@
 use Rattle.std.proofs.Common.{sym, ◌∙◌, subst}
 use Rattle.wac_types_collection.specs.collection.Collection.{Collection}
-use Rattle.wac_encode_scopes.specs.Closed.{AreClosedTypes}
-use Rattle.wac_encode_interfaces.specs.Worlds.{AreWorldTypes, written_in}
+use Rattle.wac_encode_scopes.specs.private.Closed.{AreClosedTypes}
+use Rattle.wac_encode_interfaces.specs.private.Worlds.{AreWorldTypes, written_in}
 use Rattle.wac_encode_interfaces.specs.declared.worlds.WorldTypes.{WorldTypes}
 use Rattle.wac_encode_imports.specs.private.Written.{AreWritable}
 use Rattle.wac_encode_imports.proofs.import.ImportWriter.new.Goals as goal

@@ -2,8 +2,11 @@ use Rattle.std.specs.Prelude.{ℕ, ◌≡◌, Bool, List, Some, true, false, len
 use Rattle.std.proofs.Common.{ap, sym, ◌∙◌, subst, arith}
 use Rattle.wac_types_collection.specs.collection.Collection.{item_at}
 use Rattle.wac_encode_scopes.specs.private.Bits.{SaysParts}
-use Rattle.wac_encode_scopes.proofs.ClosedBits.{says-more, none-said, fewer-left, all-said}
+use Rattle.wac_encode_scopes.proofs.ClosedBits.{says-more, none-said, none-open, fewer-left, all-said}
 use Rattle.wac_encode_scopes.proofs.closed.ClosedTypes.new.Goals as goal
+
+pub returns-then-holds_no_resource : goal.returns-then-holds_no_resource
+returns-then-holds_no_resource c = none-open c.args.types.now c.law.ensures (sym c.holds_no_resource.ensures ∙ c.if-holds_no_resource.true) c.new-closed.result.items c.new-closed.ensures.items
 
 pub loop-closed-init : goal.loop-closed-init
 loop-closed-init c = none-said c.args.types.now c.new-closed.result.items c.new-closed.ensures.items

@@ -1,5 +1,5 @@
 use Rattle.std.specs.Prelude.{ℕ, ◌<◌, ◌-◌, slice_get, length}
-use Rattle.wac_encode_scopes.specs.Closed.{bit_at, SaysClosed}
+use Rattle.wac_encode_scopes.specs.private.Closed.{bit_at, SaysClosed}
 use Rattle.wac_encode_scopes.proofs.closed.ClosedTypes.new.Given as goal
 
 abbrev pub invariant-loop-closed : goal.invariant-loop-closed

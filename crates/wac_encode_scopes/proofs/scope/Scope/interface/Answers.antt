@@ -3,7 +3,7 @@ use Rattle.std.proofs.lemmas.List.{take_all}
 use Rattle.wac_types_shapes.specs.primitives.Name.{Name}
 use Rattle.wac_types_shapes.specs.declared.shapes.component.ItemKind.{ItemKind}
 use Rattle.wac_encode_stacks.specs.Scopes.{opening}
-use Rattle.wac_encode_stacks.specs.Beside.{written_as}
+use Rattle.wac_encode_stacks.specs.private.Beside.{written_as}
 use Rattle.wac_encode_scopes.specs.declared.encodable.Encodable.{Encodable}
 use Rattle.wac_encode_scopes.specs.declared.encodable.Encodable.TheVariants.{Instance}
 use Rattle.wac_encode_scopes.specs.Contents.{content_of, IsInstanceType}

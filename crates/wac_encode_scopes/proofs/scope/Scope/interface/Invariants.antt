@@ -1,6 +1,6 @@
 use Rattle.std.proofs.Common.{◌≡◌, not, true, take}
 use Rattle.wac_encode_stacks.specs.Scopes.{opening}
-use Rattle.wac_encode_stacks.specs.Beside.{written_as}
+use Rattle.wac_encode_stacks.specs.private.Beside.{written_as}
 use Rattle.wac_encode_scopes.specs.declared.encodable.Encodable.TheVariants.{Instance}
 use Rattle.wac_encode_scopes.specs.Books.{opened}
 use Rattle.wac_encode_scopes.specs.private.Interfaces.{own_items, fresh_exports}

@@ -3,7 +3,7 @@ use Rattle.std.proofs.lemmas.List.{take_all}
 use Rattle.wac_types_shapes.specs.primitives.Name.{Name}
 use Rattle.wac_types_shapes.specs.declared.shapes.component.DefinedTypeId.{DefinedTypeId}
 use Rattle.wac_types_shapes.specs.declared.shapes.component.ItemKind.{ItemKind}
-use Rattle.wac_encode_scopes.specs.Closed.{is_closed_in}
+use Rattle.wac_encode_scopes.specs.private.Closed.{is_closed_in}
 use Rattle.wac_encode_scopes.specs.private.Telling.{exporting_values}
 use Rattle.wac_encode_scopes.specs.private.Steps.{ScopeChanges}
 use Rattle.wac_encode_scopes.proofs.Told.{exporting-none}

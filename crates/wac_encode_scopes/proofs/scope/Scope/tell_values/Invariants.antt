@@ -1,5 +1,5 @@
 use Rattle.std.proofs.Common.{◌≡◌, ◌||◌, take}
-use Rattle.wac_encode_scopes.specs.Closed.{is_closed_in}
+use Rattle.wac_encode_scopes.specs.private.Closed.{is_closed_in}
 use Rattle.wac_encode_scopes.specs.private.Telling.{exporting_values}
 use Rattle.wac_encode_scopes.specs.private.Steps.{ScopeChanges}
 use Rattle.wac_encode_scopes.proofs.scope.Scope.tell_values.Given as goal

@@ -1,6 +1,6 @@
 use Rattle.std.proofs.Common.{subst}
 use Rattle.wac_encode_stacks.specs.Scopes.{at_type}
-use Rattle.wac_encode_stacks.specs.Parts.{IsReached}
+use Rattle.wac_encode_stacks.specs.private.Parts.{IsReached}
 use Rattle.wac_encode_scopes.specs.States.{stack}
 use Rattle.wac_encode_scopes.proofs.Outward.{positive}
 use Rattle.wac_encode_scopes.proofs.Stepped.{on-ok, both-ok, goes-none, all-none, all-here, resource-here, goes-brought-from, resource-brought-from, tried}

@@ -1,6 +1,6 @@
 use Rattle.std.proofs.Common.{sym, subst}
 use Rattle.wac_encode_stacks.specs.Scopes.{at_type}
-use Rattle.wac_encode_stacks.specs.Parts.{IsReached}
+use Rattle.wac_encode_stacks.specs.private.Parts.{IsReached}
 use Rattle.wac_encode_scopes.specs.States.{stack}
 use Rattle.wac_encode_scopes.proofs.Stepped.{goes-none, all-none, found-some, found-export, goes-settled, reached-after}
 use Rattle.wac_encode_scopes.proofs.state.State.reach_resource.Goals as goal

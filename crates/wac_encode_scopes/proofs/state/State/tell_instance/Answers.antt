@@ -2,7 +2,7 @@ use Rattle.std.proofs.Common.{◌≡◌, Bool, Some, ◌∙◌, sym, subst}
 use Rattle.wac_types_shapes.specs.declared.shapes.component.ResourceId.{ResourceId}
 use Rattle.wac_types_shapes.specs.declared.shapes.component.Interface.{Interface}
 use Rattle.wac_encode_scopes.specs.Contents.{AddsTypes}
-use Rattle.wac_encode_scopes.specs.Closed.{is_closed_in}
+use Rattle.wac_encode_scopes.specs.private.Closed.{is_closed_in}
 use Rattle.wac_encode_scopes.specs.States.{RecordsHere}
 use Rattle.wac_encode_scopes.specs.private.Telling.{is_one_of, telling, TellsInstance}
 use Rattle.wac_encode_scopes.proofs.Added.{adds-none}

@@ -3,7 +3,7 @@ use Rattle.std.proofs.Common.{sym, subst, ◌∙◌}
 use Rattle.wac_types_shapes.specs.declared.shapes.component.ValueType.TheVariants as val
 use Rattle.wac_binary.specs.declared.types.ComponentValType.TheVariants.{Primitive, Index}
 use Rattle.wac_encode_scopes.proofs.Stepped.{goes-none, all-none}
-use Rattle.wac_encode_values.specs.Values.{IsWrittenAs}
+use Rattle.wac_encode_values.specs.private.Values.{IsWrittenAs}
 use Rattle.wac_encode_values.proofs.Ready.{ready-end, written-end, primitive-written, primitive-by-name}
 use Rattle.wac_encode_values.proofs.encoder.ValueEncoder.find.Goals as goal
 

@@ -4,7 +4,7 @@ use Rattle.wac_binary.specs.declared.types.ComponentValType.TheVariants.{Index}
 use Rattle.wac_encode_stacks.specs.Scopes.{defined}
 use Rattle.wac_encode_scopes.specs.States.{IsRecordedAt}
 use Rattle.wac_encode_scopes.proofs.Stepped.{goes-none, all-none}
-use Rattle.wac_encode_values.specs.Values.{IsWrittenAs}
+use Rattle.wac_encode_values.specs.private.Values.{IsWrittenAs}
 use Rattle.wac_encode_values.proofs.Ready.{on-ok, if-ok, end-itself, own-bound, own-written, indexed-written, recorded-written}
 use Rattle.wac_encode_values.proofs.encoder.ValueEncoder.own.Goals as goal
 

@@ -1,7 +1,7 @@
 use Rattle.std.proofs.Common.{sym}
 use Rattle.wac_types_shapes.specs.declared.shapes.component.ValueType.TheVariants as val
 use Rattle.wac_encode_scopes.proofs.Stepped.{goes-both, all-both}
-use Rattle.wac_encode_values.specs.Values.{IsWrittenAs, IsByName}
+use Rattle.wac_encode_values.specs.private.Values.{IsWrittenAs, IsByName}
 use Rattle.wac_encode_values.proofs.Ready.{on-ok, if-ok, all-ok, can-begin, found-written, found-missing, by-name-written, by-name-missing, written-end}
 use Rattle.wac_encode_values.proofs.encoder.ValueEncoder.value_type.Goals as goal
 

@@ -3,9 +3,9 @@ use Rattle.wac_types_shapes.specs.declared.shapes.component.«Type».{«Type» a
 use Rattle.wac_types_collection.specs.collection.Collection.{Collection, holds_type}
 use Rattle.wac_types_collection.proofs.lemmas.wide.Members.{at_in}
 use Rattle.wac_edges.specs.Edge.{node_number}
-use Rattle.wac_encode_scopes.specs.Closed.{AreClosedTypes}
-use Rattle.wac_encode_interfaces.specs.Ready.{IsClean}
-use Rattle.wac_encode_interfaces.specs.Worlds.{AreWorldTypes, HaveWorlds, written_in}
+use Rattle.wac_encode_scopes.specs.private.Closed.{AreClosedTypes}
+use Rattle.wac_encode_interfaces.specs.private.Ready.{IsClean}
+use Rattle.wac_encode_interfaces.specs.private.Worlds.{AreWorldTypes, HaveWorlds, written_in}
 use Rattle.wac_graph_reader.proofs.lemmas.writing.WriteArgumentsLemmas.{element}
 use Rattle.wac_graph_encode.proofs.lemmas.encoding.NeededLemmas.{RootsSoFar, no-roots-yet, roots-more, roots-all}
 use Rattle.wac_graph_encode.proofs.encoding.writer.node_worlds.Goals as goal

@@ -2,7 +2,7 @@ use Rattle.std.proofs.Common.{◌≡◌, ◌∙◌, ◌∷◌, ◌++◌, [], fal
 use Rattle.wac_types_shapes.specs.declared.shapes.component.WorldId.{WorldId}
 use Rattle.wac_types_shapes.specs.declared.shapes.component.«Type».TheVariants as ty
 use Rattle.wac_types_collection.specs.collection.Collection.{Collection}
-use Rattle.wac_encode_interfaces.specs.Definitions.{AreDefinitionRoots}
+use Rattle.wac_encode_interfaces.specs.private.Definitions.{AreDefinitionRoots}
 use Rattle.wac_graph_model.specs.meaning.Means.{is_import}
 use Rattle.wac_graph_model.specs.nodes.Graph.{definition, instantiation}
 use Rattle.wac_graph_model.specs.nodes.Nodes.{kind_of}

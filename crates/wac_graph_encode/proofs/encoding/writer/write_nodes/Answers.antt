@@ -1,8 +1,8 @@
 use Rattle.std.proofs.Common.{◌∙◌, Contains, None, false, length, ap, refl, sym, subst}
 use Rattle.wac_types_collection.specs.collection.Collection.{Collection}
 use Rattle.wac_edges.specs.declared.node.NodeId.{NodeId}
-use Rattle.wac_encode_scopes.specs.Closed.{AreClosedTypes}
-use Rattle.wac_encode_interfaces.specs.Worlds.{AreWorldTypes, written_in}
+use Rattle.wac_encode_scopes.specs.private.Closed.{AreClosedTypes}
+use Rattle.wac_encode_interfaces.specs.private.Worlds.{AreWorldTypes, written_in}
 use Rattle.wac_encode_interfaces.specs.declared.worlds.WorldTypes.{WorldTypes}
 use Rattle.wac_graph_model.specs.nodes.OuterImports.{outer_bindings}
 use Rattle.wac_graph_reader.proofs.lemmas.writing.MeansLemmas.{in_order}

@@ -4,8 +4,8 @@ use Rattle.wac_types_shapes.specs.declared.shapes.component.ItemKind.TheVariants
 use Rattle.wac_types_shapes.specs.declared.shapes.component.WorldId.{WorldId}
 use Rattle.wac_binary.specs.Items.{nested}
 use Rattle.wac_encode_scopes.specs.Lending.{with_items}
-use Rattle.wac_encode_interfaces.specs.Imports.{ImportsBeside, ImportsOf, IsImportReady}
-use Rattle.wac_encode_interfaces.specs.Worlds.{written_in}
+use Rattle.wac_encode_interfaces.specs.private.Imports.{ImportsBeside, ImportsOf, IsImportReady}
+use Rattle.wac_encode_interfaces.specs.private.Worlds.{written_in}
 use Rattle.wac_graph_encode.proofs.lemmas.encoding.NodeLemmas.{own-types, graph-types}
 use Rattle.wac_graph_encode.proofs.lemmas.encoding.RootLemmas.{appended-open}
 use Rattle.wac_graph_encode.proofs.lemmas.encoding.PackageLemmas.{beside-root, imports-component, imports-open, world-import-ready}

@@ -6,8 +6,8 @@ use Rattle.wac_binary.specs.Items.{export_item}
 use Rattle.wac_encode_scopes.specs.Lending.{with_items}
 use Rattle.wac_encode_scopes.specs.Roots.{items_of}
 use Rattle.wac_encode_scopes.specs.States.{Goes}
-use Rattle.wac_encode_interfaces.specs.Definitions.{IsDefinable, IsDefinitionAt}
-use Rattle.wac_encode_interfaces.specs.Worlds.{written_in}
+use Rattle.wac_encode_interfaces.specs.private.Definitions.{IsDefinable, IsDefinitionAt}
+use Rattle.wac_encode_interfaces.specs.private.Worlds.{written_in}
 use Rattle.wac_graph_model.specs.private.meaning.Encoding.{index_in}
 use Rattle.wac_graph_encode.specs.private.encoding.Root.{RecordsName}
 use Rattle.wac_graph_encode.proofs.lemmas.encoding.NodeLemmas.{own-types, graph-types}

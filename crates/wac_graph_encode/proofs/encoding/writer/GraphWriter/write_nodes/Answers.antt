@@ -1,6 +1,6 @@
 use Rattle.std.proofs.Common.{◌≡◌, false, ◌<◌, ◌∙◌, refl, sym, subst, arith, slice_index_or}
 use Rattle.wac_edges.specs.Edge.{node_number}
-use Rattle.wac_encode_interfaces.specs.Worlds.{written_in}
+use Rattle.wac_encode_interfaces.specs.private.Worlds.{written_in}
 use Rattle.wac_graph_model.specs.meaning.Means.{is_import}
 use Rattle.wac_graph_reader.proofs.lemmas.writing.WriteArgumentsLemmas.{element, room_kept, is_there_of}
 use Rattle.wac_graph_encode.proofs.lemmas.encoding.LoopLemmas.{within-order, written-starts, written-further, written-ends, node-ready}

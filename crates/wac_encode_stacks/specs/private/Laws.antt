@@ -24,7 +24,7 @@ use Rattle.wac_binary.specs.Unfold.{scope_at}
 use Rattle.wac_binary.specs.HasMeaning.{IsValue, IsFunction, IsType}
 use Rattle.wac_encode_stacks.specs.Scopes.{Where, at_type, at_export, How, defined, Indexed, Open, Stack, env, envs, next_type, with_def, with_alias_of, bind_at, index_at, export_at}
 use Rattle.wac_encode_stacks.specs.Good.{At, Stands, IsHeld, IsOf, Good, top, Onward, innermost}
-use Rattle.wac_encode_stacks.specs.Parts.{Is, IsWritten, IsWrittenFunc, IsReached}
+use Rattle.wac_encode_stacks.specs.private.Parts.{Is, IsWritten, IsWrittenFunc, IsReached}
 
 -- A step after which the type index i of the innermost scope refers to the tree t.
 abbrev pub Adds : Collection → List Bindings → Stack → Stack → ℕ → Tree → Type 0

@@ -9,14 +9,18 @@ use Rattle.wac_types_collection.specs.reach.Reach.{Reaches}
 use Rattle.wac_encode_stacks.specs.Good.{IsClosed}
 use Rattle.wac_encode_scopes.specs.declared.closed.ClosedTypes.{ClosedTypes}
 
+-- The bit, or the other one if there is none.
+abbrev pub bit_or_default : Bool → Option Bool → Bool
+bit_or_default other None = other
+bit_or_default other (Some b) = b
+
 -- The bit, or false if there is none.
 abbrev pub bit_at : Option Bool → Bool
-bit_at None = false
-bit_at (Some b) = b
+bit_at o = bit_or_default false o
 
--- Whether the definition is one of the closed ones.
+-- Whether the definition is one of the closed ones. Without resources there are no bits.
 abbrev pub is_closed_in : ClosedTypes → DefinedTypeId → Bool
-is_closed_in x d = bit_at (slice_get x.closed.items d.0)
+is_closed_in x d = bit_or_default x.has_no_resource (slice_get x.closed.items d.0)
 
 -- If is_closed, the definition mentions no resource. Otherwise it reaches one.
 abbrev pub SaysClosed : Collection → DefinedTypeId → Bool → Type 0

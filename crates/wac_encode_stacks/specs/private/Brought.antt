@@ -15,7 +15,7 @@ use Rattle.wac_binary.specs.Items.{export_alias, outer_alias}
 use Rattle.wac_binary.specs.Unfold.{scope_at}
 use Rattle.wac_encode_stacks.specs.Scopes.{Where, at_type, at_export, brought, Indexed, Open, Stack, envs, next_type, with_alias_of, index_at, export_at}
 use Rattle.wac_encode_stacks.specs.Good.{At, IsHeld, IsClosed, IsOf, nothing_bound, Good, top, Onward}
-use Rattle.wac_encode_stacks.specs.Parts.{IsReached}
+use Rattle.wac_encode_stacks.specs.private.Parts.{IsReached}
 use Rattle.wac_encode_stacks.specs.private.Inside.{changed_at, next_type_at}
 
 -- The bindings of the scope k scopes out.

@@ -16,9 +16,9 @@ use Rattle.wac_encode_scopes.specs.Contents.{content_of, and_type, declarations_
 use Rattle.wac_binary.specs.Items.{decls, instance_def}
 use Rattle.wac_encode_scopes.specs.States.{outward, stack}
 use Rattle.wac_encode_stacks.specs.Scopes.{opening, at_type, at_export, export_at, bind_at}
-use Rattle.wac_encode_stacks.specs.Beside.{written_as}
+use Rattle.wac_encode_stacks.specs.private.Beside.{written_as}
 use Rattle.wac_encode_stacks.specs.Good.{At, Good, innermost, Stands, Onward, top}
-use Rattle.wac_encode_stacks.specs.Laws.{Adds}
+use Rattle.wac_encode_stacks.specs.private.Laws.{Adds}
 use Rattle.wac_encode_stacks.specs.Listed.{IsNewName, Lists, calling, listed_leaf, RecordsNoType}
 use Rattle.wac_types_shapes.specs.declared.shapes.component.ResourceId.{ResourceId}
 use Rattle.wac_types_shapes.specs.declared.shapes.component.DefinedTypeId.{DefinedTypeId}

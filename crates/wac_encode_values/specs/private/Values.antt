@@ -13,12 +13,12 @@ use Rattle.wac_binary.specs.declared.types.ComponentValType.{ComponentValType}
 use Rattle.wac_binary.specs.declared.types.ComponentValType.TheVariants.{Index}
 use Rattle.wac_encode_stacks.specs.Scopes.{Where, at_type}
 use Rattle.wac_encode_stacks.specs.Good.{Good, top, innermost, Holds}
-use Rattle.wac_encode_stacks.specs.Parts.{Is}
+use Rattle.wac_encode_stacks.specs.private.Parts.{Is}
 use Rattle.wac_encode_scopes.specs.declared.state.State.{State}
 use Rattle.wac_encode_scopes.specs.declared.closed.ClosedTypes.{ClosedTypes}
 use Rattle.wac_encode_scopes.specs.Books.{opened}
 use Rattle.wac_encode_scopes.specs.States.{stack, named_in, IsNamedAt, Crosses}
-use Rattle.wac_encode_scopes.specs.Closed.{is_closed_in}
+use Rattle.wac_encode_scopes.specs.private.Closed.{is_closed_in}
 
 -- The scopes are good under some bindings, which bind each resource that the type mentions.
 abbrev pub IsReady : Collection → Bool → State → AnyType → Type 0
