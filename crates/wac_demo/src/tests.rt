@@ -2,6 +2,7 @@
 use crate::args::asked_word;
 use crate::compositions::cycle_refusal;
 use crate::run::run;
+use std::alloc::Global;
 use std::env::{Env, FillError};
 use std::io;
 use std::io::Write;
@@ -54,13 +55,38 @@ fn assert_row(rt: &impl Abort, holds: bool, row: &str) {
     assert!(rt; holds, "{row}");
 }
 
+// What is printed where memory was refused.
+const REFUSALS: &[&str] = &[
+    "out of memory\n",
+    "OutOfMemory\n",
+    "memory allocation failed\n",
+];
+
+// Whether memory was refused, or room for what is printed.
+fn is_refused(status: u8, out: &[u8]) -> bool {
+    for text in REFUSALS {
+        if status == 1 && out == text.as_bytes() {
+            return true;
+        }
+    }
+    status == 3
+}
+
+// Whether a word is answered by this line and this status; asked once more where memory was refused.
+fn is_answered(alloc: Global, word: &str, want: &str, status: u8) -> bool {
+    let mut out = Vec::new(alloc);
+    let mut answer = run(alloc, word, &mut out);
+    if is_refused(answer, out.as_slice()) {
+        out.clear();
+        answer = run(alloc, word, &mut out);
+    }
+    answer == status && out.as_slice() == want.as_bytes()
+}
+
 #[test]
 fn a_word_is_answered_by_a_line(rt: HostRuntime) {
     for (word, want, status) in WORDS {
-        let mut out = Vec::new(rt.alloc());
-        let answer = run(rt.alloc(), word, &mut out);
-        assert_row(&rt, answer == *status, word);
-        assert_row(&rt, out.as_slice() == want.as_bytes(), word);
+        assert_row(&rt, is_answered(rt.alloc(), word, want, *status), word);
     }
 }
 

@@ -31,7 +31,7 @@ use Rattle.wac_binary.specs.Items.{TypeDef, Decl, Decls, next, decls, core_type_
 use Rattle.wac_binary.specs.HasMeaning.{IsValue, ImportNothing}
 use Rattle.wac_encode_stacks.specs.Scopes.{Open, Stack}
 use Rattle.wac_encode_stacks.specs.Good.{At, Good, Carries, IsHeld, Holds, nothing_bound, top, innermost}
-use Rattle.wac_encode_stacks.specs.Brought.{GoodOnce}
+use Rattle.wac_encode_stacks.specs.private.Brought.{GoodOnce}
 use Rattle.wac_encode_stacks.specs.private.HeldParts.{HeldUnderMore, HoldsAll}
 use Rattle.wac_encode_stacks.specs.Listed.{AreListed, IsUnder, IsItem}
 use Rattle.wac_encode_stacks.specs.Instances.{Shows, position_of, taken_leaf}
@@ -43,17 +43,17 @@ use Rattle.wac_encode_scopes.specs.declared.encodable.Encodable.{Encodable}
 use Rattle.wac_encode_scopes.specs.declared.encodable.Encodable.TheVariants.{Builder, Instance, Component}
 use Rattle.wac_encode_scopes.specs.declared.scope.Scope.{Scope}
 use Rattle.wac_encode_scopes.specs.declared.state.State.{State}
-use Rattle.wac_encode_scopes.specs.Closed.{AreClosedTypes, SaysClosed, is_closed_in}
+use Rattle.wac_encode_scopes.specs.private.Closed.{AreClosedTypes, SaysClosed, is_closed_in}
 use Rattle.wac_encode_scopes.specs.Contents.{AddsTypes, IsTypeDecl, HasSide, IsInstanceType, and_item, and_type, declarations_of}
 use Rattle.wac_encode_scopes.specs.Books.{opened}
 use Rattle.wac_encode_scopes.specs.private.Interfaces.{own_in, own_items, fresh_exports, BeginsInterface}
-use Rattle.wac_encode_scopes.specs.Listing.{IsNonempty, Closes, ClosesInto}
+use Rattle.wac_encode_scopes.specs.private.Listing.{IsNonempty, Closes, ClosesInto}
 use Rattle.wac_encode_scopes.specs.Roots.{IsRoot, items_of, ImportsItem, and_import}
 use Rattle.wac_encode_scopes.specs.States.{outward, stack, AllAddTypes, Goes, IsTypeAt}
 use Rattle.wac_encode_scopes.specs.private.Telling.{with_own_names, MayBind, TellsInstance}
 use Rattle.wac_encode_scopes.proofs.Owned.{own-lists}
 use Rattle.wac_encode_scopes.proofs.Added.{adds-both, adds-def}
-use Rattle.wac_encode_values.specs.Values.{IsReady, IsWrittenAs}
+use Rattle.wac_encode_values.specs.private.Values.{IsReady, IsWrittenAs}
 use Rattle.wac_encode_tests.specs.private.Stacks.{AreGood, IsGoodRoot, HasNoImports, MayWrite, MayWriteAll, HasOnly}
 
 -- instance types without imports

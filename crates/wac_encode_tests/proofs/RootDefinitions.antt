@@ -14,8 +14,8 @@ use Rattle.wac_encode_faults.specs.declared.fault.WriteFault.{WriteFault}
 use Rattle.wac_encode_faults.specs.declared.faults.Role.TheVariants as role
 use Rattle.wac_encode_faults.specs.Faults.{IsLowest, HasFault, IsDefinedFault, IsDefinitionFault}
 use Rattle.wac_encode_faults.specs.Sides.{Sides, defined_sides}
-use Rattle.wac_encode_interfaces.specs.Definitions.{AreDefinitionRoots, IsDefinable}
-use Rattle.wac_encode_interfaces.specs.Worlds.{HaveWorlds, written_in}
+use Rattle.wac_encode_interfaces.specs.private.Definitions.{AreDefinitionRoots, IsDefinable}
+use Rattle.wac_encode_interfaces.specs.private.Worlds.{HaveWorlds, written_in}
 use Rattle.wac_encode_interfaces.specs.declared.worlds.WorldTypes.{WorldTypes}
 use Rattle.wac_encode_tests.specs.private.Opened.{BindsAll, CanDefine, IsRootOf}
 use Rattle.wac_encode_tests.proofs.RootItems.{bindings-of, bottom-types, if-ok-is, in-bindings, root-types, unbound-less}

@@ -37,9 +37,9 @@ use Rattle.wac_encode_faults.specs.declared.faults.Role.TheVariants as role
 use Rattle.wac_encode_faults.specs.Faults.{import_fault, IsLowest, HasFault, IsImportFault, own, unbound, inside}
 use Rattle.wac_encode_faults.specs.Free.{IsFree}
 use Rattle.wac_encode_faults.proofs.FreeParts.{inserted_law}
-use Rattle.wac_encode_interfaces.specs.Imports.{ImportsBeside, ImportsOf, IsImportReady, next_place}
-use Rattle.wac_encode_interfaces.specs.Ready.{IsClean}
-use Rattle.wac_encode_interfaces.specs.Worlds.{HaveWorlds, written_in}
+use Rattle.wac_encode_interfaces.specs.private.Imports.{ImportsBeside, ImportsOf, IsImportReady, next_place}
+use Rattle.wac_encode_interfaces.specs.private.Ready.{IsClean}
+use Rattle.wac_encode_interfaces.specs.private.Worlds.{HaveWorlds, written_in}
 use Rattle.wac_encode_interfaces.specs.declared.worlds.WorldTypes.{WorldTypes}
 use Rattle.wac_encode_interfaces.proofs.Agreeing.{held-free}
 use Rattle.wac_encode_interfaces.proofs.Bound.{any-in, in-any}

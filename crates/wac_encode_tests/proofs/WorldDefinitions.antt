@@ -20,10 +20,10 @@ use Rattle.wac_encode_faults.specs.declared.fault.WriteFault.{WriteFault}
 use Rattle.wac_encode_faults.specs.declared.faults.Role.TheVariants as role
 use Rattle.wac_encode_faults.specs.Faults.{IsLowest, HasFault}
 use Rattle.wac_encode_faults.specs.Sides.{Sides, under_id, unlisted, completed_sides}
-use Rattle.wac_encode_interfaces.specs.Clean.{AreCleanOrBound, IsCleanDefinition, IsDefinitionOfNoFault}
-use Rattle.wac_encode_interfaces.specs.Given.{AreHeldSides, HaveSidesWorlds}
-use Rattle.wac_encode_interfaces.specs.Ready.{AreSidesClean}
-use Rattle.wac_encode_interfaces.specs.Worlds.{written_in}
+use Rattle.wac_encode_interfaces.specs.private.Clean.{AreCleanOrBound, IsCleanDefinition, IsDefinitionOfNoFault}
+use Rattle.wac_encode_interfaces.specs.private.Given.{AreHeldSides, HaveSidesWorlds}
+use Rattle.wac_encode_interfaces.specs.private.Ready.{AreSidesClean}
+use Rattle.wac_encode_interfaces.specs.private.Worlds.{written_in}
 use Rattle.wac_encode_interfaces.specs.declared.sides.Sides.{Sides as GivenSides}
 use Rattle.wac_encode_interfaces.specs.declared.worlds.WorldTypes.{WorldTypes}
 use Rattle.wac_encode_interfaces.proofs.WorldsAhead.{world-held-items, worlds-as}

@@ -125,7 +125,11 @@ const WRITTEN: &[Written] = &[
 ];
 
 // Writes a type as it is. Returns its index.
-fn as_it_is(encoder: &TypeEncoder<'_>, state: &mut State, ty: Type) -> Result<u32, EncodeFault>
+pub(crate) fn as_it_is(
+    encoder: &TypeEncoder<'_>,
+    state: &mut State,
+    ty: Type,
+) -> Result<u32, EncodeFault>
     requires held { holds_type encoder.now.types.now ty ≡ true }
     requires ready { IsReadyFor encoder.now.types.now encoder.now.merged state.old }
     ensures { OnOk result (IsReadyFor encoder.now.types.now encoder.now.merged state.new) }
@@ -137,7 +141,11 @@ fn as_it_is(encoder: &TypeEncoder<'_>, state: &mut State, ty: Type) -> Result<u3
 }
 
 // Writes the definition of an interface or of a world, or else a type as it is. Returns its index.
-fn definition(encoder: &TypeEncoder<'_>, state: &mut State, ty: Type) -> Result<u32, EncodeFault>
+pub(crate) fn definition(
+    encoder: &TypeEncoder<'_>,
+    state: &mut State,
+    ty: Type,
+) -> Result<u32, EncodeFault>
     requires held { holds_type encoder.now.types.now ty ≡ true }
     requires ready { IsReadyFor encoder.now.types.now encoder.now.merged state.old }
     ensures { OnOk result (IsReadyFor encoder.now.types.now encoder.now.merged state.new) }

@@ -4,8 +4,8 @@ ghost use Rattle.std.specs.Prelude.{◌≡◌, true};
 ghost use Rattle.wac_types_shapes.specs.declared.shapes.component.«Type».TheVariants as ty;
 ghost use Rattle.wac_types_collection.specs.collection.Collection.{holds_type};
 ghost use Rattle.wac_encode_stacks.specs.Good.{nothing_bound};
-ghost use Rattle.wac_encode_scopes.specs.Closed.{AreClosedTypes};
-ghost use Rattle.wac_encode_interfaces.specs.Clean.{IsCleanDefinition};
+ghost use Rattle.wac_encode_scopes.specs.private.Closed.{AreClosedTypes};
+ghost use Rattle.wac_encode_interfaces.specs.private.Clean.{IsCleanDefinition};
 
 use crate::rows::Row::{
     Component, Enumeration, Func, Instance, List, NamedResource, Own, Primitive, Resource, User,
@@ -225,6 +225,28 @@ const RESOURCES: &[ComponentRow] = &[
             0x04, 0x00, 0x01, 0x72, 0x03, 0x01, // the resource
             0x04, 0x00, 0x05, 0x6e, 0x3a, 0x70, 0x2f, 0x61, 0x05, 0x00, // the export
             0x02, 0x03, 0x00, 0x00, 0x01, 0x72, // an alias of its resource
+            0x01, 0x69, 0x01, // an `own` of it
+            0x01, 0x40, 0x01, 0x01, 0x78, 0x02, 0x01, 0x00, // a function type over that
+            0x04, 0x00, 0x01, 0x67, 0x01, 0x03, // the function
+        ],
+    },
+    ComponentRow {
+        name: "an export binds a resource that an import has under another name than its interface's id",
+        rows: &[
+            Resource,
+            Instance(Some("n:p/a"), &[("r", 0)]),
+            Own(0),
+            Func(&[("x", 2)], None),
+            Component(Some("n:p/w"), &[("primary", 1)], &[("g", 3), ("n:p/a", 1)]),
+        ],
+        world: 4,
+        want: &[
+            0x07, 0x39, 0x01, 0x41, 0x07, // a component type of seven declarations
+            0x01, 0x42, 0x01, // an instance type of one declaration
+            0x04, 0x00, 0x01, 0x72, 0x03, 0x01, // the resource
+            0x03, 0x00, 0x07, 0x70, 0x72, 0x69, 0x6d, 0x61, 0x72, 0x79, 0x05, 0x00, // the import
+            0x04, 0x00, 0x05, 0x6e, 0x3a, 0x70, 0x2f, 0x61, 0x05, 0x00, // the export
+            0x02, 0x03, 0x00, 0x01, 0x01, 0x72, // an alias of the export's resource
             0x01, 0x69, 0x01, // an `own` of it
             0x01, 0x40, 0x01, 0x01, 0x78, 0x02, 0x01, 0x00, // a function type over that
             0x04, 0x00, 0x01, 0x67, 0x01, 0x03, // the function

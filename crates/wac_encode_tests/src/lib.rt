@@ -13,6 +13,8 @@ mod depth;
 #[cfg(test)]
 mod faults;
 #[cfg(test)]
+mod memory;
+#[cfg(test)]
 mod merged;
 #[cfg(test)]
 mod modules;

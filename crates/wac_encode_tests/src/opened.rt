@@ -4,8 +4,8 @@ ghost use Rattle.std.specs.Prelude.{◌≡◌, true, None};
 ghost use Rattle.wac_types_shapes.specs.declared.shapes.component.«Type».TheVariants as ty;
 ghost use Rattle.wac_types_shapes.specs.shapes.Kinds.{kind_type};
 ghost use Rattle.wac_types_collection.specs.collection.Collection.{holds_type};
-ghost use Rattle.wac_encode_scopes.specs.Closed.{AreClosedTypes};
-ghost use Rattle.wac_encode_interfaces.specs.Imports.{module_type_of};
+ghost use Rattle.wac_encode_scopes.specs.private.Closed.{AreClosedTypes};
+ghost use Rattle.wac_encode_interfaces.specs.private.Imports.{module_type_of};
 ghost use Rattle.wac_encode_tests.specs.private.Opened.{BindsAll, BindsNoneOf, CanImport, IsImported, IsRootOf, item_resource};
 
 use crate::rows::{Item, Items};

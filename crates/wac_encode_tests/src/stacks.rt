@@ -3,11 +3,11 @@
 ghost use Rattle.std.specs.Prelude.{◌≡◌, ◌++◌, ◌∷◌, [], true, IfSome};
 ghost use Rattle.wac_types_shapes.specs.declared.shapes.component.«Type».TheVariants as ty;
 ghost use Rattle.wac_types_collection.specs.collection.Collection.{HasFunc};
-ghost use Rattle.wac_encode_scopes.specs.Closed.{AreClosedTypes};
+ghost use Rattle.wac_encode_scopes.specs.private.Closed.{AreClosedTypes};
 ghost use Rattle.wac_encode_scopes.specs.private.Interfaces.{own_in};
 ghost use Rattle.wac_encode_scopes.specs.Roots.{IsRoot};
 ghost use Rattle.wac_encode_scopes.specs.States.{AllAddTypes};
-ghost use Rattle.wac_encode_values.specs.Values.{IsWrittenAs};
+ghost use Rattle.wac_encode_values.specs.private.Values.{IsWrittenAs};
 ghost use Rattle.wac_encode_tests.specs.private.Stacks.{AreGood, IsGoodRoot, HasNoImports, MayWrite, MayWriteAll, HasOnly};
 
 use crate::rows::Row::{Enumeration, Func, Instance, List, Own, Primitive, Record, Resource};

@@ -29,6 +29,21 @@ const BROUGHT_IN: &[&str] = &[
     "0a0a0100056e3a702f690502", // an instance of it
 ];
 
+const BROUGHT_TWICE: &[&str] = &[
+    "070f014202", // an instance type of two declarations
+    "016d010161", // an enum
+    "04000174030000", // a type item that equals it
+    "0a0a0100056e3a702f6b0500", // an instance of it
+    "0606010300000174", // an alias of its type item
+    "071f014202", // an instance type of two declarations
+    "014203", // an instance type of three declarations inside
+    "0203020201", // an alias of the alias, two scopes out
+    "0140010178000100", // a function type over it
+    "040001660101", // a function
+    "0400016a0500", // an instance of it
+    "0a0a0100056e3a702f690502", // an instance of the outer one
+];
+
 // Imports that are made of what another lists.
 const ALIASED: &[Case] = &[
     // A function takes an enum that an interface lists; both are imported, the function by the lower node.
@@ -51,6 +66,18 @@ const ALIASED: &[Case] = &[
         ],
         steps: &[Import("n:p/j", 2), Import("n:p/i", 3)],
         want: Parts(BROUGHT_IN),
+    },
+    // An interface lists an instance that uses the enum of another interface, which is imported first.
+    Case {
+        rows: &[
+            Enumeration("a"),
+            Func(&[("x", 0)], None),
+            Instance(Some("n:p/k"), &[("t", 0)]),
+            Using(None, &[("t", 2, "t")], &[("f", 1)]),
+            Instance(Some("n:p/i"), &[("j", 3)]),
+        ],
+        steps: &[Import("n:p/i", 4)],
+        want: Parts(BROUGHT_TWICE),
     },
 ];
 

@@ -23,6 +23,8 @@ mod imports;
 #[cfg(test)]
 mod listed;
 #[cfg(test)]
+mod memory;
+#[cfg(test)]
 mod names;
 #[cfg(test)]
 mod once;

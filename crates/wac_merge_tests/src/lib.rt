@@ -9,6 +9,8 @@ mod examples;
 #[cfg(test)]
 mod listed;
 #[cfg(test)]
+mod memory;
+#[cfg(test)]
 mod merged;
 #[cfg(test)]
 mod merging;

@@ -5,6 +5,8 @@ mod components;
 #[cfg(test)]
 mod customs;
 #[cfg(test)]
+mod memory;
+#[cfg(test)]
 mod modules;
 #[cfg(test)]
 mod refused;

@@ -3,6 +3,8 @@
 #[cfg(test)]
 mod asserts;
 #[cfg(test)]
+mod memory;
+#[cfg(test)]
 mod names;
 #[cfg(test)]
 mod plain;

@@ -12,6 +12,8 @@ mod collection;
 #[cfg(test)]
 mod edges;
 #[cfg(test)]
+mod memory;
+#[cfg(test)]
 mod modules;
 #[cfg(test)]
 mod packages;

@@ -16,9 +16,9 @@ use Rattle.wac_encode_scopes.specs.States.{stack}
 use Rattle.wac_encode_scopes.specs.private.Telling.{is_one_of}
 use Rattle.wac_encode_faults.specs.Faults.{import_fault}
 use Rattle.wac_encode_faults.specs.Free.{IsFree}
-use Rattle.wac_encode_interfaces.specs.Definitions.{IsFaultlessDefinition}
-use Rattle.wac_encode_interfaces.specs.Imports.{RefersToImport}
-use Rattle.wac_encode_interfaces.specs.Ready.{IsClean}
+use Rattle.wac_encode_interfaces.specs.private.Definitions.{IsFaultlessDefinition}
+use Rattle.wac_encode_interfaces.specs.private.Imports.{RefersToImport}
+use Rattle.wac_encode_interfaces.specs.private.Ready.{IsClean}
 
 -- The root is the only open scope, and good under some bindings.
 pub record IsRootOf (c : Collection) (b : Bool) (s : State) : Type 0 where

@@ -30,7 +30,7 @@ fn resources(
     found
 }
 
-/// Each has this lowest fault.
+/// Each has this lowest fault; asked once more where memory was refused.
 pub fn assert_faults(rt: &(impl Abort + AllocGlobal), cases: &[Case]) {
     for case in cases {
         let items = Items::new(rt, rt.alloc(), case.rows);
@@ -38,7 +38,10 @@ pub fn assert_faults(rt: &(impl Abort + AllocGlobal), cases: &[Case]) {
         let item = items.kind(rt, case.place);
         let ty = item.ty();
         assert!(rt; items.types.contains(ty));
-        let found = lowest_fault(&items.types, &bound, case.role, item);
+        let mut found = lowest_fault(&items.types, &bound, case.role, item);
+        if found.is_err() {
+            found = lowest_fault(&items.types, &bound, case.role, item);
+        }
         assert!(rt; found == Ok(case.want), "{}", case.name);
     }
 }

@@ -3,9 +3,17 @@ use crate::types::adding::Refusal;
 use std::fmt::{Debug, Display};
 use std::process::Abort;
 
-/// What is told is true, and nothing was refused.
-pub fn assert_told(rt: &impl Abort, told: Result<bool, Refusal>, what: &str) {
-    assert!(rt; told != Err(Refusal::Memory), "out of memory: {what}");
+/// What is told is true. It is told twice, since the first time memory may be refused.
+pub fn assert_told(
+    rt: &impl Abort,
+    first: Result<bool, Refusal>,
+    second: Result<bool, Refusal>,
+    what: &str,
+) {
+    let told = match first {
+        Err(Refusal::Memory) => second,
+        _ => first,
+    };
     assert!(rt; told == Ok(true), "{what}");
 }
 

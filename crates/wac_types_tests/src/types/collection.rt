@@ -175,7 +175,9 @@ fn clone_grows_on_its_own(types: &Types) -> Result<bool, Refusal> {
 #[test]
 fn a_clone_grows_on_its_own(rt: HostRuntime) {
     let types = made(&rt, GIVEN);
-    assert_told(&rt, clone_grows_on_its_own(&types), "a clone");
+    let first = clone_grows_on_its_own(&types);
+    let second = clone_grows_on_its_own(&types);
+    assert_told(&rt, first, second, "a clone");
 }
 
 fn clone_of_a_clone_grows_on_its_own(types: &Types) -> Result<bool, Refusal> {
@@ -197,11 +199,9 @@ fn clone_of_a_clone_grows_on_its_own(types: &Types) -> Result<bool, Refusal> {
 #[test]
 fn a_clone_of_a_clone_grows_on_its_own(rt: HostRuntime) {
     let types = made(&rt, GIVEN);
-    assert_told(
-        &rt,
-        clone_of_a_clone_grows_on_its_own(&types),
-        "a clone of a clone",
-    );
+    let first = clone_of_a_clone_grows_on_its_own(&types);
+    let second = clone_of_a_clone_grows_on_its_own(&types);
+    assert_told(&rt, first, second, "a clone of a clone");
 }
 
 const ADD_FAULTS: &[(AddTypeError, &str)] = &[

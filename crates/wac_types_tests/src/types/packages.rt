@@ -87,7 +87,18 @@ fn a_package_shows_all_but_its_bytes(rt: HostRuntime) {
 fn key(rt: &(impl Abort + AllocGlobal), version: Option<&Version>) -> PackageKey {
     let mut types = made(rt, FUNCTIONS);
     let package = package(&mut types, version).expect(rt, "a package");
-    package.key().expect(rt, "a key")
+    match package.key() {
+        Err(_) => package.key().expect(rt, "a key"),
+        Ok(key) => key,
+    }
+}
+
+// A new key of the same name, made once more where memory was refused.
+fn new_key(rt: &(impl Abort + AllocGlobal), version: Option<&Version>) -> PackageKey {
+    match PackageKey::new(rt.alloc(), "n:p", version) {
+        Err(_) => PackageKey::new(rt.alloc(), "n:p", version).expect(rt, "a key"),
+        Ok(key) => key,
+    }
 }
 
 #[test]
@@ -95,6 +106,8 @@ fn a_key_is_displayed_with_its_version(rt: HostRuntime) {
     let plain = key(&rt, None);
     let versioned = key(&rt, Some(&Version::new(1, 2, 3)));
     assert!(rt; plain < versioned && plain != versioned);
+    assert!(rt; new_key(&rt, None) == plain);
+    assert!(rt; new_key(&rt, Some(&Version::new(1, 2, 3))) == versioned);
     assert_displayed(&rt, &plain, "n:p");
     assert_displayed(&rt, &versioned, "n:p@1.2.3");
 }
@@ -123,6 +136,9 @@ const MISNAMED: Table = (
 #[test]
 fn a_package_lists_its_resources_by_name(rt: HostRuntime) {
     let mut types = made(&rt, MISNAMED);
-    let package = package(&mut types, None);
-    assert!(rt; matches!(package, Err(AddTypeError::ResourceMisnamed)));
+    let mut answer = package(&mut types, None);
+    if let Err(AddTypeError::OutOfMemory) = answer {
+        answer = package(&mut types, None);
+    }
+    assert!(rt; matches!(answer, Err(AddTypeError::ResourceMisnamed)));
 }

@@ -1,7 +1,9 @@
 // Memory that is refused once. What was refused changed nothing, so the same call then answers as if it had not been.
-use crate::types::adding::{Adding, BOOL, adds};
+use crate::types::adding::{Adding, BOOL, Refusal, add, adds};
+use crate::types::asserts::assert_shown;
 use crate::types::rows::Row::{Adds, Subtype};
 use crate::types::rows::{Table, assert_tables};
+use std::process::Abort;
 use wac_types::*;
 
 const VALUE: &[(&str, ItemKind)] = &[("v", ItemKind::Value(BOOL))];
@@ -35,15 +37,33 @@ fn numbered(item: Adding, number: usize) -> Type {
     }
 }
 
+// An item is added under this id, once more where memory was refused. Then the collection shows the same as the other, to which
+// the same items were added before it.
+fn assert_added(
+    rt: &(impl Abort + AllocGlobal),
+    types: &mut Types,
+    other: &Types,
+    item: Adding,
+    ty: Type,
+) {
+    let mut answer = add(types, item);
+    if answer == Err(Refusal::Memory) {
+        let text = format!(in rt.alloc(); "{other:?}").expect(rt, "a text");
+        assert_shown(rt, types, text.as_str());
+        answer = add(types, item);
+    }
+    assert!(rt; answer == Ok(ty));
+}
+
 #[test]
 fn adders_that_are_refused_change_nothing(rt: HostRuntime) {
     let mut types = Types::new(rt.alloc());
+    let mut other = Types::new(rt.alloc());
     for number in 0..5 {
         for item in ITEMS {
-            assert!(rt;
-                adds(&mut types, *item, numbered(*item, number)),
-                "{number}"
-            );
+            let ty = numbered(*item, number);
+            assert_added(&rt, &mut types, &other, *item, ty);
+            assert!(rt; adds(&mut other, *item, ty), "{number}");
         }
     }
 }

@@ -24,11 +24,21 @@ fn are_found(named: &Named<ValueType>) -> bool {
     found && matches!(named.get_full("y"), Some((1, _))) && named.len() == 3
 }
 
+// Whether a name is inserted, once more where memory was refused; the names are as before then.
+fn is_inserted(named: &mut Named<ValueType>, alloc: Global, name: &str) -> bool {
+    let count = named.len();
+    if named.insert(alloc, name, BOOL).is_ok() {
+        return true;
+    }
+    let is_absent = named.get(name).is_none() && named.len() == count;
+    is_absent && named.insert(alloc, name, BOOL).is_ok()
+}
+
 fn names_are_inserted_once(alloc: Global) -> Result<bool, Refusal> {
     let mut named = Named::from_pairs(alloc, &[("x", BOOL), ("y", U32)])?;
     let twice = named.insert(alloc, "y", BOOL);
-    named.insert(alloc, "z", BOOL)?;
-    Ok(are_found(&named) && twice == Err(ShapeError::NameTwice))
+    let inserted = is_inserted(&mut named, alloc, "z");
+    Ok(inserted && are_found(&named) && twice == Err(ShapeError::NameTwice))
 }
 
 const F: ItemKind = ItemKind::Func(FuncTypeId(0));
@@ -77,16 +87,74 @@ fn cases_have_their_types(alloc: Global) -> Result<bool, Refusal> {
     Ok(matches!(variant.cases.get("s"), Some(Some(_))))
 }
 
+fn flags_keep_their_order(alloc: Global) -> Result<bool, Refusal> {
+    let flags = Flags::new(alloc, &["b", "a"])?;
+    Ok(flags.0.len() == 2 && flags.0.name_at(0) == "b")
+}
+
+fn texts_are_kept(alloc: Global) -> Result<bool, Refusal> {
+    let text = Text::new(alloc, "a")?;
+    let copy = text.clone()?;
+    Ok(text.as_str() == "a" && copy == text)
+}
+
+fn copies_are_alike(alloc: Global) -> Result<bool, Refusal> {
+    let mut named: Named<ValueType> = Named::with_capacity(alloc, 2)?;
+    named.insert(alloc, "x", BOOL)?;
+    let copy = named.copied(alloc)?;
+    Ok(copy == named && named.clone()? == copy)
+}
+
+// What is told of a shape.
+#[derive(Clone, Copy)]
+enum Told {
+    Twice,
+    Inserted,
+    Compared,
+    Labels,
+    Sequences,
+    Fields,
+    Cases,
+    Flags,
+    Texts,
+    Copies,
+}
+
+const TOLD: &[(Told, &str)] = &[
+    (Told::Twice, "given twice"),
+    (Told::Inserted, "inserted once"),
+    (Told::Compared, "compared"),
+    (Told::Labels, "labels"),
+    (Told::Sequences, "sequences"),
+    (Told::Fields, "fields"),
+    (Told::Cases, "cases"),
+    (Told::Flags, "flags"),
+    (Told::Texts, "texts"),
+    (Told::Copies, "copies"),
+];
+
+fn is_told(alloc: Global, told: Told) -> Result<bool, Refusal> {
+    match told {
+        Told::Twice => names_given_twice_are_refused(alloc),
+        Told::Inserted => names_are_inserted_once(alloc),
+        Told::Compared => shapes_compare_what_they_hold(alloc),
+        Told::Labels => labels_keep_their_order(alloc),
+        Told::Sequences => sequences_keep_their_order(alloc),
+        Told::Fields => fields_keep_their_order(alloc),
+        Told::Cases => cases_have_their_types(alloc),
+        Told::Flags => flags_keep_their_order(alloc),
+        Told::Texts => texts_are_kept(alloc),
+        Told::Copies => copies_are_alike(alloc),
+    }
+}
+
 #[test]
 fn shapes_keep_what_they_are_given(rt: HostRuntime) {
-    let alloc = rt.alloc();
-    assert_told(&rt, names_given_twice_are_refused(alloc), "given twice");
-    assert_told(&rt, names_are_inserted_once(alloc), "inserted once");
-    assert_told(&rt, shapes_compare_what_they_hold(alloc), "compared");
-    assert_told(&rt, labels_keep_their_order(alloc), "labels");
-    assert_told(&rt, sequences_keep_their_order(alloc), "sequences");
-    assert_told(&rt, fields_keep_their_order(alloc), "fields");
-    assert_told(&rt, cases_have_their_types(alloc), "cases");
+    for (told, what) in TOLD {
+        let first = is_told(rt.alloc(), *told);
+        let second = is_told(rt.alloc(), *told);
+        assert_told(&rt, first, second, what);
+    }
 }
 
 fn names_show_as_a_map(rt: &(impl Abort + AllocGlobal)) {

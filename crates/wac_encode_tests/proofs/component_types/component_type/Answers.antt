@@ -1,5 +1,7 @@
 use Rattle.std.specs.Prelude.{◌≡◌, List, Some}
+use Rattle.std.specs.List.{IsDistinct}
 use Rattle.std.proofs.Common.{◌∙◌, refl, sym, subst}
+use Rattle.wac_types_shapes.specs.contracts.shapes.component.InterfaceIdPartialEq.TheImpl as IdEq
 use Rattle.wac_types_shapes.specs.declared.shapes.component.InterfaceId.{InterfaceId}
 use Rattle.wac_types_shapes.specs.declared.shapes.component.World.{World}
 use Rattle.wac_types_collection.specs.collection.Collection.{item_at}
@@ -8,7 +10,7 @@ use Rattle.wac_encode_stacks.specs.Good.{nothing_bound}
 use Rattle.wac_encode_faults.specs.private.Ids.{HaveIds}
 use Rattle.wac_encode_faults.specs.Sides.{unlisted}
 use Rattle.wac_encode_interfaces.specs.declared.worlds.WorldTypes.{WorldTypes}
-use Rattle.wac_encode_interfaces.specs.Worlds.{AreWorldTypes, written_in}
+use Rattle.wac_encode_interfaces.specs.private.Worlds.{AreWorldTypes, written_in}
 use Rattle.wac_encode_interfaces.proofs.WorldsAhead.{held-as}
 use Rattle.wac_encode_tests.proofs.RootItems.{if-ok-is}
 use Rattle.wac_encode_tests.proofs.WorldDefinitions.{set-is, held-world, clean-world, clean-as, inner-as}
@@ -38,6 +40,9 @@ pub component_type-requires-clause-held : goal.component_type-requires-clause-he
 component_type-requires-clause-held g c =
     held-as c.args.types.now c.new-writer.result.types.now c.new-writer.ensures.types (held-world c.args.types.now c.law.ensures c.args.id c.index-world.result.now c.index-world.ensures refl refl
     (subst (AreThere c.args.types.now) (sym c.as_slice.ensures.keys) (set-is (AreThere c.args.types.now) c.world_additional.result c.expect-additional.result c.expect-additional.ensures c.world_additional.ensures.there)))
+
+pub component_type-requires-clause-once : goal.component_type-requires-clause-once
+component_type-requires-clause-once g c = subst (IsDistinct (IdEq.ghosts).eq) (sym c.as_slice.ensures.keys) c.as_slice.ensures.unique
 
 pub component_type-requires-clause-clean : goal.component_type-requires-clause-clean
 component_type-requires-clause-clean g c =

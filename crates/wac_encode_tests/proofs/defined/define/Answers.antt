@@ -2,8 +2,8 @@ use Rattle.std.specs.Prelude.{◌≡◌, List, true, Contains}
 use Rattle.std.proofs.Common.{◌∙◌, sym, subst, rules}
 use Rattle.wac_types_shapes.specs.declared.shapes.component.«Type».{«Type» as AnyType}
 use Rattle.wac_types_collection.specs.collection.Collection.{holds_type}
-use Rattle.wac_encode_interfaces.specs.Ready.{IsClean}
-use Rattle.wac_encode_interfaces.specs.Worlds.{AreWorldTypes, HaveWorlds, written_in}
+use Rattle.wac_encode_interfaces.specs.private.Ready.{IsClean}
+use Rattle.wac_encode_interfaces.specs.private.Worlds.{AreWorldTypes, HaveWorlds, written_in}
 use Rattle.wac_encode_interfaces.specs.declared.worlds.WorldTypes.{WorldTypes}
 use Rattle.wac_encode_tests.specs.private.Opened.{CanDefine}
 use Rattle.wac_encode_tests.proofs.RootDefinitions.{define-ready, root-goes, roots-are}

@@ -2,9 +2,9 @@ use Rattle.std.proofs.Common.{◌≡◌, ◌∷◌, [], true, ◌∙◌, sym, su
 use Rattle.std.specs.Prelude.{Contains}
 use Rattle.wac_types_shapes.specs.declared.shapes.component.«Type».{«Type» as AnyType}
 use Rattle.wac_types_collection.specs.collection.Collection.{holds_type}
-use Rattle.wac_encode_interfaces.specs.Imports.{ImportsBeside, ImportsOf}
-use Rattle.wac_encode_interfaces.specs.Ready.{IsClean}
-use Rattle.wac_encode_interfaces.specs.Worlds.{AreWorldTypes, HaveWorlds, written_in}
+use Rattle.wac_encode_interfaces.specs.private.Imports.{ImportsBeside, ImportsOf}
+use Rattle.wac_encode_interfaces.specs.private.Ready.{IsClean}
+use Rattle.wac_encode_interfaces.specs.private.Worlds.{AreWorldTypes, HaveWorlds, written_in}
 use Rattle.wac_encode_interfaces.specs.declared.worlds.WorldTypes.{WorldTypes}
 use Rattle.wac_encode_tests.proofs.RootItems.{held-one, clean-one, import-ready, item-imported, if-ok-is}
 use Rattle.wac_encode_tests.proofs.opened.import_item.Goals as goal

@@ -2,7 +2,7 @@ use Rattle.wac_types_shapes.specs.declared.shapes.component.ValueType.TheVariant
 use Rattle.wac_binary.specs.declared.sorts.Description.TheVariants as e
 use Rattle.std.proofs.Common.{true, subst}
 use Rattle.wac_encode_scopes.specs.Roots.{ImportsItem}
-use Rattle.wac_encode_values.specs.Values.{IsWrittenAs}
+use Rattle.wac_encode_values.specs.private.Values.{IsWrittenAs}
 use Rattle.wac_encode_tests.proofs.OpenScopes.{named-good, root-types, right-import, on-ok-is, if-ok-is}
 use Rattle.wac_encode_tests.proofs.stacks.import_named.Goals as goal
 

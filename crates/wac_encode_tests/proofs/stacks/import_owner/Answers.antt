@@ -1,7 +1,7 @@
 use Rattle.std.proofs.Common.{◌≡◌, false, refl, sym, ◌∙◌, rules}
 use Rattle.wac_binary.specs.declared.sorts.Description.TheVariants as desc
 use Rattle.wac_encode_scopes.specs.private.Interfaces.{own_items}
-use Rattle.wac_encode_scopes.specs.Listing.{Closes}
+use Rattle.wac_encode_scopes.specs.private.Listing.{Closes}
 use Rattle.wac_encode_scopes.specs.Roots.{ImportsItem}
 use Rattle.wac_encode_scopes.specs.private.Telling.{is_one_of}
 use Rattle.wac_encode_scopes.proofs.Stepped.{all-none}

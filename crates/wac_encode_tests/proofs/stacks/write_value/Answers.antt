@@ -2,7 +2,7 @@ use Rattle.std.proofs.Common.{◌≡◌, ◌∙◌, true, sym, subst, rules}
 use Rattle.wac_types_shapes.specs.declared.shapes.component.«Type».TheVariants as ty
 use Rattle.wac_types_collection.specs.collection.Collection.{Collection, holds_value}
 use Rattle.wac_encode_tests.proofs.OpenScopes.{ready, closed-as, good-on, written-as, on-ok-is, if-ok-is}
-use Rattle.wac_encode_values.specs.Values.{IsWrittenAs}
+use Rattle.wac_encode_values.specs.private.Values.{IsWrittenAs}
 use Rattle.wac_encode_tests.proofs.stacks.write_value.Goals as goal
 
 pub value_type-requires-clause-closed : goal.value_type-requires-clause-closed
