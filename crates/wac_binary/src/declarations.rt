@@ -11,6 +11,7 @@ pub mod declarations;
 pub mod instance_type;
 pub mod module_type;
 mod put_types;
+mod shared;
 pub mod size;
 pub mod type_size;
 pub mod type_writer;

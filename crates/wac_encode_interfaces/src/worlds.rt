@@ -33,7 +33,7 @@ impl WorldTypes {
         self.written.get(&world)
     }
 
-    /// Adds the component type of a world.
+    /// Adds the component type of a world. The types that list it share its bytes.
     pub(crate) fn insert(
         &mut self,
         world: WorldId,
@@ -41,7 +41,8 @@ impl WorldTypes {
     ) -> Result<(), BinaryFault>
         ensures { OnOk result ((w : AnyWorld) → written_in self.new w ≡ cond ((IdEq.ghosts).eq world w) (Some component) (written_in self.old w)) }
     {
-        self.written.insert(world, component)?;
+        let shared = component.share()?;
+        self.written.insert(world, shared)?;
         Ok(())
     }
 }

@@ -1,3 +1,4 @@
+pub mod ChunkLaws
 pub mod DeclLaws
 pub mod ModuleLaws
 pub mod AnswerLaws

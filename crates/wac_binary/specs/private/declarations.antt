@@ -1,7 +1,9 @@
 pub mod BufferView
+pub mod Chunks
 pub mod DeclView
 pub mod DeclarationsView
 pub mod ModuleTypeView
 pub mod ModuleView
+pub mod SharedView
 pub mod WrittenDecls
 pub mod WrittenModule

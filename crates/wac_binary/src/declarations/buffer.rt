@@ -1,11 +1,12 @@
-//! Bytes that grow at both ends.
+//! Bytes that grow at both ends, around bytes that buffers share.
 
-ghost use Rattle.std.specs.Prelude.{◌≡◌, List, ℕ, ◌<◌, ◌^◌, ◌++◌, ◌∷◌, [], length, OnOk, OnErr};
+ghost use Rattle.std.specs.Prelude.{◌≡◌, List, ℕ, ◌<◌, ◌^◌, ◌++◌, ◌∷◌, [], length, OnOk, OnErr, IfOk};
 ghost use Rattle.wac_binary.specs.Leb.{unsigned};
 ghost use Rattle.wac_binary.specs.Bytes.{decl_bytes};
 ghost use Rattle.wac_binary.specs.private.declarations.DeclView.{decl_of, scope_byte};
 
 use crate::declarations::decl::{DeclRef, Scope, put_decl, put_scope};
+use crate::declarations::shared::SharedBytes;
 use std::alloc::{AllocError, Global};
 use std::marker::Model;
 
@@ -15,8 +16,10 @@ use std::marker::Model;
 #[derive(Debug, Drop)]
 pub struct Buffer {
     alloc: Global,
-    /// The bytes before those of `back`, in reverse order: they grow at the end of a vector.
+    /// The bytes before those of `core`, in reverse order: they grow at the end of a vector.
     front: Vec<u8>,
+    /// The bytes that clones share.
+    core: SharedBytes,
     back: Vec<u8>,
 }
 
@@ -33,6 +36,20 @@ impl Model for Buffer {
     ghost view = { the_bytes };
 }
 
+/// A clone has the same bytes. Shared bytes are not copied.
+impl Clone for Buffer {
+    ghost is_clone = { λ a b. b ≡ a };
+
+    fn clone(&self) -> Result<Buffer, AllocError> {
+        Ok(Buffer {
+            alloc: self.alloc,
+            front: Vec::from_slice(self.alloc, &self.front)?,
+            core: self.core.clone()?,
+            back: Vec::from_slice(self.alloc, &self.back)?,
+        })
+    }
+}
+
 impl Buffer {
     /// Creates an empty buffer.
     pub fn new(alloc: Global) -> Buffer
@@ -41,6 +58,7 @@ impl Buffer {
         Buffer {
             alloc,
             front: Vec::new(alloc),
+            core: SharedBytes::new(),
             back: Vec::new(alloc),
         }
     }
@@ -48,9 +66,30 @@ impl Buffer {
     /// Returns the number of bytes.
     pub fn len(&self) -> u128
         ensures is { result ≡ length self.now }
-        ensures small { result < 2 ^ 65 }
+        ensures small { result < 2 ^ 66 }
     {
-        self.front.len() as u128 + self.back.len() as u128
+        self.front.len() as u128 + u128::from(self.core.len()) + self.back.len() as u128
+    }
+
+    /// Returns the same bytes. Clones share them from then on.
+    pub fn share(self) -> Result<Buffer, AllocError>
+        requires { length self < 2 ^ 64 }
+        ensures { IfOk result (λ b. b ≡ self) }
+    {
+        let Buffer {
+            alloc,
+            front: mut before,
+            core,
+            back,
+        } = self;
+        before.reverse();
+        let core = core.surround(alloc, before, back)?;
+        Ok(Buffer {
+            alloc,
+            front: Vec::new(alloc),
+            core,
+            back: Vec::new(alloc),
+        })
     }
 
     /// Appends a declaration.
@@ -91,6 +130,7 @@ impl Buffer {
         front.extend_from_slice(&self.front)?;
         front.reverse();
         out.extend_from_slice(&front)?;
+        self.core.put(self.alloc, out)?;
         out.extend_from_slice(&self.back)
     }
 }

@@ -57,6 +57,19 @@ impl Model for Declarations {
     ghost invariant = { IsWritten };
 }
 
+/// A clone has the same declarations. Shared bytes are not copied.
+impl Clone for Declarations {
+    ghost is_clone = { λ a b. b ≡ a };
+
+    fn clone(&self) -> Result<Declarations, AllocError> {
+        Ok(Declarations {
+            bytes: self.bytes.clone()?,
+            count: self.count,
+            counts: self.counts,
+        })
+    }
+}
+
 impl Declarations {
     /// Creates an empty list of declarations.
     pub fn new(alloc: Global) -> Declarations
@@ -122,6 +135,55 @@ impl Declarations {
         self.bytes.put(out)
     }
 
+    /// Returns the same declarations. Clones share their bytes from then on.
+    pub fn share(self) -> Result<Declarations, AllocError>
+        ensures { IfOk result (λ t. t ≡ self) }
+    {
+        let Declarations {
+            bytes,
+            count,
+            counts,
+        } = self;
+        Ok(Declarations {
+            bytes: bytes.share()?,
+            count,
+            counts,
+        })
+    }
+
+    /// Declares a type with the declarations `inner` and returns its type index.
+    ///
+    /// If `inner` is the longer, a clone of its buffer grows, so shared bytes are not copied.
+    pub fn list(&mut self, inner: &Declarations, scope: Scope) -> Result<u32, BinaryFault>
+        ensures index { IfOk result (λ i. i ≡ declared (space s.Type) self.old) }
+        ensures appended { OnOk result (self.new ≡ self.old ++ type_decl (scope_def scope (decls inner.now)) ∷ []) }
+        ensures fits { OnOk result (DeclarationsFit self.new) }
+        ensures refused { OnErr result (self.new ≡ self.old) }
+        ensures too_large { TooLargeUnless result (DeclarationsFit (self.old ++ type_decl (scope_def scope (decls inner.now)) ∷ [])) }
+    {
+        if inner.bytes.len() > self.bytes.len() {
+            return self.surround_clone(inner, scope);
+        }
+        let t = TypeRef::Scope(scope, inner);
+        self.append(&DeclRef::Type(t), IndexSpace::Types)
+    }
+
+    /// Declares a type with the declarations `inner` by prepending the other declarations to a clone of its buffer.
+    fn surround_clone(&mut self, inner: &Declarations, scope: Scope) -> Result<u32, BinaryFault>
+        ensures index { IfOk result (λ i. i ≡ declared (space s.Type) self.old) }
+        ensures appended { OnOk result (self.new ≡ self.old ++ type_decl (scope_def scope (decls inner.now)) ∷ []) }
+        ensures fits { OnOk result (DeclarationsFit self.new) }
+        ensures refused { OnErr result (self.new ≡ self.old) }
+        ensures too_large { TooLargeUnless result (DeclarationsFit (self.old ++ type_decl (scope_def scope (decls inner.now)) ∷ [])) }
+    {
+        let t = TypeRef::Scope(scope, inner);
+        if !self.has_room(&DeclRef::Type(t), IndexSpace::Types) {
+            return Err(BinaryFault::TooLarge);
+        }
+        let inner = inner.clone()?;
+        self.surround(inner, scope)
+    }
+
     /// Declares a type with the declarations `inner` and returns its type index.
     ///
     /// The longer of the two buffers stays in place. On an error `inner` is dropped.
@@ -177,7 +239,7 @@ impl Declarations {
 /// Returns whether one more declaration of `size` bytes fits after `count` declarations with `bytes` bytes.
 /// Its index space has `index` indexes.
 fn fits(index: u64, count: u64, bytes: u128, size: u128) -> bool
-    requires bytes { bytes < 2 ^ 65 }
+    requires bytes { bytes < 2 ^ 66 }
     requires size { size < 2 ^ 127 + 2 ^ 104 }
     ensures { IsTrue result ↔ ((index < 2 ^ 32) × (count + 1 < 2 ^ 32) × (bytes + size < 2 ^ 32)) }
 {

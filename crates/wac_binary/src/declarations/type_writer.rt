@@ -15,7 +15,7 @@ use crate::declarations::module_type::ModuleType;
 use crate::fault::BinaryFault;
 use crate::sorts::{Description, IndexSpace, Sort, described_sort, space};
 use crate::types::{DefinedType, FuncType};
-use std::alloc::Global;
+use std::alloc::{AllocError, Global};
 use std::marker::{Model, PhantomData};
 
 /// The kind of a component type.
@@ -114,7 +114,7 @@ impl<K> TypeWriter<K> {
             .append(&DeclRef::Type(TypeRef::Func(f)), IndexSpace::Types)
     }
 
-    /// Declares a component type and returns its type index.
+    /// Declares a component type and returns its type index. If it is the longer, its shared bytes are not copied.
     pub fn component_type(&mut self, t: &ComponentType) -> Result<u32, BinaryFault>
         ensures index { IfOk result (λ i. i ≡ declared (space s.Type) self.old) }
         ensures appended { OnOk result (self.new ≡ self.old ++ type_decl (component_def (decls t.now)) ∷ []) }
@@ -122,9 +122,7 @@ impl<K> TypeWriter<K> {
         ensures refused { OnErr result (self.new ≡ self.old) }
         ensures too_large { TooLargeUnless result (DeclarationsFit (self.old ++ type_decl (component_def (decls t.now)) ∷ [])) }
     {
-        let t = TypeRef::Scope(Scope::Component, t.declarations());
-        self.declarations
-            .append(&DeclRef::Type(t), IndexSpace::Types)
+        self.declarations.list(t.declarations(), Scope::Component)
     }
 
     /// Declares an instance type and returns its type index.
@@ -227,6 +225,19 @@ impl<K> TypeWriter<K> {
         ensures { result.now ≡ self.now }
     {
         &self.declarations
+    }
+
+    /// Returns the same type. Types that declare it share its bytes from then on.
+    ///
+    /// # Errors
+    /// `AllocError` if out of memory. Then the type is dropped.
+    pub fn share(self) -> Result<TypeWriter<K>, AllocError>
+        ensures { IfOk result (λ t. t ≡ self) }
+    {
+        Ok(TypeWriter {
+            declarations: self.into_declarations().share()?,
+            kind: PhantomData,
+        })
     }
 
     /// Returns the declarations and consumes the type.

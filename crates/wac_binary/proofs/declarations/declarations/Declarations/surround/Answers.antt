@@ -15,7 +15,7 @@ overflow_cast-result c =
     omega (arith, fits_before c.self.invariant (type_decl (scope_def c.args.scope (decls c.args.inner))) c.number-types.result (sym c.number-types.ensures.is) c.number-types.ensures.small (rw c.self.view_is (c.has_room.ensures.0 c.if-not-has_room.false)))
 
 -- what is kept, with the type at the end
-snoc : (c : goal.After-drop-self-inside-2) → DeclState (c.args.self.now ++ type_decl (scope_def c.args.scope (decls c.args.inner)) ∷ []) c.in_ok-bytes.bytes (c.self.inside.count + 1) (slice_set c.self.inside.counts c.number-types.result (slice_index c.self.inside.counts c.number-types.result + 1))
+snoc : (c : goal.After-drop-self-inside-3) → DeclState (c.args.self.now ++ type_decl (scope_def c.args.scope (decls c.args.inner)) ∷ []) c.in_ok-bytes.bytes (c.self.inside.count + 1) (slice_set c.self.inside.counts c.number-types.result (slice_index c.self.inside.counts c.number-types.result + 1))
 snoc c =
     let s = type_more c.self.invariant (type_decl (scope_def c.args.scope (decls c.args.inner))) c.number-types.result (sym c.number-types.ensures.is) c.number-types.ensures.small c.self.told (rw c.self.view_is (c.has_room.ensures.0 c.if-not-has_room.false)) in
     type_same (rw c.self.view_is at s) c.in_ok-bytes.ensures
