@@ -6,6 +6,9 @@ mod NothingLemmas
 mod OpenLemmas
 mod PositionLemmas
 mod BoundLemmas
+mod BuildingLemmas
+mod DependencyLemmas
+mod TwiceLemmas
 mod BeginLemmas
 pub mod ConflictFreeLemmas
 pub mod WantedAskedLemmas

@@ -1,3 +1,4 @@
 pub mod plugs
+pub mod Building
 pub mod Listed
 pub mod private

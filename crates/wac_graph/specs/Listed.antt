@@ -1,7 +1,10 @@
--- The nodes, packages and arguments that a graph's iterators yield.
-use Rattle.std.specs.Prelude.{ℕ, suc, ◌≡◌, ◌⊎◌, List, [], ◌∷◌, ◌++◌, map, Option, Some, None}
+-- The nodes, packages, arguments and dependencies that a graph lists.
+use Rattle.std.specs.Prelude.{ℕ, suc, ◌≡◌, ◌⊎◌, ◌↔◌, true, List, [], ◌∷◌, ◌++◌, map, Contains, Option, Some, None}
 use Rattle.std.specs.List.{AllByRecursion}
+use Rattle.std.specs.List.Sorted.{IsStrictlySortedBy}
+use Rattle.std.specs.Ordering.{nat_cmp}
 use Rattle.std.specs.FinMap as finite
+use Rattle.std.specs.FinSet as set
 use Rattle.wac_types_shapes.specs.primitives.Name.{Name}
 use Rattle.wac_types_collection.specs.collection.Package.{PackageParts}
 use Rattle.wac_types_shapes.specs.declared.shapes.component.ItemKind.{ItemKind}
@@ -11,6 +14,7 @@ use Rattle.wac_graph_model.specs.declared.nodes.packages.PackageId.{PackageId}
 use Rattle.wac_graph_model.specs.declared.nodes.packages.Slot.{Slot}
 use Rattle.wac_edges.specs.Edge.{node_number}
 use Rattle.wac_graph_model.specs.nodes.Graph.{Graph, GraphNode, Kind, instantiation, node_at, imports_of, IsArgumentOf, IsUnsatisfied}
+use Rattle.wac_graph_model.specs.nodes.Definitions.{dependency_edge}
 use Rattle.wac_graph_model.specs.nodes.Gives.{GivesNode}
 
 -- The ids of the nodes, in order of number.
@@ -59,3 +63,12 @@ instance_imports g id = imports_by g (node_at g id)
 -- The arguments of an instantiation with their imports' names, in world order; none for other nodes.
 abbrev pub AreArguments : Graph → NodeId → List (Name × NodeId) → Type 0
 AreArguments g id rows = AreSet g id 0 (instance_imports g id) rows
+
+-- A dependency edge leads from n to the node: it depends on n.
+abbrev pub IsDependencyOf : Graph → (n node : NodeId) → Type 0
+IsDependencyOf g n node = set.contains g.edges (dependency_edge n node) ≡ true
+
+-- The nodes that a node depends on, each once, in order of number.
+pub record AreDependencies (g : Graph) (node : NodeId) (ns : List NodeId) : Type 0 where
+  pub all : (n : NodeId) → Contains ns n ↔ IsDependencyOf g n node
+  pub ordered : IsStrictlySortedBy nat_cmp (map (λ n. n.0) ns)

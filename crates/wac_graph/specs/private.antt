@@ -3,3 +3,4 @@ pub mod Inside
 pub mod Left
 pub mod Bound
 pub mod Kept
+pub mod Twice

@@ -154,6 +154,11 @@ impl CompositionGraph {
         let _ = &self.edges;
     }
 
+    /// The allocator of the graph.
+    pub fn allocator(&self) -> Global {
+        self.alloc
+    }
+
     /// The collection of types.
     pub fn types(&self) -> &Types
         ensures { result.now ≡ self.now.types }

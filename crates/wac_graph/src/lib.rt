@@ -10,15 +10,9 @@
 //!
 //! ```rust
 //! let mut graph = CompositionGraph::new(alloc);
-//! let func = ItemKind::Func(graph.add_func_type(FuncType::new(alloc, &[], None, false)?)?);
-//!
-//! let world = graph.add_world(World::new(alloc, None, &[], &[("a", func)])?)?;
-//! let package = graph.new_package("my:package1", None, bytes1, world)?;
-//! let first = graph.register_package(package)?;
-//!
-//! let world = graph.add_world(World::new(alloc, None, &[("b", func)], &[])?)?;
-//! let package = graph.new_package("my:package2", None, bytes2, world)?;
-//! let second = graph.register_package(package)?;
+//! let func = graph.func(&[], None)?;
+//! let first = graph.add_package("my:package1", None, bytes1, &[], &[("a", func)])?;
+//! let second = graph.add_package("my:package2", None, bytes2, &[("b", func)], &[])?;
 //!
 //! let a = graph.instantiate(first)?;
 //! let a = graph.alias_instance_export(a, "a")?;
@@ -32,11 +26,14 @@ mod arguments;
 mod arguments_of;
 mod asked;
 mod bound;
+mod building;
 mod checking;
 mod clones;
 mod conflicts;
 mod defining;
+mod dependencies;
 mod encode;
+mod errors;
 mod graph;
 mod imports;
 mod iterators;
@@ -47,17 +44,21 @@ mod merging;
 mod plugging;
 mod plugs;
 mod positions;
+mod reasons;
 mod removing;
+mod twice;
 mod validating;
 mod wanted;
 mod wiring;
 
 pub use crate::plugs::{PassedOver, PlugError, PlugFault};
 pub use arguments_of::Arguments;
+pub use errors::Error;
 pub use graph::CompositionGraph;
 pub use imports::Imports;
 pub use iterators::{NodeIds, Nodes, Packages};
 pub use plugging::plug;
+pub use reasons::Reason;
 pub use wac_encode_faults::WriteFault;
 pub use wac_graph_model::{
     AliasError, DefineTypeError, EncodeError, EncodeOptions, ExportError, ImportError,

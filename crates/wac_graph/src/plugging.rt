@@ -123,3 +123,27 @@ pub fn plug(
     plug_all(graph, &wired, socket)?;
     Ok(passed)
 }
+
+impl CompositionGraph {
+    /// Instantiates a socket package and sets its arguments to the exports of plug packages, as [`plug`] does.
+    ///
+    /// # Errors
+    /// As [`plug`].
+    pub fn plug(
+        &mut self,
+        socket: PackageId,
+        plugs: &[PackageId],
+    ) -> Result<Vec<PassedOver>, PlugError>
+        requires plugs { (i : ℕ) (id : AnId) → slice_get plugs.now i ≡ Some id → IsSome (package_at self.old id) }
+        requires socket { IsSome (package_at self.old socket) }
+        ensures step { PlugsAll self.old plugs.now socket (answer_of result) self.new }
+        ensures passed_over { IfOk result (λ passed. (all : List PlugMatches) → AreAllMatches self.old socket plugs.now all → map named_by passed.items ≡ passed_over [] all) }
+        ensures refused { (e : AnExportFault) → IsFirstRefused self.old (names_of (exports_of_package self.old socket)) e → (NothingMatches self.old socket plugs.now → ⊥) → IsExportRefused result ⊎ (result ≡ Err PlugError.OutOfMemory) }
+        ensures only_refused { (fault : AFault) → result ≡ Err (PlugError.GraphError fault) → IsFirstFault self.old (names_of (exports_of_package self.old socket)) fault × (NothingMatches self.old socket plugs.now → ⊥) }
+        ensures nothing { NothingMatches self.old socket plugs.now → (result ≡ Err PlugError.NoPlugHappened) ⊎ (result ≡ Err PlugError.OutOfMemory) }
+        ensures only_nothing { result ≡ Err PlugError.NoPlugHappened → NothingMatches self.old socket plugs.now }
+    {
+        let all = Vec::from_slice(self.allocator(), plugs)?;
+        plug(self, all, socket)
+    }
+}

@@ -35,6 +35,8 @@ mod parts;
 #[cfg(test)]
 mod plugging;
 #[cfg(test)]
+mod reasons;
+#[cfg(test)]
 mod redefined;
 #[cfg(test)]
 mod refused;
@@ -42,6 +44,8 @@ mod refused;
 mod removal;
 #[cfg(test)]
 mod resources;
+#[cfg(test)]
+mod short;
 #[cfg(test)]
 mod tables;
 #[cfg(test)]

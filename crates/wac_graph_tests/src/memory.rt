@@ -1,13 +1,14 @@
 //! Each call on a graph that takes memory is refused it once. The graph is then as it was, and the call can be made again.
 
 use crate::parts::{assert_row, define, export, import, instantiate, remove, set, unexport};
+use crate::short::{Call as ShortCall, make};
 use std::alloc::{AllocError, Global};
 use std::process::Abort;
 use wac_graph::types::{
-    DefinedType, DefinedTypeId, Enum, FuncType, FuncTypeId, Interface, ItemKind, ModuleType,
-    PrimitiveType, Resource, Type, ValueType, World, WorldId,
+    AddTypeError, DefinedType, DefinedTypeId, Enum, FuncType, FuncTypeId, Interface, ItemKind,
+    ModuleType, PrimitiveType, Resource, Type, ValueType, World, WorldId,
 };
-use wac_graph::{CompositionGraph, EncodeOptions, Node, NodeId, PackageId};
+use wac_graph::{CompositionGraph, EncodeOptions, Error, Node, NodeId, PackageId, Reason};
 
 // A call that takes memory. What it is made on is what the calls before it made.
 #[derive(Clone, Copy)]
@@ -32,6 +33,14 @@ enum Call {
     Name,
     // The enumeration is defined.
     Define,
+    // A type is added by one call.
+    Short(ShortCall),
+    // A package is added by one call.
+    Package,
+    // The dependencies of the definition.
+    Dependencies,
+    // The reason of an error.
+    Reason,
     Clone,
     Encode,
 }
@@ -52,6 +61,19 @@ const CALLS: &[Call] = &[
     Call::Export,
     Call::Name,
     Call::Define,
+    Call::Short(ShortCall::Record(&[("f", BOOL)])),
+    Call::Short(ShortCall::Variant(&[("c", Some(BOOL))])),
+    Call::Short(ShortCall::Enumeration(&["c"])),
+    Call::Short(ShortCall::Flags(&["f"])),
+    Call::Short(ShortCall::Tuple(&[BOOL])),
+    Call::Short(ShortCall::List(BOOL)),
+    Call::Short(ShortCall::Optional(BOOL)),
+    Call::Short(ShortCall::Outcome(Some(BOOL), None)),
+    Call::Short(ShortCall::Func(&[("p", BOOL)], None)),
+    Call::Short(ShortCall::Instance("n:p/j", &[("f", FUNC)])),
+    Call::Package,
+    Call::Dependencies,
+    Call::Reason,
     Call::Clone,
     Call::Encode,
 ];
@@ -150,6 +172,16 @@ impl Made {
         true
     }
 
+    // Whether a package is added by one call.
+    fn is_added_as_package(&mut self) -> bool {
+        let Ok(bytes) = Vec::from_array(self.alloc, [0]) else {
+            return false;
+        };
+        let items = [("f", FUNC)];
+        let added = self.graph.add_package("n:q", None, bytes, &items, &items);
+        added.is_ok()
+    }
+
     fn is_aliased(&mut self, rt: &impl Abort) -> bool {
         let held = self.graph.has_node(INSTANCE);
         assert!(rt; held);
@@ -177,6 +209,13 @@ impl Made {
             Call::Export => export(rt, &mut self.graph, ALIAS, "e").is_ok(),
             Call::Name => self.is_named(rt),
             Call::Define => define(rt, &mut self.graph, "d", ENUMERATION).is_ok(),
+            Call::Short(call) => make(&mut self.graph, call).is_ok(),
+            Call::Package => self.is_added_as_package(),
+            Call::Dependencies => self.graph.dependencies(DEFINED).is_ok(),
+            Call::Reason => {
+                let error = Error::from(AddTypeError::NotHeld);
+                error.with_reason(self.alloc).is_ok()
+            }
             Call::Clone => self.graph.clone().is_ok(),
             Call::Encode => self.graph.encode(EncodeOptions::default()).is_ok(),
             call => is_added(&mut self.graph, self.alloc, call),
@@ -226,11 +265,11 @@ impl Made {
         rows
     }
 
-    // The types, but for a call that first adds the interface of a package's instances.
+    // The types, but for a call that first adds types of a package.
     fn listed_types(&self, rt: &impl Abort, call: Call) -> String {
         let types = self.graph.types();
         match call {
-            Call::Register => String::new(self.alloc),
+            Call::Register | Call::Package => String::new(self.alloc),
             _ => format!(in self.alloc; "{types:?}; ").expect(rt, "a row"),
         }
     }
