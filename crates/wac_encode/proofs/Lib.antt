@@ -8,3 +8,4 @@ pub mod HeldItems
 pub mod ItemNames
 pub mod ToldItems
 pub mod Importing
+pub mod Examples
