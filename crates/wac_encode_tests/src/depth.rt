@@ -1,11 +1,11 @@
-//! Instances in instances, many deep.
+//! Instances in instances, and worlds in worlds, many deep.
 
 use crate::opened::import;
 use crate::rows::Items;
-use crate::rows::Row::Instance;
+use crate::rows::Row::{Component, Instance};
 use std::process::Abort;
 use wac_encode_scopes::{ClosedTypes, State};
-use wac_types_shapes::{DefinedType, Enum, FuncType, Interface, ItemKind, Type, ValueType};
+use wac_types_shapes::{DefinedType, Enum, FuncType, Interface, ItemKind, Type, ValueType, World};
 
 // Adds an enum of one case.
 fn add_enum(rt: &impl Abort, items: &mut Items) -> ValueType {
@@ -50,7 +50,19 @@ fn add_instances(rt: &impl Abort, items: &mut Items, item: ItemKind, count: u32)
     last
 }
 
-// The bytes of a component that imports these enums, and then an instance.
+// Adds components, so many. Each exports the type of the next, and the last one that of this component.
+fn add_components(rt: &impl Abort, items: &mut Items, component: ItemKind, count: u32) -> ItemKind {
+    let alloc = items.types.allocator();
+    let mut last = component;
+    for _ in 0..count {
+        let item = ItemKind::TypeItem(last.ty());
+        let world = World::new(alloc, None, &[], &[("t", item)]).expect(rt, "a world");
+        last = ItemKind::Component(items.types.add_world(world).expect(rt, "its id"));
+    }
+    last
+}
+
+// The bytes of a component that imports these enums, and then an item.
 fn imported(
     rt: &impl Abort,
     items: &Items,
@@ -83,19 +95,32 @@ fn enums_of_the_root_are_brought_three_hundred_scopes_in(rt: HostRuntime) {
     assert!(rt; bytes.len() <= 64 * WEIGHT);
 }
 
-// The bytes of an instance type with so many inside, one in the other. The last one is empty.
-fn levels(rt: &(impl Abort + AllocGlobal), count: u32) -> Vec<u8> {
+// The bytes of a type with so many inside, one in the other: how each begins, the last one, and how each ends.
+fn levels(
+    rt: &(impl Abort + AllocGlobal),
+    count: u32,
+    begin: &[u8],
+    last: &[u8],
+    end: &[u8],
+) -> Vec<u8> {
     let mut bytes = Vec::new(rt.alloc());
     for _ in 0..count {
-        let begin = bytes.extend_from_slice(&[0x42, 0x02, 0x01]);
-        begin.expect(rt, "bytes");
+        bytes.extend_from_slice(begin).expect(rt, "bytes");
     }
-    bytes.extend_from_slice(&[0x42, 0x00]).expect(rt, "bytes");
+    bytes.extend_from_slice(last).expect(rt, "bytes");
     for _ in 0..count {
-        let end = bytes.extend_from_slice(&[0x04, 0x00, 0x01, 0x6a, 0x05, 0x00]);
-        end.expect(rt, "bytes");
+        bytes.extend_from_slice(end).expect(rt, "bytes");
     }
     bytes
+}
+
+// The root imports an item by a type of these bytes.
+fn assert_imported(rt: &impl Abort, items: &Items, item: ItemKind, want: &Vec<u8>) {
+    let bytes = imported(rt, items, &[], item);
+    // The preamble, the section with its size of three bytes and its count, the type, and the import.
+    assert!(rt; bytes.len() == 13 + want.len() + 12);
+    let body = &bytes.as_slice()[13..13 + want.len()];
+    assert!(rt; body == want.as_slice());
 }
 
 #[test]
@@ -103,10 +128,17 @@ fn instances_are_written_five_thousand_deep(rt: HostRuntime) {
     let mut items = Items::new(&rt, rt.alloc(), &[Instance(None, &[])]);
     let item = items.kind(&rt, 0);
     let item = add_instances(&rt, &mut items, item, 5000);
-    let bytes = imported(&rt, &items, &[], item);
-    let want = levels(&rt, 5000);
-    // The preamble, the section with its size of three bytes and its count, the instance type, and the import.
-    assert!(rt; bytes.len() == 13 + want.len() + 12);
-    let body = &bytes.as_slice()[13..13 + want.len()];
-    assert!(rt; body == want.as_slice());
+    let end = &[0x04, 0x00, 0x01, 0x6a, 0x05, 0x00];
+    let want = levels(&rt, 5000, &[0x42, 0x02, 0x01], &[0x42, 0x00], end);
+    assert_imported(&rt, &items, item, &want);
+}
+
+#[test]
+fn components_are_written_ten_thousand_deep(rt: HostRuntime) {
+    let mut items = Items::new(&rt, rt.alloc(), &[Component(None, &[], &[])]);
+    let item = items.kind(&rt, 0);
+    let item = add_components(&rt, &mut items, item, 10_000);
+    let end = &[0x04, 0x00, 0x01, 0x74, 0x03, 0x00, 0x00];
+    let want = levels(&rt, 10_000, &[0x41, 0x02, 0x01], &[0x41, 0x00], end);
+    assert_imported(&rt, &items, item, &want);
 }
