@@ -1,0 +1,5 @@
+mod ItemLemmas
+mod ListLemmas
+mod RunLemmas
+mod StepLemmas
+mod WordLemmas

@@ -1,0 +1,13 @@
+use Rattle.wac_script.specs.declared.lines.calls.Change.TheVariants as said
+use Rattle.wac_script.specs.labels.Things.{things_of}
+use Rattle.wac_script.proofs.StepLemmas.{change-refused-first, change-refused-same}
+use Rattle.wac_script.proofs.changes.name_node.Goals as goal
+
+pub returns-in_err-id : goal.returns-in_err-id
+returns-in_err-id c = change-refused-first (things_of c.args.labels.now) c.args.graph.now (said.Name c.args.node c.args.name) c.from_residual.result c.from_residual.ensures.0
+
+pub returns-in_err-set_node_name : goal.returns-in_err-set_node_name
+returns-in_err-set_node_name c = change-refused-same (things_of c.args.labels.now) c.args.graph.now c.set_node_name.new.self (said.Name c.args.node c.args.name) c.from_residual-in_err-set_node_name.result c.from_residual-in_err-set_node_name.ensures.0 c.in_err-set_node_name.ensures.step
+
+pub returns : goal.returns
+returns c = (c.in_ok-id.id, c.in_ok-id.ensures.named, c.in_ok-set_node_name.ensures.step)

@@ -1,0 +1,7 @@
+use Rattle.std.proofs.Common.{◌≡◌, Ok, subst}
+use Rattle.semver.specs.Identifiers.{parts_of}
+use Rattle.semver.specs.Parse.{version_parts}
+use Rattle.wac_script.proofs.packages.version_of.Goals as goal
+
+pub returns-in-Ok : goal.returns-in-Ok
+returns-in-Ok c = (c.in-Some.ensures.1, subst (λ w. version_parts w ≡ Ok (parts_of c.in-Ok.version)) c.in-Some.ensures.0 c.in-Ok.ensures.ok)

@@ -1,0 +1,5 @@
+pub mod lines
+pub mod labels
+pub mod Steps
+pub mod Runs
+pub mod private

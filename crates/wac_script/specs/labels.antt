@@ -1,0 +1,5 @@
+pub mod Things
+pub mod Values
+pub mod Shapes
+pub mod Items
+pub mod Cores

@@ -1,0 +1,24 @@
+-- Labels, and what they stand for.
+use Rattle.std.specs.Prelude.{◌≡◌, List, Some}
+use Rattle.std.specs.Option.{option_map}
+use Rattle.wac_types_shapes.specs.primitives.Name.{Name, find_name}
+use Rattle.wac_types_shapes.specs.declared.shapes.core_types.CoreExtern.{CoreExtern}
+use Rattle.wac_script.specs.declared.labels.things.Thing.{Thing}
+use Rattle.wac_script.specs.declared.labels.things.Labelled.{Labelled}
+use Rattle.wac_script.specs.declared.labels.things.Things.{Things}
+
+-- Labels with what they stand for, in the order of their lines.
+abbrev pub Labelling : Type 0
+Labelling = List (Name × Labelled)
+
+-- The labels.
+abbrev pub things_of : Things → Labelling
+things_of t = t.things
+
+-- The imports and exports of core modules that have labels.
+abbrev pub cores_of : Things → List CoreExtern
+cores_of t = t.cores.items
+
+-- The label stands for this thing.
+abbrev pub IsThing : Labelling → Name → Thing → Type 0
+IsThing labels label t = option_map (λ l. l.thing) (find_name labels label) ≡ Some t

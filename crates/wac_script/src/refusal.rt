@@ -1,0 +1,123 @@
+//! Why a line is refused.
+
+use crate::labels::WordError;
+use std::alloc::AllocError;
+use std::fmt;
+use wac_graph::types::AddTypeError;
+use wac_graph::{
+    AliasError, DefineTypeError, ExportError, ImportError, InstantiationArgumentError, PlugError,
+    PlugFault, RegisterPackageError,
+};
+
+/// Why a line is refused.
+#[derive(Debug, Drop)]
+pub enum Refusal {
+    /// A word is not what the call takes, or a name occurs twice.
+    Words(WordError),
+    /// A type cannot be added.
+    Type(AddTypeError),
+    /// A package cannot be registered.
+    Register(RegisterPackageError),
+    /// An item cannot be imported.
+    Import(ImportError),
+    /// A type cannot be defined.
+    Define(DefineTypeError),
+    /// An export cannot be aliased.
+    Alias(AliasError),
+    /// An argument cannot be set.
+    Argument(InstantiationArgumentError),
+    /// A node cannot be exported.
+    Export(ExportError),
+    /// Packages cannot be plugged.
+    Plug(PlugError),
+    /// Out of memory.
+    OutOfMemory,
+}
+
+impl From<AllocError> for Refusal {
+    fn from(_e: AllocError) -> Refusal {
+        Refusal::OutOfMemory
+    }
+}
+
+impl From<WordError> for Refusal {
+    fn from(source: WordError) -> Refusal {
+        match source {
+            WordError::OutOfMemory => Refusal::OutOfMemory,
+            _ => Refusal::Words(source),
+        }
+    }
+}
+
+impl From<AddTypeError> for Refusal {
+    fn from(source: AddTypeError) -> Refusal {
+        Refusal::Type(source)
+    }
+}
+
+/// Writes the error of an export, with its reason.
+fn write_export<W: fmt::Write>(error: &ExportError, f: &mut fmt::Formatter<W>) -> fmt::Result {
+    match error {
+        ExportError::InvalidExportName { name: _, source } => write!(f, "{error}: {source}"),
+        _ => write!(f, "{error}"),
+    }
+}
+
+/// Writes the error of an argument, with its reason.
+fn write_argument<W: fmt::Write>(
+    error: &InstantiationArgumentError,
+    f: &mut fmt::Formatter<W>,
+) -> fmt::Result {
+    match error {
+        InstantiationArgumentError::ArgumentTypeMismatch { name: _, source } => {
+            write!(f, "{error}: {source}")
+        }
+        _ => write!(f, "{error}"),
+    }
+}
+
+/// Writes the error of `plug`, with its reason.
+fn write_plug<W: fmt::Write>(error: &PlugError, f: &mut fmt::Formatter<W>) -> fmt::Result {
+    let PlugError::GraphError { source } = error else {
+        return write!(f, "{error}");
+    };
+    write!(f, "{error}: ")?;
+    match source {
+        PlugFault::Alias(source) => write!(f, "{source}"),
+        PlugFault::Argument(source) => write_argument(source, f),
+        PlugFault::Export(source) => write_export(source, f),
+    }
+}
+
+/// Writes the error of an import, with its reason.
+fn write_import<W: fmt::Write>(error: &ImportError, f: &mut fmt::Formatter<W>) -> fmt::Result {
+    match error {
+        ImportError::InvalidImportName { name: _, source } => write!(f, "{error}: {source}"),
+        _ => write!(f, "{error}"),
+    }
+}
+
+/// Writes the error of a definition, with its reason.
+fn write_define<W: fmt::Write>(error: &DefineTypeError, f: &mut fmt::Formatter<W>) -> fmt::Result {
+    match error {
+        DefineTypeError::InvalidExternName { name: _, source } => write!(f, "{error}: {source}"),
+        _ => write!(f, "{error}"),
+    }
+}
+
+impl fmt::Display for Refusal {
+    fn fmt<W: fmt::Write>(&self, f: &mut fmt::Formatter<W>) -> fmt::Result {
+        match self {
+            Refusal::Words(source) => write!(f, "{source}"),
+            Refusal::Type(source) => write!(f, "the type cannot be added: {source}"),
+            Refusal::Register(source) => write!(f, "{source}"),
+            Refusal::Import(source) => write_import(source, f),
+            Refusal::Define(source) => write_define(source, f),
+            Refusal::Alias(source) => write!(f, "{source}"),
+            Refusal::Argument(source) => write_argument(source, f),
+            Refusal::Export(source) => write_export(source, f),
+            Refusal::Plug(source) => write_plug(source, f),
+            Refusal::OutOfMemory => f.write_str("out of memory"),
+        }
+    }
+}
