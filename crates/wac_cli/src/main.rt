@@ -1,0 +1,31 @@
+//! Composes WebAssembly components from a script.
+#![tactic(auto)]
+
+mod command;
+mod files;
+mod make;
+mod output;
+mod status;
+
+use crate::command::{command, read_words};
+use crate::make::run;
+use std::env;
+use std::io::IsTerminal;
+use std::process::ExitCode;
+
+fn main(rt: HostRuntime) -> anyhow::Result<ExitCode> {
+    let alloc = rt.alloc();
+    let words: Vec<String> = env::args(&rt)?.collect(alloc)?;
+    let command = command(alloc)?;
+    let matches = match command.try_get_matches_from(words.as_slice()) {
+        Ok(matches) => matches,
+        Err(error) => {
+            error.print(&rt)?;
+            return Ok(ExitCode::from(error.exit_code() as u8));
+        }
+    };
+    let asked = read_words(&matches);
+    let is_terminal = rt.stdout().is_terminal();
+    let status = run(&rt, &asked, is_terminal)?;
+    Ok(ExitCode::from(status.code()))
+}
