@@ -1,0 +1,3 @@
+pub mod Weight
+pub mod Text
+pub mod private
