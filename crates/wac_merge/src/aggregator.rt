@@ -18,6 +18,7 @@ ghost use Rattle.wac_merge_classes.specs.terms.Faults.{Fault as AFault, HasFault
 ghost use Rattle.wac_merge_classes.specs.terms.NoDisagreement.{HasNoDisagreement};
 ghost use Rattle.wac_merge_classes.specs.terms.Merge.{IsMerge, bound_resource, import_entries, listed_resource, own_resource};
 ghost use Rattle.wac_merge_imports.specs.unions.EntryFaults.{HasFaultsOfEntries};
+ghost use Rattle.wac_merge_imports.specs.unions.Lighter.{IsLighter};
 ghost use Rattle.wac_merge_imports.specs.unions.MergedScope.{BindsAsClasses, BindsUnder, IsBoundAs};
 ghost use Rattle.wac_merge_imports.specs.unions.OneId.{HasOneIdEach};
 ghost use Rattle.wac_merge_unions.specs.uses.KeptUses.{KeepsUses};
@@ -143,6 +144,7 @@ impl TypeAggregator {
         ensures uses { IfOk result (λ a. KeepsUses by_names types.now self.entries a.merge) }
         ensures before { IfOk result (λ a. MentionsBefore by_names a.merge) }
         ensures faults { IfOk result (λ a. HasFaultsOfEntries by_names types.now self.entries a.merge) }
+        ensures lighter { IfOk result (λ a. IsLighter types.now self.entries a.merge) }
         ensures kept { IfOk result (λ a. IsKeptBy types.now a.merge.types) }
         ensures meant { IfOk result (λ a. KeepsTrees types.now a.merge.types) }
         ensures held { IfOk result (λ a. AreHeld a.merge.types a.merge.imports) }

@@ -1,3 +1,4 @@
 pub mod fitting
 pub mod unions
 pub mod faults
+pub mod weight

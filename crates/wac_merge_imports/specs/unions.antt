@@ -5,3 +5,4 @@ pub mod OneInterface
 pub mod OneId
 pub mod MergedScope
 pub mod EntryFaults
+pub mod Lighter

@@ -15,7 +15,7 @@ use Rattle.wac_types_shapes.specs.declared.shapes.component.«Type».TheVariants
 use Rattle.wac_types_collection.specs.collection.Collection.{Collection, defined_values, func_values, item_at}
 use Rattle.wac_merge_classes.specs.entries.Bindings.{AreBindings, ClassBindings}
 use Rattle.wac_merge_classes.specs.entries.Classes.{AreClasses, Entry, by_names}
-use Rattle.wac_merge_classes.specs.terms.Became.{AreFresh}
+use Rattle.wac_merge_classes.specs.terms.Became.{AreFresh, became}
 use Rattle.wac_merge_classes.specs.terms.ClassOrder.{IsWrittenOrder}
 use Rattle.wac_merge_classes.specs.terms.Merge.{Merged}
 use Rattle.wac_merge_classes.specs.declared.terms.fresh.Fresh.{Fresh}
@@ -78,8 +78,8 @@ pub record AreMadeOnce (c m : Collection) (es : List Entry) (us : List Union) (p
   pub are : AreMade c t m made
   pub written : AreWrittenImports c m es us ps bs f order imports
   pub shared : AreSharedUnions c m us ps written.ids written.ws
-  pub unions : AreUnionsMadeOf c m t made us written.ws
-  pub imported : AreImportsMadeOf c m t made es positions order imports
+  pub unions : AreUnionsMadeOf c m (λ p. became c ps bs f (Some p)) t made us written.ws
+  pub imported : AreImportsMadeOf c m (became c ps bs f None) t made es positions order imports
 
 -- Each named type, function type and plain interface has one id in the merged collection.
 -- Definitions are one named type if parts export them under one name of one union, or if they are entries of one class.

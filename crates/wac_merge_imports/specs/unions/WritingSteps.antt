@@ -8,7 +8,8 @@ use Rattle.wac_types_collection.specs.collection.Uses.{is_named_right}
 use Rattle.wac_types_shapes.specs.declared.shapes.component.Interface.{Interface}
 use Rattle.wac_types_shapes.specs.declared.shapes.component.InterfaceId.{InterfaceId}
 use Rattle.wac_types_shapes.specs.declared.shapes.component.ItemKind.{ItemKind}
-use Rattle.wac_merge_classes.specs.terms.Became.{AreFresh}
+use Rattle.wac_types_shapes.specs.declared.shapes.component.ResourceId.{ResourceId}
+use Rattle.wac_merge_classes.specs.terms.Became.{AreFresh, became}
 use Rattle.wac_merge_classes.specs.entries.Classes.{Entry}
 use Rattle.wac_merge_resources.specs.renaming.MadeOf.{IsKindMadeOf}
 use Rattle.wac_merge_resources.specs.private.renaming.RenamedTypes.{AreRenamed, CanRenameAll}
@@ -71,20 +72,27 @@ pub record CanWrite (c m : Collection) (us : List Union) (b : Became) (written :
 abbrev pub AreRenamedIn : Collection → Collection → Became → Option ℕ → Renamed → Type 0
 AreRenamedIn c m b part memo = (s : Renaming) → s.types.now ≡ c → s.became.now ≡ b → s.part ≡ part → AreRenamed m s memo
 
--- The types in the items of a union's exports were made once.
-abbrev pub AreItemsMadeOf : Collection → Collection → NamedTypes → Made → List (Name × Export) → List (Name × ItemKind) → Type 0
-AreItemsMadeOf c m t made = AllZip (λ e k. IsKindMadeOf c m t made e.1.kind k.1)
+-- What resources become in each part, and outside all parts.
+abbrev pub in_parts : Collection → Became → ℕ → ResourceId → ResourceId
+in_parts c b p = became c b.parts.now b.bindings.now b.fresh.now (Some p)
+
+abbrev pub outside : Collection → Became → ResourceId → ResourceId
+outside c b = became c b.parts.now b.bindings.now b.fresh.now None
+
+-- The types in the items of a union's exports were made once. In each part resources become others by f.
+abbrev pub AreItemsMadeOf : Collection → Collection → (ℕ → ResourceId → ResourceId) → NamedTypes → Made → List (Name × Export) → List (Name × ItemKind) → Type 0
+AreItemsMadeOf c m f t made = AllZip (λ e k. IsKindMadeOf c m (f e.1.part) t made e.1.kind k.1)
 
 -- The types in the interface of a union were made once.
-pub record IsUnionMadeOf (c m : Collection) (t : NamedTypes) (made : Made) (x : Union) (w : InterfaceId) : Type 0 where
+pub record IsUnionMadeOf (c m : Collection) (f : ℕ → ResourceId → ResourceId) (t : NamedTypes) (made : Made) (x : Union) (w : InterfaceId) : Type 0 where
   pub interface : Interface
   pub there : item_at m.interfaces w.0 ≡ Some interface
-  pub items : AreItemsMadeOf c m t made x.exports interface.exports
+  pub items : AreItemsMadeOf c m f t made x.exports interface.exports
 
 -- The types in the interfaces of all unions were made once.
-abbrev pub AreUnionsMadeOf : Collection → Collection → NamedTypes → Made → List Union → List InterfaceId → Type 0
-AreUnionsMadeOf c m t made us ws = (u : ℕ) (x : Union) (w : InterfaceId) → slice_get us u ≡ Some x → slice_get ws u ≡ Some w → IsUnionMadeOf c m t made x w
+abbrev pub AreUnionsMadeOf : Collection → Collection → (ℕ → ResourceId → ResourceId) → NamedTypes → Made → List Union → List InterfaceId → Type 0
+AreUnionsMadeOf c m f t made us ws = (u : ℕ) (x : Union) (w : InterfaceId) → slice_get us u ≡ Some x → slice_get ws u ≡ Some w → IsUnionMadeOf c m f t made x w
 
--- The types in each import were made once, from the entry at the position of its class.
-abbrev pub AreImportsMadeOf : Collection → Collection → NamedTypes → Made → List Entry → List ℕ → List ℕ → List Entry → Type 0
-AreImportsMadeOf c m t made es positions order imports = (p k q : ℕ) (e x : Entry) → slice_get order p ≡ Some k → slice_get positions k ≡ Some q → slice_get es q ≡ Some e → slice_get imports p ≡ Some x → IsKindMadeOf c m t made e.kind x.kind
+-- The types in each import were made once, from the entry at the position of its class. Resources become others by f.
+abbrev pub AreImportsMadeOf : Collection → Collection → (ResourceId → ResourceId) → NamedTypes → Made → List Entry → List ℕ → List ℕ → List Entry → Type 0
+AreImportsMadeOf c m f t made es positions order imports = (p k q : ℕ) (e x : Entry) → slice_get order p ≡ Some k → slice_get positions k ≡ Some q → slice_get es q ≡ Some e → slice_get imports p ≡ Some x → IsKindMadeOf c m f t made e.kind x.kind

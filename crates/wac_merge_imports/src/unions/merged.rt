@@ -18,14 +18,15 @@ ghost use Rattle.wac_merge_classes.specs.entries.Classes.{AreClasses, Entry as A
 ghost use Rattle.wac_merge_classes.specs.terms.Merge.{IsMerge, import_entries, is_on_track};
 ghost use Rattle.wac_merge_imports.specs.private.unions.Basis.{IsBasis, IsBecame};
 ghost use Rattle.wac_merge_imports.specs.unions.EntryFaults.{HasFaultsOfEntries};
+ghost use Rattle.wac_merge_imports.specs.unions.Lighter.{IsLighter};
 ghost use Rattle.wac_merge_imports.specs.unions.MergedScope.{BindsAsClasses};
 ghost use Rattle.wac_merge_imports.specs.unions.OneId.{AreMadeOnce, HasOneIdEach};
-ghost use Rattle.wac_merge_imports.specs.unions.WritingSteps.{AreImportsMadeOf};
+ghost use Rattle.wac_merge_imports.specs.unions.WritingSteps.{AreImportsMadeOf, outside};
 ghost use Rattle.wac_merge_imports.specs.unions.MergedClasses.{AreClassUnions, AreIds, AreImports, AreOnTrack, AreRoots, AreWrittenImports, IsClassKind, IsUnionId, first_id, with_root};
 ghost use Rattle.wac_merge_classes.specs.private.terms.MergedKinds.{AreListedOnce};
 ghost use Rattle.wac_merge_resources.specs.renaming.MadeOf.{AreMade, IsKindMadeOf};
 ghost use Rattle.wac_merge_tables.specs.made.Made.{StayMade};
-ghost use Rattle.wac_merge_resources.specs.private.renaming.RenamedTypes.{CanRenameAll};
+ghost use Rattle.wac_merge_resources.specs.private.renaming.RenamedTypes.{CanRenameAll, becomes};
 ghost use Rattle.wac_types_collection.specs.private.subtyping.Extended.{IsExtended};
 ghost use Rattle.wac_merge_classes.specs.terms.Unions.{AreUnions};
 ghost use Rattle.wac_merge_classes.specs.terms.Writing.{IsGiven};
@@ -221,7 +222,7 @@ fn class_kind(
     ensures extended { IsExtended merged.old merged.new }
     ensures made { OnOk result (AreMade renaming.now.types.now renaming.now.became.now.named.now merged.new renamed.new.made) }
     ensures kind { IfOk result (λ k. IsClassKind renaming.now.types.now merged.new renaming.now.became.now.parts.now renaming.now.became.now.bindings.now renaming.now.became.now.fresh.now written.now number entry.now k) }
-    ensures once { IfOk result (λ k. IsKindMadeOf renaming.now.types.now merged.new renaming.now.became.now.named.now renamed.new.made entry.now.kind k) }
+    ensures once { IfOk result (λ k. IsKindMadeOf renaming.now.types.now merged.new (becomes renaming.now) renaming.now.became.now.named.now renamed.new.made entry.now.kind k) }
     ensures stay { OnOk result (StayMade renamed.old.made renamed.new.made) }
 {
     if let Some(resource) = renaming.became.fresh.whole(number) {
@@ -251,7 +252,7 @@ fn class_imports(
     ensures extended { IsExtended merged.old merged.new }
     ensures made { OnOk result (AreMade asked.now.types.now became.now.named.now merged.new renamed.new.made) }
     ensures imports { IfOk result (λ is. AreImports asked.now.types.now merged.new asked.now.entries.now became.now.parts.now became.now.bindings.now became.now.fresh.now written.now order.now (import_entries is)) }
-    ensures once { IfOk result (λ is. AreImportsMadeOf asked.now.types.now merged.new became.now.named.now renamed.new.made asked.now.entries.now asked.now.classes.now.positions.items order.now (import_entries is)) }
+    ensures once { IfOk result (λ is. AreImportsMadeOf asked.now.types.now merged.new (outside asked.now.types.now became.now) became.now.named.now renamed.new.made asked.now.entries.now asked.now.classes.now.positions.items order.now (import_entries is)) }
     ensures stay { OnOk result (StayMade renamed.old.made renamed.new.made) }
 {
     merged.law(); // proof only
@@ -476,6 +477,7 @@ impl Merged {
         ensures once { IfOk result (λ m. HasOneIdEach types.now entries.now m) }
         ensures uses { IfOk result (λ m. KeepsUses by_names types.now entries.now m) }
         ensures faults { IfOk result (λ m. HasFaultsOfEntries by_names types.now entries.now m) }
+        ensures lighter { IfOk result (λ m. IsLighter types.now entries.now m) }
         ensures begins { IfOk result (λ m. IsExtended types.now m.types) }
         ensures holds { IfOk result (λ m. AreHeld m.types m.imports) }
         ensures asked { IfOk result (λ m. AreHeld m.types entries.now) }

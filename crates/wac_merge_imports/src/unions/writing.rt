@@ -14,7 +14,7 @@ ghost use Rattle.wac_types_collection.specs.private.subtyping.Extended.{IsExtend
 ghost use Rattle.wac_merge_classes.specs.terms.Unions.{AreUnions};
 ghost use Rattle.wac_merge_classes.specs.terms.Writing.{AreWritten, IsAliasOf, IsGiven, IsWrittenAs};
 ghost use Rattle.wac_merge_imports.specs.unions.SharedUnions.{AreSharedUnions, IsAloneIn, Shares, first_in};
-ghost use Rattle.wac_merge_imports.specs.unions.WritingSteps.{AreItemsMadeOf, AreRenamedIn, AreUnionsMadeOf, IsUnionMadeOf, AreWrittenItems, CanWrite, HasExport, IsBehind, IsFoundIn, IsWrittenItem, IsWrittenUnion};
+ghost use Rattle.wac_merge_imports.specs.unions.WritingSteps.{AreItemsMadeOf, AreRenamedIn, AreUnionsMadeOf, IsUnionMadeOf, AreWrittenItems, CanWrite, HasExport, IsBehind, IsFoundIn, IsWrittenItem, IsWrittenUnion, in_parts};
 ghost use Rattle.wac_merge_resources.specs.declared.renaming.became.Became.{Became as ABecame};
 ghost use Rattle.wac_merge_classes.specs.declared.terms.parts.Union.{Union as AUnion};
 
@@ -77,7 +77,7 @@ fn write_type(
     ensures right { OnOk result (AreRenamed merged.new renaming.now renamed.new) }
     ensures held { IfOk result (λ t. holds_type merged.new t ≡ true) }
     ensures written { IfOk result (λ t. IsWrittenAs renaming.now.types.now merged.new (becomes renaming.now) inner name.now (kind_of.TypeItem ty) (kind_of.TypeItem t)) }
-    ensures once { IfOk result (λ t. IsKindMadeOf renaming.now.types.now merged.new renaming.now.became.now.named.now renamed.new.made (kind_of.TypeItem ty) (kind_of.TypeItem t)) }
+    ensures once { IfOk result (λ t. IsKindMadeOf renaming.now.types.now merged.new (becomes renaming.now) renaming.now.became.now.named.now renamed.new.made (kind_of.TypeItem ty) (kind_of.TypeItem t)) }
     ensures stay { OnOk result (StayMade renamed.old.made renamed.new.made) }
 {
     match ty {
@@ -120,7 +120,7 @@ pub fn write_kind(
     ensures right { OnOk result (AreRenamed merged.new renaming.now renamed.new) }
     ensures held { IfOk result (λ k. holds_type merged.new (kind_type k) ≡ true) }
     ensures written { IfOk result (λ k. IsWrittenAs renaming.now.types.now merged.new (becomes renaming.now) inner name.now kind k) }
-    ensures once { IfOk result (λ k. IsKindMadeOf renaming.now.types.now merged.new renaming.now.became.now.named.now renamed.new.made kind k) }
+    ensures once { IfOk result (λ k. IsKindMadeOf renaming.now.types.now merged.new (becomes renaming.now) renaming.now.became.now.named.now renamed.new.made kind k) }
     ensures stay { OnOk result (StayMade renamed.old.made renamed.new.made) }
 {
     match kind {
@@ -171,7 +171,7 @@ fn write_export(
     ensures extended { IsExtended merged.old merged.new }
     ensures right { OnOk result (AreRenamed merged.new renaming.now renamed.new) }
     ensures written { IfOk result (IsWrittenItem renaming.now.types.now merged.new renaming.now.became.now (length next.now.unions.now.unions.items) next.now.written.now next.now.union name.now export.now) }
-    ensures once { IfOk result (λ k. IsKindMadeOf renaming.now.types.now merged.new renaming.now.became.now.named.now renamed.new.made export.now.kind k) }
+    ensures once { IfOk result (λ k. IsKindMadeOf renaming.now.types.now merged.new (becomes renaming.now) renaming.now.became.now.named.now renamed.new.made export.now.kind k) }
     ensures stay { OnOk result (StayMade renamed.old.made renamed.new.made) }
 {
     if export.is_own {
@@ -224,7 +224,7 @@ fn write_exports(
     ensures extended { IsExtended merged.old merged.new }
     ensures made { OnOk result (AreMade renaming.now.types.now renaming.now.became.now.named.now merged.new renamed.new.made) }
     ensures written { IfOk result (λ ks. (x : AUnion) → slice_get next.now.unions.now.unions.items next.now.union ≡ Some x → AreWrittenItems renaming.now.types.now merged.new renaming.now.became.now (length next.now.unions.now.unions.items) next.now.written.now next.now.union x.exports ks) }
-    ensures once { IfOk result (λ ks. (x : AUnion) → slice_get next.now.unions.now.unions.items next.now.union ≡ Some x → AreItemsMadeOf renaming.now.types.now merged.new renaming.now.became.now.named.now renamed.new.made x.exports ks) }
+    ensures once { IfOk result (λ ks. (x : AUnion) → slice_get next.now.unions.now.unions.items next.now.union ≡ Some x → AreItemsMadeOf renaming.now.types.now merged.new (in_parts renaming.now.types.now renaming.now.became.now) renaming.now.became.now.named.now renamed.new.made x.exports ks) }
     ensures stay { OnOk result (StayMade renamed.old.made renamed.new.made) }
 {
     merged.law(); // proof only
@@ -287,7 +287,7 @@ fn write_union(
     ensures made { OnOk result (AreMade renaming.now.types.now renaming.now.became.now.named.now merged.new renamed.new.made) }
     ensures shared { IfOk result (λ w. (x : AUnion) → slice_get next.now.unions.now.unions.items next.now.union ≡ Some x → Shares (IsAloneIn renaming.now.types.now next.now.unions.now.parts.items (option_map string_bytes id.now) x.parts.items) merged.old merged.new (first_in shared.old) (first_in shared.new) w) }
     ensures written { IfOk result (λ w. (x : AUnion) → slice_get next.now.unions.now.unions.items next.now.union ≡ Some x → IsWrittenUnion renaming.now.types.now merged.new renaming.now.became.now (length next.now.unions.now.unions.items) next.now.written.now next.now.union x (option_map string_bytes id.now) w) }
-    ensures once { IfOk result (λ w. (x : AUnion) → slice_get next.now.unions.now.unions.items next.now.union ≡ Some x → IsUnionMadeOf renaming.now.types.now merged.new renaming.now.became.now.named.now renamed.new.made x w) }
+    ensures once { IfOk result (λ w. (x : AUnion) → slice_get next.now.unions.now.unions.items next.now.union ≡ Some x → IsUnionMadeOf renaming.now.types.now merged.new (in_parts renaming.now.types.now renaming.now.became.now) renaming.now.became.now.named.now renamed.new.made x w) }
     ensures stay { OnOk result (StayMade renamed.old.made renamed.new.made) }
 {
     let exports = write_exports(merged, renamed, renaming, next)?;
@@ -320,7 +320,7 @@ pub fn write_unions(
     ensures made { OnOk result (AreMade renaming.now.types.now renaming.now.became.now.named.now merged.new renamed.new.made) }
     ensures written { IfOk result (λ ws. AreWritten renaming.now.types.now merged.new unions.now.unions.items unions.now.parts.items renaming.now.became.now.bindings.now renaming.now.became.now.fresh.now (map (option_map string_bytes) ids.now) ws.items) }
     ensures shared { IfOk result (λ ws. AreSharedUnions renaming.now.types.now merged.new unions.now.unions.items unions.now.parts.items (map (option_map string_bytes) ids.now) ws.items) }
-    ensures once { IfOk result (λ ws. AreUnionsMadeOf renaming.now.types.now merged.new renaming.now.became.now.named.now renamed.new.made unions.now.unions.items ws.items) }
+    ensures once { IfOk result (λ ws. AreUnionsMadeOf renaming.now.types.now merged.new (in_parts renaming.now.types.now renaming.now.became.now) renaming.now.became.now.named.now renamed.new.made unions.now.unions.items ws.items) }
     ensures stay { OnOk result (StayMade renamed.old.made renamed.new.made) }
 {
     merged.law(); // proof only

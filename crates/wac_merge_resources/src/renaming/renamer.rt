@@ -623,7 +623,7 @@ impl Renamed {
         ensures extended { IsExtended merged.old merged.new }
         ensures right { OnOk result (AreRenamed merged.new renaming.now self.new) }
         ensures value { IfOk result (λ w. IsRenamed renaming.now.types.now merged.new (becomes renaming.now) (ty.Value value) (ty.Value w)) }
-        ensures once { IfOk result (λ w. IsMadeOf renaming.now.types.now renaming.now.became.now.named.now self.new.made value w) }
+        ensures once { IfOk result (λ w. IsMadeOf renaming.now.types.now (becomes renaming.now) renaming.now.became.now.named.now self.new.made value w) }
         ensures stay { OnOk result (StayMade self.old.made self.new.made) }
     {
         if let ValueType::Defined(id) = value {
@@ -654,7 +654,7 @@ impl Renamed {
         ensures extended { IsExtended merged.old merged.new }
         ensures right { OnOk result (AreRenamed merged.new renaming.now self.new) }
         ensures func { IfOk result (λ g. IsRenamed renaming.now.types.now merged.new (becomes renaming.now) (ty.Func id) (ty.Func g)) }
-        ensures once { IfOk result (λ g. IsFuncMadeOf renaming.now.types.now merged.new renaming.now.became.now.named.now self.new.made id g) }
+        ensures once { IfOk result (λ g. IsFuncMadeOf renaming.now.types.now merged.new (becomes renaming.now) renaming.now.became.now.named.now self.new.made id g) }
         ensures stay { OnOk result (StayMade self.old.made self.new.made) }
     {
         if let Some(became) = self.func_type(id) {

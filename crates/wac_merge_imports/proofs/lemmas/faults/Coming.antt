@@ -62,7 +62,7 @@ module _ (c : Collection) where
 -- ---- what is listed by a part
 
 -- the parts that export a name
-listed_from : (c : Collection) (ps : List Part) (qs : List ℕ) (n : Name) (e : ℕ × ItemKind) → Contains (listed_under c ps qs n) e → Contains qs e.0 × (find_name (part_lists c ps e.0) n ≡ Some e.1)
+pub listed_from : (c : Collection) (ps : List Part) (qs : List ℕ) (n : Name) (e : ℕ × ItemKind) → Contains (listed_under c ps qs n) e → Contains qs e.0 × (find_name (part_lists c ps e.0) n ≡ Some e.1)
 listed_from c ps [] n e h = absurd (in_none e h)
 listed_from c ps (p ∷ qs) n e h = by (λ more. let x = listed_from c ps qs n e more in (in_rest p e.0 qs x.0, x.1)) (find_name (part_lists c ps p) n) refl h where
   by : (Contains (listed_under c ps qs n) e → Contains (p ∷ qs) e.0 × (find_name (part_lists c ps e.0) n ≡ Some e.1))
@@ -123,7 +123,7 @@ module _ (c m : Collection) (es : List Entry) (roots : List (List InterfaceId)) 
   abbrev IsOutside : ℕ → ResourceId → Type 0
   IsOutside u q = (l : Name) → own_in f u l ≡ Some q → ⊥
 
-  exports_are : (o : ℕ) (y : Part) (it : Interface) → slice_get ps o ≡ Some y → item_at c.interfaces (y.interface).0 ≡ Some it → part_lists c ps o ≡ it.exports
+  pub exports_are : (o : ℕ) (y : Part) (it : Interface) → slice_get ps o ≡ Some y → item_at c.interfaces (y.interface).0 ≡ Some it → part_lists c ps o ≡ it.exports
   exports_are o y it at here = ap (λ (z : Option Part). option_case z [] (λ x. interface_exports c x.interface)) at ∙ ap (λ (z : Option Interface). option_case z [] (λ x. x.exports)) here
 
   pub name_is : (y : Part) (it : Interface) (s : ResourceId) → item_at c.interfaces (y.interface).0 ≡ Some it → own_of_part c y s ≡ own_name c it.uses it.exports s
@@ -184,7 +184,7 @@ module _ (c m : Collection) (es : List Entry) (roots : List (List InterfaceId)) 
 
     module _ (e : Export) (export : IsExport c us ps u n listed e) where
       -- the item that it was made of
-      first_listed : Contains listed (e.part, e.kind)
+      pub first_listed : Contains listed (e.part, e.kind)
       first_listed = subst (λ l. Contains l (e.part, e.kind)) (sym export.first) (in_first (e.part, e.kind) export.more)
 
       -- the union of what lies in it

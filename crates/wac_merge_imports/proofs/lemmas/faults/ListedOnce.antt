@@ -16,7 +16,7 @@ use Rattle.wac_merge_classes.proofs.lemmas.entries.Lists.{none-at}
 use Rattle.wac_merge_classes.proofs.lemmas.terms.Found.{get_map, no_some, some_same}
 
 -- no name stands twice
-abbrev AreOnce : List Name → Type 0
+abbrev pub AreOnce : List Name → Type 0
 AreOnce [] = Unit {0}
 AreOnce (n ∷ ns) = (list_any (same_name n) ns ≡ false) × AreOnce ns
 
@@ -39,7 +39,7 @@ once_with ns (e ∷ es) once = once_with (if list_any (same_name e.0) ns then ns
   by true there = once
   by false none = once_pushed ns e.0 once none
 
-once_behind : (ns : List Name) (ls : List (List (Name × ItemKind))) → AreOnce ns → AreOnce (names_behind ns ls)
+pub once_behind : (ns : List Name) (ls : List (List (Name × ItemKind))) → AreOnce ns → AreOnce (names_behind ns ls)
 once_behind ns [] once = once
 once_behind ns (es ∷ rest) once = once_behind (with_names ns es) rest (once_with ns es once)
 

@@ -88,7 +88,7 @@ module _ (m : Collection) where
   with-alias a n None e = absurd (no_some _ e)
   with-alias a n (Some h) e = ap (λ (r : Resource). is_some (option_case r.alias None (λ x. Some x.source))) (some_same h.item (record { name = n; alias = Some a }) e)
 
-  alias-is-alias : (n : Name) (q a : ResourceId) → IsAliasOf m n q a → is_alias m a ≡ true
+  pub alias-is-alias : (n : Name) (q a : ResourceId) → IsAliasOf m n q a → is_alias m a ≡ true
   alias-is-alias n q a x = with-alias (record { owner = None; source = q }) n (slice_get m.resources a.0) x.is
 
   -- a resource that was written from what a part lists is an alias

@@ -94,8 +94,8 @@ module _ (c m more : Collection) (x : IsExtended m more) (wf : IsWellFormed m) (
       imported = still-imports o.written.ws o.written.imported;
     };
     shared = still-shared c m more x us ps o.written.ids o.written.ws o.shared;
-    unions = λ u y w at there. still-union-made c m more x t o.made o.made (λ g e is. is) y w (o.unions u y w at there);
-    imported = λ p k q e y at_p at_k at_q at_y. still_kind_of c t o.made o.made (λ g d is. is) m more x e.kind y.kind (o.imported p k q e y at_p at_k at_q at_y);
+    unions = λ u y w at there. still-union-made c m more x (λ p. became c ps bs f (Some p)) t o.made o.made (λ g e is. is) y w (o.unions u y w at there);
+    imported = λ p k q e y at_p at_k at_q at_y. still_kind_of c (became c ps bs f None) t o.made o.made (λ g d is. is) m more x e.kind y.kind (o.imported p k q e y at_p at_k at_q at_y);
   }
 
 -- what stands among the first of a list

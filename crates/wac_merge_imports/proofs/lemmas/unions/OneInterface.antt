@@ -21,6 +21,7 @@ use Rattle.wac_merge_classes.specs.entries.Bindings.{ClassBindings}
 use Rattle.wac_merge_classes.specs.entries.Classes.{Entry, by_names, class_names, is_instance, members, same_class}
 use Rattle.wac_merge_classes.specs.entries.Places.{own_resource}
 use Rattle.wac_merge_classes.proofs.lemmas.entries.Lists.{some-at}
+use Rattle.wac_merge_classes.specs.terms.Became.{became}
 use Rattle.wac_merge_classes.specs.terms.Merge.{class_id, first_entry_id, instance_id, is_on_track, names_behind, with_names}
 use Rattle.wac_merge_classes.specs.private.terms.MergedKinds.{AreInstancesOf, AreNoInstances, IsMergedKind, as_instance, as_other, as_resource}
 use Rattle.wac_merge_classes.specs.terms.Unions.{AreUnions, IsExport, is_own_of, listed_under, part, part_lists}
@@ -187,33 +188,33 @@ module _ (c m : Collection) (ps : List Part) (cs : ClassBindings) (f : Fresh) (w
       ap (λ b. b || list_any (λ (z : Name × ItemKind). is_instance z.1) ks) here ∙ no-instance u es fs ks p.1 h.1
 
   module _ (t : NamedTypes) (made : Made) (are : AreThere m made) where
-    kind-once : (k l a b : ItemKind) → k ≡ l → IsPlainItem c k → AreOneSort k a → AreOneSort l b → IsKindMadeOf c m t made k a → IsKindMadeOf c m t made l b → a ≡ b
-    kind-once k l a b same plain (funcs x y kx ay) (funcs g z lg bz) one two =
-        let first : IsFuncMadeOf c m t made x y = subst (λ (q : ItemKind). IsKindMadeOf c m t made q (kind.Func y)) kx (subst (IsKindMadeOf c m t made k) ay one) in
-        let second : IsFuncMadeOf c m t made x z = subst (λ (q : ItemKind). IsKindMadeOf c m t made q (kind.Func z)) (sym same ∙ kx) (subst (IsKindMadeOf c m t made l) bz two) in
-        ay ∙ (ap kind.Func (func-once c t made m are x y z (subst (IsPlainItem c) kx plain) first second) ∙ sym bz)
-    kind-once k l a b same plain (values x y kx ay) (values g z lg bz) one two =
-        let first : IsMadeOf c t made x y = subst (λ (q : ItemKind). IsKindMadeOf c m t made q (kind.TypeItem (ty.Value y))) kx (subst (IsKindMadeOf c m t made k) ay one) in
-        let second : IsMadeOf c t made x z = subst (λ (q : ItemKind). IsKindMadeOf c m t made q (kind.TypeItem (ty.Value z))) (sym same ∙ kx) (subst (IsKindMadeOf c m t made l) bz two) in
-        ay ∙ (ap (λ (v : ValueType). kind.TypeItem (ty.Value v)) (value-once c t made x y z (subst (IsPlainItem c) kx plain) first second) ∙ sym bz)
-    kind-once k l a b same plain (funcs x y kx ay) (values g z lg bz) one two = cc (sym kx ∙ (same ∙ lg))
-    kind-once k l a b same plain (values x y kx ay) (funcs g z lg bz) one two = cc (sym kx ∙ (same ∙ lg))
+    kind-once : (e h : ResourceId → ResourceId) (k l a b : ItemKind) → k ≡ l → IsPlainItem c k → AreOneSort k a → AreOneSort l b → IsKindMadeOf c m e t made k a → IsKindMadeOf c m h t made l b → a ≡ b
+    kind-once e h k l a b same plain (funcs x y kx ay) (funcs g z lg bz) one two =
+        let first : IsFuncMadeOf c m e t made x y = subst (λ (q : ItemKind). IsKindMadeOf c m e t made q (kind.Func y)) kx (subst (IsKindMadeOf c m e t made k) ay one) in
+        let second : IsFuncMadeOf c m h t made x z = subst (λ (q : ItemKind). IsKindMadeOf c m h t made q (kind.Func z)) (sym same ∙ kx) (subst (IsKindMadeOf c m h t made l) bz two) in
+        ay ∙ (ap kind.Func (func-once c t made m are e h x y z (subst (IsPlainItem c) kx plain) first second) ∙ sym bz)
+    kind-once e h k l a b same plain (values x y kx ay) (values g z lg bz) one two =
+        let first : IsMadeOf c e t made x y = subst (λ (q : ItemKind). IsKindMadeOf c m e t made q (kind.TypeItem (ty.Value y))) kx (subst (IsKindMadeOf c m e t made k) ay one) in
+        let second : IsMadeOf c h t made x z = subst (λ (q : ItemKind). IsKindMadeOf c m h t made q (kind.TypeItem (ty.Value z))) (sym same ∙ kx) (subst (IsKindMadeOf c m h t made l) bz two) in
+        ay ∙ (ap (λ (v : ValueType). kind.TypeItem (ty.Value v)) (value-once c t made e h x y z (subst (IsPlainItem c) kx plain) first second) ∙ sym bz)
+    kind-once e h k l a b same plain (funcs x y kx ay) (values g z lg bz) one two = cc (sym kx ∙ (same ∙ lg))
+    kind-once e h k l a b same plain (values x y kx ay) (funcs g z lg bz) one two = cc (sym kx ∙ (same ∙ lg))
 
-    items-once : (u v : ℕ) (es fs : List (Name × Export)) (ks ls : List (Name × ItemKind)) → AllZip (IsOnePlain c) es fs → AllZip (IsWrittenExport c m ps cs f ws u) es ks → AllZip (IsWrittenExport c m ps cs f ws v) fs ls
-        → AreItemsMadeOf c m t made es ks → AreItemsMadeOf c m t made fs ls → ks ≡ ls
-    items-once u v [] [] [] [] p h g one two = refl
-    items-once u v [] [] (a ∷ ks) ls p h g one two = absurd h
-    items-once u v [] [] [] (b ∷ ls) p h g one two = absurd g
-    items-once u v [] (g ∷ fs) ks ls p h k one two = absurd p
-    items-once u v (e ∷ es) [] ks ls p h k one two = absurd p
-    items-once u v (e ∷ es) (g ∷ fs) [] ls p h k one two = absurd h
-    items-once u v (e ∷ es) (g ∷ fs) (a ∷ ks) [] p h k one two = absurd k
-    items-once u v (e ∷ es) (g ∷ fs) (a ∷ ks) (b ∷ ls) p h k one two =
+    items-once : (r : ℕ → ResourceId → ResourceId) (u v : ℕ) (es fs : List (Name × Export)) (ks ls : List (Name × ItemKind)) → AllZip (IsOnePlain c) es fs → AllZip (IsWrittenExport c m ps cs f ws u) es ks → AllZip (IsWrittenExport c m ps cs f ws v) fs ls
+        → AreItemsMadeOf c m r t made es ks → AreItemsMadeOf c m r t made fs ls → ks ≡ ls
+    items-once r u v [] [] [] [] p h g one two = refl
+    items-once r u v [] [] (a ∷ ks) ls p h g one two = absurd h
+    items-once r u v [] [] [] (b ∷ ls) p h g one two = absurd g
+    items-once r u v [] (g ∷ fs) ks ls p h k one two = absurd p
+    items-once r u v (e ∷ es) [] ks ls p h k one two = absurd p
+    items-once r u v (e ∷ es) (g ∷ fs) [] ls p h k one two = absurd h
+    items-once r u v (e ∷ es) (g ∷ fs) (a ∷ ks) [] p h k one two = absurd k
+    items-once r u v (e ∷ es) (g ∷ fs) (a ∷ ks) (b ∷ ls) p h k one two =
         let x = one-sort u e.0 e.1 a.0 a.1 p.0.2 p.0.3 h.0 in
         let y = one-sort v g.0 g.1 b.0 b.1 (subst (IsPlainItem c) p.0.1 p.0.2) p.0.4 k.0 in
         let name : a.0 ≡ b.0 = sym x.0 ∙ (p.0.0 ∙ y.0) in
-        let item : a.1 ≡ b.1 = kind-once e.1.kind g.1.kind a.1 b.1 p.0.1 p.0.2 x.1 y.1 one.0 two.0 in
-        let rest = items-once u v es fs ks ls p.1 h.1 k.1 one.1 two.1 in
+        let item : a.1 ≡ b.1 = kind-once (r e.1.part) (r g.1.part) e.1.kind g.1.kind a.1 b.1 p.0.1 p.0.2 x.1 y.1 one.0 two.0 in
+        let rest = items-once r u v es fs ks ls p.1 h.1 k.1 one.1 two.1 in
         (λ i. (name i, item i) ∷ rest i)
 
 -- ---- the union of a class that is one interface alone
@@ -293,15 +294,16 @@ module _ (c m : Collection) (es : List Entry) (roots : List (List InterfaceId)) 
       let is_y : two.1 ≡ y = one_some (item_at m.interfaces z.0) two.1 y (ap (λ (k : InterfaceId). item_at m.interfaces k.0) (sym is_z) ∙ two.3) there_z in
       let made_x = made.unions u a.union w a.at at_u in
       let made_y = made.unions v b.union z b.at at_v in
-      let items_x : AreItemsMadeOf c m t made.made a.union.exports one.1.exports =
-      subst (λ (k : Interface). AreItemsMadeOf c m t made.made a.union.exports k.exports) (one_some (item_at m.interfaces w.0) made_x.interface x made_x.there there_w ∙ sym is_x) made_x.items in
-      let items_y : AreItemsMadeOf c m t made.made b.union.exports two.1.exports =
-      subst (λ (k : Interface). AreItemsMadeOf c m t made.made b.union.exports k.exports) (one_some (item_at m.interfaces z.0) made_y.interface y made_y.there there_z ∙ sym is_y) made_y.items in
+      let in_part = λ (n : ℕ). became c ps bs f (Some n) in
+      let items_x : AreItemsMadeOf c m in_part t made.made a.union.exports one.1.exports =
+      subst (λ (k : Interface). AreItemsMadeOf c m in_part t made.made a.union.exports k.exports) (one_some (item_at m.interfaces w.0) made_x.interface x made_x.there there_w ∙ sym is_x) made_x.items in
+      let items_y : AreItemsMadeOf c m in_part t made.made b.union.exports two.1.exports =
+      subst (λ (k : Interface). AreItemsMadeOf c m in_part t made.made b.union.exports k.exports) (one_some (item_at m.interfaces z.0) made_y.interface y made_y.there there_z ∙ sym is_y) made_y.items in
       let id : one.1.id ≡ two.1.id =
       one_some (slice_get ids u) one.1.id a.id one.5 a.named ∙ (sym a.alone.own ∙ (b.alone.own ∙ sym (one_some (slice_get ids v) two.1.id b.id two.5 b.named))) in
       let uses : one.1.uses ≡ two.1.uses = one.4 ∙ sym two.4 in
       let exports : one.1.exports ≡ two.1.exports =
-      items-once c m ps bs f ws t made.made made.are.there u v a.union.exports b.union.exports one.1.exports two.1.exports (all-plain c roots us ps all.merged.unions i plain ids u v a b) one.6 two.6 items_x items_y in
+      items-once c m ps bs f ws t made.made made.are.there in_part u v a.union.exports b.union.exports one.1.exports two.1.exports (all-plain c roots us ps all.merged.unions i plain ids u v a b) one.6 two.6 items_x items_y in
       let same : one.1 ≡ two.1 = (λ j. record { id = id j; uses = uses j; exports = exports j }) in
       sym is_x ∙ (same ∙ is_y)
 

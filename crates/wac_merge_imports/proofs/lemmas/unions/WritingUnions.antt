@@ -142,8 +142,8 @@ renamed-alike m memo s t x y z are = record {
       along (λ c b p. IsRenamed c m (became c b.parts.now b.bindings.now b.fresh.now p) (ty.Value (val.Defined d)) (ty.Value (val.Defined e))) s t x y z (are.defined d e at);
   funcs = λ f g at. along (λ c b p. IsRenamed c m (became c b.parts.now b.bindings.now b.fresh.now p) (ty.Func f) (ty.Func g)) s t x y z (are.funcs f g at);
   made = along (λ c b p. AreMade c b.named.now m memo.made) s t x y z are.made;
-  once = λ d e at. along (λ c b p. IsMadeOf c b.named.now memo.made (val.Defined d) (val.Defined e)) s t x y z (are.once d e at);
-  once_funcs = λ f g at. along (λ c b p. IsFuncMadeOf c m b.named.now memo.made f g) s t x y z (are.once_funcs f g at);
+  once = λ d e at. along (λ c b p. IsMadeOf c (became c b.parts.now b.bindings.now b.fresh.now p) b.named.now memo.made (val.Defined d) (val.Defined e)) s t x y z (are.once d e at);
+  once_funcs = λ f g at. along (λ c b p. IsFuncMadeOf c m (became c b.parts.now b.bindings.now b.fresh.now p) b.named.now memo.made f g) s t x y z (are.once_funcs f g at);
 }
 
 -- ---- what stays

@@ -11,6 +11,7 @@ use Rattle.wac_types_shapes.specs.declared.shapes.component.FuncType.{FuncType}
 use Rattle.wac_types_shapes.specs.declared.shapes.component.FuncTypeId.{FuncTypeId}
 use Rattle.wac_types_shapes.specs.declared.shapes.component.ItemKind.{ItemKind}
 use Rattle.wac_types_shapes.specs.declared.shapes.component.ItemKind.TheVariants as kind
+use Rattle.wac_types_shapes.specs.declared.shapes.component.ResourceId.{ResourceId}
 use Rattle.wac_types_shapes.specs.declared.shapes.component.ValueType.{ValueType}
 use Rattle.wac_types_shapes.specs.declared.shapes.component.ValueType.TheVariants as val
 use Rattle.wac_types_shapes.specs.declared.shapes.component.«Type».TheVariants as ty
@@ -18,6 +19,7 @@ use Rattle.wac_merge_resources.specs.declared.values.named.NamedTypes.{NamedType
 use Rattle.wac_types_collection.specs.private.subtyping.Extended.{IsExtended}
 use Rattle.wac_merge_tables.specs.made.Made.{IsFuncMadeFor, IsMadeFor, StayMade, form, func_form}
 use Rattle.wac_merge_resources.specs.renaming.MadeOf.{IsFuncMadeOf, IsKindMadeOf, IsMadeOf, alias, anew, other_name, plain}
+use Rattle.wac_merge_resources.specs.private.renaming.RenamedTypes.{becomes}
 use Rattle.wac_merge_resources.specs.private.renaming.RenamingSteps.{CasesGoTogether, FieldsGoTogether, GoTogether, HaveOneFuncShape, HaveOneShape, IsRenamedIn, aliases, enums, fixed_lists, flags, futures, lists, options, records, results, streams, tuples, variants}
 use Rattle.wac_merge_tables.specs.declared.made.made.Made.{Made}
 use Rattle.wac_merge_resources.specs.declared.renaming.renamer.Renaming.{Renaming}
@@ -86,7 +88,7 @@ module _ (R : ValueType → ValueType → Type 0) where
 pub stay_twice : (a b c : Made) → StayMade a b → StayMade b c → StayMade a c
 stay_twice a b c g h f e is = h f e (g f e is)
 
-module _ (c : Collection) (t : NamedTypes) (old new : Made) (stay : StayMade old new) where
+module _ (c : Collection) (end_of : ResourceId → ResourceId) (t : NamedTypes) (old new : Made) (stay : StayMade old new) where
   still_for : (n : Option DefinedTypeId) (x : DefinedType) (e : DefinedTypeId) → IsMadeFor old n x e → IsMadeFor new n x e
   still_for n x e (f, p, q, is) = (f, p, q, stay (form f) e.0 is)
 
@@ -97,13 +99,13 @@ module _ (c : Collection) (t : NamedTypes) (old new : Made) (stay : StayMade old
   still_once f g x (inl same) = inl same
   still_once f g x (inr made) = inr (still_func_for f x g made)
 
-  pub still_of : (v w : ValueType) → IsMadeOf c t old v w → IsMadeOf c t new v w
-  still_of v w (plain _ _ none itself) = plain v w none itself
+  pub still_of : (v w : ValueType) → IsMadeOf c end_of t old v w → IsMadeOf c end_of t new v w
+  still_of v w (plain _ _ is) = plain v w is
   still_of v w (alias _ _ d end y p at other h) = alias v w d end y p at other (still_of (val.Defined end) w h)
   still_of v w (anew _ _ d e y x p q at none made out parts) = anew v w d e y x p q at none (still_for _ x e made) out (λ i a b g h. still_of a b (parts i a b g h))
 
   module _ (m more : Collection) (x : IsExtended m more) where
-    pub still_func_of : (f g : FuncTypeId) → IsFuncMadeOf c m t old f g → IsFuncMadeOf c more t new f g
+    pub still_func_of : (f g : FuncTypeId) → IsFuncMadeOf c m end_of t old f g → IsFuncMadeOf c more end_of t new f g
     still_func_of f g r = record {
       before = r.before;
       after = r.after;
@@ -114,7 +116,7 @@ module _ (c : Collection) (t : NamedTypes) (old new : Made) (stay : StayMade old
       once = still_once f g r.after r.once;
     }
 
-    pub still_kind_of : (k l : ItemKind) → IsKindMadeOf c m t old k l → IsKindMadeOf c more t new k l
+    pub still_kind_of : (k l : ItemKind) → IsKindMadeOf c m end_of t old k l → IsKindMadeOf c more end_of t new k l
     still_kind_of k (kind.TypeItem (ty.Resource q)) h = tt
     still_kind_of (kind.Value v) (kind.Value w) h = still_of v w h
     still_kind_of (kind.TypeItem (ty.Value v)) (kind.TypeItem (ty.Value w)) h = still_of v w h
@@ -124,18 +126,22 @@ module _ (c : Collection) (t : NamedTypes) (old new : Made) (stay : StayMade old
     still_kind_of (kind.TypeItem (ty.Value v)) l h = absurd h
     still_kind_of (kind.Func f) l h = absurd h
     still_kind_of (kind.TypeItem (ty.Func f)) l h = absurd h
+    still_kind_of k (kind.Value w) h = absurd h
+    still_kind_of k (kind.TypeItem (ty.Value w)) h = absurd h
+    still_kind_of k (kind.Func g) h = absurd h
+    still_kind_of k (kind.TypeItem (ty.Func g)) h = absurd h
     still_kind_of k l h = tt
 
 -- what a function type mentions was made where its parameters and its result were
 pub func_once : (s : Renaming) (m more : Collection) (made new : Made) (stay : StayMade made new) (f g : FuncTypeId) (x y : FuncType) → item_at s.types.now.funcs f.0 ≡ Some x → item_at more.funcs g.0 ≡ Some y → (g ≡ f) ⊎ IsFuncMadeFor new f y g
-    → HaveOneFuncShape (IsRenamedIn s m made) x y → IsFuncMadeOf s.types.now more s.became.now.named.now new f g
+    → HaveOneFuncShape (IsRenamedIn s m made) x y → IsFuncMadeOf s.types.now more (becomes s) s.became.now.named.now new f g
 func_once s m more made new stay f g x y at there once shape = record {
   before = x;
   after = y;
   is = at;
   became = there;
   outlined = func_outlined (IsRenamedIn s m made) x y shape.params shape.result shape.sort;
-  values = λ i a b p q. still_of s.types.now s.became.now.named.now made new stay a b (func_pairs (IsRenamedIn s m made) x y shape.params shape.result i a b p q).1;
+  values = λ i a b p q. still_of s.types.now (becomes s) s.became.now.named.now made new stay a b (func_pairs (IsRenamedIn s m made) x y shape.params shape.result i a b p q).1;
   once = once;
 }
 

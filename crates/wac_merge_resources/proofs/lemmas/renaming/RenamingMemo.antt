@@ -53,8 +53,8 @@ module _ (s : Renaming) (m : Collection) (old new : Renamed) where
       defined = λ k i is. (became_now r h k i is).0;
       funcs = λ f i is. r.funcs f i (ap (λ x. func_at x f) (sym put.funcs) ∙ is);
       made = subst (AreMade s.types.now s.became.now.named.now m) (sym put.made) r.made;
-      once = λ k i is. subst (λ (made : Made). IsMadeOf s.types.now s.became.now.named.now made (val.Defined k) (val.Defined i)) (sym put.made) (became_now r h k i is).1;
-      once_funcs = λ f i is. subst (λ (made : Made). IsFuncMadeOf s.types.now m s.became.now.named.now made f i) (sym put.made) (r.once_funcs f i (ap (λ x. func_at x f) (sym put.funcs) ∙ is));
+      once = λ k i is. subst (λ (made : Made). IsMadeOf s.types.now (becomes s) s.became.now.named.now made (val.Defined k) (val.Defined i)) (sym put.made) (became_now r h k i is).1;
+      once_funcs = λ f i is. subst (λ (made : Made). IsFuncMadeOf s.types.now m (becomes s) s.became.now.named.now made f i) (sym put.made) (r.once_funcs f i (ap (λ x. func_at x f) (sym put.funcs) ∙ is));
     }
 
   module _ (f g : FuncTypeId) (put : HasFuncToo old f g new) where
@@ -62,14 +62,14 @@ module _ (s : Renaming) (m : Collection) (old new : Renamed) where
     split_func P r h k i true same is = subst (λ (x : FuncTypeId). P x i) (same_func f k same) (subst (λ (x : FuncTypeId). P f x) (one_some g i is) h)
     split_func P r h k i false same is = r k i is
 
-    pub func_right : AreRenamed m s old → IsRenamed s.types.now m (becomes s) (ty.Func f) (ty.Func g) → IsFuncMadeOf s.types.now m s.became.now.named.now old.made f g → AreRenamed m s new
+    pub func_right : AreRenamed m s old → IsRenamed s.types.now m (becomes s) (ty.Func f) (ty.Func g) → IsFuncMadeOf s.types.now m (becomes s) s.became.now.named.now old.made f g → AreRenamed m s new
     func_right r h o = record {
       defined = λ d i is. r.defined d i (ap (λ x. defined_at x d) (sym put.defined) ∙ is);
       funcs = λ k i is. split_func (λ a b. IsRenamed s.types.now m (becomes s) (ty.Func a) (ty.Func b)) r.funcs h k i (nat_eq f.0 k.0) refl (sym (put.funcs k) ∙ is);
       made = subst (AreMade s.types.now s.became.now.named.now m) (sym put.made) r.made;
-      once = λ d i is. subst (λ (made : Made). IsMadeOf s.types.now s.became.now.named.now made (val.Defined d) (val.Defined i)) (sym put.made) (r.once d i (ap (λ x. defined_at x d) (sym put.defined) ∙ is));
-      once_funcs = λ k i is. subst (λ (made : Made). IsFuncMadeOf s.types.now m s.became.now.named.now made k i) (sym put.made)
-          (split_func (λ a b. IsFuncMadeOf s.types.now m s.became.now.named.now old.made a b) r.once_funcs o k i (nat_eq f.0 k.0) refl (sym (put.funcs k) ∙ is));
+      once = λ d i is. subst (λ (made : Made). IsMadeOf s.types.now (becomes s) s.became.now.named.now made (val.Defined d) (val.Defined i)) (sym put.made) (r.once d i (ap (λ x. defined_at x d) (sym put.defined) ∙ is));
+      once_funcs = λ k i is. subst (λ (made : Made). IsFuncMadeOf s.types.now m (becomes s) s.became.now.named.now made k i) (sym put.made)
+          (split_func (λ a b. IsFuncMadeOf s.types.now m (becomes s) s.became.now.named.now old.made a b) r.once_funcs o k i (nat_eq f.0 k.0) refl (sym (put.funcs k) ∙ is));
     }
 
   -- where a definition was put
@@ -98,8 +98,8 @@ still_with s m more x memo new stay there apart r =
       defined = still.defined;
       funcs = still.funcs;
       made = record { there = there; apart = apart };
-      once = λ d e is. still_of s.types.now t memo.made new stay (val.Defined d) (val.Defined e) (still.once d e is);
-      once_funcs = λ f g is. still_func_of s.types.now t memo.made new stay m more x f g (r.once_funcs f g is);
+      once = λ d e is. still_of s.types.now (becomes s) t memo.made new stay (val.Defined d) (val.Defined e) (still.once d e is);
+      once_funcs = λ f g is. still_func_of s.types.now (becomes s) t memo.made new stay m more x f g (r.once_funcs f g is);
     }
 
 -- where the memory for tasks is another
@@ -113,8 +113,8 @@ module _ (old new : Renamed) (same : HasSame old new) where
         defined = λ d e is. r.defined d e (were d e is);
         funcs = λ f g is. r.funcs f g (became f g is);
         made = subst (AreMade s.types.now t m) (sym same.made) r.made;
-        once = λ d e is. subst (λ (made : Made). IsMadeOf s.types.now t made (val.Defined d) (val.Defined e)) (sym same.made) (r.once d e (were d e is));
-        once_funcs = λ f g is. subst (λ (made : Made). IsFuncMadeOf s.types.now m t made f g) (sym same.made) (r.once_funcs f g (became f g is));
+        once = λ d e is. subst (λ (made : Made). IsMadeOf s.types.now (becomes s) t made (val.Defined d) (val.Defined e)) (sym same.made) (r.once d e (were d e is));
+        once_funcs = λ f g is. subst (λ (made : Made). IsFuncMadeOf s.types.now m (becomes s) t made f g) (sym same.made) (r.once_funcs f g (became f g is));
       }
 
   pub same_done : (ts : List Task) → AllByRecursion (IsDone old) ts → AllByRecursion (IsDone new) ts
@@ -150,6 +150,6 @@ closed s m more wc wm memo made new d e x y at other behind made_for stay there 
     let t = s.became.now.named.now in
     let R = IsRenamedIn s m memo.made in
     let mid : Renamed = record { defined = memo.defined; funcs = memo.funcs; made = made; tasks = memo.tasks } in
-    let once : IsMadeOf s.types.now t made (val.Defined d) (val.Defined e) =
-    anew (val.Defined d) (val.Defined e) d e x y refl refl at other made_for (outlined R x y shape) (λ i a b p q. still_of s.types.now t memo.made made stay a b (shape_pairs R x y shape i a b p q).1) in
+    let once : IsMadeOf s.types.now (becomes s) t made (val.Defined d) (val.Defined e) =
+    anew (val.Defined d) (val.Defined e) d e x y refl refl at other made_for (outlined R x y shape) (λ i a b p q. still_of s.types.now (becomes s) t memo.made made stay a b (shape_pairs R x y shape i a b p q).1) in
     defined_put s more mid new d e r put (still_with s m more behind.extended memo made stay there apart right) (defined_closed s m more wc wm memo.made d e x y at behind shape, once)

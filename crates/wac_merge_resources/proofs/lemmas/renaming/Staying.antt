@@ -34,15 +34,15 @@ module _ (s : Renaming) (m : Collection) (memo : Renamed) (known : CanRename m s
   pub become_renamed : (v w : ValueType) → IsBecome s memo v w → IsRenamedIn s m memo.made v w
   become_renamed (val.Primitive p) w h =
       subst (λ (x : ValueType). IsRenamedIn s m memo.made (val.Primitive p) x) (same_some (val.Primitive p) w h.1)
-      (primitive_renamed s.types.now m (becomes s) p, plain (val.Primitive p) (val.Primitive p) refl (λ q is. refl))
+      (primitive_renamed s.types.now m (becomes s) p, plain (val.Primitive p) (val.Primitive p) refl)
   become_renamed (val.Own r) w h =
       let q = becomes s (resolved s.types.now r) in
       subst (λ (x : ValueType). IsRenamedIn s m memo.made (val.Own r) x) (same_some (val.Own q) w h.1)
-      (own_renamed s.types.now m (becomes s) known.ends r q (tested_low _ _ h.0) refl, plain (val.Own r) (val.Own q) refl (λ p is. cc is))
+      (own_renamed s.types.now m (becomes s) known.ends r q (tested_low _ _ h.0) refl, plain (val.Own r) (val.Own q) refl)
   become_renamed (val.Borrow r) w h =
       let q = becomes s (resolved s.types.now r) in
       subst (λ (x : ValueType). IsRenamedIn s m memo.made (val.Borrow r) x) (same_some (val.Borrow q) w h.1)
-      (borrow_renamed s.types.now m (becomes s) known.ends r q (tested_low _ _ h.0) refl, plain (val.Borrow r) (val.Borrow q) refl (λ p is. cc is))
+      (borrow_renamed s.types.now m (becomes s) known.ends r q (tested_low _ _ h.0) refl, plain (val.Borrow r) (val.Borrow q) refl)
   become_renamed (val.Defined d) w h = at (defined_in memo d) refl h.1 where
     at : (o : Option DefinedTypeId) → defined_in memo d ≡ o → option_map val.Defined o ≡ Some w → IsRenamedIn s m memo.made (val.Defined d) w
     at None is e = cc e

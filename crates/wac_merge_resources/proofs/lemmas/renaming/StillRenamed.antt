@@ -42,7 +42,7 @@ module _ (m more : Collection) (x : IsExtended m more) where
     once = r.once;
     once_funcs = λ f g is. still_made_func f g (r.once_funcs f g is);
   } where
-    still_made_func : (f g : FuncTypeId) → IsFuncMadeOf s.types.now m s.became.now.named.now memo.made f g → IsFuncMadeOf s.types.now more s.became.now.named.now memo.made f g
+    still_made_func : (f g : FuncTypeId) → IsFuncMadeOf s.types.now m (becomes s) s.became.now.named.now memo.made f g → IsFuncMadeOf s.types.now more (becomes s) s.became.now.named.now memo.made f g
     still_made_func f g h = record { before = h.before; after = h.after; is = h.is; became = kept_item m.funcs more.funcs x.kept.funcs g.0 h.after h.became; outlined = h.outlined; values = h.values; once = h.once }
 
   pub still_alias : (n : Name) (q a : ResourceId) → IsAliasOf m n q a → IsAliasOf more n q a

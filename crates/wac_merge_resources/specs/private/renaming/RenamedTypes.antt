@@ -68,5 +68,5 @@ pub record AreRenamed (m : Collection) (s : Renaming) (memo : Renamed) : Type 0 
   pub funcs : (f g : FuncTypeId) → func_in memo f ≡ Some g → IsRenamed s.types.now m (becomes s) (ty.Func f) (ty.Func g)
   pub made : AreMade s.types.now s.became.now.named.now m memo.made
   -- Each rewritten definition has the id that was made for its named type.
-  pub once : (d e : DefinedTypeId) → defined_in memo d ≡ Some e → IsMadeOf s.types.now s.became.now.named.now memo.made (val.Defined d) (val.Defined e)
-  pub once_funcs : (f g : FuncTypeId) → func_in memo f ≡ Some g → IsFuncMadeOf s.types.now m s.became.now.named.now memo.made f g
+  pub once : (d e : DefinedTypeId) → defined_in memo d ≡ Some e → IsMadeOf s.types.now (becomes s) s.became.now.named.now memo.made (val.Defined d) (val.Defined e)
+  pub once_funcs : (f g : FuncTypeId) → func_in memo f ≡ Some g → IsFuncMadeOf s.types.now m (becomes s) s.became.now.named.now memo.made f g

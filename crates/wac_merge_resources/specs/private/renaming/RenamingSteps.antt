@@ -34,7 +34,7 @@ IsRenamedValue c m f v w = IsRenamed c m f (ty.Value v) (ty.Value w)
 
 -- The second value type is the first, rewritten in this collection with what was made.
 abbrev pub IsRenamedIn : Renaming → Collection → Made → ValueType → ValueType → Type 0
-IsRenamedIn s m made v w = IsRenamedValue s.types.now m (becomes s) v w × IsMadeOf s.types.now s.became.now.named.now made v w
+IsRenamedIn s m made v w = IsRenamedValue s.types.now m (becomes s) v w × IsMadeOf s.types.now (becomes s) s.became.now.named.now made v w
 
 -- The rewritten value type of one of the collection.
 abbrev pub IsBecome : Renaming → Renamed → ValueType → ValueType → Type 0

@@ -12,6 +12,7 @@ use Rattle.wac_merge_unions.specs.uses.KeptUses.{KeepsUses}
 use Rattle.wac_merge_imports.specs.private.unions.BoundNames.{AreBoundNames}
 use Rattle.wac_merge_imports.proofs.lemmas.unions.BoundNames.{names-kept}
 use Rattle.wac_merge_imports.specs.unions.EntryFaults.{HasFaultsOfEntries}
+use Rattle.wac_merge_imports.specs.unions.Lighter.{IsLighter}
 use Rattle.wac_merge.proofs.BoundLookups.{bindings-kept}
 use Rattle.wac_merge.proofs.FaultLemmas.{exit_cause, exit_refused, names_fault, no_fault, refused_for}
 use Rattle.wac_merge.proofs.MergedMentions.{imports_mention}
@@ -101,6 +102,11 @@ pub returns-clause-faults : goal.returns-clause-faults
 returns-clause-faults c =
     let same : c.as_slice-asked.result.now ≡ c.args.self.entries = c.as_slice-asked.ensures.value ∙ ap (λ (a : Aggregate). a.entries) c.self.view_is in
     subst (λ (es : List Entry). HasFaultsOfEntries by_names c.args.types.now es c.in_ok-merged.merged) same c.in_ok-merged.ensures.faults
+
+pub returns-clause-lighter : goal.returns-clause-lighter
+returns-clause-lighter c =
+    let same : c.as_slice-asked.result.now ≡ c.args.self.entries = c.as_slice-asked.ensures.value ∙ ap (λ (a : Aggregate). a.entries) c.self.view_is in
+    subst (λ (es : List Entry). IsLighter c.args.types.now es c.in_ok-merged.merged) same c.in_ok-merged.ensures.lighter
 
 pub returns-clause-before : goal.returns-clause-before
 returns-clause-before c =

@@ -12,7 +12,7 @@ use Rattle.wac_merge_imports.proofs.lemmas.unions.AssembledItemsFirst.{first-mem
 use Rattle.wac_merge_classes.proofs.lemmas.terms.Found.{some_same}
 use Rattle.wac_merge_resources.specs.renaming.MadeOf.{IsKindMadeOf}
 use Rattle.wac_merge_resources.proofs.lemmas.renaming.OneIds.{stay_twice}
-use Rattle.wac_merge_imports.specs.unions.WritingSteps.{AreImportsMadeOf}
+use Rattle.wac_merge_imports.specs.unions.WritingSteps.{AreImportsMadeOf, in_parts, outside}
 use Rattle.wac_merge_imports.proofs.lemmas.unions.OneIds.{imports-long, imports-made-more}
 use Rattle.wac_merge_tables.proofs.lemmas.made.Extending.{extended_twice}
 use Rattle.wac_merge_resources.proofs.lemmas.renaming.StillRenamed.{still_can_all}
@@ -124,11 +124,11 @@ loop-i-preserved c =
     record {
       extended = extended_twice c.args.merged.now c.loop-i.merged m c.loop-i.invariant.extended c.class_kind.ensures.extended;
       made = c.in_ok-kind.ensures.made;
-      once = rw add-one (subst (λ (is : List (Name × ItemKind)). AreImportsMadeOf t m n c.class_kind.new.renamed.made es c.args.asked.now.classes.now.positions.items (take (suc i) order) (import_entries is)) (sym inserted)
-          (imports-made-more t c.loop-i.merged m c.class_kind.ensures.extended n c.loop-i.renamed.made c.class_kind.new.renamed.made c.in_ok-kind.ensures.stay es c.args.asked.now.classes.now.positions.items order i k p c.loop-i.imports w.entry.name w.entry l at
+      once = rw add-one (subst (λ (is : List (Name × ItemKind)). AreImportsMadeOf t m (outside t c.args.became.now) n c.class_kind.new.renamed.made es c.args.asked.now.classes.now.positions.items (take (suc i) order) (import_entries is)) (sym inserted)
+          (imports-made-more t c.loop-i.merged m c.class_kind.ensures.extended (in_parts t c.args.became.now) n c.loop-i.renamed.made c.class_kind.new.renamed.made c.in_ok-kind.ensures.stay (outside t c.args.became.now) es c.args.asked.now.classes.now.positions.items order i k p c.loop-i.imports w.entry.name w.entry l at
           (slice_get-get_or c.args.asked.now.classes.now.positions.items k 0 (omega (arith, low, c.requires.classes.positioned))) w.there
           (sym (imports-long c.loop-i.imports) ∙ c.loop-i.invariant.imports.counted) c.loop-i.invariant.once
-          (subst (λ (v : Entry). IsKindMadeOf t m n c.class_kind.new.renamed.made v.kind l) (sym same) c.in_ok-kind.ensures.once)));
+          (subst (λ (v : Entry). IsKindMadeOf t m (outside t c.args.became.now) n c.class_kind.new.renamed.made v.kind l) (sym same) c.in_ok-kind.ensures.once)));
       stay = stay_twice c.args.renamed.now.made c.loop-i.renamed.made c.class_kind.new.renamed.made c.loop-i.invariant.stay c.in_ok-kind.ensures.stay;
       imports = rw add-one (subst (λ (is : List (Name × ItemKind)). AreImports t m es ps bs f ws (take (suc i) order) (import_entries is)) (sym inserted)
           (imports-more t es ps bs f ws order c.requires.once c.loop-i.merged m c.class_kind.ensures.extended i k p c.loop-i.imports l w at
@@ -157,7 +157,7 @@ offset_bounds-entries-positions c =
 pub returns-clause-once : goal.returns-clause-once
 returns-clause-once c =
     let order = c.args.order.now in
-    subst (λ (o : List ℕ). AreImportsMadeOf c.args.asked.now.types.now c.loop-i.merged c.args.became.now.named.now c.loop-i.renamed.made c.args.asked.now.entries.now c.args.asked.now.classes.now.positions.items o (import_entries c.loop-i.imports)) (take_all c.loop-i.i order (omega arith)) c.loop-i.invariant.once
+    subst (λ (o : List ℕ). AreImportsMadeOf c.args.asked.now.types.now c.loop-i.merged (outside c.args.asked.now.types.now c.args.became.now) c.args.became.now.named.now c.loop-i.renamed.made c.args.asked.now.entries.now c.args.asked.now.classes.now.positions.items o (import_entries c.loop-i.imports)) (take_all c.loop-i.i order (omega arith)) c.loop-i.invariant.once
 
 pub returns-clause-made : goal.returns-clause-made
 returns-clause-made c = c.loop-i.invariant.made

@@ -10,6 +10,7 @@ use Rattle.wac_types_shapes.specs.declared.shapes.component.«Type».TheVariants
 use Rattle.wac_merge_classes.specs.terms.Became.{became, whole_in}
 use Rattle.wac_merge_classes.specs.terms.Unions.{IsPart}
 use Rattle.wac_merge_classes.specs.terms.Writing.{IsGiven, IsWrittenAs}
+use Rattle.wac_merge_resources.specs.private.renaming.RenamedTypes.{becomes}
 use Rattle.wac_merge_resources.specs.renaming.MadeOf.{IsKindMadeOf}
 use Rattle.wac_merge_tables.specs.made.Made.{StayMade}
 use Rattle.wac_merge_tables.specs.declared.made.made.Made.{Made}
@@ -59,7 +60,7 @@ returns-clause-once c =
     let t = c.args.renaming.now.types.now in
     let m = c.write_kind.new.merged in
     let n = c.args.renaming.now.became.now.named.now in
-    if_ok c.write_kind.result (λ k h. subst (λ (l : ItemKind). IsKindMadeOf t m n c.write_kind.new.renamed.made l k) c.kind.ensures h) c.write_kind.ensures.once
+    if_ok c.write_kind.result (λ k h. subst (λ (l : ItemKind). IsKindMadeOf t m (becomes c.args.renaming.now) n c.write_kind.new.renamed.made l k) c.kind.ensures h) c.write_kind.ensures.once
 
 pub returns-clause-stay : goal.returns-clause-stay
 returns-clause-stay c = on_ok c.write_kind.result (λ h. subst (λ (made : Made). StayMade made c.write_kind.new.renamed.made) c.forget.ensures.made h) c.write_kind.ensures.stay

@@ -1,11 +1,12 @@
-use Rattle.std.proofs.Common.{map, slice_get, string_bytes, ap, sym, ◌∙◌}
+use Rattle.std.proofs.Common.{map, Some, None, slice_get, string_bytes, ap, sym, ◌∙◌}
 use Rattle.std.specs.Option.{option_map}
 use Rattle.std.proofs.lemmas.Result.{IfOk-weaker}
 use Rattle.wac_merge_classes.specs.terms.Merge.{import_entries}
 use Rattle.wac_merge_classes.specs.terms.Writing.{AreWritten}
+use Rattle.wac_merge_classes.specs.terms.Became.{became}
 use Rattle.wac_merge_resources.specs.renaming.MadeOf.{AreMade}
 use Rattle.wac_merge_imports.specs.unions.MergedClasses.{AreImports}
-use Rattle.wac_merge_imports.specs.unions.WritingSteps.{AreImportsMadeOf, IsUnionMadeOf}
+use Rattle.wac_merge_imports.specs.unions.WritingSteps.{AreImportsMadeOf, IsUnionMadeOf, in_parts}
 use Rattle.wac_merge_imports.proofs.lemmas.unions.AssembledMerge.{still-written-all, written-given}
 use Rattle.wac_merge_imports.proofs.lemmas.unions.BasisLaws.{basis-known, by-basis}
 use Rattle.wac_merge_tables.proofs.lemmas.made.Extending.{extended_twice}
@@ -89,10 +90,10 @@ returns-clause-once c =
         imported = by-basis (λ p bs f n. AreImports t m es p bs f c.as_slice-written.result.now c.args.order.now (import_entries is)) x c.args.bindings.now b c.became-became.ensures imported;
       };
       shared = rw c.as_slice-written.ensures.value (still-shared t first m c.class_imports.ensures.extended us ps ids ws c.in_ok-written.ensures.shared);
-      unions = λ u y w at there. by-basis (λ p bs f n. IsUnionMadeOf t m n made y w) x c.args.bindings.now b c.became-became.ensures
-          (still-union-made t first m c.class_imports.ensures.extended b.named.now c.write_unions.new.renamed.made made stay y w
+      unions = λ u y w at there. by-basis (λ p bs f n. IsUnionMadeOf t m (λ q. became t p bs f (Some q)) n made y w) x c.args.bindings.now b c.became-became.ensures
+          (still-union-made t first m c.class_imports.ensures.extended (in_parts t b) b.named.now c.write_unions.new.renamed.made made stay y w
           (c.in_ok-written.ensures.once u y w at (ap (λ l. slice_get l u) (sym c.as_slice-written.ensures.value) ∙ there)));
-      imported = by-basis (λ p bs f n. AreImportsMadeOf t m n made es c.args.asked.now.classes.now.positions.items c.args.order.now (import_entries is)) x c.args.bindings.now b c.became-became.ensures once;
+      imported = by-basis (λ p bs f n. AreImportsMadeOf t m (became t p bs f None) n made es c.args.asked.now.classes.now.positions.items c.args.order.now (import_entries is)) x c.args.bindings.now b c.became-became.ensures once;
     })
     c.class_imports.ensures.made c.class_imports.ensures.stay c.class_imports.ensures.imports c.class_imports.ensures.once
 

@@ -1,4 +1,4 @@
-use Rattle.std.proofs.Common.{◌≡◌, ◌<◌, List, [], take, length, slice_get, refl, sym, ap, subst, arith, add-one}
+use Rattle.std.proofs.Common.{ℕ, Option, ◌≡◌, ◌<◌, List, [], take, length, slice_get, refl, sym, ap, subst, arith, add-one}
 use Rattle.std.proofs.lemmas.List.{take_all}
 use Rattle.std.proofs.lemmas.Option.{slice_get_read}
 use Rattle.wac_types_shapes.specs.primitives.Name.{Name}
@@ -6,12 +6,13 @@ use Rattle.wac_types_shapes.specs.shapes.Named.{names_of}
 use Rattle.wac_types_shapes.specs.declared.shapes.component.ItemKind.{ItemKind}
 use Rattle.wac_types_shapes.proofs.lemmas.shapes.Names.{find_name-at, none_before, take_at}
 use Rattle.wac_types_collection.specs.collection.Collection.{Collection}
-use Rattle.wac_merge_resources.specs.renaming.MadeOf.{AreMade}
+use Rattle.wac_merge_classes.specs.terms.Became.{became}
+use Rattle.wac_merge_resources.specs.renaming.MadeOf.{AreMade, IsKindMadeOf}
 use Rattle.wac_merge_tables.specs.made.Made.{StayMade}
 use Rattle.wac_merge_resources.specs.declared.renaming.became.Became.{Became}
 use Rattle.wac_merge_tables.specs.declared.made.made.Made.{Made}
 use Rattle.wac_merge_resources.proofs.lemmas.renaming.OneIds.{stay_twice}
-use Rattle.wac_merge_imports.specs.unions.WritingSteps.{AreItemsMadeOf, AreWrittenItems}
+use Rattle.wac_merge_imports.specs.unions.WritingSteps.{AreItemsMadeOf, AreWrittenItems, in_parts}
 use Rattle.wac_merge_resources.specs.declared.renaming.renamer.Renaming.{Renaming}
 use Rattle.wac_merge_classes.specs.declared.terms.parts.Export.{Export}
 use Rattle.wac_merge_classes.specs.declared.terms.parts.Union.{Union}
@@ -35,7 +36,7 @@ loop-i-init c =
           let memo = c.args.renamed.now.made in
           c.forget.ensures.right m s (subst (λ (a : Collection). AreMade a s.became.now.named.now m memo) (sym p) (subst (λ (z : Became). AreMade t z.named.now m memo) (sym q) c.requires.made));
       written = subst (λ (ks : List (Name × ItemKind)). AreWrittenItems t m b count c.args.next.now.written.now c.args.next.now.union [] ks) (sym c.in_ok-items.ensures.empty) (items-none t m b count c.args.next.now.written.now c.args.next.now.union);
-      once = subst (λ (ks : List (Name × ItemKind)). AreItemsMadeOf t m b.named.now c.forget.new.self.made [] ks) (sym c.in_ok-items.ensures.empty) tt;
+      once = subst (λ (ks : List (Name × ItemKind)). AreItemsMadeOf t m (in_parts t b) b.named.now c.forget.new.self.made [] ks) (sym c.in_ok-items.ensures.empty) tt;
       stay = subst (StayMade c.args.renamed.now.made) (sym c.forget.ensures.made) (λ f e is. is);
       names = ap names_of c.in_ok-items.ensures.empty;
     }
@@ -92,7 +93,8 @@ loop-i-preserved c =
       written = rw (add-one, take_at es i (n, e) c.entry_at.ensures, c.in_ok-put_item.ensures)
           (items-more t now more b count c.args.next.now.written.now c.args.next.now.union (take i es) c.loop-i.items n e c.in_ok-item.item c.write_export.ensures.extended v.written c.in_ok-item.ensures.written);
       once = rw (add-one, take_at es i (n, e) c.entry_at.ensures, c.in_ok-put_item.ensures)
-          (items-made-more t now more c.write_export.ensures.extended b.named.now c.loop-i.renamed.made c.write_export.new.renamed.made step (take i es) c.loop-i.items n e c.in_ok-item.item v.once c.in_ok-item.ensures.once);
+          (items-made-more t now more c.write_export.ensures.extended (in_parts t b) b.named.now c.loop-i.renamed.made c.write_export.new.renamed.made step (take i es) c.loop-i.items n e c.in_ok-item.item v.once
+          (subst (λ (p : Option ℕ). IsKindMadeOf t more (became t b.parts.now b.bindings.now b.fresh.now p) b.named.now c.write_export.new.renamed.made e.kind c.in_ok-item.item) c.begin.ensures.part c.in_ok-item.ensures.once));
       stay = stay_twice c.args.renamed.now.made c.loop-i.renamed.made c.write_export.new.renamed.made v.stay step;
       names = rw (add-one, take_at es i (n, e) c.entry_at.ensures, c.in_ok-put_item.ensures) (push_alike c.loop-i.items (take i es) n c.in_ok-item.item e v.names);
     }
@@ -122,8 +124,8 @@ returns-clause-once c x there =
     let low : u < length us = omega (arith, held) in
     let same : y ≡ x = one_some (slice_get us u) y x (slice_get_read us (length us) u y refl low c.index.ensures) there in
     let t = c.args.renaming.now.became.now.named.now in
-    subst (λ (z : Union). AreItemsMadeOf c.args.renaming.now.types.now c.loop-i.merged t c.loop-i.renamed.made z.exports c.loop-i.items) same
-    (subst (λ (es : List (Name × Export)). AreItemsMadeOf c.args.renaming.now.types.now c.loop-i.merged t c.loop-i.renamed.made es c.loop-i.items) (take_all c.loop-i.i y.exports (omega arith)) c.loop-i.invariant.once)
+    subst (λ (z : Union). AreItemsMadeOf c.args.renaming.now.types.now c.loop-i.merged (in_parts c.args.renaming.now.types.now c.args.renaming.now.became.now) t c.loop-i.renamed.made z.exports c.loop-i.items) same
+    (subst (λ (es : List (Name × Export)). AreItemsMadeOf c.args.renaming.now.types.now c.loop-i.merged (in_parts c.args.renaming.now.types.now c.args.renaming.now.became.now) t c.loop-i.renamed.made es c.loop-i.items) (take_all c.loop-i.i y.exports (omega arith)) c.loop-i.invariant.once)
 
 pub returns-clause-stay : goal.returns-clause-stay
 returns-clause-stay c = c.loop-i.invariant.stay

@@ -11,6 +11,7 @@ use Rattle.wac_merge_classes.specs.terms.Unions.{AreUnions}
 use Rattle.wac_merge_classes.specs.declared.terms.parts.Part.{Part}
 use Rattle.wac_merge_classes.proofs.lemmas.terms.Found.{some_same}
 use Rattle.wac_merge_imports.specs.unions.SharedUnions.{IsAloneIn, first_in}
+use Rattle.wac_merge_imports.specs.unions.WritingSteps.{in_parts}
 use Rattle.wac_merge_imports.proofs.lemmas.unions.OneIds.{still-items}
 use Rattle.wac_merge_imports.proofs.lemmas.unions.Sharing.{shares-along}
 use Rattle.wac_merge_imports.proofs.lemmas.unions.WritingUnions.{union-written}
@@ -70,7 +71,7 @@ returns-clause-once c =
     (λ w at x there. record {
       interface = record { id = c.in_ok-id.id; uses = c.new-uses.result; exports = c.in_ok-exports.exports };
       there = at;
-      items = still-items c.args.renaming.now.types.now c.write_exports.new.merged c.write.new.merged c.write.ensures.extended c.args.renaming.now.became.now.named.now made made (λ f e is. is) x.exports c.in_ok-exports.exports (c.in_ok-exports.ensures.once x there);
+      items = still-items c.args.renaming.now.types.now c.write_exports.new.merged c.write.new.merged c.write.ensures.extended (in_parts c.args.renaming.now.types.now c.args.renaming.now.became.now) c.args.renaming.now.became.now.named.now made made (λ f e is. is) x.exports c.in_ok-exports.exports (c.in_ok-exports.ensures.once x there);
     })
     c.write.ensures.added
 

@@ -9,7 +9,7 @@ use Rattle.wac_merge_classes.specs.terms.Unions.{AreUnions}
 use Rattle.wac_merge_classes.specs.terms.Writing.{AreWritten}
 use Rattle.wac_merge_resources.proofs.lemmas.renaming.OneIds.{stay_twice}
 use Rattle.wac_merge_imports.specs.unions.SharedUnions.{AreShared, AreSharedUnions, IsWrittenLast, first_in}
-use Rattle.wac_merge_imports.specs.unions.WritingSteps.{AreUnionsMadeOf, CanWrite, IsUnionMadeOf, IsWrittenUnion}
+use Rattle.wac_merge_imports.specs.unions.WritingSteps.{AreUnionsMadeOf, CanWrite, IsUnionMadeOf, IsWrittenUnion, in_parts}
 use Rattle.wac_merge_classes.specs.declared.terms.parts.Part.{Part}
 use Rattle.wac_merge_classes.specs.declared.terms.parts.Union.{Union}
 use Rattle.wac_merge_tables.proofs.lemmas.made.Extending.{extended_none, extended_twice}
@@ -99,8 +99,8 @@ loop-done-preserved c =
       counted = ap length items ∙ (length-append written (w ∷ []) ∙ ap (λ n. n + 1) v.counted);
       held = subst (λ (l : List InterfaceId). (j : ℕ) (y : InterfaceId) → slice_get l j ≡ Some y → HasInterface more y) (sym items)
           (held-more now more written w c.write_union.ensures.extended (union-held t more b (length us) written u x.0 name w (is x.0 x.1)) v.held);
-      once = subst (λ (l : List InterfaceId). (j v : ℕ) (a : InterfaceId) (y : Union) → slice_get l j ≡ Some a → j + v + 1 ≡ length us → slice_get us v ≡ Some y → IsUnionMadeOf t more b.named.now c.write_union.new.renamed.made y a) (sym items)
-          (unions-made-more t now more c.write_union.ensures.extended b.named.now c.loop-done.renamed.made c.write_union.new.renamed.made c.in_ok-interface.ensures.stay us written u w place v.once c.in_ok-interface.ensures.once);
+      once = subst (λ (l : List InterfaceId). (j v : ℕ) (a : InterfaceId) (y : Union) → slice_get l j ≡ Some a → j + v + 1 ≡ length us → slice_get us v ≡ Some y → IsUnionMadeOf t more (in_parts t b) b.named.now c.write_union.new.renamed.made y a) (sym items)
+          (unions-made-more t now more c.write_union.ensures.extended (in_parts t b) b.named.now c.loop-done.renamed.made c.write_union.new.renamed.made c.in_ok-interface.ensures.stay us written u w place v.once c.in_ok-interface.ensures.once);
       stay = stay_twice c.args.renamed.now.made c.loop-done.renamed.made c.write_union.new.renamed.made v.stay c.in_ok-interface.ensures.stay;
       shared = subst (λ (l : List InterfaceId). AreShared t more us ps views (first_in c.write_union.new.shared) (IsWrittenLast (length us) l)) (sym items)
           (shared-more t now more us ps views written u w x.0 name (first_in c.loop-done.seen) (first_in c.write_union.new.shared) c.write_union.ensures.extended place x.1 view v.held (c.in_ok-interface.ensures.shared x.0 x.1) v.shared);
@@ -136,11 +136,12 @@ pub returns-clause-once : goal.returns-clause-once
 returns-clause-once c =
     let t = c.args.renaming.now.types.now in
     let us = c.args.unions.now.unions.items in
-    let n = c.args.renaming.now.became.now.named.now in
+    let b = c.args.renaming.now.became.now in
+    let n = b.named.now in
     let v = c.loop-done.invariant in
     let done = v.counted in
     let all : length c.loop-done.written.items ≡ length us = omega (arith, done, c.len-count.ensures, c.args.unions.now.unions.ok.0, c.loop-done-test.false, c.loop-done.auto.done-end) in
-    subst (λ (l : List InterfaceId). AreUnionsMadeOf t c.loop-done.merged n c.loop-done.renamed.made us l) (sym c.reverse.ensures.items) (unions-made t c.loop-done.merged n c.loop-done.renamed.made us c.loop-done.written.items all v.once)
+    subst (λ (l : List InterfaceId). AreUnionsMadeOf t c.loop-done.merged (in_parts t b) n c.loop-done.renamed.made us l) (sym c.reverse.ensures.items) (unions-made t c.loop-done.merged (in_parts t b) n c.loop-done.renamed.made us c.loop-done.written.items all v.once)
 
 pub returns-clause-stay : goal.returns-clause-stay
 returns-clause-stay c = c.loop-done.invariant.stay

@@ -13,6 +13,7 @@ use Rattle.wac_merge_imports.proofs.lemmas.unions.OneIds.{apart-named, one-id}
 use Rattle.wac_merge_imports.proofs.lemmas.unions.OneInterface.{one-interface}
 use Rattle.wac_merge_unions.proofs.lemmas.uses.AlikeMerges.{using-held-all, using-keeps, using-merge, using-roots}
 use Rattle.wac_merge_imports.proofs.lemmas.faults.EntryFaults.{entry_faults}
+use Rattle.wac_merge_imports.proofs.lemmas.weight.MergedWeights.{lighter}
 use Rattle.wac_merge_imports.proofs.unions.merged.Merged.new.Goals as goal
 
 pub write_imports-requires-clause-each : goal.write_imports-requires-clause-each
@@ -139,6 +140,7 @@ returns c =
       };
       uses = using-keeps t es more bare imports using;
       faults = entry_faults t more es u.roots us ps bs f w.ids w.ws c.args.order.now bare imports all using (using-roots t es more bare imports using (λ i. i));
+      lighter = lighter t more es u.roots us ps bs f named c.args.classes.now.numbers.items positions c.args.order.now c.args.classes.now.names bare imports c.requires.classes o assembled using;
       begins = all.extended;
       asked = λ i e at. still_holds t more all.extended (kind_type e.kind) (c.requires.held i e at);
       holds = using-held-all t es more bare imports using (imports-held t more es u.roots us ps bs f w.ids w.ws c.args.order.now bare all);

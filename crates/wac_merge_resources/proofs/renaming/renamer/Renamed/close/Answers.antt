@@ -86,7 +86,7 @@ returns-in-Some-clause-right c =
     let w : ValueType = val.Defined c.unwrap-became.result in
     let is = sym c.defined.ensures ∙ c.unwrap-became.ensures in
     let end = c.requires.right.defined c.in-Some.end c.unwrap-became.result is in
-    let once : IsMadeOf s.types.now s.became.now.named.now c.args.self.now.made (val.Defined c.args.id) w =
+    let once : IsMadeOf s.types.now (becomes s) s.became.now.named.now c.args.self.now.made (val.Defined c.args.id) w =
     alias (val.Defined c.args.id) w c.args.id c.in-Some.end (def.Alias (val.Defined c.in-Some.end)) refl (c.index-definition.ensures ∙ ap Some c.in-Some.ensures.alias) refl (c.requires.right.once c.in-Some.end c.unwrap-became.result is) in
     defined_put s m c.args.self.now c.put_defined.new.self c.args.id c.unwrap-became.result c.put_defined.result c.put_defined.ensures c.requires.right
     (alias_renamed s.types.now m (becomes s) (record { named = c.trees_are_whole.ensures.named; placed = c.trees_are_whole.ensures.placed }) c.args.id (val.Defined c.in-Some.end) w (c.index-definition.ensures ∙ ap Some c.in-Some.ensures.alias) end, once)

@@ -60,7 +60,7 @@ itself c =
     let known = still_can c.args.merged.now m c.reach.ensures.extended c.law-2.ensures s c.requires.known in
     let held = func_values_hold s.types.now c.law.ensures c.args.id x c.index-func.ensures in
     let shape = func_shape_renamed s m memo known c.in_ok-reach.ensures.right x x (func_shape_stays s memo x held (c.func_stays.ensures.0 c.if-func_stays.true)) in
-    subst (λ (made : Made). IsFuncMadeOf s.types.now m s.became.now.named.now made c.args.id c.args.id) (sym c.in_ok-put_func.ensures.made)
+    subst (λ (made : Made). IsFuncMadeOf s.types.now m (becomes s) s.became.now.named.now made c.args.id c.args.id) (sym c.in_ok-put_func.ensures.made)
     (func_once s m m memo.made memo.made (λ f e is. is) c.args.id c.args.id x x c.index-func.ensures (kept_item s.types.now.funcs m.funcs known.extended.kept.funcs c.args.id.0 x c.index-func.ensures) (inl refl) shape)
 
 pub returns-then-func_stays-clause-once : goal.returns-then-func_stays-clause-once
@@ -73,7 +73,7 @@ returns-then-func_stays-clause-right c =
     let memo = c.reach.new.self in
     let put = c.in_ok-put_func.ensures in
     func_right s m memo c.put_func.new.self c.args.id c.args.id put c.in_ok-reach.ensures.right (returns-then-func_stays-clause-func c)
-    (subst (λ (made : Made). IsFuncMadeOf s.types.now m s.became.now.named.now made c.args.id c.args.id) put.made (itself c))
+    (subst (λ (made : Made). IsFuncMadeOf s.types.now m (becomes s) s.became.now.named.now made c.args.id c.args.id) put.made (itself c))
 
 pub returns-then-func_stays-clause-stay : goal.returns-then-func_stays-clause-stay
 returns-then-func_stays-clause-stay c = subst (StayMade c.args.self.now.made) (sym c.in_ok-put_func.ensures.made) c.in_ok-reach.ensures.stay
@@ -149,7 +149,7 @@ remade c =
     let x = c.index-func.result.now in
     let y = c.in_ok-renamed.renamed in
     let known = still_can c.args.merged.now m c.reach.ensures.extended c.law-2.ensures s c.requires.known in
-    subst (λ (made : Made). IsFuncMadeOf s.types.now more s.became.now.named.now made c.args.id c.in_ok-became.became) (sym c.in_ok-put_func-2.ensures.made)
+    subst (λ (made : Made). IsFuncMadeOf s.types.now more (becomes s) s.became.now.named.now made c.args.id c.in_ok-became.became) (sym c.in_ok-put_func-2.ensures.made)
     (func_once s m more memo.made c.make_func.new.self c.in_ok-became.ensures.stay c.args.id c.in_ok-became.became x y c.index-func.ensures c.in_ok-became.ensures.added.there (inr c.in_ok-became.ensures.once)
     (func_shape_renamed s m memo known c.in_ok-reach.ensures.right x y c.in_ok-renamed.ensures))
 
@@ -168,7 +168,7 @@ returns-clause-right c =
     let right = c.in_ok-reach.ensures.right in
     func_right s more mid c.put_func-2.new.self c.args.id c.in_ok-became.became put
     (still_with s m more c.make_func.ensures.extended memo made c.in_ok-became.ensures.stay c.in_ok-became.ensures.made (c.in_ok-became.ensures.apart s.types.now (named_type s.became.now.named.now) right.made.apart) right) (returns-clause-func c)
-    (subst (λ (z : Made). IsFuncMadeOf s.types.now more s.became.now.named.now z c.args.id c.in_ok-became.became) put.made (remade c))
+    (subst (λ (z : Made). IsFuncMadeOf s.types.now more (becomes s) s.became.now.named.now z c.args.id c.in_ok-became.became) put.made (remade c))
 
 pub returns-clause-stay : goal.returns-clause-stay
 returns-clause-stay c =

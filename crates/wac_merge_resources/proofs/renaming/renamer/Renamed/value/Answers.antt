@@ -29,7 +29,7 @@ part-requires-clause-known c = still_can c.args.merged.now c.finish.new.merged c
 pub returns-in-Some-clause-once : goal.returns-in-Some-clause-once
 returns-in-Some-clause-once c =
     let s = c.args.renaming.now in
-    subst (λ (v : ValueType). IsMadeOf s.types.now s.became.now.named.now c.args.self.now.made v (val.Defined c.in-Some.became)) (sym c.in-Defined.is) (c.requires.right.once c.in-Defined.id c.in-Some.became (sym c.defined.ensures ∙ c.in-Some.is))
+    subst (λ (v : ValueType). IsMadeOf s.types.now (becomes s) s.became.now.named.now c.args.self.now.made v (val.Defined c.in-Some.became)) (sym c.in-Defined.is) (c.requires.right.once c.in-Defined.id c.in-Some.became (sym c.defined.ensures ∙ c.in-Some.is))
 
 -- what the value became is renamed
 abbrev renamed-value : goal.After-part → Type 0
