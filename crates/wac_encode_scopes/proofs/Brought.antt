@@ -47,7 +47,7 @@ of-other : (x : Option Indexed) (j m : ℕ) (n : Name) (w : Option Where) → na
 of-other None j m n w h = refl
 of-other (Some x) j m n w h = by-other x.how x.index j m n w h
 
-exported-here : (d : DefinedTypeId) (w : Where) (o : Open) → (export_at d w o).exports d ≡ Some w
+pub exported-here : (d : DefinedTypeId) (w : Where) (o : Open) → (export_at d w o).exports d ≡ Some w
 exported-here d w o = ap (λ b. if b then Some w else o.exports d) (eq-eqb d.0 d.0 refl)
 
 named-settled : (d : DefinedTypeId) (j : ℕ) (n : Name) (st : Stack) (k : ℕ) → IsNamedAt st d k (at_export j n) → IsNamedAt (changed_at k (aliased_value d j n) st) d k (at_type (next_type_at k st))

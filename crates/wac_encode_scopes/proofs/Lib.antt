@@ -1,6 +1,7 @@
 pub mod Types
 pub mod Booked
 pub mod Added
+pub mod Limits
 pub mod Outward
 pub mod Stepped
 pub mod Opened
@@ -13,3 +14,11 @@ pub mod Rooted
 pub mod Owned
 pub mod Told
 pub mod Telling
+pub mod Sums
+pub mod Charges
+pub mod Changes
+pub mod Paying
+pub mod Calls
+pub mod Tolls
+pub mod Begun
+pub mod Priced

@@ -77,7 +77,7 @@ pub book-kept : (b : Bool) (s : Scope) (x : Encodable) → book_of b (record s {
 book-kept true s x = refl
 book-kept false s x = refl
 
-content-def : (t : TypeDef) (x : Encodable) → content_of (and_type t x) ≡ and_def t (content_of x)
+pub content-def : (t : TypeDef) (x : Encodable) → content_of (and_type t x) ≡ and_def t (content_of x)
 content-def t (Builder items) = refl
 content-def t (Instance ds) = refl
 content-def t (Component ds) = refl

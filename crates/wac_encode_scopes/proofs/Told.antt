@@ -98,7 +98,7 @@ value-append c (y ∷ es) x d = by_case (option_case (definition_in c y) false (
     by_case true i = refl
     by_case false i = i
 
-named-some : (t : Option Indexed) (w : Where) → named_of t (Some w) ≡ None → ⊥
+pub named-some : (t : Option Indexed) (w : Where) → named_of t (Some w) ≡ None → ⊥
 named-some None w h = let no : Some w ≡ None = h in cc
 named-some (Some x) w h = by_how x.how h
   where

@@ -1,6 +1,10 @@
 //! The records of an open scope for the types of one collection.
 
-ghost use Rattle.std.specs.Prelude.{◌≡◌, ◌<◌, false, IfOk, OnOk, OnErr, None};
+ghost use Rattle.std.specs.Prelude.{◌≡◌, ◌<◌, false, IfOk, IfErr, OnOk, OnErr, None};
+ghost use Rattle.wac_binary.specs.Fits.{TooLargeUnless};
+ghost use Rattle.wac_binary.specs.declared.fault.BinaryFault.TheVariants.{OutOfMemory};
+ghost use Rattle.wac_encode_stacks.specs.private.Sizes.{ContentFits};
+ghost use Rattle.wac_encode_scopes.specs.private.Limits.{IsShortPlace};
 ghost use Rattle.wac_encode_stacks.specs.Scopes.{bind_at, index_at, export_at, type_count};
 ghost use Rattle.wac_encode_scopes.specs.Contents.{content_of};
 ghost use Rattle.std.specs.HashMap.{spare};
@@ -132,6 +136,8 @@ impl Book {
         ensures index { IfOk result (λ i. i ≡ type_count (content_of content.old)) }
         ensures appended { OnOk result (content.new ≡ aliased_from (binds_in self.now resource) content.old) }
         ensures refused { OnErr result (content.new ≡ content.old) }
+        ensures small { IsShortPlace (binds_in self.now resource) }
+        ensures too_large { TooLargeUnless result (ContentFits (content_of (aliased_from (binds_in self.now resource) content.old))) }
     {
         match self.resources.get(&resource) {
             Some(Place::Export(instance, name)) => content.alias_export(*instance, name.as_str()),
@@ -165,6 +171,8 @@ impl Book {
         ensures index { IfOk result (λ i. i ≡ type_count (content_of content.old)) }
         ensures appended { OnOk result (content.new ≡ aliased_from (exports_in self.now definition) content.old) }
         ensures refused { OnErr result (content.new ≡ content.old) }
+        ensures small { IsShortPlace (exports_in self.now definition) }
+        ensures too_large { TooLargeUnless result (ContentFits (content_of (aliased_from (exports_in self.now definition) content.old))) }
     {
         match self.exports.get(&definition) {
             Some(Place::Export(instance, name)) => content.alias_export(*instance, name.as_str()),
@@ -198,7 +206,8 @@ impl Book {
         resource: ResourceId,
         place: Place,
     ) -> Result<(), BinaryFault>
-        ensures { OnOk result (Records (bind_at resource (where_of place)) self.old self.new) }
+        ensures recorded { OnOk result (Records (bind_at resource (where_of place)) self.old self.new) }
+        ensures memory { IfErr result (λ e. e ≡ OutOfMemory) }
     {
         self.resources.insert(resource, place)?;
         Ok(())
@@ -208,6 +217,7 @@ impl Book {
     pub(crate) fn reserve_resource(&mut self) -> Result<(), BinaryFault>
         ensures same { (x : Content) → recorded self.new x ≡ recorded self.old x }
         ensures room { OnOk result (0 < spare self.new.resources) }
+        ensures memory { IfErr result (λ e. e ≡ OutOfMemory) }
     {
         self.resources.reserve(1)?;
         Ok(())
@@ -226,7 +236,8 @@ impl Book {
 
     /// Records the type index of a type and what gave it.
     pub(crate) fn record_type(&mut self, ty: Type, how: How, index: u32) -> Result<(), BinaryFault>
-        ensures { OnOk result (Records (index_at ty (how_of how) index) self.old self.new) }
+        ensures recorded { OnOk result (Records (index_at ty (how_of how) index) self.old self.new) }
+        ensures memory { IfErr result (λ e. e ≡ OutOfMemory) }
     {
         self.types.insert(ty, Entry { index, how })?;
         Ok(())
@@ -238,7 +249,8 @@ impl Book {
         definition: DefinedTypeId,
         place: Place,
     ) -> Result<(), BinaryFault>
-        ensures { OnOk result (Records (export_at definition (where_of place)) self.old self.new) }
+        ensures recorded { OnOk result (Records (export_at definition (where_of place)) self.old self.new) }
+        ensures memory { IfErr result (λ e. e ≡ OutOfMemory) }
     {
         self.exports.insert(definition, place)?;
         Ok(())

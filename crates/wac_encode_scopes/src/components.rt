@@ -1,20 +1,23 @@
 //! Component types, core module types and primitive types.
 
-ghost use Rattle.std.specs.Prelude.{◌≡◌, ◌∷◌, [], Bool, IfOk, OnOk, IfSome};
+ghost use Rattle.wac_encode_scopes.specs.private.Paid.{PaidBy, primitive_cost};
+ghost use Rattle.std.specs.Prelude.{◌≡◌, ◌+◌, ◌∷◌, [], Bool, length, IfOk, OnOk, IfSome};
+ghost use Rattle.std.specs.List.{flat_map};
+ghost use Rattle.wac_binary.specs.Bytes.{decl_bytes, module_bytes};
 ghost use Rattle.wac_types_shapes.specs.primitives.Tree.{component as component_of};
 ghost use Rattle.wac_types_shapes.specs.declared.shapes.component.«Type».TheVariants as ty;
 ghost use Rattle.wac_types_collection.specs.collection.Collection.{Collection};
 ghost use Rattle.wac_types_collection.specs.collection.Bound.{Bindings};
 ghost use Rattle.wac_encode_stacks.specs.Scopes.{defined};
 ghost use Rattle.wac_encode_stacks.specs.Good.{Good, innermost};
-ghost use Rattle.wac_encode_scopes.specs.Contents.{declarations_of};
+ghost use Rattle.wac_encode_scopes.specs.Contents.{content_of, declarations_of};
 ghost use Rattle.wac_encode_scopes.specs.States.{stack, AllAddTypes, KeepsRecords, IsRecordedAt};
 ghost use Rattle.wac_encode_scopes.specs.private.Components.{IsComponentType, ComponentHasMeaning, component_tree, DefinesComponent, DefinesModuleType, DefinesPrimitiveType};
 
 use crate::encodable::Encodable;
 use crate::state::State;
 use wac_binary::{BinaryFault, ComponentType, ModuleType};
-use wac_encode_stacks::{closing_law, module_law, step_law};
+use wac_encode_stacks::{closing_law, module_law, size_law, step_law};
 use wac_types_collection::{PrimitiveType, WorldId};
 
 impl State {
@@ -45,9 +48,11 @@ impl State {
         ensures defines { IfOk result (DefinesComponent merged world component.now self.old self.new) }
         ensures recorded { IfOk result (λ k. IfSome world (λ w. IsRecordedAt merged self.new (ty.World w) defined k)) }
         ensures types { AllAddTypes self.old self.new }
+        ensures paid { (c : Collection) (b : Bool) → PaidBy c b [] (17 + length (flat_map decl_bytes component.now)) self.old self.new result }
     {
         closing_law();
         step_law();
+        size_law();
         match world {
             Some(world) => self.here.define_world(merged, world, component),
             None => self.here.define_component(component),
@@ -62,8 +67,10 @@ impl State {
     pub fn define_module(&mut self, declarations: &ModuleType) -> Result<u32, BinaryFault>
         ensures defines { IfOk result (DefinesModuleType declarations.now self.old self.new) }
         ensures types { AllAddTypes self.old self.new }
+        ensures paid { (c : Collection) (b : Bool) → PaidBy c b [] (11 + length (module_bytes declarations.now)) self.old self.new result }
     {
         module_law();
+        size_law();
         self.here.define_module(declarations)
     }
 
@@ -76,8 +83,10 @@ impl State {
         ensures defines { IfOk result (DefinesPrimitiveType primitive self.old self.new) }
         ensures records { OnOk result (KeepsRecords self.old self.new) }
         ensures types { AllAddTypes self.old self.new }
+        ensures paid { (c : Collection) (b : Bool) → PaidBy c b [] (primitive_cost (content_of self.old.here.content)) self.old self.new result }
     {
         step_law();
+        size_law();
         self.here.define_primitive(primitive)
     }
 }

@@ -1,5 +1,7 @@
 //! The content of an open scope.
 
+ghost use Rattle.wac_binary.specs.Fits.{TooLargeUnless};
+ghost use Rattle.wac_encode_stacks.specs.private.Sizes.{ContentFits};
 ghost use Rattle.std.specs.Prelude.{◌≡◌, IfOk, OnOk, OnErr};
 ghost use Rattle.std.specs.Borrow.{sem};
 ghost use Rattle.wac_binary.specs.declared.sorts.Sort.TheVariants as s;
@@ -42,6 +44,7 @@ impl Encodable {
         ensures index { IfOk result (λ i. i ≡ type_count (content_of self.old)) }
         ensures appended { OnOk result (self.new ≡ and_type (value_def (defined_of t.now)) self.old) }
         ensures refused { OnErr result (self.new ≡ self.old) }
+        ensures too_large { TooLargeUnless result (ContentFits (content_of (and_type (value_def (defined_of t.now)) self.old))) }
     {
         match self {
             Encodable::Builder(content) => content.defined_type(t),
@@ -58,6 +61,7 @@ impl Encodable {
         ensures index { IfOk result (λ i. i ≡ type_count (content_of self.old)) }
         ensures appended { OnOk result (self.new ≡ and_type (func_of f.now) self.old) }
         ensures refused { OnErr result (self.new ≡ self.old) }
+        ensures too_large { TooLargeUnless result (ContentFits (content_of (and_type (func_of f.now) self.old))) }
     {
         match self {
             Encodable::Builder(content) => content.func_type(f),
@@ -74,6 +78,7 @@ impl Encodable {
         ensures index { IfOk result (λ i. i ≡ type_count (content_of self.old)) }
         ensures appended { OnOk result (self.new ≡ and_alias_of (outer_alias s.Type count index) self.old) }
         ensures refused { OnErr result (self.new ≡ self.old) }
+        ensures too_large { TooLargeUnless result (ContentFits (content_of (and_alias_of (outer_alias s.Type count index) self.old))) }
     {
         match self {
             Encodable::Builder(content) => content.alias_outer(Sort::Type, count, index),
@@ -90,6 +95,7 @@ impl Encodable {
         ensures index { IfOk result (λ i. i ≡ type_count (content_of self.old)) }
         ensures appended { OnOk result (self.new ≡ and_alias_of (export_alias s.Type instance name.now) self.old) }
         ensures refused { OnErr result (self.new ≡ self.old) }
+        ensures too_large { TooLargeUnless result (ContentFits (content_of (and_alias_of (export_alias s.Type instance name.now) self.old))) }
     {
         match self {
             Encodable::Builder(content) => content.alias_export(Sort::Type, instance, name),
@@ -108,6 +114,7 @@ impl Encodable {
         ensures index { IfOk result (λ i. i ≡ type_count (content_of self.old)) }
         ensures appended { OnOk result (self.new ≡ and_type (instance_def (decls t)) self.old) }
         ensures refused { OnErr result (self.new ≡ self.old) }
+        ensures too_large { TooLargeUnless result (ContentFits (content_of (and_type (instance_def (decls t)) self.old))) }
     {
         match self {
             Encodable::Builder(content) => content.instance_type(&t),
@@ -130,6 +137,7 @@ impl Encodable {
         ensures index { IfOk result (λ i. i ≡ count_of (space (described_sort d)) self.old) }
         ensures appended { OnOk result (self.new ≡ and_item (side_of side) name.now d self.old) }
         ensures refused { OnErr result (self.new ≡ self.old) }
+        ensures too_large { TooLargeUnless result (ContentFits (content_of (and_item (side_of side) name.now d self.old))) }
     {
         match self {
             Encodable::Builder(_) => unreachable!(),
@@ -149,6 +157,7 @@ impl Encodable {
         ensures index { IfOk result (λ i. i ≡ type_count (content_of self.old)) }
         ensures appended { OnOk result (self.new ≡ and_type (component_def (decls t.now)) self.old) }
         ensures refused { OnErr result (self.new ≡ self.old) }
+        ensures too_large { TooLargeUnless result (ContentFits (content_of (and_type (component_def (decls t.now)) self.old))) }
     {
         match self {
             Encodable::Builder(content) => content.component_type(t),
@@ -165,6 +174,7 @@ impl Encodable {
         ensures index { IfOk result (λ i. i ≡ module_count (content_of self.old)) }
         ensures appended { OnOk result (self.new ≡ and_core_type t.now self.old) }
         ensures refused { OnErr result (self.new ≡ self.old) }
+        ensures too_large { TooLargeUnless result (ContentFits (content_of (and_core_type t.now self.old))) }
     {
         match self {
             Encodable::Builder(content) => content.core_module_type(t),
@@ -182,6 +192,7 @@ impl Encodable {
         ensures index { IfOk result (λ i. i ≡ count_of (space (described_sort d)) self.old) }
         ensures appended { OnOk result (self.new ≡ and_import name.now d self.old) }
         ensures refused { OnErr result (self.new ≡ self.old) }
+        ensures too_large { TooLargeUnless result (ContentFits (content_of (and_import name.now d self.old))) }
     {
         match self {
             Encodable::Builder(content) => content.import(name, d),

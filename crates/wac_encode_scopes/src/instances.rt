@@ -1,6 +1,9 @@
 //! What instances export, as the innermost scope records it.
 
-ghost use Rattle.std.specs.Prelude.{◌≡◌, ◌||◌, true, Some, OnOk};
+ghost use Rattle.wac_encode_scopes.specs.private.Paid.{PaidBy, telling_cost, AreUnrecorded};
+ghost use Rattle.wac_binary.specs.declared.fault.BinaryFault.TheVariants.{OutOfMemory};
+ghost use Rattle.wac_encode_scopes.specs.Contents.{content_of};
+ghost use Rattle.std.specs.Prelude.{◌≡◌, ◌||◌, [], true, Some, IfErr, OnOk};
 ghost use Rattle.wac_types_shapes.specs.primitives.Name.{option_case};
 ghost use Rattle.wac_types_collection.specs.collection.Uses.{named_right};
 ghost use Rattle.wac_types_shapes.specs.declared.shapes.component.Interface.{Interface as AnInterface};
@@ -106,6 +109,7 @@ impl Scope {
     ) -> Result<(), BinaryFault>
         ensures recorded { OnOk result (ScopeChanges merged (bound_to resource instance name.now) self.old self.new) }
         ensures content { self.new.content ≡ self.old.content }
+        ensures memory { IfErr result (λ e. e ≡ OutOfMemory) }
     {
         let Some(resource) = resource else {
             return Ok(());
@@ -126,6 +130,7 @@ impl Scope {
         requires { named_right types.now interface.now.uses interface.now.exports ≡ true }
         ensures recorded { OnOk result (ScopeChanges merged (binding_own types.now interface.now.uses interface.now.exports (is_one_of own.now.keys) instance) self.old self.new) }
         ensures content { self.new.content ≡ self.old.content }
+        ensures memory { IfErr result (λ e. e ≡ OutOfMemory) }
     {
         interface.exports.law(); // proof only
         let alloc = types.allocator();
@@ -148,6 +153,7 @@ impl Scope {
     ) -> Result<(), BinaryFault>
         ensures recorded { OnOk result (ScopeChanges merged (told_to definition instance name.now) self.old self.new) }
         ensures content { self.new.content ≡ self.old.content }
+        ensures memory { IfErr result (λ e. e ≡ OutOfMemory) }
     {
         let Some(definition) = definition else {
             return Ok(());
@@ -173,6 +179,7 @@ impl Scope {
     ) -> Result<(), BinaryFault>
         ensures recorded { OnOk result (ScopeChanges merged (exporting_values types.now interface.now.exports (λ d. is_whole || is_closed_in closed.now d) instance) self.old self.new) }
         ensures content { self.new.content ≡ self.old.content }
+        ensures memory { IfErr result (λ e. e ≡ OutOfMemory) }
     {
         let alloc = types.allocator();
         for i in 0..interface.exports.len() {
@@ -206,6 +213,7 @@ impl State {
         ensures recorded { OnOk result ((it : AnInterface) → item_at types.now.interfaces interface.0 ≡ Some it → RecordsHere merged (telling types.now it (is_one_of own.now.keys) (is_closed_in closed.now) instance) self.old self.new) }
         ensures tells { OnOk result (AreClosedTypes types.now closed.now → (it : AnInterface) → item_at types.now.interfaces interface.0 ≡ Some it → TellsInstance types.now merged it (is_one_of own.now.keys) instance self.old self.new) }
         ensures types { AllAddTypes self.old self.new }
+        ensures paid { (it : AnInterface) → item_at types.now.interfaces interface.0 ≡ Some it → AreUnrecorded merged self.old own.now.keys → PaidBy types.now merged [] (telling_cost merged (content_of self.old.here.content) it.exports) self.old self.new result }
     {
         types.law(); // proof only
         types.uses_law(); // proof only

@@ -1,12 +1,16 @@
 //! Instance types of interfaces.
 
-ghost use Rattle.std.specs.Prelude.{◌≡◌, true, false, not, Some, IfOk, OnOk, OnErr};
+ghost use Rattle.wac_encode_scopes.specs.private.Paid.{charge, interface_cost};
+ghost use Rattle.wac_encode_scopes.specs.private.Limits.{IsTooLarge};
+ghost use Rattle.std.specs.Prelude.{◌≡◌, ◌≤◌, ◌+◌, ◌*◌, ◌^◌, length, true, false, not, Some, IfOk, OnOk, OnErr};
+ghost use Rattle.std.specs.List.{sum_by};
 ghost use Rattle.wac_types_shapes.specs.declared.shapes.component.Interface.{Interface as AnInterface};
 ghost use Rattle.wac_types_collection.specs.collection.Collection.{HasInterface, item_at};
-ghost use Rattle.wac_encode_stacks.specs.Scopes.{opening};
+ghost use Rattle.wac_encode_stacks.specs.Scopes.{opening, declarations};
+ghost use Rattle.wac_encode_stacks.specs.private.Sizes.{size_of, ContentFits};
 ghost use Rattle.wac_encode_stacks.specs.private.Beside.{written_as};
 ghost use Rattle.wac_encode_scopes.specs.declared.encodable.Encodable.TheVariants.{Instance};
-ghost use Rattle.wac_encode_scopes.specs.Contents.{IsInstanceType};
+ghost use Rattle.wac_encode_scopes.specs.Contents.{IsInstanceType, content_of};
 ghost use Rattle.wac_encode_scopes.specs.Books.{opened};
 ghost use Rattle.wac_encode_scopes.specs.private.Listing.{IsSame};
 ghost use Rattle.wac_encode_scopes.specs.private.Interfaces.{own_in, own_items, fresh_exports, BindsNone, BindsOne, BeginsInterface};
@@ -16,7 +20,7 @@ use crate::scope::Scope;
 use crate::side::Side;
 use crate::state::State;
 use wac_binary::BinaryFault;
-use wac_encode_stacks::{closing_law, listing_law};
+use wac_encode_stacks::{closing_law, listing_law, size_law};
 use wac_types_collection::{
     Interface, InterfaceId, ItemKind, Named, ResourceId, Type, Types, UsedType,
 };
@@ -57,6 +61,7 @@ impl Scope {
         ensures opened { OnOk result (opened merged self.new ≡ with_own_in (own_in types.now uses.now (name.now, item)) name.now (opened merged self.old)) }
         ensures content { OnOk result (self.new.content ≡ exporting (own_in types.now uses.now (name.now, item)) name.now self.old.content) }
         ensures beside { OnOk result (opened (not merged) self.new ≡ written_as (opened merged self.new) (opened (not merged) self.old)) }
+        ensures too_large { IsTooLarge result → ¬ ContentFits (content_of (exporting (own_in types.now uses.now (name.now, item)) name.now self.old.content)) }
     {
         let Some(resource) = own_resource(types, uses, name, item) else {
             return Ok(());
@@ -75,7 +80,9 @@ impl Scope {
         ensures opened { IfOk result (λ s. opened merged s ≡ with_own types.now interface.now.uses interface.now.exports (opening passes)) }
         ensures content { IfOk result (λ s. s.content ≡ Instance (fresh_exports (own_items types.now interface.now.uses interface.now.exports))) }
         ensures beside { IfOk result (λ s. opened (not merged) s ≡ written_as (opened merged s) (opening true)) }
+        ensures too_large { IsTooLarge result → 2 ^ 32 ≤ size_of (declarations (fresh_exports (own_items types.now interface.now.uses interface.now.exports))) }
     {
+        size_law();
         let mut scope = Scope::instance(types.allocator(), merged, passes);
         for i in 0..interface.exports.len() {
             let (name, item) = interface.exports.entry_at(i);
@@ -136,6 +143,8 @@ impl State {
         requires { HasInterface types.now id }
         ensures begins { OnOk result ((it : AnInterface) → item_at types.now.interfaces id.0 ≡ Some it → BeginsInterface types.now merged it self.old self.new) }
         ensures refused { OnErr result (IsSame self.old self.new) }
+        ensures begins_paid { OnOk result ((it : AnInterface) → item_at types.now.interfaces id.0 ≡ Some it → charge types.now merged (opened merged self.new.here) ≤ sum_by (λ e. 12 * (1 + length e.0)) (own_items types.now it.uses it.exports)) }
+        ensures room { IsTooLarge result → 2 ^ 32 ≤ interface_cost types.now id }
     {
         types.uses_law(); // proof only
         closing_law();

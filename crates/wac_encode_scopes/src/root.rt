@@ -1,6 +1,8 @@
 //! The root: its imports, and the component that is written.
 
-ghost use Rattle.std.specs.Prelude.{◌≡◌, IfOk, OnOk, OnErr};
+ghost use Rattle.wac_encode_scopes.specs.private.Paid.{PaidBy};
+ghost use Rattle.std.specs.Prelude.{◌≡◌, ◌+◌, ◌*◌, [], Bool, length, IfOk, OnOk, OnErr};
+ghost use Rattle.wac_types_collection.specs.collection.Collection.{Collection};
 ghost use Rattle.std.specs.Borrow.{sem};
 ghost use Rattle.wac_binary.specs.declared.sorts.Description.TheVariants as e;
 ghost use Rattle.wac_binary.specs.Indexes.{space, described_sort};
@@ -12,7 +14,7 @@ ghost use Rattle.wac_encode_scopes.specs.Lending.{LendsRoot, GoesOnLent};
 use crate::encodable::Encodable;
 use crate::state::State;
 use wac_binary::{BinaryFault, ComponentBuilder, Description};
-use wac_encode_stacks::root_law;
+use wac_encode_stacks::{described_law, root_law, size_law};
 use wac_types_collection::ResourceId;
 
 impl State {
@@ -30,8 +32,11 @@ impl State {
         ensures content { OnOk result (self.new.here.content ≡ and_import name.now d self.old.here.content) }
         ensures records { OnOk result (KeepsRecords self.old self.new) }
         ensures refused { OnErr result (self.new ≡ self.old) }
+        ensures paid { (c : Collection) (b : Bool) → PaidBy c b [] (20 + 2 * length name.now) self.old self.new result }
     {
         root_law();
+        size_law();
+        described_law(d); // proof only
         self.here.import(name, d)
     }
 
@@ -50,8 +55,10 @@ impl State {
         ensures index { IfOk result (λ i. i ≡ count_of (space (described_sort e.Fresh)) self.old.here.content) }
         ensures content { OnOk result (self.new.here.content ≡ and_import name.now e.Fresh self.old.here.content) }
         ensures refused { OnErr result (AllAddTypes self.old self.new) }
+        ensures paid { (c : Collection) → PaidBy c merged [] (20 + 2 * length name.now) self.old self.new result }
     {
         root_law();
+        size_law();
         self.here.import_fresh(merged, name, resource)
     }
 

@@ -1,6 +1,10 @@
 //! An open scope.
 
-ghost use Rattle.std.specs.Prelude.{◌≡◌, ◌⊎◌, ◌<◌, Bool, true, false, not, [], IfOk, OnOk, OnErr, None};
+ghost use Rattle.std.specs.Prelude.{◌≡◌, ◌⊎◌, ◌<◌, Bool, true, false, not, [], IfOk, IfErr, OnOk, OnErr, None};
+ghost use Rattle.wac_binary.specs.Fits.{TooLargeUnless};
+ghost use Rattle.wac_binary.specs.declared.fault.BinaryFault.TheVariants.{OutOfMemory};
+ghost use Rattle.wac_encode_stacks.specs.private.Sizes.{ContentFits};
+ghost use Rattle.wac_encode_scopes.specs.private.Limits.{IsShortPlace, IsTooLarge};
 ghost use Rattle.std.specs.Borrow.{sem};
 ghost use Rattle.wac_binary.specs.declared.sorts.Sort.TheVariants as s;
 ghost use Rattle.wac_binary.specs.Items.{value_def, primitive_def, instance_def, component_def, decls, outer_alias};
@@ -8,7 +12,7 @@ ghost use Rattle.wac_binary.specs.Indexes.{space, described_sort};
 ghost use Rattle.wac_binary.specs.Views.{defined_of, func_of};
 ghost use Rattle.wac_types_shapes.specs.declared.shapes.component.«Type».TheVariants as ty;
 ghost use Rattle.wac_encode_stacks.specs.Scopes.{at_type, opening, defined, brought, bind_at, export_at, index_at, with_alias_of, with_def, next_type, type_count};
-ghost use Rattle.wac_encode_scopes.specs.Contents.{content_of, and_type, and_item, count_of, declarations_of, AddsTypes, HasSide, IsInstanceType, side_of};
+ghost use Rattle.wac_encode_scopes.specs.Contents.{content_of, and_type, and_alias_of, and_item, count_of, declarations_of, AddsTypes, HasSide, IsInstanceType, side_of};
 ghost use Rattle.wac_encode_scopes.specs.declared.encodable.Encodable.TheVariants.{Instance};
 ghost use Rattle.std.specs.HashMap.{spare};
 ghost use Rattle.wac_binary.specs.declared.sorts.Description.TheVariants as e;
@@ -64,6 +68,7 @@ impl Scope {
     ) -> Result<(), BinaryFault>
         ensures recorded { OnOk result (ScopeChanges merged (bind_at resource (where_of place)) self.old self.new) }
         ensures content { self.new.content ≡ self.old.content }
+        ensures memory { IfErr result (λ e. e ≡ OutOfMemory) }
     {
         if merged {
             self.merged.record_resource(resource, place)
@@ -82,6 +87,7 @@ impl Scope {
     ) -> Result<(), BinaryFault>
         ensures recorded { OnOk result (ScopeChanges merged (index_at ty (how_of how) index) self.old self.new) }
         ensures content { self.new.content ≡ self.old.content }
+        ensures memory { IfErr result (λ e. e ≡ OutOfMemory) }
     {
         if merged {
             self.merged.record_type(ty, how, index)
@@ -109,6 +115,8 @@ impl Scope {
         ensures index { IfOk result (λ i. i ≡ next_type (opened merged self.old)) }
         ensures appended { OnOk result (self.new ≡ record self.old { content = aliased_from ((opened merged self.old).binds resource) self.old.content }) }
         ensures refused { OnErr result (self.new ≡ self.old) }
+        ensures small { IsShortPlace ((opened merged self.old).binds resource) }
+        ensures too_large { TooLargeUnless result (ContentFits (content_of (aliased_from ((opened merged self.old).binds resource) self.old.content))) }
     {
         if merged {
             self.merged.alias_resource(&mut self.content, resource)
@@ -144,6 +152,8 @@ impl Scope {
         ensures index { IfOk result (λ i. i ≡ next_type (opened merged self.old)) }
         ensures step { OnOk result (ScopeChanges merged (settled resource) self.old self.new) }
         ensures types { AddsTypes self.old.content self.new.content }
+        ensures small { IsShortPlace ((opened merged self.old).binds resource) }
+        ensures too_large { TooLargeUnless result (ContentFits (content_of (aliased_from ((opened merged self.old).binds resource) self.old.content))) }
     {
         let own = self.alias_own(merged, resource)?;
         self.record_resource(merged, resource, Place::Index(own))?;
@@ -169,6 +179,7 @@ impl Scope {
         ensures index { IfOk result (λ i. i ≡ next_type (opened merged self.old)) }
         ensures step { OnOk result (ScopeChanges merged (λ o. bind_at resource (at_type (next_type o)) (with_alias_of (outer_alias s.Type count index) o)) self.old self.new) }
         ensures types { AddsTypes self.old.content self.new.content }
+        ensures too_large { TooLargeUnless result (ContentFits (content_of (and_alias_of (outer_alias s.Type count index) self.old.content))) }
     {
         let own = self.content.alias_outer(count, index)?;
         self.record_resource(merged, resource, Place::Index(own))?;
@@ -188,6 +199,7 @@ impl Scope {
         ensures index { IfOk result (λ i. i ≡ next_type (opened merged self.old)) }
         ensures step { OnOk result (ScopeChanges merged (λ o. index_at (ty.Value value) defined (next_type o) (with_def (value_def (defined_of definition.now)) o)) self.old self.new) }
         ensures types { AddsTypes self.old.content self.new.content }
+        ensures too_large { TooLargeUnless result (ContentFits (content_of (and_type (value_def (defined_of definition.now)) self.old.content))) }
     {
         let own = self.content.defined_type(definition)?;
         self.record_type(merged, Type::Value(value), How::Defined, own)?;
@@ -207,6 +219,7 @@ impl Scope {
         ensures index { IfOk result (λ i. i ≡ next_type (opened merged self.old)) }
         ensures step { OnOk result (ScopeChanges merged (λ o. index_at (ty.Func id) defined (next_type o) (with_def (func_of f.now) o)) self.old self.new) }
         ensures types { AddsTypes self.old.content self.new.content }
+        ensures too_large { TooLargeUnless result (ContentFits (content_of (and_type (func_of f.now) self.old.content))) }
     {
         let own = self.content.func_type(f)?;
         self.record_type(merged, Type::Func(id), How::Defined, own)?;
@@ -269,6 +282,7 @@ impl Scope {
         ensures index { IfOk result (λ i. i ≡ count_of (space (described_sort d)) self.old.content) }
         ensures appended { OnOk result (self.new ≡ record self.old { content = and_item (side_of side) name.now d self.old.content }) }
         ensures refused { OnErr result (self.new ≡ self.old) }
+        ensures too_large { TooLargeUnless result (ContentFits (content_of (and_item (side_of side) name.now d self.old.content))) }
     {
         self.content.list(side, name, d)
     }
@@ -282,6 +296,7 @@ impl Scope {
         ensures index { IfOk result (λ i. i ≡ type_count (content_of self.old.content)) }
         ensures appended { OnOk result (self.new ≡ record self.old { content = and_type (instance_def (decls (declarations_of inner.content))) self.old.content }) }
         ensures refused { OnErr result (self.new ≡ self.old) }
+        ensures too_large { TooLargeUnless result (ContentFits (content_of (and_type (instance_def (decls (declarations_of inner.content))) self.old.content))) }
     {
         let Scope {
             content,
@@ -303,6 +318,7 @@ impl Scope {
     ) -> Result<(), BinaryFault>
         ensures recorded { OnOk result (ScopeChanges merged (export_at definition (where_of place)) self.old self.new) }
         ensures content { self.new.content ≡ self.old.content }
+        ensures memory { IfErr result (λ e. e ≡ OutOfMemory) }
     {
         if merged {
             self.merged.record_export(definition, place)
@@ -370,6 +386,8 @@ impl Scope {
         ensures index { IfOk result (λ i. i ≡ next_type (opened merged self.old)) }
         ensures appended { OnOk result (self.new ≡ record self.old { content = aliased_from ((opened merged self.old).exports definition) self.old.content }) }
         ensures refused { OnErr result (self.new ≡ self.old) }
+        ensures small { IsShortPlace ((opened merged self.old).exports definition) }
+        ensures too_large { TooLargeUnless result (ContentFits (content_of (aliased_from ((opened merged self.old).exports definition) self.old.content))) }
     {
         if merged {
             self.merged.alias_export(&mut self.content, definition)
@@ -391,6 +409,8 @@ impl Scope {
         ensures index { IfOk result (λ i. i ≡ next_type (opened merged self.old)) }
         ensures step { OnOk result (ScopeChanges merged (settled_value definition) self.old self.new) }
         ensures types { AddsTypes self.old.content self.new.content }
+        ensures small { IsShortPlace ((opened merged self.old).exports definition) }
+        ensures too_large { TooLargeUnless result (ContentFits (content_of (aliased_from ((opened merged self.old).exports definition) self.old.content))) }
     {
         let own = self.alias_own_export(merged, definition)?;
         self.record_export(merged, definition, Place::Index(own))?;
@@ -413,6 +433,7 @@ impl Scope {
         ensures index { IfOk result (λ i. i ≡ next_type (opened merged self.old)) }
         ensures step { OnOk result (ScopeChanges merged (λ o. index_at ty brought (next_type o) (with_alias_of (outer_alias s.Type count index) o)) self.old self.new) }
         ensures types { AddsTypes self.old.content self.new.content }
+        ensures too_large { TooLargeUnless result (ContentFits (content_of (and_alias_of (outer_alias s.Type count index) self.old.content))) }
     {
         let own = self.content.alias_outer(count, index)?;
         self.record_type(merged, ty, How::Brought, own)?;
@@ -424,6 +445,7 @@ impl Scope {
         ensures same { (b : Bool) → opened b self.new ≡ opened b self.old }
         ensures content { self.new.content ≡ self.old.content }
         ensures room { OnOk result (0 < spare (book_of merged self.new).resources) }
+        ensures memory { IfErr result (λ e. e ≡ OutOfMemory) }
     {
         if merged {
             self.merged.reserve_resource()
@@ -461,6 +483,7 @@ impl Scope {
         ensures step { OnOk result (ScopeChanges merged (with_fresh (side_of side) name.now resource) self.old self.new) }
         ensures content { OnOk result (self.new.content ≡ and_item (side_of side) name.now e.Fresh self.old.content) }
         ensures refused { OnErr result (self.new.content ≡ self.old.content) }
+        ensures too_large { IsTooLarge result → ¬ ContentFits (content_of (and_item (side_of side) name.now e.Fresh self.old.content)) }
     {
         self.reserve_resource(merged)?;
         let index = self.content.list(side, name, Description::Fresh)?;
@@ -476,6 +499,7 @@ impl Scope {
         ensures index { IfOk result (λ i. i ≡ type_count (content_of self.old.content)) }
         ensures appended { OnOk result (self.new ≡ record self.old { content = and_type (component_def (decls component.now)) self.old.content }) }
         ensures refused { OnErr result (self.new ≡ self.old) }
+        ensures too_large { TooLargeUnless result (ContentFits (content_of (and_type (component_def (decls component.now)) self.old.content))) }
     {
         self.content.component_type(component)
     }
@@ -493,6 +517,7 @@ impl Scope {
         ensures index { IfOk result (λ i. i ≡ next_type (opened merged self.old)) }
         ensures step { OnOk result (ScopeChanges merged (λ o. index_at (ty.World world) defined (next_type o) (with_def (component_def (decls component.now)) o)) self.old self.new) }
         ensures types { AddsTypes self.old.content self.new.content }
+        ensures too_large { TooLargeUnless result (ContentFits (content_of (and_type (component_def (decls component.now)) self.old.content))) }
     {
         let own = self.content.component_type(component)?;
         self.record_type(merged, Type::World(world), How::Defined, own)?;
@@ -507,6 +532,7 @@ impl Scope {
         ensures index { IfOk result (λ i. i ≡ type_count (content_of self.old.content)) }
         ensures appended { OnOk result (self.new ≡ record self.old { content = and_type (value_def (primitive_def primitive)) self.old.content }) }
         ensures refused { OnErr result (self.new ≡ self.old) }
+        ensures too_large { TooLargeUnless result (ContentFits (content_of (and_type (value_def (primitive_def primitive)) self.old.content))) }
     {
         self.content
             .defined_type(&DefinedType::Primitive(primitive))
@@ -520,6 +546,7 @@ impl Scope {
         ensures index { IfOk result (λ i. i ≡ module_count (content_of self.old.content)) }
         ensures appended { OnOk result (self.new ≡ record self.old { content = and_core_type declarations.now self.old.content }) }
         ensures refused { OnErr result (self.new ≡ self.old) }
+        ensures too_large { TooLargeUnless result (ContentFits (content_of (and_core_type declarations.now self.old.content))) }
     {
         self.content.core_module_type(declarations)
     }
@@ -533,6 +560,7 @@ impl Scope {
         ensures index { IfOk result (λ i. i ≡ count_of (space (described_sort d)) self.old.content) }
         ensures appended { OnOk result (self.new ≡ record self.old { content = and_import name.now d self.old.content }) }
         ensures refused { OnErr result (self.new ≡ self.old) }
+        ensures too_large { TooLargeUnless result (ContentFits (content_of (and_import name.now d self.old.content))) }
     {
         self.content.import(name, d)
     }
@@ -552,6 +580,7 @@ impl Scope {
         ensures step { OnOk result (ScopeChanges merged (with_fresh_import name.now resource) self.old self.new) }
         ensures content { OnOk result (self.new.content ≡ and_import name.now e.Fresh self.old.content) }
         ensures refused { OnErr result (self.new.content ≡ self.old.content) }
+        ensures too_large { IsTooLarge result → ¬ ContentFits (content_of (and_import name.now e.Fresh self.old.content)) }
     {
         self.reserve_resource(merged)?;
         let own = self.content.import(name, Description::Fresh)?;

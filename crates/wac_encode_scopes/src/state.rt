@@ -1,6 +1,9 @@
 //! The stack of open scopes.
 
-ghost use Rattle.std.specs.Prelude.{◌≡◌, ◌≤◌, ◌∷◌, ◌++◌, [], length, ℕ, IfOk, OnOk, OnErr, IfSome, None, Some, true, false, List};
+ghost use Rattle.wac_encode_scopes.specs.private.Paid.{PaidBy, PaidFor, KeepsTypes, IsSizedAs, IsFuncSizedAs, ClosesPaid, IsOwnResource, IsUncharged};
+ghost use Rattle.wac_types_collection.specs.collection.Collection.{HasDefined};
+ghost use Rattle.wac_types_weight.specs.Weight.{is_scope};
+ghost use Rattle.std.specs.Prelude.{◌≡◌, ◌≤◌, ◌∷◌, ◌++◌, [], length, ℕ, IfOk, IfErr, OnOk, OnErr, IfSome, None, Some, true, false, List, Bool, ◌+◌, ◌*◌};
 ghost use Rattle.wac_types_shapes.specs.primitives.Name.{Name};
 ghost use Rattle.wac_types_shapes.specs.declared.shapes.component.DefinedType.{DefinedType as Definition};
 ghost use Rattle.wac_types_shapes.specs.declared.shapes.component.FuncType.{FuncType as Function};
@@ -9,6 +12,7 @@ ghost use Rattle.wac_types_shapes.specs.declared.shapes.component.«Type».TheVa
 ghost use Rattle.wac_types_collection.specs.collection.Collection.{Collection, IsWellFormed, item_at};
 ghost use Rattle.wac_types_collection.specs.collection.Held.{resolved};
 ghost use Rattle.wac_binary.specs.Views.{defined_of, func_of};
+ghost use Rattle.wac_binary.specs.declared.fault.BinaryFault.TheVariants.{OutOfMemory};
 ghost use Rattle.wac_encode_stacks.specs.Scopes.{Where, at_type, at_export, How as AnyHow, defined, listed, bind_at, index_at, export_at};
 ghost use Rattle.wac_encode_stacks.specs.Good.{Good, IsClosed, nothing_bound, top};
 ghost use Rattle.wac_types_collection.specs.collection.Bound.{Bindings};
@@ -36,7 +40,8 @@ use wac_binary::{
     BinaryFault, ComponentBuilder, ComponentType, DefinedType, Description, FuncType,
 };
 use wac_encode_stacks::{
-    bringing_law, closing_law, inside_law, listing_law, root_law, step_law, still_law,
+    bringing_law, closing_law, described_law, index_law, inside_law, listing_law, root_law,
+    size_law, step_law, still_law,
 };
 use wac_types_collection::{DefinedTypeId, FuncTypeId, ResourceId, Text, Type, ValueType};
 
@@ -113,7 +118,9 @@ impl State {
         ensures index { IfOk result (λ i. i ≡ next_type_at out (stack merged self.old)) }
         ensures step { OnOk result (StateChanges merged out (settled resource) self.old self.new) }
         ensures types { AllAddTypes self.old self.new }
+        ensures paid { (c : Collection) → IsOwnResource c resource → PaidFor c merged (ty.Resource resource) 0 self.old self.new result }
     {
+        size_law();
         if out == 0 {
             return self.here.settle_resource(merged, resource);
         }
@@ -133,6 +140,8 @@ impl State {
         ensures goes { OnOk result (GoesForAll merged self.old self.new) }
         ensures reached { IfOk result (λ x. IsReached (stack merged self.new) resource x.0 (at_type x.1)) }
         ensures types { AllAddTypes self.old self.new }
+        ensures paid { (c : Collection) → IsOwnResource c resource → PaidFor c merged (ty.Resource resource) 0 self.old self.new result }
+        ensures kept { OnOk result (KeepsTypes merged self.old self.new) }
     {
         bringing_law();
         inside_law();
@@ -161,7 +170,10 @@ impl State {
         ensures goes { OnOk result (GoesForAll merged self.old self.new) }
         ensures is { IfOk result (IsResourceAt merged self.new resource) }
         ensures types { AllAddTypes self.old self.new }
+        ensures paid { (c : Collection) → IsOwnResource c resource → PaidFor c merged (ty.Resource resource) 0 self.old self.new result }
+        ensures kept { OnOk result (KeepsTypes merged self.old self.new) }
     {
+        size_law();
         inside_law();
         still_law();
         if out == 0 {
@@ -186,6 +198,8 @@ impl State {
         ensures goes { OnOk result (GoesForAll merged self.old self.new) }
         ensures is { IfOk result (IsResourceAt merged self.new resource) }
         ensures types { AllAddTypes self.old self.new }
+        ensures paid { (c : Collection) → IsOwnResource c resource → PaidFor c merged (ty.Resource resource) 0 self.old self.new result }
+        ensures kept { OnOk result (KeepsTypes merged self.old self.new) }
     {
         step_law();
         let (out, index) = self.reach_resource(merged, resource)?;
@@ -193,6 +207,8 @@ impl State {
     }
 
     /// Adds a value type definition to the innermost scope, records its type index and returns it.
+    ///
+    /// If the type is recorded there already, returns the index that it has.
     ///
     /// # Errors
     /// - `TooLarge` if the content of the scope would not fit 32-bit sizes.
@@ -204,14 +220,23 @@ impl State {
         definition: &DefinedType<'_>,
     ) -> Result<u32, BinaryFault>
         ensures goes { OnOk result ((c : Collection) (x : Definition) → IsWellFormed c → item_at c.defined id.0 ≡ Some x → SaysWritten c merged self.old x (defined_of definition.now) → Goes c merged self.old self.new) }
-        ensures recorded { IfOk result (IsRecordedAt merged self.new (ty.Value (val.Defined id)) defined) }
+        ensures recorded { IfOk result (λ i. (how : AnyHow) × IsRecordedAt merged self.new (ty.Value (val.Defined id)) how i) }
         ensures types { AllAddTypes self.old self.new }
+        ensures paid { (c : Collection) (x : Definition) → item_at c.defined id.0 ≡ Some x → IsSizedAs x (defined_of definition.now) → PaidFor c merged (ty.Value (val.Defined id)) 0 self.old self.new result }
     {
         step_law();
-        self.here.define(merged, ValueType::Defined(id), definition)
+        still_law();
+        size_law();
+        let value = ValueType::Defined(id);
+        match self.index(merged, Type::Value(value)) {
+            Some(index) => Ok(index),
+            None => self.here.define(merged, value, definition),
+        }
     }
 
     /// Adds a function type to the innermost scope, records its type index and returns it.
+    ///
+    /// If the type is recorded there already, returns the index that it has.
     ///
     /// # Errors
     /// As [`Self::define`].
@@ -222,11 +247,17 @@ impl State {
         f: &FuncType<'_>,
     ) -> Result<u32, BinaryFault>
         ensures goes { OnOk result ((c : Collection) (x : Function) → IsWellFormed c → item_at c.funcs id.0 ≡ Some x → SaysWrittenFunc c merged self.old x (func_of f.now) → Goes c merged self.old self.new) }
-        ensures recorded { IfOk result (IsRecordedAt merged self.new (ty.Func id) defined) }
+        ensures recorded { IfOk result (λ i. (how : AnyHow) × IsRecordedAt merged self.new (ty.Func id) how i) }
         ensures types { AllAddTypes self.old self.new }
+        ensures paid { (c : Collection) (x : Function) → item_at c.funcs id.0 ≡ Some x → IsFuncSizedAs x (func_of f.now) → PaidFor c merged (ty.Func id) 0 self.old self.new result }
     {
         step_law();
-        self.here.define_func(merged, id, f)
+        still_law();
+        size_law();
+        match self.index(merged, Type::Func(id)) {
+            Some(index) => Ok(index),
+            None => self.here.define_func(merged, id, f),
+        }
     }
 
     /// Adds an `own` type to the innermost scope, records its type index and returns it.
@@ -240,9 +271,12 @@ impl State {
         ensures goes { OnOk result ((c : Collection) → resolved c resource ≡ resource → Goes c merged self.old self.new) }
         ensures recorded { IfOk result (IsRecordedAt merged self.new (ty.Value (val.Own resource)) defined) }
         ensures types { AllAddTypes self.old self.new }
+        ensures paid { (c : Collection) → IsOwnResource c resource → (opened merged self.old.here).types (ty.Value (val.Own resource)) ≡ None → PaidFor c merged (ty.Resource resource) 0 self.old self.new result }
     {
+        size_law();
         step_law();
         let index = self.bring_resource(merged, resource)?;
+        index_law(index); // proof only
         let handle = ValueType::Own(resource);
         self.here.define(merged, handle, &DefinedType::Own(index))
     }
@@ -258,9 +292,12 @@ impl State {
         ensures goes { OnOk result ((c : Collection) → resolved c resource ≡ resource → Goes c merged self.old self.new) }
         ensures recorded { IfOk result (IsRecordedAt merged self.new (ty.Value (val.Borrow resource)) defined) }
         ensures types { AllAddTypes self.old self.new }
+        ensures paid { (c : Collection) → IsOwnResource c resource → (opened merged self.old.here).types (ty.Value (val.Borrow resource)) ≡ None → PaidFor c merged (ty.Resource resource) 0 self.old self.new result }
     {
+        size_law();
         step_law();
         let index = self.bring_resource(merged, resource)?;
+        index_law(index); // proof only
         let handle = ValueType::Borrow(resource);
         self.here
             .define(merged, handle, &DefinedType::Borrow(index))
@@ -270,6 +307,7 @@ impl State {
     pub fn root(alloc: Global) -> State
         ensures good { (c : Collection) (b : _) → Good c (nothing_bound ∷ []) (stack b result) }
         ensures content { result.here.content ≡ Builder [] }
+        ensures uncharged { (c : Collection) (b : Bool) → IsUncharged c b result }
     {
         root_law();
         let content = Encodable::Builder(ComponentBuilder::new(alloc));
@@ -283,6 +321,7 @@ impl State {
     pub fn component(alloc: Global) -> State
         ensures good { (c : Collection) (b : _) → Good c (nothing_bound ∷ []) (stack b result) }
         ensures content { result.here.content ≡ Component [] }
+        ensures uncharged { (c : Collection) (b : Bool) → IsUncharged c b result }
     {
         closing_law();
         let content = Encodable::Component(ComponentType::new(alloc));
@@ -334,6 +373,7 @@ impl State {
         ensures here { OnOk result (self.new.here ≡ scope) }
         ensures around { OnOk result (self.new.around.items ≡ self.old.around.items ++ self.old.here ∷ []) }
         ensures refused { OnErr result (IsSame self.old self.new) }
+        ensures memory { IfErr result (λ e. e ≡ OutOfMemory) }
     {
         self.around.reserve(1)?;
         let outer = replace(&mut self.here, scope);
@@ -357,7 +397,10 @@ impl State {
         ensures index { IfOk result (λ i. i ≡ count_of (space (described_sort d)) self.old.here.content) }
         ensures content { OnOk result (self.new.here.content ≡ and_item (side_of side) name.now d self.old.here.content) }
         ensures refused { OnErr result (self.new ≡ self.old) }
+        ensures paid { (c : Collection) (b : Bool) → PaidBy c b [] (10 + 2 * length name.now) self.old self.new result }
     {
+        size_law();
+        described_law(d); // proof only
         listing_law();
         self.here.list(side, name, d)
     }
@@ -376,7 +419,9 @@ impl State {
         ensures closes { IfOk result (Closes self.old self.new) }
         ensures written { OnOk result (ClosesInto self.old self.new) }
         ensures refused { OnErr result (self.old.around.items ≡ self.new.around.items ++ self.new.here ∷ []) }
+        ensures paid { (c : Collection) (b : Bool) → ClosesPaid c b self.old self.new result }
     {
+        size_law();
         closing_law();
         let Some(outer) = self.around.pop() else {
             unreachable!()
@@ -400,6 +445,8 @@ impl State {
         ensures recorded { OnOk result (IsRecordedAt merged self.new ty (how_of how) index) }
         ensures records { OnOk result (RecordsHere merged (index_at ty (how_of how) index) self.old self.new) }
         ensures types { AllAddTypes self.old self.new }
+        ensures memory { IfErr result (λ e. e ≡ OutOfMemory) }
+        ensures paid { (c : Collection) → (how_of how ≡ defined → is_scope ty ≡ true) → PaidBy c merged [] 0 self.old self.new result }
     {
         step_law();
         self.here.record_type(merged, ty, how, index)
@@ -451,7 +498,9 @@ impl State {
         ensures index { IfOk result (λ i. i ≡ next_type_at out (stack merged self.old)) }
         ensures step { OnOk result (StateChanges merged out (settled_value definition) self.old self.new) }
         ensures types { AllAddTypes self.old self.new }
+        ensures paid { (c : Collection) → HasDefined c definition → PaidFor c merged (ty.Value (val.Defined definition)) 0 self.old self.new result }
     {
+        size_law();
         if out == 0 {
             return self.here.settle_export(merged, definition);
         }
@@ -472,6 +521,7 @@ impl State {
         ensures reached { IfOk result (λ x. IfSome x (λ f. IsNamedAt (stack merged self.new) definition f.0 (at_type f.1) × Crosses is_closed f.0 (stack merged self.new))) }
         ensures none { IfOk result (λ x. x ≡ None → (self.new ≡ self.old) × ((k : ℕ) (w : Where) → IsNamedAt (stack merged self.old) definition k w → Crosses is_closed k (stack merged self.old) → ⊥)) }
         ensures types { AllAddTypes self.old self.new }
+        ensures paid { (c : Collection) → HasDefined c definition → PaidFor c merged (ty.Value (val.Defined definition)) 0 self.old self.new result }
     {
         bringing_law();
         still_law();
@@ -501,7 +551,9 @@ impl State {
         ensures goes { OnOk result ((c : Collection) → (is_closed ≡ true → IsClosed c (ty.Value (val.Defined definition))) → Goes c merged self.old self.new) }
         ensures named { IfOk result (λ i. named_in definition (opened merged self.new.here) ≡ Some (at_type i)) }
         ensures types { AllAddTypes self.old self.new }
+        ensures paid { (c : Collection) → HasDefined c definition → PaidFor c merged (ty.Value (val.Defined definition)) 0 self.old self.new result }
     {
+        size_law();
         bringing_law();
         still_law();
         if out == 0 {
@@ -536,6 +588,7 @@ impl State {
         ensures named { IfOk result (λ x. IfSome x (λ i. named_in definition (opened merged self.new.here) ≡ Some (at_type i))) }
         ensures none { IfOk result (λ x. x ≡ None → (self.new ≡ self.old) × ((k : ℕ) (w : Where) → IsNamedAt (stack merged self.old) definition k w → Crosses is_closed k (stack merged self.old) → ⊥)) }
         ensures types { AllAddTypes self.old self.new }
+        ensures paid { (c : Collection) → HasDefined c definition → PaidFor c merged (ty.Value (val.Defined definition)) 0 self.old self.new result }
     {
         step_law();
         let Some((out, index)) = self.reach_named(merged, definition, is_closed)? else {
@@ -565,7 +618,9 @@ impl State {
         ensures lists { IfOk result (ListsResource merged (side_of side) name.now resource self.old self.new) }
         ensures content { OnOk result (self.new.here.content ≡ and_item (side_of side) name.now e.Fresh self.old.here.content) }
         ensures refused { OnErr result (AllAddTypes self.old self.new) }
+        ensures paid { (c : Collection) → PaidBy c merged [] (10 + 2 * length name.now) self.old self.new result }
     {
+        size_law();
         listing_law();
         self.here.list_fresh(merged, side, name, resource)
     }
@@ -586,6 +641,7 @@ impl State {
         ensures binds { OnOk result (BindsExport merged resource instance name self.old self.new) }
         ensures recorded { OnOk result (RecordsHere merged (bind_at resource (at_export instance name)) self.old self.new) }
         ensures types { AllAddTypes self.old self.new }
+        ensures memory { IfErr result (λ e. e ≡ OutOfMemory) }
     {
         closing_law();
         self.here
@@ -607,6 +663,7 @@ impl State {
         ensures binds { OnOk result (BindsType merged resource index self.old self.new) }
         ensures recorded { OnOk result (RecordsHere merged (bind_at resource (at_type index)) self.old self.new) }
         ensures types { AllAddTypes self.old self.new }
+        ensures memory { IfErr result (λ e. e ≡ OutOfMemory) }
     {
         closing_law();
         self.here
@@ -627,6 +684,7 @@ impl State {
         ensures goes { OnOk result ((c : Collection) → MayTell c merged definition instance name self.old → Goes c merged self.old self.new) }
         ensures recorded { OnOk result (RecordsHere merged (export_at definition (at_export instance name)) self.old self.new) }
         ensures types { AllAddTypes self.old self.new }
+        ensures memory { IfErr result (λ e. e ≡ OutOfMemory) }
     {
         self.here
             .record_export(merged, definition, Place::Export(instance, name))

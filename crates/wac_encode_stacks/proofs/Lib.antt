@@ -16,3 +16,4 @@ pub mod Inside
 pub mod Modules
 pub mod Besides
 pub mod Aliases
+pub mod Sizes

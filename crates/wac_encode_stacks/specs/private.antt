@@ -6,3 +6,4 @@ pub mod Beside
 pub mod Brought
 pub mod Laws
 pub mod Parts
+pub mod Sizes

@@ -10,8 +10,12 @@ ghost use Rattle.wac_encode_stacks.specs.private.HeldParts.{HeldCarried, HeldFur
 ghost use Rattle.wac_encode_stacks.specs.private.Beside.{GoesOnBeside};
 ghost use Rattle.wac_encode_stacks.specs.private.Reads.{Reads};
 ghost use Rattle.wac_encode_stacks.specs.private.Modules.{DefinesModule, HoldsModule};
+ghost use Rattle.wac_encode_stacks.specs.private.Sizes.{BytesAreLess, SmallFits};
+ghost use Rattle.std.specs.Prelude.{◌≤◌, ◌<◌, ◌^◌, length};
+ghost use Rattle.wac_binary.specs.Bytes.{described, value};
 
-use wac_binary::laws::{has_meaning_law, listed_law, scope_law};
+use wac_binary::laws::{fit_law, has_meaning_law, listed_law, scope_law};
+use wac_binary::{ComponentValType, Description};
 
 /// Brings in the laws by which items and declarations are read.
 fn binary_laws()
@@ -165,3 +169,48 @@ pub fn alias_law()
 pub fn still_law()
     ensures { StaysOnward }
 {}
+
+/// Brings in the laws of the sizes of what is written.
+pub fn size_law()
+    ensures bytes { BytesAreLess }
+    ensures fits { SmallFits }
+{
+    fit_law();
+}
+
+/// Brings in that a description has at most 7 bytes, since its index fits in 32 bits.
+#[tactic(auto, using(crate::proofs::Sizes::unsigned_short))]
+pub fn described_law(d: Description)
+    ensures { length (described d) ≤ 7 }
+{
+    match d {
+        Description::CoreModule(index)
+        | Description::Func(index)
+        | Description::Equal(index)
+        | Description::Component(index)
+        | Description::Instance(index) => {
+            let _index = index;
+        }
+        Description::Fresh => {}
+    }
+}
+
+/// Brings in that a value type in use has at most 5 bytes, since its index fits in 32 bits.
+#[tactic(auto, using(crate::proofs::Sizes::signed_short))]
+pub fn value_law(v: ComponentValType)
+    ensures { length (value v) ≤ 5 }
+{
+    match v {
+        ComponentValType::Primitive(_) => {}
+        ComponentValType::Index(index) => {
+            let _index = index;
+        }
+    }
+}
+
+/// Brings in that an index fits in 32 bits.
+pub fn index_law(index: u32)
+    ensures { index < 2 ^ 32 }
+{
+    let _index = index;
+}

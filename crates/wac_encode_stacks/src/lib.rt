@@ -8,6 +8,7 @@
 pub mod laws;
 
 pub use laws::{
-    alias_law, beside_law, bringing_law, closing_law, inside_law, instance_law, listing_law,
-    module_law, part_law, root_law, step_law, still_law,
+    alias_law, beside_law, bringing_law, closing_law, described_law, index_law, inside_law,
+    instance_law, listing_law, module_law, part_law, root_law, size_law, step_law, still_law,
+    value_law,
 };

@@ -1,6 +1,9 @@
 //! The writer of definitions, each after its parts.
 
-ghost use Rattle.std.specs.Prelude.{◌≡◌, ◌≤◌, Some, IfOk, OnOk, length};
+ghost use Rattle.wac_encode_scopes.specs.private.Paid.{PaidBy, PaidFor, CoversPart, IsSizedAs};
+ghost use Rattle.std.specs.Prelude.{◌≡◌, ◌≤◌, List, Some, IfOk, OnOk, length};
+ghost use Rattle.wac_types_shapes.specs.declared.shapes.component.«Type».{«Type» as AnyType};
+ghost use Rattle.wac_types_shapes.specs.declared.shapes.component.«Type».TheVariants as ty;
 ghost use Rattle.wac_types_shapes.specs.declared.shapes.component.ValueType.TheVariants as val;
 ghost use Rattle.wac_types_shapes.specs.declared.shapes.component.DefinedType.{DefinedType as AnyDefined};
 ghost use Rattle.wac_types_collection.specs.collection.Collection.{item_at};
@@ -18,6 +21,7 @@ use wac_binary::{BinaryFault, ComponentValType, DefinedType};
 use wac_encode_scopes::{State, part_at};
 use wac_encode_stacks::{alias_law, bringing_law, part_law, step_law, still_law};
 use wac_types_collection::{DefinedType as HeldType, DefinedTypeId, ValueType};
+use wac_types_weight::weight_law;
 
 impl<'a> ValueEncoder<'a> {
     /// Adds a definition to the innermost scope.
@@ -31,6 +35,7 @@ impl<'a> ValueEncoder<'a> {
         ensures goes { OnOk result (Goes self.now.types.now self.now.merged state.old state.new) }
         ensures written { IfOk result (IsWrittenAs self.now.types.now self.now.merged state.new (val.Defined id)) }
         ensures types { AllAddTypes state.old state.new }
+        ensures paid { (x : AnyDefined) → item_at self.now.types.now.defined id.0 ≡ Some x → IsSizedAs x (defined_of definition.now) → PaidFor self.now.types.now self.now.merged (ty.Value (val.Defined id)) 0 state.old state.new result }
     {
         self.types.law();
         step_law();
@@ -50,6 +55,7 @@ impl<'a> ValueEncoder<'a> {
         ensures goes { OnOk result (Goes self.now.types.now self.now.merged state.old state.new) }
         ensures written { IfOk result (IsWrittenAs self.now.types.now self.now.merged state.new (val.Defined id)) }
         ensures types { AllAddTypes state.old state.new }
+        ensures paid { PaidFor self.now.types.now self.now.merged (ty.Value (val.Defined id)) 0 state.old state.new result }
     {
         let alloc = self.types.allocator();
         let held = &self.types[id];
@@ -91,6 +97,7 @@ impl<'a> ValueEncoder<'a> {
         ensures goes { OnOk result (Goes self.now.types.now self.now.merged state.old state.new) }
         ensures added { IfOk result (IsAdded self.now.types.now self.now.merged state.new part parts.old.items parts.new.items) }
         ensures types { AllAddTypes state.old state.new }
+        ensures paid { (ts : List AnyType) → CoversPart self.now.types.now ts part → PaidBy self.now.types.now self.now.merged ts 0 state.old state.new result }
     {
         still_law();
         let Some(value) = part else {
@@ -120,12 +127,14 @@ impl<'a> ValueEncoder<'a> {
         ensures filled { IfOk result (IsFilled self.now.types.now self.now.merged state.new id parts.new.items) }
         ensures longer { OnOk result (length parts.old.items ≤ length parts.new.items) }
         ensures types { AllAddTypes state.old state.new }
+        ensures paid { PaidFor self.now.types.now self.now.merged (ty.Value (val.Defined id)) 0 state.old state.new result }
     {
         self.types.law();
         step_law();
         bringing_law();
         part_law();
         still_law();
+        weight_law();
         while let Some(part) = part_at(&self.types[id], parts.len()) {
             if let Some(missing) = self.add(state, parts, part)? {
                 return Ok(Some(missing));
@@ -148,6 +157,7 @@ impl<'a> ValueEncoder<'a> {
         ensures advanced { IfOk result (IsAdvanced self.now.types.now self.now.merged state.new id parts.new.items) }
         ensures longer { OnOk result (length parts.old.items ≤ length parts.new.items) }
         ensures types { AllAddTypes state.old state.new }
+        ensures paid { PaidFor self.now.types.now self.now.merged (ty.Value (val.Defined id)) 0 state.old state.new result }
     {
         step_law();
         match self.fill(state, id, parts)? {
@@ -172,6 +182,7 @@ impl<'a> ValueEncoder<'a> {
         ensures goes { OnOk result (Goes self.now.types.now self.now.merged state.old state.new) }
         ensures written { IfOk result (IsWrittenAs self.now.types.now self.now.merged state.new (val.Defined id)) }
         ensures types { AllAddTypes state.old state.new }
+        ensures paid { PaidFor self.now.types.now self.now.merged (ty.Value (val.Defined id)) 0 state.old state.new result }
     {
         self.types.law();
         step_law();
@@ -179,6 +190,7 @@ impl<'a> ValueEncoder<'a> {
         part_law();
         alias_law();
         still_law();
+        weight_law();
         let alloc = self.types.allocator();
         let mut waiting = Vec::new(alloc);
         let mut task = Task::new(alloc, id);

@@ -1,9 +1,10 @@
 //! The writer of value types.
 
+ghost use Rattle.wac_encode_scopes.specs.private.Paid.{PaidFor};
 ghost use Rattle.std.specs.Prelude.{◌≡◌, true, None, Some, IfOk, OnOk, IfSome};
 ghost use Rattle.wac_types_shapes.specs.declared.shapes.component.ValueType.TheVariants as val;
 ghost use Rattle.wac_types_shapes.specs.declared.shapes.component.«Type».TheVariants as ty;
-ghost use Rattle.wac_types_collection.specs.collection.Collection.{HasDefined, holds_value};
+ghost use Rattle.wac_types_collection.specs.collection.Collection.{HasDefined, holds_type, holds_value};
 ghost use Rattle.wac_binary.specs.declared.types.ComponentValType.TheVariants.{Index};
 ghost use Rattle.wac_encode_scopes.specs.States.{AllAddTypes, Goes};
 ghost use Rattle.wac_encode_scopes.specs.private.Closed.{AreClosedTypes};
@@ -15,6 +16,7 @@ use wac_binary::{BinaryFault, ComponentValType};
 use wac_encode_scopes::{ClosedTypes, State};
 use wac_encode_stacks::{alias_law, part_law, step_law, still_law};
 use wac_types_collection::{DefinedTypeId, ResourceId, Type, Types, ValueType};
+use wac_types_weight::weight_law;
 
 /// Writes the value types and function types of a collection into open scopes.
 ///
@@ -55,7 +57,9 @@ impl<'a> ValueEncoder<'a> {
         ensures goes { OnOk result (Goes self.now.types.now self.now.merged state.old state.new) }
         ensures written { IfOk result (λ i. IsWrittenAs self.now.types.now self.now.merged state.new (val.Own resource) (Index i)) }
         ensures types { AllAddTypes state.old state.new }
+        ensures paid { holds_type self.now.types.now (ty.Resource resource) ≡ true → PaidFor self.now.types.now self.now.merged (ty.Value (val.Own resource)) 0 state.old state.new result }
     {
+        weight_law();
         step_law();
         part_law();
         still_law();
@@ -72,7 +76,9 @@ impl<'a> ValueEncoder<'a> {
         ensures goes { OnOk result (Goes self.now.types.now self.now.merged state.old state.new) }
         ensures written { IfOk result (λ i. IsWrittenAs self.now.types.now self.now.merged state.new (val.Borrow resource) (Index i)) }
         ensures types { AllAddTypes state.old state.new }
+        ensures paid { holds_type self.now.types.now (ty.Resource resource) ≡ true → PaidFor self.now.types.now self.now.merged (ty.Value (val.Borrow resource)) 0 state.old state.new result }
     {
+        weight_law();
         step_law();
         part_law();
         still_law();
@@ -97,6 +103,7 @@ impl<'a> ValueEncoder<'a> {
         ensures written { IfOk result (λ x. IfSome x (λ i. IsWrittenAs self.now.types.now self.now.merged state.new (val.Defined id) (Index i))) }
         ensures named { IfOk result (IsNameFirst self.now.closed.now self.now.merged state.old state.new id) }
         ensures types { AllAddTypes state.old state.new }
+        ensures paid { PaidFor self.now.types.now self.now.merged (ty.Value (val.Defined id)) 0 state.old state.new result }
     {
         step_law();
         let is_closed = self.closed.contains(id);
@@ -115,10 +122,12 @@ impl<'a> ValueEncoder<'a> {
         ensures found { IfOk result (IsFound self.now.types.now self.now.merged state.new value) }
         ensures named { IfOk result (IsFoundByName self.now.types.now self.now.closed.now self.now.merged state.old state.new value) }
         ensures types { AllAddTypes state.old state.new }
+        ensures paid { PaidFor self.now.types.now self.now.merged (ty.Value value) 0 state.old state.new result }
     {
         self.types.law();
         alias_law();
         still_law();
+        weight_law();
         let end = self.types.resolve_value_type(value);
         match end {
             ValueType::Primitive(primitive) => {
@@ -158,10 +167,12 @@ impl<'a> ValueEncoder<'a> {
         ensures written { IfOk result (IsWrittenAs self.now.types.now self.now.merged state.new value) }
         ensures named { IfOk result (IsByName self.now.types.now self.now.closed.now self.now.merged state.old state.new value) }
         ensures types { AllAddTypes state.old state.new }
+        ensures paid { PaidFor self.now.types.now self.now.merged (ty.Value value) 0 state.old state.new result }
     {
         self.types.law();
         alias_law();
         step_law();
+        weight_law();
         match self.find(state, value)? {
             Part::Written(written) => Ok(written),
             Part::Missing(id) => self.write(state, id),

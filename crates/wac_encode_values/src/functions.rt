@@ -1,19 +1,23 @@
 //! The writer of function types.
 
+ghost use Rattle.wac_encode_scopes.specs.private.Paid.{PaidBy, PaidFor, CoversPart, CoversAll};
 ghost use Rattle.std.specs.Prelude.{Some, IfOk, OnOk};
-ghost use Rattle.std.specs.List.{AllZip};
+ghost use Rattle.std.specs.List.{AllZip, AllByRecursion};
+ghost use Rattle.std.specs.Prelude.{List};
+ghost use Rattle.wac_types_shapes.specs.declared.shapes.component.«Type».{«Type» as AnyType};
 ghost use Rattle.wac_types_shapes.specs.declared.shapes.component.«Type».TheVariants as ty;
-ghost use Rattle.wac_types_collection.specs.collection.Collection.{HasFunc};
+ghost use Rattle.wac_types_collection.specs.collection.Collection.{HasFunc, value_types, seconds};
 ghost use Rattle.wac_encode_scopes.specs.States.{AllAddTypes, Goes, IsTypeAt};
 ghost use Rattle.wac_encode_scopes.specs.private.Closed.{AreClosedTypes};
 ghost use Rattle.wac_encode_values.specs.private.Values.{IsReady};
-ghost use Rattle.wac_encode_values.specs.private.Parts.{IsPartReady, AreReady, IsParam, MaybeWrittenAs};
+ghost use Rattle.wac_encode_values.specs.private.Parts.{IsPartReady, AreReady, IsParam, MaybeWrittenAs, IsShortPart, IsShortField};
 
 use crate::encoder::ValueEncoder;
 use wac_binary::{BinaryFault, ComponentValType, FuncType};
 use wac_encode_scopes::State;
-use wac_encode_stacks::{bringing_law, part_law, step_law, still_law};
+use wac_encode_stacks::{bringing_law, part_law, step_law, still_law, value_law};
 use wac_types_collection::{FuncTypeId, Named, Type, ValueType};
+use wac_types_weight::weight_law;
 
 impl<'a> ValueEncoder<'a> {
     /// Writes the value types of parameters, in order.
@@ -26,7 +30,9 @@ impl<'a> ValueEncoder<'a> {
         requires ready { AreReady self.now.types.now self.now.merged state.old params.now }
         ensures goes { OnOk result (Goes self.now.types.now self.now.merged state.old state.new) }
         ensures written { IfOk result (λ xs. AllZip (IsParam self.now.types.now self.now.merged state.new) params.now xs.items) }
+        ensures short { IfOk result (λ xs. AllByRecursion IsShortField xs.items) }
         ensures types { AllAddTypes state.old state.new }
+        ensures paid { (ts : List AnyType) → CoversAll self.now.types.now ts (value_types (seconds params.now)) → PaidBy self.now.types.now self.now.merged ts 0 state.old state.new result }
     {
         step_law();
         bringing_law();
@@ -35,6 +41,7 @@ impl<'a> ValueEncoder<'a> {
         for i in 0..params.len() {
             let (name, value) = params.entry_at(i);
             let value = self.value_type(state, *value)?;
+            value_law(value); // proof only
             written.push((name, value))?;
         }
         Ok(written)
@@ -50,11 +57,17 @@ impl<'a> ValueEncoder<'a> {
         requires ready { IsPartReady self.now.types.now self.now.merged state.old value }
         ensures goes { OnOk result (Goes self.now.types.now self.now.merged state.old state.new) }
         ensures written { IfOk result (MaybeWrittenAs self.now.types.now self.now.merged state.new value) }
+        ensures short { IfOk result IsShortPart }
         ensures types { AllAddTypes state.old state.new }
+        ensures paid { (ts : List AnyType) → CoversPart self.now.types.now ts value → PaidBy self.now.types.now self.now.merged ts 0 state.old state.new result }
     {
         still_law();
         match value {
-            Some(value) => Ok(Some(self.value_type(state, value)?)),
+            Some(value) => {
+                let written = self.value_type(state, value)?;
+                value_law(written); // proof only
+                Ok(Some(written))
+            }
             None => Ok(None),
         }
     }
@@ -67,11 +80,13 @@ impl<'a> ValueEncoder<'a> {
         ensures goes { OnOk result (Goes self.now.types.now self.now.merged state.old state.new) }
         ensures is { IfOk result (IsTypeAt self.now.types.now self.now.merged state.new (ty.Func id)) }
         ensures types { AllAddTypes state.old state.new }
+        ensures paid { PaidFor self.now.types.now self.now.merged (ty.Func id) 0 state.old state.new result }
     {
         self.types.law();
         step_law();
         bringing_law();
         part_law();
+        weight_law();
         let held = &self.types[id];
         let params = self.params(state, &held.params)?;
         let result = self.optional(state, held.result)?;
@@ -96,6 +111,7 @@ impl<'a> ValueEncoder<'a> {
         ensures goes { OnOk result (Goes self.now.types.now self.now.merged state.old state.new) }
         ensures is { IfOk result (IsTypeAt self.now.types.now self.now.merged state.new (ty.Func id)) }
         ensures types { AllAddTypes state.old state.new }
+        ensures paid { PaidFor self.now.types.now self.now.merged (ty.Func id) 0 state.old state.new result }
     {
         step_law();
         still_law();

@@ -1,29 +1,41 @@
 //! The parts of a definition as the binary format takes them.
 
-ghost use Rattle.std.specs.Prelude.{◌≡◌, ◌<◌, Some, IfOk, length, slice_get};
-ghost use Rattle.std.specs.List.{AllZip};
+ghost use Rattle.std.specs.Prelude.{◌≡◌, ◌<◌, ◌≤◌, Some, IfOk, length, slice_get};
+ghost use Rattle.std.specs.List.{AllZip, AllByRecursion};
+ghost use Rattle.wac_binary.specs.Bytes.{value_def_bytes};
 ghost use Rattle.wac_binary.specs.Views.{defined_of};
 ghost use Rattle.wac_binary.specs.declared.types.ComponentValType.{ComponentValType as AnyWritten};
-ghost use Rattle.wac_encode_values.specs.private.Parts.{ArePresent, IsPlain, IsMadeOf, IsText, IsFieldName, IsCaseName, IsValue, IsFieldValue, IsCaseValue};
+ghost use Rattle.wac_encode_values.specs.private.Parts.{ArePresent, IsPlain, IsMadeOf, IsText, IsFieldName, IsCaseName, IsValue, IsFieldValue, IsCaseValue, IsShort, IsShortPart, IsShortField, IsShortCase};
 
 use std::alloc::{AllocError, Global};
 use wac_binary::{ComponentValType, DefinedType};
+use wac_encode_stacks::{index_law, value_law};
 use wac_types_collection::{DefinedType as HeldType, Labels, Named, ValueType};
 
 /// The part at a position, which is present.
 pub(crate) fn value_at(parts: &[Option<ComponentValType>], index: usize) -> ComponentValType
     requires { (x : AnyWritten) × (slice_get parts.now index ≡ Some (Some x)) }
-    ensures { slice_get parts.now index ≡ Some (Some result) }
+    ensures is { slice_get parts.now index ≡ Some (Some result) }
+    ensures short { IsShort result }
 {
-    parts[index].unwrap()
+    let value = parts[index].unwrap();
+    value_law(value); // proof only
+    value
 }
 
 /// The part at a position, if it is present.
 fn optional_at(parts: &[Option<ComponentValType>], index: usize) -> Option<ComponentValType>
     requires { index < length parts.now }
-    ensures { slice_get parts.now index ≡ Some result }
+    ensures is { slice_get parts.now index ≡ Some result }
+    ensures short { IsShortPart result }
 {
-    parts[index]
+    match parts[index] {
+        Some(value) => {
+            value_law(value); // proof only
+            Some(value)
+        }
+        None => None,
+    }
 }
 
 /// The value types of a tuple.
@@ -32,7 +44,8 @@ pub(crate) fn values_of(
     parts: &[Option<ComponentValType>],
 ) -> Result<Vec<ComponentValType>, AllocError>
     requires { ArePresent parts.now }
-    ensures { IfOk result (λ xs. AllZip IsValue parts.now xs.items) }
+    ensures values { IfOk result (λ xs. AllZip IsValue parts.now xs.items) }
+    ensures short { IfOk result (λ xs. AllByRecursion IsShort xs.items) }
 {
     let mut values = Vec::new(alloc);
     for i in 0..parts.len() {
@@ -51,6 +64,7 @@ pub(crate) fn fields_of<'b>(
     requires length { length fields.now ≡ length parts.now }
     ensures names { IfOk result (λ xs. AllZip IsFieldName fields.now xs.items) }
     ensures values { IfOk result (λ xs. AllZip IsFieldValue parts.now xs.items) }
+    ensures short { IfOk result (λ xs. AllByRecursion IsShortField xs.items) }
 {
     let mut written = Vec::new(alloc);
     for i in 0..fields.len() {
@@ -69,6 +83,7 @@ pub(crate) fn cases_of<'b>(
     requires { length cases.now ≡ length parts.now }
     ensures names { IfOk result (λ xs. AllZip IsCaseName cases.now xs.items) }
     ensures values { IfOk result (λ xs. AllZip IsCaseValue parts.now xs.items) }
+    ensures short { IfOk result (λ xs. AllByRecursion IsShortCase xs.items) }
 {
     let mut written = Vec::new(alloc);
     for i in 0..cases.len() {
@@ -95,18 +110,22 @@ pub(crate) fn plain_definition(
     parts: &[Option<ComponentValType>],
 ) -> DefinedType<'static>
     requires { IsPlain held.now parts.now }
-    ensures { IsMadeOf held.now parts.now (defined_of result) }
+    ensures made { IsMadeOf held.now parts.now (defined_of result) }
+    ensures short { length (value_def_bytes (defined_of result)) ≤ 13 }
 {
     match held {
         HeldType::List(_) => DefinedType::List(value_at(parts, 0)),
-        HeldType::FixedSizeList(_, size) => DefinedType::FixedSizeList(value_at(parts, 0), *size),
+        HeldType::FixedSizeList(_, size) => {
+            index_law(*size); // proof only
+            DefinedType::FixedSizeList(value_at(parts, 0), *size)
+        }
         HeldType::Option(_) => DefinedType::Option(value_at(parts, 0)),
         HeldType::Result { ok: _, err: _ } => DefinedType::Result {
-            ok: parts[0],
-            err: parts[1],
+            ok: optional_at(parts, 0),
+            err: optional_at(parts, 1),
         },
-        HeldType::Stream(_) => DefinedType::Stream(parts[0]),
-        HeldType::Future(_) => DefinedType::Future(parts[0]),
+        HeldType::Stream(_) => DefinedType::Stream(optional_at(parts, 0)),
+        HeldType::Future(_) => DefinedType::Future(optional_at(parts, 0)),
         _ => unreachable!(),
     }
 }

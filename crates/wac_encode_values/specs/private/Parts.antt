@@ -1,5 +1,5 @@
 -- Definitions whose parts are written one after the other. Only contracts of private functions use this.
-use Rattle.std.specs.Prelude.{ℕ, ◌+◌, ◌^◌, ◌<◌, ◌≡◌, Bool, List, [], ◌∷◌, ◌++◌, true, length, take, Option, Some, None, slice_get}
+use Rattle.std.specs.Prelude.{ℕ, ◌+◌, ◌^◌, ◌<◌, ◌≤◌, ◌≡◌, Bool, List, [], ◌∷◌, ◌++◌, true, length, take, Option, Some, None, slice_get}
 use Rattle.std.specs.Borrow.{Bor}
 use Rattle.std.specs.List.{AllZip, AllByRecursion}
 use Rattle.wac_types_shapes.specs.primitives.Name.{Name}
@@ -12,6 +12,7 @@ use Rattle.wac_types_shapes.specs.declared.shapes.component.«Type».TheVariants
 use Rattle.wac_types_collection.specs.collection.Collection.{Collection, HasDefined, item_at, holds_value}
 use Rattle.wac_types_collection.specs.collection.Aliases.{target_of, value_resolved}
 use Rattle.wac_binary.specs.declared.types.ComponentValType.{ComponentValType}
+use Rattle.wac_binary.specs.Bytes.{value}
 use Rattle.wac_binary.specs.Items.{ValueDef, record_def, variant_def, list_def, fixed_list_def, tuple_def, flags_def, enum_def, option_def, result_def, stream_def, future_def}
 use Rattle.wac_encode_stacks.specs.Scopes.{at_type}
 use Rattle.wac_encode_scopes.specs.declared.state.State.{State}
@@ -152,3 +153,17 @@ IsFieldValue p y = p ≡ Some y.1
 
 abbrev pub IsCaseValue : Option ComponentValType → Bor (List ℕ) × Option ComponentValType → Type 0
 IsCaseValue p y = p ≡ y.1
+
+-- A value type in use has at most 5 bytes; then an optional one.
+abbrev pub IsShort : ComponentValType → Type 0
+IsShort x = length (value x) ≤ 5
+
+abbrev pub IsShortPart : Option ComponentValType → Type 0
+IsShortPart None = Unit {0}
+IsShortPart (Some x) = IsShort x
+
+abbrev pub IsShortField : Bor (List ℕ) × ComponentValType → Type 0
+IsShortField y = IsShort y.1
+
+abbrev pub IsShortCase : Bor (List ℕ) × Option ComponentValType → Type 0
+IsShortCase y = IsShortPart y.1

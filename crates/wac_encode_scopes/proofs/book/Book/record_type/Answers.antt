@@ -8,6 +8,6 @@ use Rattle.wac_encode_scopes.proofs.Types.{type_eq}
 use Rattle.wac_encode_scopes.proofs.Booked.{type-more}
 use Rattle.wac_encode_scopes.proofs.book.Book.record_type.Goals as goal
 
-pub returns : goal.returns
-returns c x = ap (λ (f : AnyType → Option Indexed). record { content = x; passes = c.args.self.now.passes; binds = binds_in c.args.self.now; types = f; exports = exports_in c.args.self.now })
+pub returns-clause-recorded : goal.returns-clause-recorded
+returns-clause-recorded c x = ap (λ (f : AnyType → Option Indexed). record { content = x; passes = c.args.self.now.passes; binds = binds_in c.args.self.now; types = f; exports = exports_in c.args.self.now })
     (type-more (λ q. get type_eq c.args.self.now.types q) (λ q. get type_eq c.insert.new.self q) c.args.ty (record { index = c.args.index; how = c.args.how }) c.in_ok-insert.ensures.updates.0)

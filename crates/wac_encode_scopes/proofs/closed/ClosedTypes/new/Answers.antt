@@ -1,4 +1,4 @@
-use Rattle.std.specs.Prelude.{ℕ, ◌≡◌, Bool, List, Some, true, false, length, nat_lt}
+use Rattle.std.specs.Prelude.{ℕ, ◌≡◌, Bool, List, Some, length, nat_lt}
 use Rattle.std.proofs.Common.{ap, sym, ◌∙◌, subst, arith}
 use Rattle.wac_types_collection.specs.collection.Collection.{item_at}
 use Rattle.wac_encode_scopes.specs.private.Bits.{SaysParts}

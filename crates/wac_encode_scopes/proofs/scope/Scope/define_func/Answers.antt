@@ -2,6 +2,7 @@ use Rattle.std.proofs.Common.{sym, subst, ◌∙◌}
 use Rattle.wac_binary.specs.Views.{func_of}
 use Rattle.wac_encode_scopes.specs.Contents.{AddsTypes}
 use Rattle.wac_encode_scopes.proofs.Added.{adds-def}
+use Rattle.wac_encode_scopes.proofs.Limits.{memory-fits}
 use Rattle.wac_encode_scopes.proofs.scope.Scope.define_func.Goals as goal
 
 pub returns-in_err-record_type-clause-types : goal.returns-in_err-record_type-clause-types
@@ -9,3 +10,6 @@ returns-in_err-record_type-clause-types c = subst (AddsTypes c.args.self.now.con
 
 pub returns-clause-types : goal.returns-clause-types
 returns-clause-types c = subst (AddsTypes c.args.self.now.content) (sym (c.record_type.ensures.content ∙ c.in_ok-own.ensures.appended)) (adds-def (func_of c.args.f.now) c.args.self.now.content)
+
+pub returns-in_err-record_type-clause-too_large : goal.returns-in_err-record_type-clause-too_large
+returns-in_err-record_type-clause-too_large c = memory-fits _ c.from_residual-in_err-record_type.result _ c.from_residual-in_err-record_type.ensures.1 c.in_err-record_type.ensures.memory c.in_ok-own.ensures.too_large

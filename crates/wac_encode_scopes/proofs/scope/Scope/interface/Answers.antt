@@ -11,6 +11,8 @@ use Rattle.wac_encode_scopes.specs.Books.{opened}
 use Rattle.wac_encode_scopes.specs.private.Interfaces.{own_items, fresh_exports}
 use Rattle.wac_encode_scopes.specs.private.Steps.{with_own}
 use Rattle.wac_encode_scopes.proofs.Owned.{opened-step, content-step}
+use Rattle.wac_encode_scopes.proofs.Begun.{next-large}
+use Rattle.wac_encode_scopes.proofs.Limits.{exit-large}
 use Rattle.wac_encode_scopes.proofs.scope.Scope.interface.Goals as goal
 
 pub list_own-requires : goal.list_own-requires
@@ -45,3 +47,11 @@ returns-clause-content c =
     let it = c.args.interface.now in
     let past : length it.exports ≤ c.loop-i.i = (let f = c.loop-i-test.false in let n = c.len-i-end.ensures in omega (arith, f, n)) in
     subst (λ (l : List (Name × ItemKind)). c.loop-i.scope.content ≡ Instance (fresh_exports (own_items c.args.types.now it.uses l))) (take_all c.loop-i.i it.exports past) c.loop-i.invariant.content
+
+pub returns-in_err-list_own-clause-too_large : goal.returns-in_err-list_own-clause-too_large
+returns-in_err-list_own-clause-too_large c l =
+    let it = c.args.interface.now in
+    let x : Name × ItemKind = (c.entry_at.result.0.now, c.entry_at.result.1.now) in
+    let one : c.loop-i.i + 1 ≡ suc c.loop-i.i = omega arith in
+    next-large c.size_law.ensures.fits c.args.types.now it.uses it.exports c.loop-i.i (c.loop-i.i + 1) x c.loop-i.scope.content one c.entry_at.ensures c.loop-i.invariant.content
+    (c.in_err-list_own.ensures.too_large (exit-large _ c.from_residual.result c.from_residual.ensures.1 l))

@@ -4,7 +4,7 @@ use Rattle.wac_encode_scopes.proofs.Stepped.{on-ok, merged-changes, graph-change
 use Rattle.wac_encode_scopes.proofs.scope.Scope.record_export.Goals as goal
 
 pub returns-then-merged-clause-recorded : goal.returns-then-merged-clause-recorded
-returns-then-merged-clause-recorded c = on-ok c.record_export.result (merged-changes c.args.merged (export_at c.args.definition (where_of c.args.place)) c.args.self.now c.record_export.new.self c.if-merged.true) c.record_export.ensures
+returns-then-merged-clause-recorded c = on-ok c.record_export.result (merged-changes c.args.merged (export_at c.args.definition (where_of c.args.place)) c.args.self.now c.record_export.new.self c.if-merged.true) c.record_export.ensures.recorded
 
 pub returns-else-merged-clause-recorded : goal.returns-else-merged-clause-recorded
-returns-else-merged-clause-recorded c = on-ok c.record_export-else-merged.result (graph-changes c.args.merged (export_at c.args.definition (where_of c.args.place)) c.args.self.now c.record_export-else-merged.new.self c.if-merged.false) c.record_export-else-merged.ensures
+returns-else-merged-clause-recorded c = on-ok c.record_export-else-merged.result (graph-changes c.args.merged (export_at c.args.definition (where_of c.args.place)) c.args.self.now c.record_export-else-merged.new.self c.if-merged.false) c.record_export-else-merged.ensures.recorded

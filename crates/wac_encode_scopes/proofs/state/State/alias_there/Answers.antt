@@ -5,6 +5,9 @@ use Rattle.wac_encode_scopes.specs.Books.{opened}
 use Rattle.wac_encode_scopes.specs.private.Steps.{StateChanges, IsExported, settled}
 use Rattle.wac_encode_scopes.proofs.Outward.{positive, reached-within, reached-there, next-there}
 use Rattle.wac_encode_scopes.proofs.Stepped.{on-ok, if-ok, here-changes, around-changes, all-here, all-set}
+use Rattle.wac_encode_scopes.proofs.Calls.{settle-here, settle-around}
+use Rattle.wac_encode_stacks.specs.private.Parts.{IsReached}
+use Rattle.wac_encode_scopes.specs.States.{stack}
 use Rattle.wac_encode_scopes.proofs.state.State.alias_there.Goals as goal
 
 pub returns-then-out-eq0-clause-step : goal.returns-then-out-eq0-clause-step
@@ -54,3 +57,18 @@ returns-clause-types c =
     let within = reached-within c.args.merged (opened c.args.merged c.args.self.now.here) ss c.args.resource c.args.out (at_export c.requires.0 c.requires.1) c.requires.2 in
     let at = slice_get_read ss (length ss) (c.len.result - c.args.out) c.index_mut.result.now refl (omega (arith, out, is, within)) c.index_mut.ensures.value in
     all-set c.args.self.now.here ss (c.len.result - c.args.out) c.index_mut.result.now c.settle_resource-2.new.self at c.settle_resource-2.ensures.types
+
+pub returns-then-out-eq0-clause-paid : goal.returns-then-out-eq0-clause-paid
+returns-then-out-eq0-clause-paid c d own ts covers priced =
+    settle-here c.size_law.ensures.fits d c.args.merged ts c.args.self.now c.settle_resource.new.self c.args.resource c.requires.0 c.requires.1 c.settle_resource.result own covers
+    (subst (λ k. IsReached (stack c.args.merged c.args.self.now) c.args.resource k (at_export c.requires.0 c.requires.1)) c.if-out-eq0.true c.requires.2) c.settle_resource.ensures.small c.settle_resource.ensures.step c.settle_resource.ensures.too_large
+
+pub returns-clause-paid : goal.returns-clause-paid
+returns-clause-paid c d own ts covers priced =
+    let ss = c.args.self.now.around.items in
+    let out = positive c.args.out c.if-out-eq0.false in
+    let is = c.len.ensures in
+    let within = reached-within c.args.merged (opened c.args.merged c.args.self.now.here) ss c.args.resource c.args.out (at_export c.requires.0 c.requires.1) c.requires.2 in
+    let at = slice_get_read ss (length ss) (c.len.result - c.args.out) c.index_mut.result.now refl (omega (arith, out, is, within)) c.index_mut.ensures.value in
+    settle-around c.size_law.ensures.fits d c.args.merged ts c.args.self.now _ (c.len.result - c.args.out) c.index_mut.result.now c.settle_resource-2.new.self c.args.resource c.requires.0 c.requires.1 c.settle_resource-2.result own priced (omega (arith, out, is, within)) refl at refl
+    (reached-there c.args.merged ss (c.len.result - c.args.out) c.args.out c.index_mut.result.now (opened c.args.merged c.args.self.now.here) c.args.resource (at_export c.requires.0 c.requires.1) out (omega (arith, is, within)) at c.requires.2) c.settle_resource-2.ensures.small c.settle_resource-2.ensures.step c.settle_resource-2.ensures.too_large

@@ -7,6 +7,7 @@ use Rattle.wac_encode_scopes.proofs.Outward.{positive, next-there}
 use Rattle.wac_encode_scopes.specs.States.{stack, named_in, IsNamedAt}
 use Rattle.wac_encode_scopes.proofs.Looked.{found-within, found-there, named-found, exported-there}
 use Rattle.wac_encode_scopes.proofs.Stepped.{on-ok, if-ok, here-changes, around-changes, all-here, all-set}
+use Rattle.wac_encode_scopes.proofs.Calls.{settle-value-here, settle-value-around}
 use Rattle.wac_encode_scopes.proofs.state.State.alias_value_there.Goals as goal
 
 pub returns-then-out-eq0-clause-step : goal.returns-then-out-eq0-clause-step
@@ -59,3 +60,20 @@ returns-clause-types c =
 
 pub settle_export-requires : goal.settle_export-requires
 settle_export-requires c = subst IsExported (sym (exported-there c.args.definition (opened c.args.merged c.args.self.now.here) c.requires.0 c.requires.1 (subst (λ k. IsNamedAt (stack c.args.merged c.args.self.now) c.args.definition k (at_export c.requires.0 c.requires.1)) c.if-out-eq0.true c.requires.2))) tt
+
+pub returns-then-out-eq0-clause-paid : goal.returns-then-out-eq0-clause-paid
+returns-then-out-eq0-clause-paid c d held ts covers priced =
+    settle-value-here c.size_law.ensures.fits d c.args.merged ts c.args.self.now c.settle_export.new.self c.args.definition c.requires.0 c.requires.1 c.settle_export.result held covers
+    (exported-there c.args.definition (opened c.args.merged c.args.self.now.here) c.requires.0 c.requires.1 (subst (λ k. IsNamedAt (stack c.args.merged c.args.self.now) c.args.definition k (at_export c.requires.0 c.requires.1)) c.if-out-eq0.true c.requires.2))
+    c.settle_export.ensures.small c.settle_export.ensures.step c.settle_export.ensures.too_large
+
+pub returns-clause-paid : goal.returns-clause-paid
+returns-clause-paid c d held ts covers priced =
+    let ss = c.args.self.now.around.items in
+    let out = positive c.args.out c.if-out-eq0.false in
+    let is = c.len.ensures in
+    let within = found-within c.args.merged (opened c.args.merged c.args.self.now.here) ss (named_in c.args.definition) c.args.out (at_export c.requires.0 c.requires.1) (named-found c.args.definition (stack c.args.merged c.args.self.now) c.args.out (at_export c.requires.0 c.requires.1) c.requires.2) in
+    let at = slice_get_read ss (length ss) (c.len.result - c.args.out) c.index_mut.result.now refl (omega (arith, out, is, within)) c.index_mut.ensures.value in
+    settle-value-around c.size_law.ensures.fits d c.args.merged ts c.args.self.now _ (c.len.result - c.args.out) c.index_mut.result.now c.settle_export-2.new.self c.args.definition c.requires.0 c.requires.1 c.settle_export-2.result held priced (omega (arith, out, is, within)) refl at refl
+    (exported-there c.args.definition (opened c.args.merged c.index_mut.result.now) c.requires.0 c.requires.1 (found-there c.args.merged ss (c.len.result - c.args.out) c.args.out c.index_mut.result.now (opened c.args.merged c.args.self.now.here) (named_in c.args.definition) (at_export c.requires.0 c.requires.1) out (omega (arith, is, within)) at (named-found c.args.definition (stack c.args.merged c.args.self.now) c.args.out (at_export c.requires.0 c.requires.1) c.requires.2)))
+    c.settle_export-2.ensures.small c.settle_export-2.ensures.step c.settle_export-2.ensures.too_large

@@ -4,6 +4,8 @@ use Rattle.wac_encode_scopes.specs.States.{stack, IsNamedAt}
 use Rattle.wac_encode_scopes.proofs.Outward.{positive}
 use Rattle.wac_encode_scopes.proofs.Stepped.{on-ok, both-ok, goes-none, all-none, all-here, tried}
 use Rattle.wac_encode_scopes.proofs.Brought.{goes-brought-value, named-brought}
+use Rattle.wac_encode_scopes.proofs.Calls.{too-far-named, bring-named-here}
+use Rattle.wac_encode_scopes.proofs.Paying.{pays-nothing}
 use Rattle.wac_encode_scopes.proofs.state.State.bring_named.Goals as goal
 
 pub returns-then-out-eq0-clause-goes : goal.returns-then-out-eq0-clause-goes
@@ -26,3 +28,13 @@ returns-clause-goes c = on-ok c.alias_type.result (λ h d closed. goes-brought-v
 
 pub returns-clause-named : goal.returns-clause-named
 returns-clause-named c = both-ok c.alias_type.result (λ i is h. named-brought c.args.merged c.args.self.now.here c.alias_type.new.self c.args.definition c.in-Ok.count c.args.index i is h) c.alias_type.ensures.index c.alias_type.ensures.step
+
+pub returns-then-out-eq0-clause-paid : goal.returns-then-out-eq0-clause-paid
+returns-then-out-eq0-clause-paid c d held ts covers priced = pays-nothing d c.args.merged ts c.args.self.now
+
+pub returns-in_default-clause-paid : goal.returns-in_default-clause-paid
+returns-in_default-clause-paid c d held ts covers priced = too-far-named d c.args.merged ts c.args.self.now c.args.definition (at_type c.args.index) c.args.out c.try_from.result c.requires.named c.in_default.not-Ok c.try_from.ensures
+
+pub returns-clause-paid : goal.returns-clause-paid
+returns-clause-paid c d held ts covers priced =
+    bring-named-here c.size_law.ensures.fits d c.args.merged ts c.args.self.now c.alias_type.new.self c.args.definition (at_type c.args.index) c.args.out c.in-Ok.count c.args.index c.try_from.result c.alias_type.result held covers priced (positive c.args.out c.if-out-eq0.false) c.requires.named c.in-Ok.is c.try_from.ensures c.ranges.index.fits c.alias_type.ensures.step c.alias_type.ensures.too_large

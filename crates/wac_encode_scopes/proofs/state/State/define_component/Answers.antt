@@ -1,4 +1,5 @@
-use Rattle.std.proofs.Common.{Option, IfSome, sym, subst}
+use Rattle.std.proofs.Common.{◌+◌, length, flat_map, Option, IfSome, sym, subst}
+use Rattle.wac_binary.specs.Bytes.{decl_bytes}
 use Rattle.wac_types_shapes.specs.declared.shapes.component.WorldId.{WorldId}
 use Rattle.wac_types_shapes.specs.declared.shapes.component.«Type».TheVariants as ty
 use Rattle.wac_binary.specs.Items.{component_def, decls}
@@ -8,6 +9,7 @@ use Rattle.wac_encode_scopes.specs.States.{IsRecordedAt}
 use Rattle.wac_encode_scopes.proofs.Added.{adds-def}
 use Rattle.wac_encode_scopes.proofs.Stepped.{both-ok, all-here, all-written, recorded-here}
 use Rattle.wac_encode_scopes.proofs.Additions.{goes-component, goes-world}
+use Rattle.wac_encode_scopes.proofs.Calls.{component-here, world-here, world-beside, world-both}
 use Rattle.wac_encode_scopes.proofs.state.State.define_component.Goals as goal
 
 pub returns-in-Some-clause-defines : goal.returns-in-Some-clause-defines
@@ -24,3 +26,15 @@ returns-in-None-clause-defines c = both-ok c.define_component.result (goes-compo
 
 pub returns-in-None-clause-types : goal.returns-in-None-clause-types
 returns-in-None-clause-types c = all-written c.args.self.now c.define_component.new.self (and_type (component_def (decls c.args.component.now)) c.args.self.now.here.content) c.define_component.result (adds-def (component_def (decls c.args.component.now)) c.args.self.now.here.content) c.define_component.ensures.appended c.define_component.ensures.refused
+
+pub returns-in-Some-clause-paid : goal.returns-in-Some-clause-paid
+returns-in-Some-clause-paid c d b priced =
+    let fits = c.size_law.ensures.fits in
+    let ds = c.args.component.now in
+    let here = c.define_world.new.self in
+    world-both d c.args.merged b (17 + length (flat_map decl_bytes ds)) c.args.self.now (record c.args.self.now { here = here }) c.define_world.result
+    (world-here fits d c.args.merged c.in-Some.world ds c.args.self.now here c.define_world.result c.define_world.ensures.step c.define_world.ensures.too_large)
+    (world-beside fits d c.args.merged c.in-Some.world ds c.args.self.now here c.define_world.result c.define_world.ensures.step c.define_world.ensures.too_large)
+
+pub returns-in-None-clause-paid : goal.returns-in-None-clause-paid
+returns-in-None-clause-paid c d b priced = component-here c.size_law.ensures.fits d b c.args.component.now c.args.self.now c.define_component.new.self c.define_component.result c.define_component.ensures.appended c.define_component.ensures.too_large

@@ -4,6 +4,7 @@ use Rattle.wac_encode_scopes.specs.Books.{how_of, opened}
 use Rattle.wac_encode_scopes.proofs.Added.{adds-none}
 use Rattle.wac_encode_scopes.proofs.Stepped.{on-ok, all-here, goes-recorded, indexed-there, records-here}
 use Rattle.wac_encode_stacks.specs.Scopes.{index_at}
+use Rattle.wac_encode_scopes.proofs.Calls.{record-here}
 use Rattle.wac_encode_scopes.proofs.state.State.record.Goals as goal
 
 pub returns-clause-goes : goal.returns-clause-goes
@@ -17,3 +18,6 @@ returns-clause-types c = all-here c.args.self.now c.record_type.new.self (subst 
 
 pub returns-clause-records : goal.returns-clause-records
 returns-clause-records c = on-ok c.record_type.result (records-here c.args.merged (index_at c.args.ty (how_of c.args.how) c.args.index) c.args.self.now c.record_type.new.self c.record_type.ensures.content) c.record_type.ensures.recorded
+
+pub returns-clause-paid : goal.returns-clause-paid
+returns-clause-paid c d small priced = record-here d c.args.merged c.args.self.now c.record_type.new.self c.args.ty (how_of c.args.how) c.args.index c.record_type.result small c.record_type.ensures.recorded c.record_type.ensures.memory

@@ -1,7 +1,7 @@
-use Rattle.std.proofs.Common.{◌≡◌, Bool, Some, ◌∙◌, sym, subst}
+use Rattle.std.proofs.Common.{◌≡◌, Bool, Some, ◌∙◌, sym, subst, [], refl}
 use Rattle.wac_types_shapes.specs.declared.shapes.component.ResourceId.{ResourceId}
 use Rattle.wac_types_shapes.specs.declared.shapes.component.Interface.{Interface}
-use Rattle.wac_encode_scopes.specs.Contents.{AddsTypes}
+use Rattle.wac_encode_scopes.specs.Contents.{AddsTypes, content_of}
 use Rattle.wac_encode_scopes.specs.private.Closed.{is_closed_in}
 use Rattle.wac_encode_scopes.specs.States.{RecordsHere}
 use Rattle.wac_encode_scopes.specs.private.Telling.{is_one_of, telling, TellsInstance}
@@ -9,6 +9,12 @@ use Rattle.wac_encode_scopes.proofs.Added.{adds-none}
 use Rattle.wac_encode_scopes.proofs.Owned.{sound-named}
 use Rattle.wac_encode_scopes.proofs.Stepped.{on-ok, all-here, records-here}
 use Rattle.wac_encode_scopes.proofs.Telling.{sound-held, telling-changes, tells-instance}
+use Rattle.wac_encode_scopes.proofs.Tolls.{pays-told}
+use Rattle.wac_encode_scopes.proofs.Paying.{memory-answer, records-answer, paid-here}
+use Rattle.wac_encode_scopes.specs.private.Paid.{IsAnswerPaid, telling_cost}
+use Rattle.wac_encode_scopes.proofs.Charges.{Pays}
+use Rattle.wac_encode_scopes.specs.Books.{opened}
+use Rattle.wac_encode_stacks.specs.Scopes.{Open}
 use Rattle.wac_encode_scopes.proofs.state.State.tell_instance.Goals as goal
 
 pub bind_own-requires : goal.bind_own-requires
@@ -42,3 +48,20 @@ returns-clause-tells c =
     (tells-instance c.closing_law.ensures.binds_more c.instance_law.ensures.has_own c.instance_law.ensures.has_exported c.alias_law.ensures c.still_law.ensures c.args.types.now c.law.ensures c.args.merged held
     (sound-named c.args.types.now c.uses_law.ensures c.args.interface held c.index-it.ensures) c.law-2.ensures (sound-held c.args.types.now c.uses_law.ensures c.args.interface held c.index-it.ensures) c.args.closed.now are own c.args.instance c.args.self.now c.tell_values.new.self
     (telling-changes c.args.types.now held own (is_closed_in c.args.closed.now) c.args.instance c.are_all_of-is_whole.result c.args.merged c.args.self.now.here c.bind_own.new.self c.tell_values.new.self c.are_all_of-is_whole.ensures c.in_ok-bind_own.ensures.recorded last).0)) c.tell_values.ensures.recorded
+
+pub returns-in_err-bind_own-clause-paid : goal.returns-in_err-bind_own-clause-paid
+returns-in_err-bind_own-clause-paid c it at none priced = memory-answer c.args.types.now c.args.merged [] (telling_cost c.args.merged (content_of c.args.self.now.here.content) it.exports) c.args.self.now _ _ c.from_residual.result c.from_residual.ensures.1 c.in_err-bind_own.ensures.memory
+
+pub returns-clause-paid : goal.returns-clause-paid
+returns-clause-paid c it at none priced =
+    let held = c.index-it.result.now in
+    let own : ResourceId → Bool = is_one_of c.args.own.now.keys in
+    let some : Some held ≡ Some it = sym c.index-it.ensures ∙ at in
+    let same : held ≡ it = cc in
+    subst (λ (x : Interface). IsAnswerPaid c.args.types.now c.args.merged [] (telling_cost c.args.merged (content_of c.args.self.now.here.content) x.exports) c.args.self.now (record c.args.self.now { here = c.tell_values.new.self }) c.tell_values.result) same
+    (records-answer c.args.types.now c.args.merged [] (telling_cost c.args.merged (content_of c.args.self.now.here.content) held.exports) c.args.self.now (record c.args.self.now { here = c.tell_values.new.self }) c.tell_values.result
+    (on-ok c.tell_values.result (λ last.
+    paid-here c.args.types.now c.args.merged [] (telling_cost c.args.merged (content_of c.args.self.now.here.content) held.exports) c.args.self.now (record c.args.self.now { here = c.tell_values.new.self }) refl
+    (subst (λ (p : Open). Pays c.args.types.now c.args.merged [] (telling_cost c.args.merged (content_of c.args.self.now.here.content) held.exports) (opened c.args.merged c.args.self.now.here) p)
+    (sym (telling-changes c.args.types.now held own (is_closed_in c.args.closed.now) c.args.instance c.are_all_of-is_whole.result c.args.merged c.args.self.now.here c.bind_own.new.self c.tell_values.new.self c.are_all_of-is_whole.ensures c.in_ok-bind_own.ensures.recorded last).0)
+    (pays-told c.args.types.now held own (is_closed_in c.args.closed.now) c.args.instance (opened c.args.merged c.args.self.now.here) c.args.merged none))) c.tell_values.ensures.recorded) c.tell_values.ensures.memory)

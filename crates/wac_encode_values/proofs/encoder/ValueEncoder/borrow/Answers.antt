@@ -6,6 +6,8 @@ use Rattle.wac_encode_scopes.specs.States.{IsRecordedAt}
 use Rattle.wac_encode_scopes.proofs.Stepped.{goes-none, all-none}
 use Rattle.wac_encode_values.specs.private.Values.{IsWrittenAs}
 use Rattle.wac_encode_values.proofs.Ready.{on-ok, if-ok, end-itself, borrow-bound, borrow-written, indexed-written, recorded-written}
+use Rattle.wac_encode_scopes.proofs.Paying.{pays-nothing}
+use Rattle.wac_encode_values.proofs.Covered.{end-own, borrow-covers}
 use Rattle.wac_encode_values.proofs.encoder.ValueEncoder.borrow.Goals as goal
 
 pub returns-in-Some-clause-goes : goal.returns-in-Some-clause-goes
@@ -33,3 +35,13 @@ returns-in-None-clause-written c =
     let end = c.resolve_resource-end.result in
     if-ok (IsRecordedAt b c.borrow.new.self (ty.Value (val.Borrow end)) defined) (λ i. IsWrittenAs t b c.borrow.new.self (val.Borrow c.args.resource) (Index i)) c.borrow.result
     (λ i h. borrow-written t b c.borrow.new.self c.args.resource end (Index i) c.resolve_resource-end.ensures.end c.resolve_resource-end.ensures.no_alias (recorded-written c.step_law.ensures.is_recorded t b c.borrow.new.self (val.Borrow end) defined i h)) c.borrow.ensures.recorded
+
+pub returns-in-Some-clause-paid : goal.returns-in-Some-clause-paid
+returns-in-Some-clause-paid c held ts covers priced = pays-nothing c.args.self.now.types.now c.args.self.now.merged ts c.args.state.now
+
+pub returns-in-None-clause-paid : goal.returns-in-None-clause-paid
+returns-in-None-clause-paid c held ts covers priced =
+    let t = c.args.self.now.types.now in
+    let end = c.resolve_resource-end.result in
+    let law = c.weight_law.ensures in
+    c.borrow.ensures.paid t (end-own t c.args.resource end c.resolve_resource-end.ensures.held held c.resolve_resource-end.ensures.no_alias) (c.index.ensures.none c.in-None.is) ts (borrow-covers law.covers_mention law.covers_resource t ts c.args.resource end c.resolve_resource-end.ensures.end covers) priced

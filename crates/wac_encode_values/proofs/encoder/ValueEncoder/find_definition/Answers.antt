@@ -5,6 +5,7 @@ use Rattle.wac_encode_stacks.specs.Scopes.{at_type}
 use Rattle.wac_encode_scopes.specs.Books.{opened}
 use Rattle.wac_encode_scopes.specs.States.{named_in}
 use Rattle.wac_encode_values.proofs.Ready.{named-written, maybe-indexed-written, named-first, no-name-first, closed-if}
+use Rattle.wac_encode_scopes.proofs.Paying.{exit-answer}
 use Rattle.wac_encode_values.proofs.encoder.ValueEncoder.find_definition.Goals as goal
 
 pub returns-in-Some-clause-goes : goal.returns-in-Some-clause-goes
@@ -32,3 +33,12 @@ returns-in-None-clause-written c = maybe-indexed-written c.step_law.ensures.is_r
 
 pub returns-in-None-clause-named : goal.returns-in-None-clause-named
 returns-in-None-clause-named c = no-name-first c.args.self.now.closed.now c.args.self.now.merged c.args.state.now c.bring.new.self c.args.id c.index.result c.contains-is_closed.result c.contains-is_closed.ensures (c.in_ok-index.ensures.none c.in-None.is).1
+
+pub returns-in_err-index-clause-paid : goal.returns-in_err-index-clause-paid
+returns-in_err-index-clause-paid c ts covers priced = exit-answer c.args.self.now.types.now c.args.self.now.merged ts 0 c.args.state.now _ _ c.from_residual.result c.from_residual.ensures.1 (c.in_err-index.ensures.paid c.args.self.now.types.now c.requires.held ts covers priced)
+
+pub returns-in-Some-clause-paid : goal.returns-in-Some-clause-paid
+returns-in-Some-clause-paid c ts covers priced = c.in_ok-index.ensures.paid c.args.self.now.types.now c.requires.held ts covers priced
+
+pub returns-in-None-clause-paid : goal.returns-in-None-clause-paid
+returns-in-None-clause-paid c ts covers priced = c.in_ok-index.ensures.paid c.args.self.now.types.now c.requires.held ts covers priced

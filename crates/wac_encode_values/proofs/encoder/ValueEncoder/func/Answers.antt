@@ -5,6 +5,7 @@ use Rattle.wac_encode_stacks.specs.Scopes.{How}
 use Rattle.wac_encode_scopes.specs.States.{IsRecordedAt}
 use Rattle.wac_encode_scopes.proofs.Stepped.{goes-none, all-none}
 use Rattle.wac_encode_values.proofs.Ready.{type-at}
+use Rattle.wac_encode_scopes.proofs.Paying.{pays-nothing}
 use Rattle.wac_encode_values.proofs.encoder.ValueEncoder.func.Goals as goal
 
 pub returns-in-Some-clause-goes : goal.returns-in-Some-clause-goes
@@ -17,3 +18,6 @@ returns-in-Some-clause-is c =
 
 pub returns-in-Some-clause-types : goal.returns-in-Some-clause-types
 returns-in-Some-clause-types c = all-none c.args.state.now
+
+pub returns-in-Some-clause-paid : goal.returns-in-Some-clause-paid
+returns-in-Some-clause-paid c ts covers priced = pays-nothing c.args.self.now.types.now c.args.self.now.merged ts c.args.state.now

@@ -3,6 +3,8 @@ use Rattle.wac_types_shapes.specs.declared.shapes.component.ValueType.TheVariant
 use Rattle.wac_encode_scopes.proofs.Stepped.{goes-both, all-both}
 use Rattle.wac_encode_values.specs.private.Values.{IsWrittenAs, IsByName}
 use Rattle.wac_encode_values.proofs.Ready.{on-ok, if-ok, all-ok, can-begin, found-written, found-missing, by-name-written, by-name-missing, written-end}
+use Rattle.wac_encode_scopes.proofs.Paying.{exit-answer, then-answer, priced-stays}
+use Rattle.wac_encode_values.proofs.Covered.{end-covers}
 use Rattle.wac_encode_values.proofs.encoder.ValueEncoder.value_type.Goals as goal
 
 pub returns-in-Written-clause-written : goal.returns-in-Written-clause-written
@@ -37,3 +39,17 @@ returns-in-Missing-clause-named c =
 
 pub returns-in-Missing-clause-types : goal.returns-in-Missing-clause-types
 returns-in-Missing-clause-types c = all-both c.args.state.now c.find.new.state c.write.new.state c.find.ensures.types c.write.ensures.types
+
+pub returns-in_err-written-clause-paid : goal.returns-in_err-written-clause-paid
+returns-in_err-written-clause-paid c ts covers priced = exit-answer c.args.self.now.types.now c.args.self.now.merged ts 0 c.args.state.now _ _ c.from_residual.result c.from_residual.ensures.1 (c.in_err-written.ensures.paid ts covers priced)
+
+pub returns-in-Written-clause-paid : goal.returns-in-Written-clause-paid
+returns-in-Written-clause-paid c ts covers priced = c.in_ok-written.ensures.paid ts covers priced
+
+pub returns-in-Missing-clause-paid : goal.returns-in-Missing-clause-paid
+returns-in-Missing-clause-paid c ts covers priced =
+    let t = c.args.self.now.types.now in
+    let b = c.args.self.now.merged in
+    let f = found-missing t b c.find.new.state c.args.value c.in_ok-written.field-0 c.in-Missing.id c.in-Missing.is c.in_ok-written.ensures.found in
+    then-answer t b ts 0 0 c.args.state.now c.find.new.state c.write.new.state c.write.result (c.in_ok-written.ensures.paid ts covers priced)
+    (c.write.ensures.paid ts (end-covers c.weight_law.ensures.covers_end t ts c.args.value (val.Defined c.in-Missing.id) f.0 covers) (priced-stays b c.args.state.now c.find.new.state c.find.ensures.types priced))
