@@ -10,6 +10,7 @@ ghost use Rattle.wac_encode_stacks.specs.Good.{At, Means};
 ghost use Rattle.wac_encode_interfaces.specs.private.Definitions.{HaveDefinedWorlds};
 ghost use Rattle.wac_encode_interfaces.specs.private.Ready.{IsClean};
 ghost use Rattle.wac_encode_interfaces.specs.private.Refused.{KeepsScopes};
+ghost use Rattle.wac_encode_interfaces.specs.private.Paid.{AreSmallWorlds};
 ghost use Rattle.wac_encode_interfaces.specs.private.Worlds.{AreWorldTypes, HaveWorlds, written_in};
 ghost use Rattle.wac_encode.specs.Named.{IsUsedByName};
 ghost use Rattle.wac_encode.specs.Root.{component_scope, IsStateFor, RefersToType, WritesTypes};
@@ -33,6 +34,7 @@ impl<'a> TypeEncoder<'a> {
         requires held { holds_type self.now.types.now ty ≡ true }
         requires clean { IsClean self.now.types.now ty }
         ensures written { IfOk result (λ ws. AreWorldTypes self.now.types.now (written_in ws)) }
+        ensures sizes { IfOk result (λ ws. AreSmallWorlds self.now.types.now (written_in ws)) }
         ensures there { IfOk result (λ ws. HaveWorlds self.now.types.now (written_in ws) ty) }
     {
         let mut roots = Vec::new(self.types.allocator());
@@ -50,6 +52,7 @@ impl<'a> TypeEncoder<'a> {
     ) -> Result<u32, BinaryFault>
         requires closed { AreClosedTypes self.now.types.now closed.now }
         requires written { AreWorldTypes self.now.types.now (written_in worlds.now) }
+        requires sizes { AreSmallWorlds self.now.types.now (written_in worlds.now) }
         requires there { HaveWorlds self.now.types.now (written_in worlds.now) (ty_of.Interface interface) }
         requires writable { IsWritable self.now.types.now self.now.merged state.old (ty_of.Interface interface) }
         ensures writes { OnOk result (WritesTypes self.now.types.now self.now.merged state.old state.new) }
@@ -144,6 +147,7 @@ impl<'a> TypeEncoder<'a> {
     ) -> Result<u32, BinaryFault>
         requires closed { AreClosedTypes self.now.types.now closed.now }
         requires written { AreWorldTypes self.now.types.now (written_in worlds.now) }
+        requires sizes { AreSmallWorlds self.now.types.now (written_in worlds.now) }
         requires there { HaveDefinedWorlds self.now.types.now (written_in worlds.now) ty }
         requires definable { MayDefine self.now.types.now self.now.merged state.old ty }
         ensures writes { OnOk result (WritesTypes self.now.types.now self.now.merged state.old state.new) }

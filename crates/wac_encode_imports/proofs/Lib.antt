@@ -19,3 +19,6 @@ pub mod Stood
 pub mod Telling
 pub mod Unions
 pub mod Whole
+pub mod Costing
+pub mod ImportPaying
+pub mod ToldCosts

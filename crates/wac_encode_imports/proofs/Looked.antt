@@ -1,13 +1,13 @@
 -- What is looked up of the imports that bind resources.
 use Rattle.std.specs.Prelude.{◌==◌, ◌&&◌, ◌||◌, not, is_none}
 use Rattle.std.specs.List.{list_any}
-use Rattle.std.proofs.Common.{ℕ, zero, suc, ◌+◌, eq-eqb, ◌≡◌, Bool, true, false, if◌then◌else◌, List, [], ◌∷◌, Option, Some, None, slice_get, take, refl, ap, sym, ◌∙◌, subst, arith}
+use Rattle.std.proofs.Common.{ℕ, suc, ◌+◌, eq-eqb, ◌≡◌, Bool, true, false, if◌then◌else◌, List, [], ◌∷◌, Option, Some, None, slice_get, take, refl, ap, sym, ◌∙◌, arith}
 use Rattle.std.specs.Option.{option_map}
 use Rattle.std.proofs.lemmas.Bool.{eqb-true}
 use Rattle.std.proofs.lemmas.List.Folds.{list_any-append}
 use Rattle.wac_types_shapes.specs.primitives.Name.{Name, find_name, option_case}
 use Rattle.wac_types_shapes.proofs.lemmas.shapes.Names.{take_at}
-use Rattle.wac_types_shapes.specs.primitives.Tree.{imported, Place, position, Leaf}
+use Rattle.wac_types_shapes.specs.primitives.Tree.{imported, Place, position}
 use Rattle.wac_types_shapes.specs.declared.shapes.component.ItemKind.{ItemKind}
 use Rattle.wac_types_shapes.specs.declared.shapes.component.ItemKind.TheVariants as kind
 use Rattle.wac_types_shapes.specs.declared.shapes.component.ResourceId.{ResourceId}
@@ -72,7 +72,7 @@ module _ (b : ClassBindings) (p : ℕ) where
   first-that (kind.Value v) n r = refl
 
   -- one of the items is found only for a resource that the class binds
-  found-binds : (es : List (Name × ItemKind)) (r : ResourceId) → list_any (is_first_of b p r) es ≡ true → is_class p (first_in b r) ≡ true
+  pub found-binds : (es : List (Name × ItemKind)) (r : ResourceId) → list_any (is_first_of b p r) es ≡ true → is_class p (first_in b r) ≡ true
   found-binds [] r h = true-false false h refl
   found-binds ((n, kind.TypeItem (ty.Resource q)) ∷ es) r h = by ((r.0 == q.0) && is_class p (first_in b q)) refl h (λ more. found-binds es r more)
     where

@@ -24,7 +24,7 @@ use Rattle.wac_encode_imports.proofs.Distinct.{canonical-class, import-at, name-
 
 -- Classes bind the same in both collections, so a resource has the same first class.
 
-binding-same : (c d : Collection) (es : List Entry) (r : ResourceId) → ((class : Name) → class_binds by_names d es class r ≡ class_binds by_names c es class r) → (k : ℕ) (ns : List Name) → binding_from by_names d es k ns r ≡ binding_from by_names c es k ns r
+pub binding-same : (c d : Collection) (es : List Entry) (r : ResourceId) → ((class : Name) → class_binds by_names d es class r ≡ class_binds by_names c es class r) → (k : ℕ) (ns : List Name) → binding_from by_names d es k ns r ≡ binding_from by_names c es k ns r
 binding-same c d es r same k [] = refl
 binding-same c d es r same k (n ∷ ns) = let rest = binding-same c d es r same (suc k) ns in let here = same n in (λ j. option_case (here j) (rest j) (λ path. Some (k, path)))
 

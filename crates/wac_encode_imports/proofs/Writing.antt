@@ -1,6 +1,6 @@
 -- What the writer of imports gives to each import.
 use Rattle.std.specs.List.{list_any}
-use Rattle.std.proofs.Common.{ℕ, suc, length, ◌≡◌, Bool, true, false, List, [], ◌∷◌, Option, Some, None, Result, Ok, Err, IfOk, OnOk, slice_get, refl, ap, sym, ◌∙◌, subst}
+use Rattle.std.proofs.Common.{ℕ, length, ◌≡◌, Bool, true, false, Option, Some, None, Result, Ok, Err, IfOk, OnOk, refl, ap, sym, ◌∙◌, subst}
 use Rattle.wac_types_shapes.specs.primitives.Name.{Name}
 use Rattle.wac_types_shapes.specs.declared.shapes.component.Interface.{Interface}
 use Rattle.wac_types_shapes.specs.declared.shapes.component.InterfaceId.{InterfaceId}
@@ -30,7 +30,7 @@ use Rattle.wac_encode_interfaces.specs.private.Worlds.{written_in}
 use Rattle.wac_encode_imports.specs.declared.import.ImportWriter.{ImportWriter}
 use Rattle.wac_encode_imports.specs.private.Imports.{merged_bindings}
 use Rattle.wac_encode_imports.specs.private.Classes.{interface_of, is_class, is_first_of, resource_of}
-use Rattle.wac_encode_imports.specs.private.Written.{is_bound_at, Brings, IsImportWriter, MayFollow, MayWrite, WritesImport}
+use Rattle.wac_encode_imports.specs.private.Written.{is_bound_at, IsImportWriter, MayWrite, WritesImport}
 use Rattle.wac_encode_imports.proofs.Bound.{no-some, one-some}
 use Rattle.wac_encode_imports.proofs.Looked.{any-first, first-is}
 use Rattle.wac_encode_imports.proofs.Next.{IsOwnTest, fresh-brings, instance-brings, other-brings}
@@ -43,7 +43,7 @@ ready-as x m h s k r =
     subst (λ (b : Bool). IsImportReady x.writer.types.now b (written_in x.writer.worlds.now) s k) (sym h.merged)
     (subst (λ (c : Collection). IsImportReady c true (written_in x.writer.worlds.now) s k) (sym h.of_types) r)
 
-imports-as : (x : ImportWriter) (m : Merged) (h : IsImportWriter x m) (n : Name) (k : ItemKind) (old new : State) (i : ℕ) → ImportsOf x.writer.types.now x.writer.merged n k old new i → ImportsOf m.types true n k old new i
+pub imports-as : (x : ImportWriter) (m : Merged) (h : IsImportWriter x m) (n : Name) (k : ItemKind) (old new : State) (i : ℕ) → ImportsOf x.writer.types.now x.writer.merged n k old new i → ImportsOf m.types true n k old new i
 imports-as x m h n k old new i r =
     subst (λ (c : Collection). ImportsOf c true n k old new i) h.of_types
     (subst (λ (b : Bool). ImportsOf x.writer.types.now b n k old new i) h.merged r)
@@ -79,7 +79,7 @@ writes-plain x p n k old new i trees bare other imports beside m h places may =
     let none : (r : ResourceId) → is_bound_at p (merged_bindings m r) ≡ false = (λ r. plain-other m ws h.writable p n k may.there bare (other m h) r) in
     other-brings m ws h.writable p n k may.there (λ r f. none r) trees places old new i may.written (imports-as x m h n k old new i imports) none (beside-as x m h n k i old new beside)
 
-interface-there : (c : Collection) (j : InterfaceId) → holds_type c (ty.Interface j) ≡ true → (it : Interface) × (item_at c.interfaces j.0 ≡ Some it)
+pub interface-there : (c : Collection) (j : InterfaceId) → holds_type c (ty.Interface j) ≡ true → (it : Interface) × (item_at c.interfaces j.0 ≡ Some it)
 interface-there c j held =
     let x = some-at c.interfaces j.0 (within j.0 (length c.interfaces) held) in
     (x.0.item, ap item_of x.1)

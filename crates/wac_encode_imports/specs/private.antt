@@ -6,3 +6,4 @@ pub mod Told
 pub mod Distinct
 pub mod Imports
 pub mod ToldGraph
+pub mod Small

@@ -14,6 +14,8 @@ ghost use Rattle.wac_encode_imports.specs.private.Imports.{merged_bindings};
 ghost use Rattle.wac_encode_imports.specs.private.Classes.{interface_of, resource_of};
 ghost use Rattle.wac_encode_imports.specs.private.Modules.{AreModulesAt, module_index};
 ghost use Rattle.wac_encode_imports.specs.private.Written.{is_bound_at, AreWritable, IsImportWriter, MayWrite, WritesImport};
+ghost use Rattle.wac_encode_imports.specs.private.Small.{IsImportPaid, IsImportPaidWith};
+ghost use Rattle.wac_encode_interfaces.specs.private.Paid.{AreSmallWorlds};
 
 use crate::classes::{first_resources, is_first};
 use crate::modules::ModuleIndexes;
@@ -77,7 +79,7 @@ impl<'a> ImportWriter<'a> {
         worlds: &'a WorldTypes,
     ) -> ImportWriter<'a>
         ensures types { result.types.now ≡ types.now }
-        ensures writer { (m : AMerge) → types.now ≡ m.types → AreClosedTypes m.types closed.now → AreBindings m.types m.imports bindings.now → AreWorldTypes m.types (written_in worlds.now) → AreWritable m (written_in worlds.now) → IsImportWriter result m }
+        ensures writer { (m : AMerge) → types.now ≡ m.types → AreClosedTypes m.types closed.now → AreBindings m.types m.imports bindings.now → AreWorldTypes m.types (written_in worlds.now) → AreSmallWorlds m.types (written_in worlds.now) → AreWritable m (written_in worlds.now) → IsImportWriter result m }
     {
         ImportWriter {
             types,
@@ -97,7 +99,8 @@ impl<'a> ImportWriter<'a> {
         interface: InterfaceId,
     ) -> Result<u32, BinaryFault>
         requires { MayWrite self.now position name.now (kind_of.Instance interface) state.old }
-        ensures { IfOk result (WritesImport self.now position name.now (kind_of.Instance interface) state.old state.new) }
+        ensures written { IfOk result (WritesImport self.now position name.now (kind_of.Instance interface) state.old state.new) }
+        ensures paid { IsImportPaid self.now position name.now (kind_of.Instance interface) state.old state.new result }
     {
         self.types.law(); // proof only
         free_law();
@@ -121,7 +124,8 @@ impl<'a> ImportWriter<'a> {
         requires plain { interface_of item ≡ None }
         requires other { (m : AMerge) → IsImportWriter self.now m → (r : AResource) → resource_of item ≡ Some r → is_bound_at position (merged_bindings m (resolved m.types r)) ≡ false }
         requires next { MayWrite self.now position name.now item state.old }
-        ensures { IfOk result (WritesImport self.now position name.now item state.old state.new) }
+        ensures written { IfOk result (WritesImport self.now position name.now item state.old state.new) }
+        ensures paid { IsImportPaid self.now position name.now item state.old state.new result }
     {
         self.types.law(); // proof only
         free_law();
@@ -138,7 +142,8 @@ impl<'a> ImportWriter<'a> {
         resource: ResourceId,
     ) -> Result<u32, BinaryFault>
         requires { MayWrite self.now position name.now (kind_of.TypeItem (ty_of.Resource resource)) state.old }
-        ensures { IfOk result (WritesImport self.now position name.now (kind_of.TypeItem (ty_of.Resource resource)) state.old state.new) }
+        ensures written { IfOk result (WritesImport self.now position name.now (kind_of.TypeItem (ty_of.Resource resource)) state.old state.new) }
+        ensures paid { IsImportPaid self.now position name.now (kind_of.TypeItem (ty_of.Resource resource)) state.old state.new result }
     {
         self.types.law(); // proof only
         root_law();
@@ -162,6 +167,7 @@ impl<'a> ImportWriter<'a> {
         requires next { MayWrite self.now position name.now (kind_of.Module id) state.old }
         requires known { AreModulesAt self.now state.old (module_index modules.old) }
         ensures written { IfOk result (WritesImport self.now position name.now (kind_of.Module id) state.old state.new) }
+        ensures paid { IsImportPaidWith self.now position name.now (kind_of.Module id) (module_index modules.old) (module_index modules.new) state.old state.new result }
         ensures known { OnOk result (AreModulesAt self.now state.new (module_index modules.new)) }
     {
         self.types.law(); // proof only
@@ -182,7 +188,8 @@ impl<'a> ImportWriter<'a> {
     ) -> Result<u32, BinaryFault>
         requires no_module { module_type_of item ≡ None }
         requires next { MayWrite self.now position name.now item state.old }
-        ensures { IfOk result (WritesImport self.now position name.now item state.old state.new) }
+        ensures written { IfOk result (WritesImport self.now position name.now item state.old state.new) }
+        ensures paid { IsImportPaid self.now position name.now item state.old state.new result }
     {
         if let Some(interface) = instance_in(item) {
             return self.import_instance(state, position, name, interface);
@@ -207,6 +214,7 @@ impl<'a> ImportWriter<'a> {
         requires next { MayWrite self.now position name.now item state.old }
         requires known { AreModulesAt self.now state.old (module_index modules.old) }
         ensures written { IfOk result (WritesImport self.now position name.now item state.old state.new) }
+        ensures paid { IsImportPaidWith self.now position name.now item (module_index modules.old) (module_index modules.new) state.old state.new result }
         ensures known { OnOk result (AreModulesAt self.now state.new (module_index modules.new)) }
     {
         if let Some(id) = module_in(item) {

@@ -12,6 +12,9 @@ ghost use Rattle.wac_encode_interfaces.specs.private.Worlds.{AreWorldTypes, writ
 ghost use Rattle.wac_encode_imports.specs.private.Imports.{HasDistinctClasses, AreImported, HasNoImportFault};
 ghost use Rattle.wac_encode_imports.specs.private.Exports.{ExportNoNameTwice};
 ghost use Rattle.wac_encode_imports.specs.private.Written.{merge_of, AreCleanImports, HaveImportWorlds, IsImportWriter};
+ghost use Rattle.wac_encode_imports.specs.private.Small.{ImportsWithin};
+ghost use Rattle.wac_encode_interfaces.specs.private.Paid.{AreSmallWorlds, IsHeavy};
+ghost use Rattle.wac_encode_scopes.specs.private.Limits.{IsTooLarge};
 
 use crate::classes::import_bindings;
 use crate::import::ImportWriter;
@@ -70,6 +73,8 @@ fn import_worlds(
     requires clean { AreCleanImports types.now (import_entries imports.now) }
     ensures written { IfOk result (λ ws. AreWorldTypes types.now (written_in ws)) }
     ensures there { IfOk result (λ ws. HaveImportWorlds types.now (written_in ws) (import_entries imports.now)) }
+    ensures small { IsTooLarge result → IsHeavy types.now (map (λ e. kind_type e.1) imports.now) }
+    ensures sizes { IfOk result (λ ws. AreSmallWorlds types.now (written_in ws)) }
 {
     let roots = import_types(types.allocator(), imports)?;
     world_types(types, closed, roots.as_slice())
@@ -90,7 +95,8 @@ fn write_all(
     imports: &Named<ItemKind>,
 ) -> Result<WrittenImports, BinaryFault>
     requires { IsImportWriter writer.now (merge_of writer.now imports.now) }
-    ensures { IfOk result (λ w. AreImported (merge_of writer.now imports.now) w.places.items w.state) }
+    ensures imported { IfOk result (λ w. AreImported (merge_of writer.now imports.now) w.places.items w.state) }
+    ensures small { ImportsWithin (merge_of writer.now imports.now) result }
 {
     beside_law();
     part_law();
@@ -122,7 +128,8 @@ pub fn write_imports(merge: &TypeAggregator) -> Result<WrittenImports, BinaryFau
     requires distinct { HasDistinctClasses merge.now.merge }
     requires before { MentionsBefore by_names merge.now.merge }
     requires clean { HasNoImportFault merge.now.merge }
-    ensures { IfOk result (λ w. AreImported merge.now.merge w.places.items w.state) }
+    ensures imported { IfOk result (λ w. AreImported merge.now.merge w.places.items w.state) }
+    ensures small { ImportsWithin merge.now.merge result }
 {
     let types = merge.types();
     let imports = merge.imports();

@@ -1,5 +1,6 @@
 //! The core module types that are written in the root.
-ghost use Rattle.std.specs.Prelude.{◌≡◌, cond, None, Some, OnOk};
+ghost use Rattle.std.specs.Prelude.{◌≡◌, cond, None, Some, IfErr, OnOk};
+ghost use Rattle.wac_binary.specs.declared.fault.BinaryFault.TheVariants.{OutOfMemory};
 ghost use Rattle.wac_types_shapes.specs.contracts.shapes.component.ModuleTypeIdPartialEq.TheImpl as IdEq;
 ghost use Rattle.wac_types_shapes.specs.declared.shapes.component.ModuleTypeId.{ModuleTypeId as AnId};
 ghost use Rattle.wac_encode_imports.specs.private.Modules.{module_index};
@@ -34,7 +35,8 @@ impl ModuleIndexes {
 
     /// Sets the core type index of a module type.
     pub(crate) fn insert(&mut self, id: ModuleTypeId, index: u32) -> Result<(), BinaryFault>
-        ensures { OnOk result ((k : AnId) → module_index self.new k ≡ cond ((IdEq.ghosts).eq id k) (Some index) (module_index self.old k)) }
+        ensures inserted { OnOk result ((k : AnId) → module_index self.new k ≡ cond ((IdEq.ghosts).eq id k) (Some index) (module_index self.old k)) }
+        ensures memory { IfErr result (λ e. e ≡ OutOfMemory) }
     {
         self.written.insert(id, index)?;
         Ok(())

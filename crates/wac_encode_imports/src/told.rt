@@ -1,6 +1,6 @@
 //! What the imports of a merge are for the types of the entries' own collection.
 
-ghost use Rattle.std.specs.Prelude.{◌≡◌, ◌<◌, ◌||◌, [], ◌∷◌, Contains, IfOk, OnOk, Some, false, length, slice_get, slice_set, true};
+ghost use Rattle.std.specs.Prelude.{◌≡◌, ◌<◌, ◌≤◌, ◌*◌, ◌||◌, IfErr, [], ◌∷◌, Contains, IfOk, OnOk, Some, false, length, slice_get, slice_set, true};
 ghost use Rattle.wac_types_shapes.specs.primitives.Name.{Name as AName};
 ghost use Rattle.wac_types_shapes.specs.shapes.Kinds.{kind_type};
 ghost use Rattle.wac_types_shapes.specs.declared.shapes.component.DefinedTypeId.{DefinedTypeId as ADefinition};
@@ -19,7 +19,13 @@ ghost use Rattle.wac_encode_scopes.specs.private.Telling.{definition_in};
 ghost use Rattle.wac_encode_stacks.specs.Scopes.{at_export};
 ghost use Rattle.wac_encode_imports.specs.private.Imports.{AreImported};
 ghost use Rattle.wac_encode_imports.specs.private.ToldGraph.{HasNoUnbound, IsTold};
-ghost use Rattle.wac_encode_imports.specs.private.Told.{AreHeldExports, AreWhole, BindsAll, BindsItem, BindsKind, BindsOne, BindsOwn, HasImports, HaveExports, IsDefinitionAt, IsExport, IsImportOf, IsTeller, IsTypeImport, KeepsGood, Notes, told_in};
+ghost use Rattle.wac_types_weight.specs.Text.{entry_weight};
+ghost use Rattle.wac_types_weight.specs.Weight.{named_parts};
+ghost use Rattle.wac_encode_scopes.specs.private.Paid.{pending};
+ghost use Rattle.wac_encode_scopes.specs.Books.{opened};
+ghost use Rattle.wac_encode_scopes.specs.Roots.{IsRoot};
+ghost use Rattle.wac_binary.specs.declared.fault.BinaryFault.TheVariants.{OutOfMemory};
+ghost use Rattle.wac_encode_imports.specs.private.Told.{BindsNames, IsBlank, TellsWithin, entries_items, AreHeldExports, AreWhole, BindsAll, BindsItem, BindsKind, BindsOne, BindsOwn, HasImports, HaveExports, IsDefinitionAt, IsExport, IsImportOf, IsTeller, IsTypeImport, KeepsGood, Notes, told_in};
 
 use crate::imports::exports_law;
 use indexmap::IndexSet;
@@ -98,7 +104,9 @@ impl<'a> Teller<'a> {
     fn bind(&self, state: &mut State, resource: ResourceId) -> Result<(), BinaryFault>
         requires teller { IsTeller self.now }
         requires imports { HasImports self.now state.old }
-        ensures { OnOk result (BindsOne self.now resource state.old state.new) }
+        ensures binds { OnOk result (BindsOne self.now resource state.old state.new) }
+        ensures names { OnOk result (BindsNames self.now state.old state.new) }
+        ensures memory { IfErr result (λ e. e ≡ OutOfMemory) }
     {
         let Some((position, path)) = self.merge.root_binding(resource) else {
             return Ok(());
@@ -116,7 +124,9 @@ impl<'a> Teller<'a> {
     fn bind_resources(&self, state: &mut State) -> Result<(), BinaryFault>
         requires teller { IsTeller self.now }
         requires imports { HasImports self.now state.old }
-        ensures { OnOk result (BindsAll self.now state.old state.new) }
+        ensures binds { OnOk result (BindsAll self.now state.old state.new) }
+        ensures names { OnOk result (BindsNames self.now state.old state.new) }
+        ensures memory { IfErr result (λ e. e ≡ OutOfMemory) }
     {
         for i in 0..usize::MAX {
             let resource = ResourceId(i);
@@ -257,7 +267,9 @@ impl<'a> Teller<'a> {
         name: &str,
     ) -> Result<(), BinaryFault>
         requires { (d : ADefinition) → definition ≡ Some d → IsDefinitionAt self.now d (at_export index name.now) state.old }
-        ensures { OnOk result (KeepsGood self.now state.old state.new) }
+        ensures keeps { OnOk result (KeepsGood self.now state.old state.new) }
+        ensures cost { OnOk result (TellsWithin self.now.types.now (2 * length name.now) state.old state.new) }
+        ensures memory { IfErr result (λ e. e ≡ OutOfMemory) }
     {
         let Some(definition) = definition else {
             return Ok(());
@@ -279,7 +291,9 @@ impl<'a> Teller<'a> {
         whole: bool,
     ) -> Result<(), BinaryFault>
         requires { HaveExports self.now whole interface.now index state.old }
-        ensures { OnOk result (KeepsGood self.now state.old state.new) }
+        ensures keeps { OnOk result (KeepsGood self.now state.old state.new) }
+        ensures cost { OnOk result (TellsWithin self.now.types.now (2 * named_parts interface.now.exports) state.old state.new) }
+        ensures memory { IfErr result (λ e. e ≡ OutOfMemory) }
     {
         interface.exports.law(); // proof only
         for i in 0..interface.exports.len() {
@@ -293,7 +307,9 @@ impl<'a> Teller<'a> {
     /// Records that an import names a value type, if no earlier one does.
     fn tell_type(&self, state: &mut State, item: ItemKind, index: u32) -> Result<(), BinaryFault>
         requires { IsTypeImport self.now item index state.old }
-        ensures { OnOk result (KeepsGood self.now state.old state.new) }
+        ensures keeps { OnOk result (KeepsGood self.now state.old state.new) }
+        ensures cost { OnOk result (TellsWithin self.now.types.now 0 state.old state.new) }
+        ensures memory { IfErr result (λ e. e ≡ OutOfMemory) }
     {
         let Some(definition) = definition_in(self.types, item) else {
             return Ok(());
@@ -317,7 +333,9 @@ impl<'a> Teller<'a> {
         requires imports { HasImports self.now state.old }
         requires whole { AreWhole self.now whole.now }
         requires entry { Contains (self.now.merge.now).entries entry.now }
-        ensures { OnOk result (KeepsGood self.now state.old state.new) }
+        ensures keeps { OnOk result (KeepsGood self.now state.old state.new) }
+        ensures cost { OnOk result (TellsWithin self.now.types.now (2 * entry_weight self.now.types.now (kind_type entry.now.kind)) state.old state.new) }
+        ensures memory { IfErr result (λ e. e ≡ OutOfMemory) }
     {
         let position = self.position_of(entry);
         let (_, index) = place_at(self.places, position);
@@ -333,7 +351,9 @@ impl<'a> Teller<'a> {
     fn tell_entries(&self, state: &mut State) -> Result<(), BinaryFault>
         requires teller { IsTeller self.now }
         requires imports { HasImports self.now state.old }
-        ensures { OnOk result (KeepsGood self.now state.old state.new) }
+        ensures keeps { OnOk result (KeepsGood self.now state.old state.new) }
+        ensures cost { OnOk result (TellsWithin self.now.types.now (2 * entries_items self.now.types.now (self.now.merge.now).entries) state.old state.new) }
+        ensures memory { IfErr result (λ e. e ≡ OutOfMemory) }
     {
         let flags = self.whole_imports()?;
         let whole = flags.as_slice();
@@ -349,7 +369,9 @@ impl<'a> Teller<'a> {
     fn tell_all(&self, state: &mut State) -> Result<(), BinaryFault>
         requires teller { IsTeller self.now }
         requires imports { HasImports self.now state.old }
-        ensures { OnOk result (BindsAll self.now state.old state.new) }
+        ensures binds { OnOk result (BindsAll self.now state.old state.new) }
+        ensures cost { OnOk result (IsBlank state.old → IsRoot state.old.here.content → pending self.now.types.now false (opened false state.new.here) ≤ 4 * entries_items self.now.types.now (self.now.merge.now).entries) }
+        ensures memory { IfErr result (λ e. e ≡ OutOfMemory) }
     {
         self.bind_resources(state)?;
         self.tell_entries(state)
@@ -382,7 +404,9 @@ pub fn tell_graph(
     requires agreed { AllMembersAgree by_names types.now merge.now.entries }
     requires clean { (merged : IsMerge by_names types.now merge.now.entries merge.now.merge) → HasNoUnbound types.now merge.now.entries merged.order }
     requires imported { AreImported merge.now.merge places.now state.old }
-    ensures { OnOk result ((merged : IsMerge by_names types.now merge.now.entries merge.now.merge) → IsTold types.now merge.now.entries merged.order state.old state.new) }
+    ensures told { OnOk result ((merged : IsMerge by_names types.now merge.now.entries merge.now.merge) → IsTold types.now merge.now.entries merged.order state.old state.new) }
+    ensures cost { OnOk result (pending types.now false (opened false state.new.here) ≤ 4 * entries_items types.now merge.now.entries) }
+    ensures memory { IfErr result (λ e. e ≡ OutOfMemory) }
 {
     types.law(); // proof only
     exports_law(types);

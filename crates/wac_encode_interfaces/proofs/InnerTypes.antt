@@ -35,7 +35,7 @@ scope-is (ty.Func f) u h = absurd (in_none u h)
 scope-is (ty.Value v) u h = absurd (in_none u h)
 scope-is (ty.Module m) u h = absurd (in_none u h)
 
-inner-listed : (c : Collection) (t u : AnyType) → Contains (inner_types c t) u → (e : Name × ItemKind) × Contains (listed_items c t) e × (kind_type e.1 ≡ u)
+pub inner-listed : (c : Collection) (t u : AnyType) → Contains (inner_types c t) u → (e : Name × ItemKind) × Contains (listed_items c t) e × (kind_type e.1 ≡ u)
 inner-listed c t u h =
     let (e, there, here) = flat_in (λ (e : Name × ItemKind). interface_or_world (kind_type e.1)) (listed_items c t) u h in
     (e, there, scope-is (kind_type e.1) u here)

@@ -21,7 +21,7 @@ use Rattle.wac_types_collection.proofs.lemmas.wide.Members.{in_none, in_left, in
 use Rattle.wac_binary.specs.declared.sorts.Description.{Description}
 use Rattle.wac_binary.specs.HasMeaning.{IsFree as IsFreeName}
 use Rattle.wac_binary.specs.Unfold.{Scope, Bound, with_item}
-use Rattle.wac_encode_stacks.specs.Scopes.{Open, Stack, env, envs}
+use Rattle.wac_encode_stacks.specs.Scopes.{Where, Open, Stack, env, envs}
 use Rattle.wac_encode_stacks.specs.Good.{At, Good, Grown, Kept, Keeps, IsHeld, Onward, innermost, top}
 use Rattle.wac_encode_stacks.specs.Listed.{IsItem, on_side, other}
 use Rattle.wac_encode_stacks.specs.Instances.{Shows, ShowsWhole, taken_leaf}
@@ -212,6 +212,19 @@ module _ (c : Collection) (wf : IsWellFormed c) (ws : Worlds) (s : Sides) (can :
 
     may-bind : (it : Interface) (test : ResourceId → Bool) → IsOwnTest it test → MayBind c it test now_bound []
     may-bind it test is = λ r q own named_so. (unbound-yet c s xs (side_item side n) r next.new (sym (is r q named_so) ∙ own), refl)
+
+    no-place : (mid : State) → Good c (now_bound ∷ []) (stack b mid) → (r : ResourceId) → now_bound r ≡ None → (o : Option Where) → (opened b mid.here).binds r ≡ o → o ≡ None
+    no-place mid good r none None at = refl
+    no-place mid good r none (Some w) at = let (l, bound_now, stands) = good.0.binds r w at in absurd (no-leaf l (sym none ∙ bound_now))
+      where
+        no-leaf : (l : Leaf) → None ≡ Some l → ⊥
+        no-leaf l h = cc
+
+    -- What the instance binds is not recorded where it is listed.
+    pub instance-unrecorded : (i : InterfaceId) (a : Bool) (test : ResourceId → Bool) (mid : State) (k : ℕ) → ListsInterface c b side n a i st mid k → ((r : ResourceId) → test r ≡ true → here r ≡ true) → (r : ResourceId) → test r ≡ true → (opened b mid.here).binds r ≡ None
+    instance-unrecorded i a test mid k lists is r own =
+        let (t, held, adds, index) = lists now_bound next.written.around next.written.good (free-name c b s xs side n st next) in
+        no-place mid adds.good r (unbound-yet c s xs (side_item side n) r next.new (is r own)) ((opened b mid.here).binds r) refl
 
     instance-binds : (i : InterfaceId) (a : Bool) (it : Interface) (t : Tree) (test : ResourceId → Bool) → item_at c.interfaces i.0 ≡ Some it → IsItemOf s side n (kind.Instance i) a → IsOwnTest it test
         → with_own_names c it.uses it.exports test (taken_leaf (record { type = t; side = side; path = named n ∷ [] })) now_bound ≡ bound_so_far c s (xs ++ side_item side n ∷ [])

@@ -33,3 +33,12 @@ pub mod DefinedSides
 pub mod Definitions
 pub mod Refused
 pub mod Leaves
+pub mod Totals
+pub mod Costs
+pub mod Answered
+pub mod Charged
+pub mod SideCosts
+pub mod DefinitionCosts
+pub mod Heavy
+pub mod ModuleCosts
+pub mod RootWeights

@@ -104,6 +104,12 @@ module _ (entries : List (ResourceId × ℕ)) (p : ℕ) where
           let (e, there, at) = any-in (is_owned entries p r) es h in
           true-false (is_number p (owner_of entries r)) (that-number e.1 r (sym (owned-is r e.0 e.1) ∙ at)) is)
 
+  -- A resource that an item owns has its number.
+  pub owned-number : (es : List (Name × ItemKind)) (r : ResourceId) → list_any (is_owned entries p r) es ≡ true → is_number p (owner_of entries r) ≡ true
+  owned-number es r h =
+      let (e, there, at) = any-in (is_owned entries p r) es h in
+      that-number e.1 r (sym (owned-is r e.0 e.1) ∙ at)
+
   -- one more item
 
   pub owned-next : (es : List (Name × ItemKind)) (i : ℕ) (n : Name) (k : ItemKind) (old new : List ResourceId) → slice_get es i ≡ Some (n, k) → ((r : ResourceId) → is_one_of old r ≡ list_any (is_owned entries p r) (take i es))

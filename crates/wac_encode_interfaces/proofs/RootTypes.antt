@@ -45,23 +45,30 @@ type-item-is (kind.Module m) t h = absurd (in_none t h)
 type-item-is (kind.Value v) t h = absurd (in_none t h)
 
 -- an import or export, or a type item of an additional import
-abbrev IsRoot : Collection → GivenSides → AnyType → Type 0
-IsRoot c x t = ((e : Name × ItemKind) × (Contains x.imports.now e ⊎ Contains x.exports.now e) × (kind_type e.1 ≡ t))
-    ⊎ ((i : InterfaceId) × Contains x.additional.now i × IsListed (kind.TypeItem t) (interface_exports c i))
+abbrev pub IsRootAmong : Collection → List (Name × ItemKind) → List (Name × ItemKind) → List InterfaceId → AnyType → Type 0
+IsRootAmong c imports exports additional t = ((e : Name × ItemKind) × (Contains imports e ⊎ Contains exports e) × (kind_type e.1 ≡ t))
+    ⊎ ((i : InterfaceId) × Contains additional i × IsListed (kind.TypeItem t) (interface_exports c i))
+
+abbrev pub IsRoot : Collection → GivenSides → AnyType → Type 0
+IsRoot c x t = IsRootAmong c x.imports.now x.exports.now x.additional.now t
 
 of-items : (es : List (Name × ItemKind)) (t : AnyType) → Contains (flat_map item_root es) t → (e : Name × ItemKind) × Contains es e × (kind_type e.1 ≡ t)
 of-items es t h = let (e, there, here) = flat_in item_root es t h in (e, there, sym (in_one (kind_type e.1) t here))
 
-root-is : (c : Collection) (x : GivenSides) (t : AnyType) → Contains (side_roots c x) t → IsRoot c x t
-root-is c x t h = elim (in_either (flat_map item_root x.imports.now ++ flat_map item_root x.exports.now) (flat_map (additional_roots c) x.additional.now) t h) [
-  | inl own ↦ elim (in_either (flat_map item_root x.imports.now) (flat_map item_root x.exports.now) t own) [
-    | inl l ↦ (let (e, there, is) = of-items x.imports.now t l in inl (e, inl there, is))
-    | inr r ↦ (let (e, there, is) = of-items x.exports.now t r in inl (e, inr there, is))
+pub root-among : (c : Collection) (imports exports : List (Name × ItemKind)) (additional : List InterfaceId) (t : AnyType) → Contains ((flat_map item_root imports ++ flat_map item_root exports) ++ flat_map (additional_roots c) additional) t
+    → IsRootAmong c imports exports additional t
+root-among c imports exports additional t h = elim (in_either (flat_map item_root imports ++ flat_map item_root exports) (flat_map (additional_roots c) additional) t h) [
+  | inl own ↦ elim (in_either (flat_map item_root imports) (flat_map item_root exports) t own) [
+    | inl l ↦ (let (e, there, is) = of-items imports t l in inl (e, inl there, is))
+    | inr r ↦ (let (e, there, is) = of-items exports t r in inl (e, inr there, is))
   ]
-  | inr more ↦ (let (i, there, here) = flat_in (additional_roots c) x.additional.now t more in
+  | inr more ↦ (let (i, there, here) = flat_in (additional_roots c) additional t more in
       let (e, listed, one) = flat_in (λ (e : Name × ItemKind). type_item_root e.1) (interface_exports c i) t here in
       inr (i, there, (e.0, subst (λ (k : ItemKind). Contains (interface_exports c i) (e.0, k)) (type-item-is e.1 t one) listed)))
 ]
+
+root-is : (c : Collection) (x : GivenSides) (t : AnyType) → Contains (side_roots c x) t → IsRoot c x t
+root-is c x t h = root-among c x.imports.now x.exports.now x.additional.now t h
 
 pub roots-held : (c : Collection) → IsWellFormed c → (x : GivenSides) → AreHeldSides c x → (t : AnyType) → Contains (side_roots c x) t → holds_type c t ≡ true
 roots-held c wf x held t h = by (root-is c x t h)

@@ -118,7 +118,7 @@ given-worlds c ws ts given have there t h = scope-worlds c ws t (λ u w. have u 
 abbrev pub PutsWorld : Worlds → WorldId → List Decl → Worlds → Type 0
 PutsWorld old w ds new = (v : WorldId) → new v ≡ cond ((IdEq.ghosts).eq w v) (Some ds) (old v)
 
-same-world : (v w : WorldId) → (IdEq.ghosts).eq v w ≡ true → v ≡ w
+pub same-world : (v w : WorldId) → (IdEq.ghosts).eq v w ≡ true → v ≡ w
 same-world v w e = ap (λ n. record { 0 = n }) (eqb-true v.0 w.0 e)
 
 pub put-kept : (old new : Worlds) (w : WorldId) (ds : List Decl) → PutsWorld old w ds new → KeepsWorlds old new

@@ -25,6 +25,7 @@ use Rattle.wac_encode_scopes.specs.private.Components.{IsComponentType}
 use Rattle.wac_encode_scopes.specs.Contents.{HasSide, and_item}
 use Rattle.wac_encode_scopes.specs.private.Listing.{ListsResource}
 use Rattle.wac_encode_scopes.specs.States.{AllAddTypes, Goes, IsRecordedAt}
+use Rattle.wac_encode_scopes.specs.private.Paid.{AreUnrecorded}
 use Rattle.wac_encode_scopes.specs.private.Telling.{is_one_of, TellsInstance}
 use Rattle.wac_encode_stacks.specs.Scopes.{How}
 use Rattle.wac_encode_faults.specs.Faults.{of_items, IsFaultInside}
@@ -41,9 +42,9 @@ use Rattle.wac_encode_interfaces.specs.private.Parts.{sides_in, ArePlanned, MayF
 use Rattle.wac_encode_interfaces.proofs.Written.{if-both}
 use Rattle.wac_encode_interfaces.proofs.Bound.{no-some, one-some}
 use Rattle.wac_encode_interfaces.proofs.Agreeing.{interface-free}
-use Rattle.wac_encode_interfaces.proofs.Items.{component-more, goes-written, instance-ready, instance-written}
+use Rattle.wac_encode_interfaces.proofs.Items.{component-more, goes-written, instance-ready, instance-unrecorded, instance-written}
 use Rattle.wac_encode_interfaces.proofs.Numbers.{owner-test}
-use Rattle.wac_encode_interfaces.proofs.OwnTests.{any-owned}
+use Rattle.wac_encode_interfaces.proofs.OwnTests.{any-owned, owned-number}
 use Rattle.wac_encode_interfaces.proofs.Others.{fresh-written, other-bound, other-ready, other-written, nothing-bound, aliased-bound, resource-is}
 
 pub has-side : (side : Side) (x : Encodable) → IsComponentType x → HasSide side x
@@ -87,6 +88,14 @@ module _ (c : Collection) (wf : IsWellFormed c) (b : Bool) (ws : Worlds) (x : Pa
       instance-written c wf ws (sides_in x) can side n b xs old next whole i a it (is_one_of keys) mid new k at item lists
       (λ r q named_so. own it at r ∙ any-owned x.owners.now.entries p c it.uses it.exports r q named_so ∙ owner-test (sides_in x) c can.imports_once can.exports_once x.owners.now.entries planned.owners p (side_item side n) number r)
       (tells it at) types
+
+  -- What the instance owns is not recorded where it is listed.
+  pub instance-unrecorded-yet : (i : InterfaceId) (a : Bool) (p : ℕ) (keys : List ResourceId) (old mid : State) (k : ℕ) → MayFollow c b x side n old → IsItemOf (sides_in x) side n (kind.Instance i) a → slice_get (numbered_items (sides_in x)) p ≡ Some (side_item side n)
+      → ListsInterface c b side n a i old mid k → ((it : Interface) → item_at c.interfaces i.0 ≡ Some it → (r : ResourceId) → is_one_of keys r ≡ list_any (is_owned x.owners.now.entries p r) it.exports) → AreUnrecorded b mid keys
+  instance-unrecorded-yet i a p keys old mid k may item number lists own r one =
+      let (it, at) = item-held c.interfaces i.0 (instance-held i a item) in
+      instance-unrecorded c wf ws (sides_in x) can side n b may.0 old may.1 i a (is_one_of keys) mid k lists
+      (λ q h. sym (owner-test (sides_in x) c can.imports_once can.exports_once x.owners.now.entries planned.owners p (side_item side n) number q) ∙ owned-number x.owners.now.entries p it.exports q (sym (own it at q) ∙ h)) r one
 
   -- a fresh resource
 

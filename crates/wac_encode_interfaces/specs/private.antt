@@ -21,3 +21,4 @@ pub mod Trees
 pub mod WorldTrees
 pub mod Worlds
 pub mod Writers
+pub mod Paid

@@ -1,15 +1,19 @@
 //! The component types of the worlds inside types, which are written ahead.
 //!
 //! A component type sees nothing outside itself, so it is the same in each scope that mentions the world.
-ghost use Rattle.std.specs.Prelude.{◌≡◌, true, Contains, IfOk, OnOk};
+ghost use Rattle.std.specs.Prelude.{◌≡◌, ◌∷◌, [], true, Contains, IfOk, OnOk};
 ghost use Rattle.wac_types_shapes.specs.declared.shapes.component.«Type».{«Type» as AnyType};
 ghost use Rattle.wac_types_shapes.specs.declared.shapes.component.«Type».TheVariants as ty_of;
 ghost use Rattle.wac_types_collection.specs.collection.Collection.{holds_type};
 ghost use Rattle.wac_encode_scopes.specs.private.Closed.{AreClosedTypes};
+ghost use Rattle.wac_encode_scopes.specs.private.Limits.{IsTooLarge};
+ghost use Rattle.wac_encode_scopes.specs.private.Paid.{world_cost};
 ghost use Rattle.wac_encode_faults.specs.private.Ids.{HaveIds};
 ghost use Rattle.wac_encode_interfaces.specs.private.Given.{sides_of, AreHeldSides, HaveSidesWorlds};
+ghost use Rattle.wac_encode_interfaces.specs.private.Paid.{AreSmallWorlds, IsHeavy, SizedWithin};
 ghost use Rattle.wac_encode_interfaces.specs.private.Ready.{AreSidesClean, IsClean};
 ghost use Rattle.wac_encode_interfaces.specs.private.Worlds.{AreWorldTypes, HaveWorlds, written_in};
+ghost use Rattle.wac_encode_interfaces.specs.private.Roots.{side_roots as side_roots_of};
 ghost use Rattle.wac_encode_interfaces.specs.private.InnerTypes.{AreCleanTypes, HaveInner, IsCleanType, IsInnerFirst, IsWorldType, KeepsWorlds};
 
 use crate::inside::{type_at, types_inside};
@@ -20,6 +24,7 @@ use crate::writer::TypeWriter;
 use wac_binary::{BinaryFault, ComponentType};
 use wac_encode_scopes::ClosedTypes;
 use wac_types_collection::{Type, Types, WorldId};
+use wac_types_weight::weight_law;
 
 /// Writes the component type of a world. The worlds inside it must be written.
 fn world_type(
@@ -32,7 +37,9 @@ fn world_type(
     requires clean { IsCleanType types.now (ty_of.World world) }
     requires written { AreWorldTypes types.now (written_in written.now) }
     requires inner { HaveInner types.now (written_in written.now) (ty_of.World world) }
-    ensures { IfOk result (IsWorldType types.now world) }
+    requires sizes { AreSmallWorlds types.now (written_in written.now) }
+    ensures is { IfOk result (IsWorldType types.now world) }
+    ensures small { SizedWithin 17 (world_cost types.now world) result }
 {
     types.law(); // proof only
     // A component type has scopes of its own, so it is the same with the records of either collection.
@@ -57,10 +64,15 @@ fn add_world(
     requires clean { IsCleanType types.now ty }
     requires written { AreWorldTypes types.now (written_in written.old) }
     requires inner { HaveInner types.now (written_in written.old) ty }
+    requires sizes { AreSmallWorlds types.now (written_in written.old) }
     ensures written { OnOk result (AreWorldTypes types.now (written_in written.new)) }
     ensures kept { OnOk result (KeepsWorlds (written_in written.old) (written_in written.new)) }
     ensures there { OnOk result (HaveWorlds types.now (written_in written.new) ty) }
+    ensures small { IsTooLarge result → IsHeavy types.now (ty ∷ []) }
+    ensures sizes { OnOk result (AreSmallWorlds types.now (written_in written.new)) }
 {
+    types.law(); // proof only
+    weight_law();
     match ty {
         Type::World(world) => {
             let component = world_type(types, closed, written, world)?;
@@ -81,6 +93,8 @@ fn write_worlds(
     requires clean { AreCleanTypes types.now order.now }
     ensures written { IfOk result (λ ws. AreWorldTypes types.now (written_in ws)) }
     ensures there { IfOk result (λ ws. (t : AnyType) → Contains order.now t → HaveWorlds types.now (written_in ws) t) }
+    ensures small { IsTooLarge result → IsHeavy types.now order.now }
+    ensures sizes { IfOk result (λ ws. AreSmallWorlds types.now (written_in ws)) }
 {
     let mut written = WorldTypes::new(types.allocator());
     for i in 0..order.len() {
@@ -108,6 +122,8 @@ pub fn world_types(
     requires clean { (t : AnyType) → Contains roots.now t → IsClean types.now t }
     ensures written { IfOk result (λ ws. AreWorldTypes types.now (written_in ws)) }
     ensures there { IfOk result (λ ws. (t : AnyType) → Contains roots.now t → HaveWorlds types.now (written_in ws) t) }
+    ensures small { IsTooLarge result → IsHeavy types.now roots.now }
+    ensures sizes { IfOk result (λ ws. AreSmallWorlds types.now (written_in ws)) }
 {
     let order = types_inside(types, roots)?;
     write_worlds(types, closed, order.as_slice())
@@ -133,6 +149,8 @@ pub fn side_world_types(
     requires clean { AreSidesClean types.now (sides_of types.now sides.now) }
     ensures written { IfOk result (λ ws. AreWorldTypes types.now (written_in ws)) }
     ensures there { IfOk result (λ ws. HaveSidesWorlds types.now (written_in ws) sides.now) }
+    ensures small { IsTooLarge result → IsHeavy types.now (side_roots_of types.now sides.now) }
+    ensures sizes { IfOk result (λ ws. AreSmallWorlds types.now (written_in ws)) }
 {
     types.law(); // proof only
     let roots = side_roots(types, sides)?;

@@ -1,5 +1,5 @@
 //! Component types.
-ghost use Rattle.std.specs.Prelude.{◌≡◌, ◌≤◌, ◌<◌, ◌+◌, ◌^◌, ◌∷◌, ◌++◌, [], ℕ, true, false, Some, None, IfOk, OnOk, OnErr, Contains, length, slice_get};
+ghost use Rattle.std.specs.Prelude.{◌≡◌, ◌≤◌, ◌<◌, ◌+◌, ◌^◌, ◌∷◌, ◌++◌, [], ℕ, List, true, false, Some, None, IfOk, OnOk, OnErr, Contains, length, slice_get};
 ghost use Rattle.std.specs.List.{IsDistinct, flat_map};
 ghost use Rattle.wac_types_shapes.specs.primitives.Name.{Name as AnyName};
 ghost use Rattle.wac_types_shapes.specs.primitives.Tree.{imported, exported};
@@ -9,11 +9,14 @@ ghost use Rattle.wac_types_shapes.specs.declared.shapes.component.ItemKind.{Item
 ghost use Rattle.wac_types_shapes.specs.declared.shapes.component.ItemKind.TheVariants as kind_of;
 ghost use Rattle.wac_types_shapes.specs.declared.shapes.component.InterfaceId.{InterfaceId as AnInterfaceId};
 ghost use Rattle.wac_types_shapes.specs.declared.shapes.component.ResourceId.{ResourceId as AResource};
+ghost use Rattle.wac_types_shapes.specs.declared.shapes.component.«Type».{«Type» as AnyType};
 ghost use Rattle.wac_types_shapes.specs.declared.shapes.component.«Type».TheVariants as ty_of;
 ghost use Rattle.wac_types_collection.specs.collection.Collection.{HasInterface};
 ghost use Rattle.wac_types_collection.specs.collection.Held.{resolved};
 ghost use Rattle.wac_edges.specs.cycles.Cycles.{HasNoCycle};
+ghost use Rattle.wac_types_weight.specs.private.Laws.{Covers};
 ghost use Rattle.wac_encode_scopes.specs.private.Components.{ComponentHasMeaning, component_tree, IsComponentType};
+ghost use Rattle.wac_encode_scopes.specs.private.Paid.{PaidBy};
 ghost use Rattle.wac_encode_scopes.specs.Contents.{side_of};
 ghost use Rattle.wac_encode_scopes.specs.States.{Goes};
 ghost use Rattle.wac_encode_faults.specs.Cycle.{numbered_items, owner_of};
@@ -21,6 +24,7 @@ ghost use Rattle.wac_encode_faults.specs.Sides.{export_bindings, under_id};
 ghost use Rattle.wac_encode_interfaces.specs.private.Items.{HasInterfaceOf};
 ghost use Rattle.wac_encode_faults.specs.Trees.{sides_tree};
 ghost use Rattle.wac_encode_interfaces.specs.private.Given.{sides_of, AreHeldItems, AreHeldSides, HaveSidesWorlds};
+ghost use Rattle.wac_encode_interfaces.specs.private.Paid.{CoversSides, MayHold, SizedWithin, inside_cost, part_cost, side_cost, side_total, sides_cost};
 ghost use Rattle.wac_encode_interfaces.specs.private.Ready.{AreSidesClean, IsInterfaceReady};
 ghost use Rattle.wac_encode_interfaces.specs.private.Refused.{KeepsScopes};
 ghost use Rattle.wac_encode_interfaces.specs.private.Worlds.{HaveInterfaceWorlds, written_in};
@@ -32,12 +36,14 @@ ghost use Rattle.wac_encode_interfaces.specs.private.Ordered.{side_list, first_n
 use crate::ordered_sides::side_positions;
 use crate::sides::{Parts, Sides};
 use crate::writer::TypeWriter;
+use std::alloc::AllocError;
 use std::collections::BTreeSet;
 use wac_binary::{BinaryFault, ComponentType};
 use wac_encode_faults::{item_dependencies, item_owners, join_imports};
 use wac_encode_scopes::{Side, State};
 use wac_encode_stacks::still_law;
 use wac_types_collection::{InterfaceId, ItemKind, Named, ResourceId, ShapeError, Type, Types};
+use wac_types_weight::weight_law;
 
 /// Returns the interface of an instance.
 fn instance_in(item: ItemKind) -> Option<InterfaceId>
@@ -80,7 +86,7 @@ fn has_number(parts: &Parts<'_>, resource: ResourceId, number: usize) -> bool
 }
 
 /// Returns all imports of a component type. No interface may be additional twice.
-fn all_imports(types: &Types, sides: &Sides<'_>) -> Result<Named<ItemKind>, BinaryFault>
+fn all_imports(types: &Types, sides: &Sides<'_>) -> Result<Named<ItemKind>, AllocError>
     requires held { AreHeldSides types.now sides.now }
     requires once { IsDistinct (IdEq.ghosts).eq sides.now.additional.now }
     requires clean { AreSidesClean types.now (sides_of types.now sides.now) }
@@ -90,7 +96,7 @@ fn all_imports(types: &Types, sides: &Sides<'_>) -> Result<Named<ItemKind>, Bina
     match join_imports(types, sides.imports, sides.additional) {
         Ok(imports) => Ok(imports),
         Err(ShapeError::NameTwice) => unreachable!(),
-        Err(ShapeError::OutOfMemory) => Err(BinaryFault::OutOfMemory),
+        Err(ShapeError::OutOfMemory) => Err(AllocError),
     }
 }
 
@@ -109,6 +115,7 @@ impl<'a> TypeWriter<'a> {
         requires made { is_bound_at (export_bindings self.now.types.now (sides_in parts.now) (resolved self.now.types.now resource)) (side_item (side_of side) name.now) ≡ true }
         requires next { MayFollow self.now.types.now self.now.merged parts.now (side_of side) name.now state.old }
         ensures writes { OnOk result (WritesItem self.now.types.now self.now.merged parts.now (side_of side) name.now state.old state.new) }
+        ensures paid { (ts : List AnyType) → Covers self.now.types.now ts (kind_type (kind_of.TypeItem (ty_of.Resource resource))) → PaidBy self.now.types.now self.now.merged ts (side_cost self.now.types.now name.now (kind_of.TypeItem (ty_of.Resource resource)) false) state.old state.new result }
     {
         let _ = parts.uses;
         self.types.law(); // proof only
@@ -129,6 +136,7 @@ impl<'a> TypeWriter<'a> {
         ensures goes { OnOk result (Goes self.now.types.now self.now.merged state.old state.new) }
         ensures has { OnOk result (HasInterfaceOf self.now.merged state.new item) }
         ensures refused { OnErr result (KeepsScopes state.old state.new) }
+        ensures paid { MayHold self.now.merged state.old.here.content (kind_type item) → PaidBy self.now.types.now self.now.merged [] (inside_cost self.now.types.now (kind_type item)) state.old state.new result }
     {
         still_law();
         match interface_in(item.ty()) {
@@ -155,9 +163,11 @@ impl<'a> TypeWriter<'a> {
         requires other { (r : AResource) → is_bound_at (export_bindings self.now.types.now (sides_in parts.now) r) (side_item (side_of side) name.now) ≡ false }
         requires next { MayFollow self.now.types.now self.now.merged parts.now (side_of side) name.now state.old }
         ensures writes { OnOk result (WritesItem self.now.types.now self.now.merged parts.now (side_of side) name.now state.old state.new) }
+        ensures paid { (ts : List AnyType) → Covers self.now.types.now ts (kind_type item) → PaidBy self.now.types.now self.now.merged ts (side_cost self.now.types.now name.now item false) state.old state.new result }
     {
         let _ = parts.uses;
         self.types.law(); // proof only
+        weight_law();
         self.write_interface_of(state, item)?;
         self.add_item(state, side, name, item)?;
         Ok(())
@@ -180,6 +190,7 @@ impl<'a> TypeWriter<'a> {
         requires number { slice_get (numbered_items (sides_in parts.now)) number ≡ Some (side_item (side_of side) name.now) }
         requires next { MayFollow self.now.types.now self.now.merged parts.now (side_of side) name.now state.old }
         ensures writes { OnOk result (WritesItem self.now.types.now self.now.merged parts.now (side_of side) name.now state.old state.new) }
+        ensures paid { (ts : List AnyType) → Covers self.now.types.now ts (kind_type (kind_of.TypeItem (ty_of.Resource resource))) → PaidBy self.now.types.now self.now.merged ts (side_cost self.now.types.now name.now (kind_of.TypeItem (ty_of.Resource resource)) false) state.old state.new result }
     {
         self.types.law(); // proof only
         let end = self.types.resolve_resource(resource);
@@ -208,6 +219,7 @@ impl<'a> TypeWriter<'a> {
         requires number { slice_get (numbered_items (sides_in parts.now)) number ≡ Some (side_item (side_of side) name.now) }
         requires next { MayFollow self.now.types.now self.now.merged parts.now (side_of side) name.now state.old }
         ensures writes { OnOk result (WritesItem self.now.types.now self.now.merged parts.now (side_of side) name.now state.old state.new) }
+        ensures paid { (ts : List AnyType) → Covers self.now.types.now ts (kind_type item) → PaidBy self.now.types.now self.now.merged ts (side_cost self.now.types.now name.now item false) state.old state.new result }
     {
         self.types.law(); // proof only
         match resource_in(item) {
@@ -233,6 +245,7 @@ impl<'a> TypeWriter<'a> {
         requires number { slice_get (numbered_items (sides_in parts.now)) number ≡ Some (side_item (side_of side) name.now) }
         requires next { MayFollow self.now.types.now self.now.merged parts.now (side_of side) name.now state.old }
         ensures writes { OnOk result (WritesItem self.now.types.now self.now.merged parts.now (side_of side) name.now state.old state.new) }
+        ensures paid { (ts : List AnyType) → Covers self.now.types.now ts (kind_type item) → PaidBy self.now.types.now self.now.merged ts (side_cost self.now.types.now name.now item additional) state.old state.new result }
     {
         match instance_in(item) {
             Some(id) => self.write_instance(state, parts, side, number, name, id, additional),
@@ -252,6 +265,7 @@ impl<'a> TypeWriter<'a> {
         requires position { position < length parts.now.imports.now }
         requires next { (n : AnyName) (k : AKind) → slice_get parts.now.imports.now position ≡ Some (n, k) → MayFollow self.now.types.now self.now.merged parts.now imported n state.old }
         ensures writes { OnOk result ((n : AnyName) (k : AKind) → slice_get parts.now.imports.now position ≡ Some (n, k) → WritesItem self.now.types.now self.now.merged parts.now imported n state.old state.new) }
+        ensures paid { (n : AnyName) (k : AKind) (ts : List AnyType) → slice_get parts.now.imports.now position ≡ Some (n, k) → Covers self.now.types.now ts (kind_type k) → PaidBy self.now.types.now self.now.merged ts (part_cost self.now.types.now parts.now imported position n k) state.old state.new result }
     {
         let (name, item) = parts.imports.entry_at(position);
         let additional = parts.listed.len() <= position;
@@ -279,6 +293,7 @@ impl<'a> TypeWriter<'a> {
         requires position { position < length parts.now.exports.now }
         requires next { (n : AnyName) (k : AKind) → slice_get parts.now.exports.now position ≡ Some (n, k) → MayFollow self.now.types.now self.now.merged parts.now exported n state.old }
         ensures writes { OnOk result ((n : AnyName) (k : AKind) → slice_get parts.now.exports.now position ≡ Some (n, k) → WritesItem self.now.types.now self.now.merged parts.now exported n state.old state.new) }
+        ensures paid { (n : AnyName) (k : AKind) (ts : List AnyType) → slice_get parts.now.exports.now position ≡ Some (n, k) → Covers self.now.types.now ts (kind_type k) → PaidBy self.now.types.now self.now.merged ts (part_cost self.now.types.now parts.now exported position n k) state.old state.new result }
     {
         let (name, item) = parts.exports.entry_at(position);
         let number = parts.imports.len() + position;
@@ -299,6 +314,7 @@ impl<'a> TypeWriter<'a> {
         requires position { position < length (side_list parts.now (side_of side)) }
         requires next { (n : AnyName) (k : AKind) → slice_get (side_list parts.now (side_of side)) position ≡ Some (n, k) → MayFollow self.now.types.now self.now.merged parts.now (side_of side) n state.old }
         ensures writes { OnOk result ((n : AnyName) (k : AKind) → slice_get (side_list parts.now (side_of side)) position ≡ Some (n, k) → WritesItem self.now.types.now self.now.merged parts.now (side_of side) n state.old state.new) }
+        ensures paid { (n : AnyName) (k : AKind) (ts : List AnyType) → slice_get (side_list parts.now (side_of side)) position ≡ Some (n, k) → Covers self.now.types.now ts (kind_type k) → PaidBy self.now.types.now self.now.merged ts (part_cost self.now.types.now parts.now (side_of side) position n k) state.old state.new result }
     {
         match side {
             Side::Import => self.write_import(state, parts, position),
@@ -322,6 +338,7 @@ impl<'a> TypeWriter<'a> {
         requires order { IsOrdered steps.now (first_number parts.now (side_of side)) (length (side_list parts.now (side_of side))) order.now }
         requires begins { MayBegin self.now.types.now self.now.merged parts.now (side_of side) state.old }
         ensures writes { OnOk result (WritesSide self.now.types.now self.now.merged parts.now (side_of side) state.old state.new) }
+        ensures paid { (ts : List AnyType) → CoversSides self.now.types.now ts (sides_in parts.now) → PaidBy self.now.types.now self.now.merged ts (side_total self.now.types.now parts.now (side_of side)) state.old state.new result }
     {
         for i in 0..order.len() {
             self.write_at(state, parts, side, order[i])?;
@@ -342,6 +359,7 @@ impl<'a> TypeWriter<'a> {
         requires steps { AreDependencies self.now.types.now parts.now steps.now }
         requires begins { MayBegin self.now.types.now self.now.merged parts.now imported state.old }
         ensures writes { OnOk result (WritesSide self.now.types.now self.now.merged parts.now imported state.old state.new) }
+        ensures paid { (ts : List AnyType) → CoversSides self.now.types.now ts (sides_in parts.now) → PaidBy self.now.types.now self.now.merged ts (side_total self.now.types.now parts.now imported) state.old state.new result }
     {
         let _ = steps.len(); // proof only
         let additional = parts.imports.len() - parts.listed.len();
@@ -362,6 +380,7 @@ impl<'a> TypeWriter<'a> {
         requires steps { AreDependencies self.now.types.now parts.now steps.now }
         requires begins { MayBegin self.now.types.now self.now.merged parts.now exported state.old }
         ensures writes { OnOk result (WritesSide self.now.types.now self.now.merged parts.now exported state.old state.new) }
+        ensures paid { (ts : List AnyType) → CoversSides self.now.types.now ts (sides_in parts.now) → PaidBy self.now.types.now self.now.merged ts (side_total self.now.types.now parts.now exported) state.old state.new result }
     {
         let _ = steps.len(); // proof only
         let first = parts.imports.len();
@@ -382,6 +401,7 @@ impl<'a> TypeWriter<'a> {
         requires steps { AreDependencies self.now.types.now parts.now steps.now }
         requires begins { IsWritten self.now.types.now self.now.merged (sides_in parts.now) [] state.old }
         ensures writes { OnOk result (AreSidesWritten self.now.types.now self.now.merged parts.now state.new) }
+        ensures paid { (ts : List AnyType) → CoversSides self.now.types.now ts (sides_in parts.now) → PaidBy self.now.types.now self.now.merged ts (side_total self.now.types.now parts.now imported + side_total self.now.types.now parts.now exported) state.old state.new result }
     {
         self.write_imports(state, parts, steps)?;
         self.write_exports(state, parts, steps)
@@ -392,7 +412,10 @@ impl<'a> TypeWriter<'a> {
         requires writer { IsWriter self.now }
         requires planned { ArePlanned self.now.types.now (written_in self.now.worlds.now) parts.now }
         ensures meaning { IfOk result (λ ds. ComponentHasMeaning ds × (component_tree ds ≡ sides_tree self.now.types.now (sides_in parts.now))) }
+        ensures small { SizedWithin 0 (sides_cost self.now.types.now (sides_in parts.now)) result }
     {
+        self.types.law(); // proof only
+        weight_law();
         let own = parts.listed.len();
         let steps = item_dependencies(self.types, parts.uses, parts.imports, own, parts.exports)?;
         let mut state = State::component(self.types.allocator());
@@ -416,6 +439,7 @@ impl<'a> TypeWriter<'a> {
         requires clean { AreSidesClean self.now.types.now (sides_of self.now.types.now sides.now) }
         requires worlds { HaveSidesWorlds self.now.types.now (written_in self.now.worlds.now) sides.now }
         ensures meaning { IfOk result (λ ds. ComponentHasMeaning ds × (component_tree ds ≡ sides_tree self.now.types.now (sides_of self.now.types.now sides.now))) }
+        ensures small { SizedWithin 0 (sides_cost self.now.types.now (sides_of self.now.types.now sides.now)) result }
     {
         let imports = all_imports(self.types, sides)?;
         let owners = item_owners(self.types, sides.uses, &imports, sides.exports)?;

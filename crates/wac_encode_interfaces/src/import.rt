@@ -1,13 +1,16 @@
 //! Items that the root imports.
 
-ghost use Rattle.std.specs.Prelude.{◌≡◌, true, None, IfOk, IfSome, OnOk, OnErr};
+ghost use Rattle.std.specs.Prelude.{◌≡◌, ◌+◌, ◌*◌, [], true, None, IfOk, IfSome, OnOk, OnErr, length};
 ghost use Rattle.wac_types_shapes.specs.declared.shapes.component.ItemKind.TheVariants as kind_of;
 ghost use Rattle.wac_types_shapes.specs.declared.shapes.component.«Type».TheVariants as ty_of;
+ghost use Rattle.wac_types_shapes.specs.shapes.Kinds.{kind_type};
 ghost use Rattle.wac_types_collection.specs.collection.Collection.{holds_type};
 ghost use Rattle.wac_encode_scopes.specs.Roots.{IsRoot};
 ghost use Rattle.wac_encode_scopes.specs.States.{AllAddTypes, Goes};
+ghost use Rattle.wac_encode_scopes.specs.private.Paid.{PaidBy, PaidFor};
 ghost use Rattle.wac_encode_values.specs.private.Values.{IsReady};
 ghost use Rattle.wac_encode_interfaces.specs.private.Imports.{DescribesImport, ImportsBeside, ImportsOf, IsImportReady, IsModuleAt, module_type_of};
+ghost use Rattle.wac_encode_interfaces.specs.private.Paid.{MayHold, import_type_cost, module_cost};
 ghost use Rattle.wac_encode_interfaces.specs.private.Refused.{KeepsScopes};
 ghost use Rattle.wac_encode_interfaces.specs.private.Worlds.{written_in};
 ghost use Rattle.wac_encode_interfaces.specs.private.Writers.{IsWriter};
@@ -17,7 +20,7 @@ use crate::writer::TypeWriter;
 use wac_binary::{BinaryFault, Description};
 use wac_encode_scopes::State;
 use wac_encode_stacks::{bringing_law, module_law, root_law, step_law, still_law};
-use wac_modules::module_type;
+use wac_modules::{limits_law, module_type, small_law};
 use wac_types_collection::{ItemKind, ModuleTypeId, WorldId};
 
 /// Returns the world of a component.
@@ -45,13 +48,17 @@ impl<'a> TypeWriter<'a> {
         ensures goes { OnOk result (Goes self.now.types.now self.now.merged state.old state.new) }
         ensures is { IfOk result (IsModuleAt self.now.types.now self.now.merged state.new id) }
         ensures types { AllAddTypes state.old state.new }
+        ensures paid { PaidBy self.now.types.now self.now.merged [] (module_cost self.now.types.now id known) state.old state.new result }
     {
         still_law();
         module_law();
         if let Some(core_type) = known {
             return Ok(core_type);
         }
-        let written = module_type(self.types.allocator(), &self.types[id])?;
+        let module = &self.types[id];
+        limits_law(module); // proof only
+        small_law();
+        let written = module_type(self.types.allocator(), module)?;
         state.define_module(&written)
     }
 
@@ -63,6 +70,7 @@ impl<'a> TypeWriter<'a> {
         ensures goes { OnOk result (Goes self.now.types.now self.now.merged state.old state.new) }
         ensures describes { IfOk result (DescribesImport self.now.types.now self.now.merged state.new item) }
         ensures refused { OnErr result (KeepsScopes state.old state.new) }
+        ensures paid { MayHold self.now.merged state.old.here.content (kind_type item) → PaidFor self.now.types.now self.now.merged (kind_type item) (import_type_cost self.now.types.now (kind_type item)) state.old state.new result }
     {
         step_law();
         if let Some(world) = world_in(item) {
@@ -97,6 +105,7 @@ impl<'a> TypeWriter<'a> {
         ensures beside { IfOk result (λ r. ImportsBeside self.now.merged name.now (kind_of.Module id) r.0 state.old state.new) }
         ensures known { IfOk result (λ r. IsModuleAt self.now.types.now self.now.merged state.new id r.1) }
         ensures refused { OnErr result (KeepsScopes state.old state.new) }
+        ensures paid { PaidBy self.now.types.now self.now.merged [] (20 + 2 * length name.now + module_cost self.now.types.now id known) state.old state.new result }
     {
         bringing_law();
         root_law();
@@ -131,6 +140,7 @@ impl<'a> TypeWriter<'a> {
         ensures imports { IfOk result (ImportsOf self.now.types.now self.now.merged name.now item state.old state.new) }
         ensures beside { IfOk result (λ i. ImportsBeside self.now.merged name.now item i state.old state.new) }
         ensures refused { OnErr result (KeepsScopes state.old state.new) }
+        ensures paid { MayHold self.now.merged state.old.here.content (kind_type item) → PaidFor self.now.types.now self.now.merged (kind_type item) (20 + 2 * length name.now + import_type_cost self.now.types.now (kind_type item)) state.old state.new result }
     {
         bringing_law();
         root_law();

@@ -4,11 +4,13 @@ ghost use Rattle.std.specs.List.{flat_map};
 ghost use Rattle.wac_types_shapes.specs.declared.shapes.component.«Type».{«Type» as AnyType};
 ghost use Rattle.wac_types_collection.specs.collection.Collection.{holds_type};
 ghost use Rattle.wac_encode_interfaces.specs.declared.inside.Step.TheVariants as step_of;
+ghost use Rattle.wac_encode_interfaces.specs.private.Paid.{WeighNoMore};
 ghost use Rattle.wac_encode_interfaces.specs.private.InnerTypes.{interface_or_world, interfaces_and_worlds, inner_types, is_done, enter_all, step_type, AreCleanTypes, IsInnerFirst, TakesStep};
 
 use indexmap::IndexSet;
 use std::alloc::AllocError;
 use wac_types_collection::{ItemKind, Named, Type, Types};
+use wac_types_weight::weight_law;
 
 /// What is to be done with an interface or a world.
 #[derive(Clone, Copy)]
@@ -123,8 +125,10 @@ pub(crate) fn types_inside(types: &Types, roots: &[Type]) -> Result<IndexSet<Typ
     ensures sorted { IfOk result (λ s. IsInnerFirst types.now s.keys) }
     ensures clean { IfOk result (λ s. AreCleanTypes types.now s.keys) }
     ensures roots { IfOk result (λ s. (t : AnyType) → Contains (flat_map interface_or_world roots.now) t → Contains s.keys t) }
+    ensures light { IfOk result (λ s. WeighNoMore types.now roots.now s.keys) }
 {
     types.law(); // proof only
+    weight_law();
     let mut done = IndexSet::new(types.allocator());
     let mut pending = Vec::new(types.allocator());
     push_types(&mut pending, roots)?;

@@ -1,5 +1,5 @@
 //! Instances of component types.
-ghost use Rattle.std.specs.Prelude.{◌≡◌, ◌||◌, false, Some, IfOk, OnOk, OnErr, slice_get};
+ghost use Rattle.std.specs.Prelude.{◌≡◌, ◌||◌, ◌+◌, ◌*◌, [], false, Some, IfOk, OnOk, OnErr, length, slice_get};
 ghost use Rattle.std.specs.List.{list_any};
 ghost use Rattle.wac_types_shapes.specs.declared.shapes.component.ResourceId.{ResourceId as AnyResource};
 ghost use Rattle.wac_types_shapes.specs.declared.shapes.component.Interface.{Interface as AnInterface};
@@ -10,8 +10,10 @@ ghost use Rattle.wac_encode_scopes.specs.private.Components.{IsComponentType};
 ghost use Rattle.wac_encode_scopes.specs.Contents.{side_of};
 ghost use Rattle.wac_encode_stacks.specs.Scopes.{How as AnyHow};
 ghost use Rattle.wac_encode_scopes.specs.States.{Goes, IsRecordedAt};
+ghost use Rattle.wac_encode_scopes.specs.private.Paid.{MayEnclose, PaidBy, interface_cost};
 ghost use Rattle.wac_encode_scopes.specs.private.Telling.{is_one_of};
 ghost use Rattle.wac_encode_faults.specs.Cycle.{numbered_items};
+ghost use Rattle.wac_encode_interfaces.specs.private.Paid.{side_cost};
 ghost use Rattle.wac_encode_interfaces.specs.private.Ready.{IsInterfaceAt, IsInterfaceReady};
 ghost use Rattle.wac_encode_interfaces.specs.private.Refused.{KeepsScopes};
 ghost use Rattle.wac_encode_interfaces.specs.private.Worlds.{HaveInterfaceWorlds, written_in};
@@ -22,11 +24,12 @@ ghost use Rattle.wac_encode_interfaces.specs.private.Parts.{sides_in, ArePlanned
 use crate::sides::Parts;
 use crate::writer::TypeWriter;
 use indexmap::{IndexMap, IndexSet};
-use std::alloc::Global;
+use std::alloc::{AllocError, Global};
 use wac_binary::{BinaryFault, Description};
 use wac_encode_scopes::{Side, State};
 use wac_encode_stacks::{instance_law, step_law, still_law};
 use wac_types_collection::{InterfaceId, ItemKind, Named, ResourceId, Type};
+use wac_types_weight::weight_law;
 
 /// Returns the resource of an item, if it is a type item of a resource that has this number.
 fn owned_resource(
@@ -47,7 +50,7 @@ fn owned_resource(
 fn add_resource(
     set: &mut IndexSet<ResourceId>,
     resource: Option<ResourceId>,
-) -> Result<(), BinaryFault>
+) -> Result<(), AllocError>
     ensures { OnOk result ((r : AnyResource) → is_one_of set.new.keys r ≡ (is_one_of set.old.keys r || is_that resource r)) }
 {
     let Some(resource) = resource else {
@@ -63,7 +66,7 @@ fn owned_among(
     owners: &IndexMap<ResourceId, usize>,
     items: &Named<ItemKind>,
     number: usize,
-) -> Result<IndexSet<ResourceId>, BinaryFault>
+) -> Result<IndexSet<ResourceId>, AllocError>
     ensures { IfOk result (λ s. (r : AnyResource) → is_one_of s.keys r ≡ list_any (is_owned owners.now.entries number r) items.now) }
 {
     let mut owned = IndexSet::new(alloc);
@@ -82,7 +85,7 @@ impl<'a> TypeWriter<'a> {
         owners: &IndexMap<ResourceId, usize>,
         interface: InterfaceId,
         number: usize,
-    ) -> Result<IndexSet<ResourceId>, BinaryFault>
+    ) -> Result<IndexSet<ResourceId>, AllocError>
         requires { HasInterface self.now.types.now interface }
         ensures { IfOk result (λ s. (it : AnInterface) → item_at self.now.types.now.interfaces interface.0 ≡ Some it → (r : AnyResource) → is_one_of s.keys r ≡ list_any (is_owned owners.now.entries number r) it.exports) }
     {
@@ -106,6 +109,7 @@ impl<'a> TypeWriter<'a> {
         ensures is { IfOk result (IsInterfaceAt self.now.types.now self.now.merged state.new types_only interface) }
         ensures recorded { IfOk result (λ k. types_only ≡ false → (how : AnyHow) × IsRecordedAt self.now.merged state.new (ty_of.Interface interface) how k) }
         ensures refused { OnErr result (KeepsScopes state.old state.new) }
+        ensures paid { MayEnclose self.now.merged state.old.here.content → PaidBy self.now.types.now self.now.merged [] (interface_cost self.now.types.now interface) state.old state.new result }
     {
         step_law();
         still_law();
@@ -132,6 +136,7 @@ impl<'a> TypeWriter<'a> {
         requires ready { IsInterfaceReady self.now.types.now self.now.merged state.old types_only interface }
         requires worlds { HaveInterfaceWorlds self.now.types.now (written_in self.now.worlds.now) types_only interface }
         ensures lists { IfOk result (ListsInterface self.now.types.now self.now.merged (side_of side) name.now types_only interface state.old state.new) }
+        ensures paid { PaidBy self.now.types.now self.now.merged [] (10 + 2 * length name.now + interface_cost self.now.types.now interface) state.old state.new result }
     {
         let index = self.interface_index(state, interface, types_only)?;
         state.list(side, name, Description::Instance(index))
@@ -155,9 +160,11 @@ impl<'a> TypeWriter<'a> {
         requires number { slice_get (numbered_items (sides_in parts.now)) number ≡ Some (side_item (side_of side) name.now) }
         requires next { MayFollow self.now.types.now self.now.merged parts.now (side_of side) name.now state.old }
         ensures writes { OnOk result (WritesItem self.now.types.now self.now.merged parts.now (side_of side) name.now state.old state.new) }
+        ensures paid { PaidBy self.now.types.now self.now.merged [] (side_cost self.now.types.now name.now (kind_of.Instance interface) types_only) state.old state.new result }
     {
         self.types.law(); // proof only
         instance_law();
+        weight_law();
         let instance = self.list_instance(state, side, name, interface, types_only)?;
         let own = self.owned_resources(parts.owners, interface, number)?;
         state.tell_instance(

@@ -1,16 +1,21 @@
 //! Interfaces inside interfaces, level by level.
 
-ghost use Rattle.std.specs.Prelude.{◌≡◌, ◌<◌, ◌≤◌, ◌+◌, ◌^◌, Bool, false, true, length, List, None, Some, IfOk, IfSome, OnOk, OnErr};
+ghost use Rattle.std.specs.Prelude.{◌≡◌, ◌<◌, ◌≤◌, ◌+◌, ◌^◌, [], Bool, false, true, length, List, None, Some, IfOk, IfSome, OnOk, OnErr};
 ghost use Rattle.wac_types_shapes.specs.declared.shapes.component.Interface.{Interface as AnInterface};
 ghost use Rattle.wac_types_shapes.specs.declared.shapes.component.InterfaceId.{InterfaceId as AnId};
+ghost use Rattle.wac_types_shapes.specs.declared.shapes.component.«Type».{«Type» as AnyType};
 ghost use Rattle.wac_types_shapes.specs.declared.shapes.component.«Type».TheVariants as ty_of;
 ghost use Rattle.wac_types_shapes.specs.shapes.Kinds.{kind_type};
 ghost use Rattle.wac_types_collection.specs.collection.Collection.{HasInterface, holds_type, item_at};
 ghost use Rattle.wac_encode_stacks.specs.Scopes.{How as AnyHow};
 ghost use Rattle.wac_encode_scopes.specs.declared.state.State.{State as AState};
+ghost use Rattle.wac_encode_scopes.specs.Books.{opened};
 ghost use Rattle.wac_encode_scopes.specs.private.Interfaces.{BeginsInterface};
+ghost use Rattle.wac_encode_scopes.specs.private.Limits.{IsTooLarge};
+ghost use Rattle.wac_encode_scopes.specs.private.Paid.{IsOpenType, IsPriced, MayEnclose, PaidBy, charge, interface_cost};
 ghost use Rattle.wac_encode_scopes.specs.States.{AllAddTypes, Goes, IsRecordedAt};
 ghost use Rattle.wac_encode_interfaces.specs.declared.level.Level.{Level as ALevel};
+ghost use Rattle.wac_encode_interfaces.specs.private.Paid.{CoversItems, HasNoRoomLeft, HasNoRoomToClose, PaysClosed, PaysItems, next_cost, own_cost, told_cost};
 ghost use Rattle.wac_encode_interfaces.specs.private.Ready.{IsInterfaceAt, IsInterfaceReady};
 ghost use Rattle.wac_encode_interfaces.specs.private.Refused.{AreStillOpen, KeepsScopes};
 ghost use Rattle.wac_encode_interfaces.specs.private.Worlds.{HaveInterfaceWorlds, written_in};
@@ -29,6 +34,7 @@ use wac_encode_stacks::{
     bringing_law, closing_law, instance_law, listing_law, part_law, step_law, still_law,
 };
 use wac_types_collection::{InterfaceId, ItemKind, Type, Types};
+use wac_types_weight::weight_law;
 
 /// Returns the interface of an instance, or of a type item of an interface.
 fn interface_of(item: ItemKind) -> Option<InterfaceId>
@@ -65,6 +71,8 @@ impl<'a> TypeWriter<'a> {
         ensures fresh { IfOk result (IsNewLevel interface types_only) }
         ensures level { IfOk result (IsLevel self.now.types.now) }
         ensures kept { KeepsScopes state.old state.new }
+        ensures charged { OnOk result (charge self.now.types.now self.now.merged (opened self.now.merged state.new.here) ≤ own_cost self.now.types.now interface) }
+        ensures room { IsTooLarge result → 2 ^ 32 ≤ interface_cost self.now.types.now interface }
     {
         state.open_interface(self.types, self.merged, interface)?;
         let order = interface_order(self.types, interface, types_only)?;
@@ -103,6 +111,7 @@ impl<'a> TypeWriter<'a> {
         requires there { HasInstance self.now.types.now self.now.merged state.old item index }
         ensures goes { OnOk result (Goes self.now.types.now self.now.merged state.old state.new) }
         ensures types { AllAddTypes state.old state.new }
+        ensures paid { IsOpenType state.old.here.content → PaidBy self.now.types.now self.now.merged [] (told_cost self.now.types.now item) state.old state.new result }
     {
         self.types.law(); // proof only
         instance_law();
@@ -124,12 +133,15 @@ impl<'a> TypeWriter<'a> {
         ensures keeps { OnOk result (KeepsLevels self.now.types.now self.now.merged state.old level.old state.new level.new) }
         ensures level { OnOk result (level.new ≡ following level.old) }
         ensures kept { KeepsScopes state.old state.new }
+        ensures paid { (ts : List AnyType) → CoversItems self.now.types.now ts level.old.interface → PaidBy self.now.types.now self.now.merged ts (next_cost self.now.types.now level.old) state.old state.new result }
+        ensures priced { OnOk result (IsPriced self.now.merged state.old → IsPriced self.now.merged state.new) }
     {
         self.types.law(); // proof only
         part_law();
         bringing_law();
         closing_law();
         listing_law();
+        weight_law();
         let (name, item) = next_item(self.types, level);
         let index = self.add_item(state, Side::Export, name, item)?;
         self.tell_exports(state, item, index)?;
@@ -146,7 +158,11 @@ impl<'a> TypeWriter<'a> {
         ensures same { OnOk result (level.new.interface ≡ level.old.interface) }
         ensures further { OnOk result (level.old.next ≤ level.new.next) }
         ensures kept { KeepsScopes state.old state.new }
+        ensures paid { OnOk result (PaysItems self.now.types.now self.now.merged state.old level.old state.new level.new) }
+        ensures room { IsTooLarge result → HasNoRoomLeft self.now.types.now self.now.merged state.old level.old }
     {
+        self.types.law(); // proof only
+        weight_law();
         'items: while level.next < level.order.len() {
             if let Some(inside) = self.missing(state, level) {
                 return Ok(Some(inside));
@@ -165,6 +181,8 @@ impl<'a> TypeWriter<'a> {
             → IsClosedInto self.now.types.now self.now.merged i types_only old ks state.new k) }
         ensures recorded { IfOk result (λ k. level.now.types_only ≡ false → (how : AnyHow) × IsRecordedAt self.now.merged state.new (ty_of.Interface level.now.interface) how k) }
         ensures refused { OnErr result (AreStillOpen state.old.around.items state.new) }
+        ensures paid { OnOk result (IsPriced self.now.merged state.old → PaysClosed self.now.types.now self.now.merged state.old state.new) }
+        ensures room { IsTooLarge result → IsPriced self.now.merged state.old → HasNoRoomToClose self.now.types.now self.now.merged state.old }
     {
         self.types.law(); // proof only
         step_law();
@@ -208,8 +226,10 @@ impl<'a> TypeWriter<'a> {
         ensures is { IfOk result (IsInterfaceAt self.now.types.now self.now.merged state.new types_only interface) }
         ensures recorded { IfOk result (λ k. types_only ≡ false → (how : AnyHow) × IsRecordedAt self.now.merged state.new (ty_of.Interface interface) how k) }
         ensures refused { OnErr result (KeepsScopes state.old state.new) }
+        ensures paid { MayEnclose self.now.merged state.old.here.content → PaidBy self.now.types.now self.now.merged [] (interface_cost self.now.types.now interface) state.old state.new result }
     {
         self.types.law(); // proof only
+        weight_law();
         let mut waiting = Vec::new(self.types.allocator());
         let mut level = self.open_level(state, interface, types_only)?;
         'levels: loop {

@@ -1,12 +1,14 @@
 //! Items of instance types and component types.
 
-ghost use Rattle.std.specs.Prelude.{◌≡◌, true, IfOk, OnOk, Some};
+ghost use Rattle.std.specs.Prelude.{◌≡◌, ◌+◌, ◌*◌, [], true, length, IfOk, OnOk, Some};
 ghost use Rattle.wac_types_shapes.specs.declared.shapes.component.ItemKind.TheVariants as kind_of;
 ghost use Rattle.wac_types_shapes.specs.declared.shapes.component.ValueType.TheVariants as val;
 ghost use Rattle.wac_types_shapes.specs.declared.shapes.component.«Type».TheVariants as ty_of;
+ghost use Rattle.wac_types_shapes.specs.shapes.Kinds.{kind_type};
 ghost use Rattle.wac_types_collection.specs.collection.Collection.{holds_type};
 ghost use Rattle.wac_encode_stacks.specs.Scopes.{Open};
-ghost use Rattle.wac_encode_scopes.specs.Contents.{HasSide, side_of};
+ghost use Rattle.wac_encode_scopes.specs.Contents.{HasSide, content_of, side_of};
+ghost use Rattle.wac_encode_scopes.specs.private.Paid.{PaidBy, PaidFor, primitive_cost, type_cost, world_cost};
 ghost use Rattle.wac_encode_scopes.specs.States.{AllAddTypes, Goes, IsTypeAt, RecordsHere};
 ghost use Rattle.wac_encode_values.specs.private.Values.{IsReady};
 ghost use Rattle.wac_encode_interfaces.specs.private.Worlds.{HaveWorlds, written_in};
@@ -20,6 +22,7 @@ use wac_binary::{BinaryFault, ComponentValType, Description};
 use wac_encode_scopes::{How, Side, State};
 use wac_encode_stacks::{bringing_law, part_law, step_law, still_law};
 use wac_types_collection::{ItemKind, PrimitiveType, Type, ValueType, WorldId};
+use wac_types_weight::weight_law;
 
 impl<'a> TypeWriter<'a> {
     /// Returns the type index of a world in the innermost scope, where it is written if it was not.
@@ -29,6 +32,7 @@ impl<'a> TypeWriter<'a> {
         ensures goes { OnOk result (Goes self.now.types.now self.now.merged state.old state.new) }
         ensures is { IfOk result (IsTypeAt self.now.types.now self.now.merged state.new (ty_of.World world)) }
         ensures types { AllAddTypes state.old state.new }
+        ensures paid { PaidFor self.now.types.now self.now.merged (ty_of.World world) (world_cost self.now.types.now world) state.old state.new result }
     {
         step_law();
         still_law();
@@ -47,6 +51,7 @@ impl<'a> TypeWriter<'a> {
         ensures goes { OnOk result (Goes self.now.types.now self.now.merged state.old state.new) }
         ensures is { IfOk result (IsTypeAt self.now.types.now self.now.merged state.new (ty_of.Value (val.Primitive primitive))) }
         ensures types { AllAddTypes state.old state.new }
+        ensures paid { PaidBy self.now.types.now self.now.merged [] (primitive_cost (content_of state.old.here.content)) state.old state.new result }
     {
         step_law();
         still_law();
@@ -65,6 +70,7 @@ impl<'a> TypeWriter<'a> {
         ensures goes { OnOk result (Goes self.now.types.now self.now.merged state.old state.new) }
         ensures is { IfOk result (IsTypeAt self.now.types.now self.now.merged state.new (ty_of.Value value)) }
         ensures types { AllAddTypes state.old state.new }
+        ensures paid { PaidFor self.now.types.now self.now.merged (ty_of.Value value) (primitive_cost (content_of state.old.here.content)) state.old state.new result }
     {
         step_law();
         bringing_law();
@@ -83,11 +89,13 @@ impl<'a> TypeWriter<'a> {
         ensures goes { OnOk result (Goes self.now.types.now self.now.merged state.old state.new) }
         ensures is { IfOk result (IsTypeIndex self.now.types.now self.now.merged state.new ty) }
         ensures types { AllAddTypes state.old state.new }
+        ensures paid { PaidFor self.now.types.now self.now.merged ty (type_cost self.now.types.now (content_of state.old.here.content) ty) state.old state.new result }
     {
         self.types.law(); // proof only
         step_law();
         part_law();
         still_law();
+        weight_law();
         match ty {
             Type::Resource(id) => {
                 let end = self.types.resolve_resource(id);
@@ -115,6 +123,7 @@ impl<'a> TypeWriter<'a> {
         ensures goes { OnOk result (Goes self.now.types.now self.now.merged state.old state.new) }
         ensures describes { IfOk result (DescribesItem self.now.types.now self.now.merged state.new item) }
         ensures types { AllAddTypes state.old state.new }
+        ensures paid { PaidFor self.now.types.now self.now.merged (kind_type item) (type_cost self.now.types.now (content_of state.old.here.content) (kind_type item)) state.old state.new result }
     {
         let ty = item.ty();
         let index = self.type_index(state, ty)?;
@@ -152,6 +161,7 @@ impl<'a> TypeWriter<'a> {
         ensures goes { OnOk result (NamesType self.now.types.now self.now.merged state.old item index → Goes self.now.types.now self.now.merged state.old state.new) }
         ensures records { OnOk result ((f : Open → Open) × RecordsHere self.now.merged f state.old state.new) }
         ensures types { AllAddTypes state.old state.new }
+        ensures paid { PaidBy self.now.types.now self.now.merged [] 0 state.old state.new result }
     {
         self.types.law(); // proof only
         still_law();
@@ -180,6 +190,7 @@ impl<'a> TypeWriter<'a> {
         ensures adds { IfOk result (AddsItem self.now.types.now self.now.merged (side_of side) name.now item state.old state.new) }
         ensures beside { OnOk result (AddsBeside self.now.merged (side_of side) name.now state.old state.new) }
         ensures kept { KeepsScopes state.old state.new }
+        ensures paid { PaidFor self.now.types.now self.now.merged (kind_type item) (10 + 2 * length name.now + type_cost self.now.types.now (content_of state.old.here.content) (kind_type item)) state.old state.new result }
     {
         bringing_law();
         let description = self.describe(state, item)?;

@@ -8,12 +8,14 @@ ghost use Rattle.wac_encode_faults.specs.private.Ids.{HaveIds};
 ghost use Rattle.wac_encode_interfaces.specs.private.Definitions.{AreDefinitionRoots};
 ghost use Rattle.wac_encode_interfaces.specs.private.Given.{sides_of, AreHeldSides};
 ghost use Rattle.wac_encode_interfaces.specs.private.Defined.{AreDefinedRoots, AreSideRoots};
+ghost use Rattle.wac_encode_interfaces.specs.private.Paid.{AreLight};
 ghost use Rattle.wac_encode_interfaces.specs.private.Roots.{item_root, type_item_root, type_item_roots, additional_roots, side_roots as side_roots_of};
 
 use crate::sides::Sides;
 use std::alloc::AllocError;
 use wac_encode_faults::{definition_exports, interface_additional, world_additional};
 use wac_types_collection::{InterfaceId, ItemKind, Named, Type, Types, WorldId};
+use wac_types_weight::weight_law;
 
 /// Returns the interface at an index.
 fn interface_at(interfaces: &[InterfaceId], index: usize) -> InterfaceId
@@ -101,7 +103,8 @@ pub(crate) fn side_roots(types: &Types, sides: &Sides<'_>) -> Result<Vec<Type>, 
 fn component_roots(types: &Types, sides: &Sides<'_>) -> Result<Vec<Type>, AllocError>
     requires held { AreHeldSides types.now sides.now }
     requires named { HaveIds types.now sides.now.additional.now }
-    ensures { IfOk result (λ v. AreSideRoots types.now (sides_of types.now sides.now) v.items) }
+    ensures roots { IfOk result (λ v. AreSideRoots types.now (sides_of types.now sides.now) v.items) }
+    ensures are { IfOk result (λ v. v.items ≡ side_roots_of types.now sides.now) }
 {
     types.law(); // proof only
     side_roots(types, sides)
@@ -110,8 +113,11 @@ fn component_roots(types: &Types, sides: &Sides<'_>) -> Result<Vec<Type>, AllocE
 /// Returns the roots of the definition of an interface.
 fn interface_roots(types: &Types, interface: InterfaceId) -> Result<Vec<Type>, AllocError>
     requires { HasInterface types.now interface }
-    ensures { IfOk result (λ v. AreDefinedRoots types.now (ty_of.Interface interface) v.items) }
+    ensures roots { IfOk result (λ v. AreDefinedRoots types.now (ty_of.Interface interface) v.items) }
+    ensures light { IfOk result (λ v. AreLight types.now (ty_of.Interface interface) v.items) }
 {
+    types.law(); // proof only
+    weight_law();
     let additional = interface_additional(types, interface)?;
     let exports = definition_exports(types, interface)?;
     let imports = Named::new(types.allocator());
@@ -130,9 +136,11 @@ fn interface_roots(types: &Types, interface: InterfaceId) -> Result<Vec<Type>, A
 /// Returns the roots of the definition of a world.
 fn world_roots(types: &Types, world: WorldId) -> Result<Vec<Type>, AllocError>
     requires { holds_type types.now (ty_of.World world) ≡ true }
-    ensures { IfOk result (λ v. AreDefinedRoots types.now (ty_of.World world) v.items) }
+    ensures roots { IfOk result (λ v. AreDefinedRoots types.now (ty_of.World world) v.items) }
+    ensures light { IfOk result (λ v. AreLight types.now (ty_of.World world) v.items) }
 {
     types.law(); // proof only
+    weight_law();
     let additional = world_additional(types, world)?;
     let item = &types[world];
     component_roots(
@@ -152,7 +160,8 @@ fn world_roots(types: &Types, world: WorldId) -> Result<Vec<Type>, AllocError>
 /// - `AllocError` if out of memory.
 pub fn definition_roots(types: &Types, ty: Type) -> Result<Vec<Type>, AllocError>
     requires { holds_type types.now ty ≡ true }
-    ensures { IfOk result (λ v. AreDefinitionRoots types.now ty v.items) }
+    ensures roots { IfOk result (λ v. AreDefinitionRoots types.now ty v.items) }
+    ensures light { IfOk result (λ v. AreLight types.now ty v.items) }
 {
     match ty {
         Type::Interface(id) => interface_roots(types, id),

@@ -1,8 +1,9 @@
 //! The component types of worlds.
-ghost use Rattle.std.specs.Prelude.{◌≡◌, cond, None, Some, OnOk};
+ghost use Rattle.std.specs.Prelude.{◌≡◌, cond, None, Some, IfErr, OnOk};
 ghost use Rattle.std.specs.Option.{option_copied};
 ghost use Rattle.wac_types_shapes.specs.contracts.shapes.component.WorldIdPartialEq.TheImpl as IdEq;
 ghost use Rattle.wac_types_shapes.specs.declared.shapes.component.WorldId.{WorldId as AnyWorld};
+ghost use Rattle.wac_binary.specs.declared.fault.BinaryFault.TheVariants.{OutOfMemory};
 ghost use Rattle.wac_encode_interfaces.specs.private.Worlds.{written_in};
 
 use indexmap::IndexMap;
@@ -39,7 +40,8 @@ impl WorldTypes {
         world: WorldId,
         component: ComponentType,
     ) -> Result<(), BinaryFault>
-        ensures { OnOk result ((w : AnyWorld) → written_in self.new w ≡ cond ((IdEq.ghosts).eq world w) (Some component) (written_in self.old w)) }
+        ensures put { OnOk result ((w : AnyWorld) → written_in self.new w ≡ cond ((IdEq.ghosts).eq world w) (Some component) (written_in self.old w)) }
+        ensures memory { IfErr result (λ e. e ≡ OutOfMemory) }
     {
         let shared = component.share()?;
         self.written.insert(world, shared)?;

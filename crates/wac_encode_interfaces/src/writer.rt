@@ -1,4 +1,5 @@
 //! The writer of interfaces and component types.
+ghost use Rattle.wac_encode_interfaces.specs.private.Paid.{AreSmallWorlds};
 ghost use Rattle.std.specs.Prelude.{◌≡◌};
 ghost use Rattle.wac_encode_scopes.specs.private.Closed.{AreClosedTypes};
 ghost use Rattle.wac_encode_interfaces.specs.private.Worlds.{AreWorldTypes, written_in};
@@ -41,7 +42,7 @@ impl<'a> TypeWriter<'a> {
         ensures closed { result.closed.now ≡ closed.now }
         ensures merged { result.merged ≡ merged }
         ensures worlds { result.worlds.now ≡ worlds.now }
-        ensures writer { AreClosedTypes types.now closed.now → AreWorldTypes types.now (written_in worlds.now) → IsWriter result }
+        ensures writer { AreClosedTypes types.now closed.now → AreWorldTypes types.now (written_in worlds.now) → AreSmallWorlds types.now (written_in worlds.now) → IsWriter result }
     {
         TypeWriter {
             types,

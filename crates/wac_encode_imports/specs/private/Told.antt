@@ -1,7 +1,7 @@
 -- What is told of the entries' types; private functions alone cite this.
-use Rattle.std.specs.Prelude.{ℕ, ◌≡◌, ◌==◌, ◌<◌, ◌||◌, nat_lt, Bool, true, false, if◌then◌else◌, List, [], ◌∷◌, length, Option, Some, None, slice_get}
+use Rattle.std.specs.Prelude.{ℕ, ◌≡◌, ◌==◌, ◌+◌, ◌≤◌, ◌<◌, ◌||◌, nat_lt, Bool, true, false, if◌then◌else◌, List, [], ◌∷◌, length, Option, Some, None, slice_get}
 use Rattle.wac_types_shapes.specs.primitives.Name.{Name, find_name, option_case}
-use Rattle.wac_types_shapes.specs.primitives.Tree.{imported, named, position, Tree}
+use Rattle.wac_types_shapes.specs.primitives.Tree.{imported, named, position, Place, Tree}
 use Rattle.wac_types_shapes.specs.shapes.Kinds.{kind_type}
 use Rattle.wac_types_shapes.specs.declared.shapes.component.DefinedTypeId.{DefinedTypeId}
 use Rattle.wac_types_shapes.specs.declared.shapes.component.Interface.{Interface}
@@ -12,9 +12,11 @@ use Rattle.wac_types_shapes.specs.declared.shapes.component.ResourceId.{Resource
 use Rattle.wac_types_shapes.specs.declared.shapes.component.UsedType.{UsedType}
 use Rattle.wac_types_shapes.specs.declared.shapes.component.ValueType.TheVariants as val
 use Rattle.wac_types_shapes.specs.declared.shapes.component.«Type».TheVariants as ty
-use Rattle.wac_types_collection.specs.collection.Collection.{IsWellFormed, holds_type, item_at}
+use Rattle.wac_types_collection.specs.collection.Collection.{Collection, IsWellFormed, holds_type, item_at}
 use Rattle.wac_types_collection.specs.collection.Bound.{Bindings, own_name}
 use Rattle.wac_merge_classes.specs.entries.Agreement.{AllMembersAgree}
+use Rattle.std.specs.List.{sum_by}
+use Rattle.wac_merge_classes.specs.entries.Binding.{binding_class}
 use Rattle.wac_merge_classes.specs.entries.Bindings.{AreHeld}
 use Rattle.wac_merge_classes.specs.entries.Classes.{Entry, by_names, imported_as}
 use Rattle.wac_merge_classes.specs.entries.Places.{own_resource}
@@ -25,7 +27,11 @@ use Rattle.wac_binary.specs.declared.sorts.Sort.{Sort}
 use Rattle.wac_binary.specs.HasMeaning.{IsValue}
 use Rattle.wac_encode_stacks.specs.Good.{Good, IsHeld, Stands, innermost, nothing_bound}
 use Rattle.wac_encode_stacks.specs.Scopes.{Open, Where, at_type, at_export}
+use Rattle.wac_types_weight.specs.Text.{entry_weight}
 use Rattle.wac_encode_scopes.specs.declared.state.State.{State}
+use Rattle.wac_encode_scopes.specs.Books.{opened}
+use Rattle.wac_encode_scopes.specs.Roots.{IsRoot}
+use Rattle.wac_encode_scopes.specs.private.Paid.{pending}
 use Rattle.wac_encode_scopes.specs.private.Closed.{AreClosedTypes, is_closed_in}
 use Rattle.wac_encode_scopes.specs.private.Telling.{definition_in}
 use Rattle.wac_encode_scopes.specs.States.{stack, RecordsHere}
@@ -164,3 +170,25 @@ HaveExports t whole it i s = (n : Name) (k : ItemKind) (d : DefinedTypeId) → f
 -- The type index refers to the definition of a type item.
 abbrev pub IsTypeImport : Teller → ItemKind → ℕ → State → Type 0
 IsTypeImport t k i s = (n : Name) (d : DefinedTypeId) → definition_in t.types.now (n, k) ≡ Some d → IsDefinitionAt t d (at_type i) s
+
+-- Later aliases of exports that are recorded may cost n more than before.
+abbrev pub TellsWithin : Collection → ℕ → State → State → Type 0
+TellsWithin c n old new = IsRoot old.here.content → pending c false (opened false new.here) ≤ pending c false (opened false old.here) + n
+
+-- A resource that is at an export is bound under the export's name by the first class that binds it.
+abbrev pub AreOwnNames : Teller → State → Type 0
+AreOwnNames t s = (r : ResourceId) (j : ℕ) (n : Name) → (opened false s.here).binds r ≡ Some (at_export j n) → (k : ℕ) × (rest : List Place) × (binding_class by_names (t.merge.now.merge).types t.merge.now.entries r ≡ Some (k, named n ∷ rest))
+
+-- The step binds resources under their own names, and records no exported value type.
+pub record BindsNames (t : Teller) (old new : State) : Type 0 where
+  pub names : AreOwnNames t old → AreOwnNames t new
+  pub exports : (d : DefinedTypeId) → (opened false new.here).exports d ≡ (opened false old.here).exports d
+  pub content : new.here.content ≡ old.here.content
+
+-- The items of the interfaces and worlds that are imported.
+abbrev pub entries_items : Collection → List Entry → ℕ
+entries_items c es = sum_by (λ e. entry_weight c (kind_type e.kind)) es
+
+-- Nothing is recorded of the types of any collection.
+abbrev pub IsBlank : State → Type 0
+IsBlank s = (c : Collection) → Good c (nothing_bound ∷ []) (stack false s)

@@ -9,6 +9,10 @@ use Rattle.wac_encode_imports.specs.private.Imports.{AreImported}
 use Rattle.wac_encode_imports.specs.private.Exports.{ExportNoNameTwice}
 use Rattle.wac_encode_imports.specs.private.Written.{AreCleanImports, AreWritable, HaveImportWorlds, IsImportWriter}
 use Rattle.wac_encode_imports.proofs.Given.{clean-imports}
+use Rattle.wac_merge_imports.specs.unions.Lighter.{types_of}
+use Rattle.wac_encode_interfaces.specs.private.Paid.{AreSmallWorlds, IsHeavy}
+use Rattle.wac_encode_imports.specs.private.Small.{ImportsWithin}
+use Rattle.wac_encode_imports.proofs.ImportPaying.{imports-memory, worlds-heavy, entries-heavy}
 use Rattle.wac_encode_imports.proofs.imports.write_imports.Goals as goal
 
 -- The types and imports that the code reads are those of the merge.
@@ -34,12 +38,31 @@ write_all-requires c =
     let closed = subst (λ (x : Collection). AreClosedTypes x c.in_ok-closed.closed) c.types-types.ensures c.in_ok-closed.ensures in
     let bindings = subst (λ (x : Merged). AreBindings x.types x.imports c.in_ok-bindings.bindings) same c.in_ok-bindings.ensures in
     let written = subst (λ (x : Collection). AreWorldTypes x (written_in c.in_ok-worlds.worlds)) c.types-types.ensures c.in_ok-worlds.ensures.written in
+    let sizes = subst (λ (x : Collection). AreSmallWorlds x (written_in c.in_ok-worlds.worlds)) c.types-types.ensures c.in_ok-worlds.ensures.sizes in
     let worlds = subst (λ (x : Merged). HaveImportWorlds x.types (written_in c.in_ok-worlds.worlds) x.imports) same c.in_ok-worlds.ensures.there in
     let writable : AreWritable m (written_in c.in_ok-worlds.worlds) = record { ordered = ordered; once = once; held = c.requires.held; distinct = c.requires.distinct; before = c.requires.before; clean = c.requires.clean; worlds = worlds } in
-    let is = c.new-writer.ensures.writer m c.types-types.ensures closed bindings written writable in
+    let is = c.new-writer.ensures.writer m c.types-types.ensures closed bindings written sizes writable in
     subst (IsImportWriter c.new-writer.result) (sym (same-merge _ _ m (c.new-writer.ensures.types ∙ c.types-types.ensures) c.imports-imports.ensures)) is
 
-pub returns : goal.returns
-returns c =
+pub returns-clause-imported : goal.returns-clause-imported
+returns-clause-imported c =
     let same = same-merge _ _ c.args.merge.now.merge (c.new-writer.ensures.types ∙ c.types-types.ensures) c.imports-imports.ensures in
-    subst (λ (x : Merged). IfOk c.write_all.result (λ w. AreImported x w.places.items w.state)) same c.write_all.ensures
+    subst (λ (x : Merged). IfOk c.write_all.result (λ w. AreImported x w.places.items w.state)) same c.write_all.ensures.imported
+
+pub returns-clause-small : goal.returns-clause-small
+returns-clause-small c =
+    let same = same-merge _ _ c.args.merge.now.merge (c.new-writer.ensures.types ∙ c.types-types.ensures) c.imports-imports.ensures in
+    subst (λ (x : Merged). ImportsWithin x c.write_all.result) same c.write_all.ensures.small
+
+pub returns-in_err-closed-clause-small : goal.returns-in_err-closed-clause-small
+returns-in_err-closed-clause-small c = imports-memory c.args.merge.now.merge c.from_residual.result c.from_residual.ensures.1
+
+pub returns-in_err-bindings-clause-small : goal.returns-in_err-bindings-clause-small
+returns-in_err-bindings-clause-small c = imports-memory c.args.merge.now.merge c.from_residual-in_err-bindings.result c.from_residual-in_err-bindings.ensures.1
+
+pub returns-in_err-worlds-clause-small : goal.returns-in_err-worlds-clause-small
+returns-in_err-worlds-clause-small c =
+    let m = c.args.merge.now.merge in
+    let same = same-merge _ _ m c.types-types.ensures c.imports-imports.ensures in
+    worlds-heavy m (subst IsWellFormed c.types-types.ensures c.law.ensures) c.requires.held (c.in_err-worlds.field-0).0 c.from_residual-in_err-worlds.result c.from_residual-in_err-worlds.ensures.1
+    (λ large. subst (λ (x : Merged). IsHeavy x.types (types_of x.imports)) same (entries-heavy c.types-types.result.now c.imports-imports.result.now (c.in_err-worlds.ensures.small large)))

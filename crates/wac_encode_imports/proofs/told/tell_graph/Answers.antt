@@ -1,3 +1,4 @@
+use Rattle.std.proofs.lemmas.Result.{on_ok_weaker}
 use Rattle.wac_encode_imports.proofs.Telling.{graph-told, root-imports}
 use Rattle.wac_encode_imports.proofs.told.tell_graph.Goals as goal
 
@@ -19,8 +20,11 @@ tell_all-requires-clause-teller c = record {
 pub tell_all-requires-clause-imports : goal.tell_all-requires-clause-imports
 tell_all-requires-clause-imports c = root-imports c.args.merge.now.merge c.args.places.now c.args.state.now c.requires.imported
 
-pub returns : goal.returns
-returns c = graph-told c.tell_all.result c.args.state.now c.tell_all.new.state c.tell_all.ensures c.requires.imported (record {
+pub returns-clause-cost : goal.returns-clause-cost
+returns-clause-cost c = on_ok_weaker c.tell_all.result (λ paid. paid c.requires.imported.beside c.requires.imported.root) c.tell_all.ensures.cost
+
+pub returns-clause-told : goal.returns-clause-told
+returns-clause-told c = graph-told c.tell_all.result c.args.state.now c.tell_all.new.state c.tell_all.ensures.binds c.requires.imported (record {
   finished = c.requires.finished;
   ordered = c.law.ensures;
   once = c.exports_law.ensures;

@@ -10,6 +10,7 @@ use Rattle.wac_encode_stacks.specs.Good.{nothing_bound}
 use Rattle.wac_encode_faults.specs.private.Ids.{HaveIds}
 use Rattle.wac_encode_faults.specs.Sides.{unlisted}
 use Rattle.wac_encode_interfaces.specs.declared.worlds.WorldTypes.{WorldTypes}
+use Rattle.wac_encode_interfaces.specs.private.Paid.{AreSmallWorlds}
 use Rattle.wac_encode_interfaces.specs.private.Worlds.{AreWorldTypes, written_in}
 use Rattle.wac_encode_interfaces.proofs.WorldsAhead.{held-as}
 use Rattle.wac_encode_tests.proofs.RootItems.{if-ok-is}
@@ -35,6 +36,7 @@ side_world_types-requires-clause-clean g c =
 pub component_type-requires-clause-writer : goal.component_type-requires-clause-writer
 component_type-requires-clause-writer g c =
     c.new-writer.ensures.writer c.requires.closed (if-ok-is (λ (ws : WorldTypes). AreWorldTypes c.args.types.now (written_in ws)) c.side_world_types.result c.expect-worlds.result c.expect-worlds.ensures c.side_world_types.ensures.written)
+    (if-ok-is (λ (ws : WorldTypes). AreSmallWorlds c.args.types.now (written_in ws)) c.side_world_types.result c.expect-worlds.result c.expect-worlds.ensures c.side_world_types.ensures.sizes)
 
 pub component_type-requires-clause-held : goal.component_type-requires-clause-held
 component_type-requires-clause-held g c =

@@ -31,5 +31,5 @@ tell_graph-told-requires-clause-imported g c = subst (λ ps. AreImported (c.args
 pub returns : goal.returns
 returns g c =
     let merged = c.requires.merge.merged in
-    let told = on-ok-is c.tell_graph-told.result c.expect.result c.expect.ensures c.tell_graph-told.ensures in
+    let told = on-ok-is c.tell_graph-told.result c.expect.result c.expect.ensures c.tell_graph-told.ensures.told in
     told-root c.args.types.now (c.args.merge.now).entries merged.order (c.args.merge.now).merge c.args.written.places.items c.args.written.state c.tell_graph-told.new.state c.requires.imported (told merged)

@@ -20,4 +20,4 @@ pub write_imports-requires-clause-clean : goal.write_imports-requires-clause-cle
 write_imports-requires-clause-clean g c = no-import-fault c.import_fault_law.ensures c.args.types.now c.args.merge.now c.requires.merge c.requires.faultless
 
 pub returns : goal.returns
-returns g c = if-ok-is (λ (w : WrittenImports). AreImported (c.args.merge.now).merge w.places.items w.state) c.write_imports.result c.expect.result c.expect.ensures c.write_imports.ensures
+returns g c = if-ok-is (λ (w : WrittenImports). AreImported (c.args.merge.now).merge w.places.items w.state) c.write_imports.result c.expect.result c.expect.ensures c.write_imports.ensures.imported

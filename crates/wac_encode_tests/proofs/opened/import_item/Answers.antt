@@ -4,6 +4,7 @@ use Rattle.wac_types_shapes.specs.declared.shapes.component.«Type».{«Type» a
 use Rattle.wac_types_collection.specs.collection.Collection.{holds_type}
 use Rattle.wac_encode_interfaces.specs.private.Imports.{ImportsBeside, ImportsOf}
 use Rattle.wac_encode_interfaces.specs.private.Ready.{IsClean}
+use Rattle.wac_encode_interfaces.specs.private.Paid.{AreSmallWorlds}
 use Rattle.wac_encode_interfaces.specs.private.Worlds.{AreWorldTypes, HaveWorlds, written_in}
 use Rattle.wac_encode_interfaces.specs.declared.worlds.WorldTypes.{WorldTypes}
 use Rattle.wac_encode_tests.proofs.RootItems.{held-one, clean-one, import-ready, item-imported, if-ok-is}
@@ -22,6 +23,7 @@ pub import_item-imported-requires-clause-writer : goal.import_item-imported-requ
 import_item-imported-requires-clause-writer g c =
     c.new-writer.ensures.writer c.requires.closed
     (if-ok-is (λ (ws : WorldTypes). AreWorldTypes c.args.items.now.types (written_in ws)) c.world_types-worlds.result c.expect-worlds.result c.expect-worlds.ensures c.world_types-worlds.ensures.written)
+    (if-ok-is (λ (ws : WorldTypes). AreSmallWorlds c.args.items.now.types (written_in ws)) c.world_types-worlds.result c.expect-worlds.result c.expect-worlds.ensures c.world_types-worlds.ensures.sizes)
 
 pub import_item-imported-requires-clause-root : goal.import_item-imported-requires-clause-root
 import_item-imported-requires-clause-root g c = c.requires.root.root

@@ -12,13 +12,13 @@ pub returns-in_err-roots-clause-refused : goal.returns-in_err-roots-clause-refus
 returns-in_err-roots-clause-refused c = err-of c.from_residual-in_err-roots.result (keeps-none c.args.state.now.scopes)
 
 pub world_types-requires-clause-held : goal.world_types-requires-clause-held
-world_types-requires-clause-held c = λ a there. c.in_ok-roots.ensures.held a (subst (λ (xs : List AnyType). Contains xs a) c.as_slice.ensures.value there)
+world_types-requires-clause-held c = λ a there. c.in_ok-roots.ensures.roots.held a (subst (λ (xs : List AnyType). Contains xs a) c.as_slice.ensures.value there)
 
 pub world_types-requires-clause-clean : goal.world_types-requires-clause-clean
-world_types-requires-clause-clean c = λ a there. c.in_ok-roots.ensures.clean c.requires.bindings c.requires.clean a (subst (λ (xs : List AnyType). Contains xs a) c.as_slice.ensures.value there)
+world_types-requires-clause-clean c = λ a there. c.in_ok-roots.ensures.roots.clean c.requires.bindings c.requires.clean a (subst (λ (xs : List AnyType). Contains xs a) c.as_slice.ensures.value there)
 
 pub returns-in_err-worlds-clause-refused : goal.returns-in_err-worlds-clause-refused
 returns-in_err-worlds-clause-refused c = err-of c.from_residual-in_err-worlds.result (keeps-none c.args.state.now.scopes)
 
 pub define_after-requires-clause-there : goal.define_after-requires-clause-there
-define_after-requires-clause-there c = c.in_ok-roots.ensures.enough (written_in c.in_ok-worlds.worlds) (λ a there. c.in_ok-worlds.ensures.there a (subst (λ (xs : List AnyType). Contains xs a) (sym c.as_slice.ensures.value) there))
+define_after-requires-clause-there c = c.in_ok-roots.ensures.roots.enough (written_in c.in_ok-worlds.worlds) (λ a there. c.in_ok-worlds.ensures.there a (subst (λ (xs : List AnyType). Contains xs a) (sym c.as_slice.ensures.value) there))

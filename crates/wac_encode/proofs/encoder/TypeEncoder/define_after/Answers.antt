@@ -10,7 +10,7 @@ use Rattle.wac_encode.proofs.WrittenTypes.{definition-refers, from-writer, to-wr
 use Rattle.wac_encode.proofs.encoder.TypeEncoder.define_after.Goals as goal
 
 pub definition-requires-clause-writer : goal.definition-requires-clause-writer
-definition-requires-clause-writer c = c.new-writer.ensures.writer c.requires.closed c.requires.written
+definition-requires-clause-writer c = c.new-writer.ensures.writer c.requires.closed c.requires.written c.requires.sizes
 
 pub definition-requires-clause-ready : goal.definition-requires-clause-ready
 definition-requires-clause-ready c =

@@ -12,7 +12,7 @@ use Rattle.wac_encode.proofs.WrittenTypes.{from-writer, interface-refers, to-wri
 use Rattle.wac_encode.proofs.encoder.TypeEncoder.write_interface_after.Goals as goal
 
 pub interface-requires-clause-writer : goal.interface-requires-clause-writer
-interface-requires-clause-writer c = c.new-writer.ensures.writer c.requires.closed c.requires.written
+interface-requires-clause-writer c = c.new-writer.ensures.writer c.requires.closed c.requires.written c.requires.sizes
 
 pub interface-requires-clause-held : goal.interface-requires-clause-held
 interface-requires-clause-held c =

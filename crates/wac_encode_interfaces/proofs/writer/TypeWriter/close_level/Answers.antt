@@ -1,5 +1,5 @@
-use Rattle.std.specs.Prelude.{◌≡◌, true, false}
-use Rattle.std.proofs.Common.{sym, ◌∙◌, subst}
+use Rattle.std.specs.Prelude.{◌≡◌, true, false, []}
+use Rattle.std.proofs.Common.{sym, ◌∙◌, subst, refl}
 use Rattle.wac_types_shapes.specs.declared.shapes.component.«Type».TheVariants as ty
 use Rattle.wac_encode_stacks.specs.Scopes.{defined}
 use Rattle.wac_encode_scopes.specs.States.{IsTypeAt}
@@ -8,6 +8,10 @@ use Rattle.wac_encode_interfaces.specs.private.Ready.{IsInterfaceAt}
 use Rattle.wac_encode_interfaces.specs.private.Worlds.{written_in}
 use Rattle.wac_encode_interfaces.proofs.Ended.{level-around, closed-level, closed-at, closed-into}
 use Rattle.wac_encode_interfaces.proofs.Refused.{closed-open, dropped-open, err-of}
+use Rattle.wac_encode_interfaces.proofs.Charged.{closed-recorded, record-no-room}
+use Rattle.wac_encode_interfaces.proofs.Answered.{closed-shorter, closes-no-room, exit-large, no-room-of}
+use Rattle.wac_encode_scopes.proofs.Priced.{closes-priced}
+use Rattle.wac_encode_interfaces.proofs.Besides.{same-items}
 use Rattle.wac_encode_interfaces.proofs.writer.TypeWriter.close_level.Goals as goal
 
 pub close-requires-clause-around : goal.close-requires-clause-around
@@ -57,3 +61,21 @@ returns-in_err-index-clause-refused c = err-of c.from_residual.result (dropped-o
 
 pub returns-in_err-record-clause-refused : goal.returns-in_err-record-clause-refused
 returns-in_err-record-clause-refused c = err-of c.from_residual-in_err-record.result (closed-open c.args.state.now c.close.new.self c.record.new.self c.in_ok-index.ensures.written c.record.ensures.types)
+
+pub returns-then-level-clause-paid : goal.returns-then-level-clause-paid
+returns-then-level-clause-paid c =
+    λ priced. c.in_ok-index.ensures.paid c.args.self.now.types.now c.args.self.now.merged
+
+pub returns-clause-paid : goal.returns-clause-paid
+returns-clause-paid c =
+    λ priced. closed-recorded c.args.self.now.types.now c.args.self.now.merged c.args.state.now c.close.new.self c.record.new.self (c.in_ok-index.ensures.paid c.args.self.now.types.now c.args.self.now.merged) (c.in_ok-record.ensures.paid c.args.self.now.types.now (λ h. refl) (closes-priced c.args.self.now.merged c.args.state.now c.close.new.self c.in_ok-index.ensures.written priced)) (same-items c.record.new.self c.close.new.self c.in_ok-record.ensures.records.around)
+
+pub returns-in_err-index-clause-room : goal.returns-in_err-index-clause-room
+returns-in_err-index-clause-room c =
+    λ h priced. closes-no-room c.args.self.now.types.now c.args.self.now.merged c.args.state.now c.close.new.self _ (exit-large _ c.from_residual.result c.from_residual.ensures.1 h) (c.in_err-index.ensures.paid c.args.self.now.types.now c.args.self.now.merged)
+
+pub returns-in_err-record-clause-room : goal.returns-in_err-record-clause-room
+returns-in_err-record-clause-room c =
+    λ h priced.
+    (let is = exit-large _ c.from_residual-in_err-record.result c.from_residual-in_err-record.ensures.1 h in
+    record-no-room c.args.self.now.types.now c.args.self.now.merged c.args.state.now c.close.new.self (c.in_ok-index.ensures.paid c.args.self.now.types.now c.args.self.now.merged) (closed-shorter c.args.state.now c.close.new.self c.in_ok-index.ensures.written) (no-room-of c.args.self.now.types.now c.args.self.now.merged [] 0 c.close.new.self _ is (c.in_err-record.ensures.paid c.args.self.now.types.now (λ e. refl) (closes-priced c.args.self.now.merged c.args.state.now c.close.new.self c.in_ok-index.ensures.written priced))))

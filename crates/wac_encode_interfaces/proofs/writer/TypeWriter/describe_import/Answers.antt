@@ -1,4 +1,4 @@
-use Rattle.std.proofs.Common.{◌≡◌, true, length, sym, ◌∙◌, subst}
+use Rattle.std.proofs.Common.{◌≡◌, true, length, sym, ◌∙◌, subst, ap}
 use Rattle.wac_types_shapes.specs.shapes.Kinds.{kind_type}
 use Rattle.wac_types_shapes.specs.declared.shapes.component.ItemKind.{ItemKind}
 use Rattle.wac_types_shapes.specs.declared.shapes.component.«Type».{«Type» as AnyType}
@@ -12,6 +12,13 @@ use Rattle.wac_encode_interfaces.specs.private.Worlds.{HaveWorlds, written_in}
 use Rattle.wac_encode_interfaces.proofs.Written.{if-ok, on-ok}
 use Rattle.wac_encode_interfaces.proofs.Importing.{component-is, described-component, described-item, interface-ready, item-after}
 use Rattle.wac_encode_interfaces.proofs.Refused.{keeps-types, keeps-both, err-of}
+use Rattle.wac_encode_interfaces.proofs.ModuleCosts.{described-import-paid, inside-import}
+use Rattle.wac_encode_interfaces.proofs.Answered.{exit-room, no-room-of}
+use Rattle.wac_encode_scopes.proofs.Paying.{no-room-up-to, no-room-with-more, priced-stays}
+use Rattle.std.specs.Prelude.{[]}
+use Rattle.wac_types_weight.specs.private.Laws.{Covers}
+use Rattle.wac_encode_scopes.specs.private.Paid.{HasNoRoom, IsPaid, world_cost}
+use Rattle.wac_encode_interfaces.specs.private.Paid.{import_type_cost, inside_cost}
 use Rattle.wac_encode_interfaces.proofs.writer.TypeWriter.describe_import.Goals as goal
 
 pub world-requires-clause-written : goal.world-requires-clause-written
@@ -53,3 +60,22 @@ returns-clause-refused c = err-of c.describe.result (keeps-both c.args.state.now
 
 pub returns-in_err-write_interface_of-clause-refused : goal.returns-in_err-write_interface_of-clause-refused
 returns-in_err-write_interface_of-clause-refused c = err-of _ c.in_err-write_interface_of.ensures.refused
+
+pub returns-in_err-index-clause-paid : goal.returns-in_err-index-clause-paid
+returns-in_err-index-clause-paid c may ts covers priced =
+    exit-room c.args.self.now.types.now c.args.self.now.merged ts (import_type_cost c.args.self.now.types.now (kind_type c.args.item)) c.args.state.now c.world.new.state _ c.from_residual.result c.from_residual.ensures.1
+    (λ is. subst (λ (a : AnyType). HasNoRoom c.args.self.now.types.now c.args.self.now.merged ts (import_type_cost c.args.self.now.types.now a) c.args.state.now) (sym (ap kind_type (component-is c.args.item c.in-Some.world (sym c.world_in.ensures ∙ c.in-Some.is)))) (no-room-of c.args.self.now.types.now c.args.self.now.merged ts (world_cost c.args.self.now.types.now c.in-Some.world) c.args.state.now _ is (c.in_err-index.ensures.paid ts (subst (λ (a : AnyType). Covers c.args.self.now.types.now ts a) (ap kind_type (component-is c.args.item c.in-Some.world (sym c.world_in.ensures ∙ c.in-Some.is))) covers) priced)))
+
+pub returns-in-Some-clause-paid : goal.returns-in-Some-clause-paid
+returns-in-Some-clause-paid c may ts covers priced =
+    subst (λ (a : AnyType). IsPaid c.args.self.now.types.now c.args.self.now.merged ts (import_type_cost c.args.self.now.types.now a) c.args.state.now c.world.new.state) (sym (ap kind_type (component-is c.args.item c.in-Some.world (sym c.world_in.ensures ∙ c.in-Some.is)))) (c.in_ok-index.ensures.paid ts (subst (λ (a : AnyType). Covers c.args.self.now.types.now ts a) (ap kind_type (component-is c.args.item c.in-Some.world (sym c.world_in.ensures ∙ c.in-Some.is))) covers) priced)
+
+pub returns-in_err-write_interface_of-clause-paid : goal.returns-in_err-write_interface_of-clause-paid
+returns-in_err-write_interface_of-clause-paid c may ts covers priced =
+    exit-room c.args.self.now.types.now c.args.self.now.merged ts (import_type_cost c.args.self.now.types.now (kind_type c.args.item)) c.args.state.now c.write_interface_of.new.state _ c.from_residual-in_err-write_interface_of.result c.from_residual-in_err-write_interface_of.ensures.1
+    (λ is. no-room-up-to c.args.self.now.types.now c.args.self.now.merged ts (inside_cost c.args.self.now.types.now (kind_type c.args.item)) (import_type_cost c.args.self.now.types.now (kind_type c.args.item)) c.args.state.now (inside-import c.args.self.now.types.now (kind_type c.args.item)) (no-room-with-more c.args.self.now.types.now c.args.self.now.merged ts (inside_cost c.args.self.now.types.now (kind_type c.args.item)) c.args.state.now (no-room-of c.args.self.now.types.now c.args.self.now.merged [] (inside_cost c.args.self.now.types.now (kind_type c.args.item)) c.args.state.now _ is (c.in_err-write_interface_of.ensures.paid may priced))))
+
+pub returns-clause-paid : goal.returns-clause-paid
+returns-clause-paid c may ts covers priced =
+    let later = priced-stays c.args.self.now.merged c.args.state.now c.write_interface_of.new.state c.in_ok-write_interface_of.ensures.goes.types priced in
+    described-import-paid c.args.self.now.types.now c.args.self.now.merged ts (kind_type c.args.item) c.args.state.now c.write_interface_of.new.state c.describe.new.state c.describe.result (c.in_ok-write_interface_of.ensures.paid may priced) (c.describe.ensures.paid ts covers later)

@@ -4,6 +4,10 @@ use Rattle.wac_binary.specs.declared.sorts.Description.TheVariants as e
 use Rattle.wac_encode_scopes.proofs.Stepped.{goes-none}
 use Rattle.wac_encode_interfaces.proofs.Importing.{root-more, imported-item, imported-beside, module-after}
 use Rattle.wac_encode_interfaces.proofs.Refused.{err-of, keeps-types, keeps-unchanged}
+use Rattle.wac_encode_interfaces.proofs.Answered.{exit-room, listed-no-room, listed-paid, no-room-of, plain-no-room}
+use Rattle.wac_encode_scopes.proofs.Paying.{priced-stays}
+use Rattle.std.specs.Prelude.{◌+◌, ◌*◌, [], length}
+use Rattle.wac_encode_interfaces.specs.private.Paid.{module_cost}
 use Rattle.wac_encode_interfaces.proofs.writer.TypeWriter.import_module.Goals as goal
 
 pub core_module-requires-clause-held : goal.core_module-requires-clause-held
@@ -37,3 +41,19 @@ returns-in_err-core_type-clause-refused c = err-of c.from_residual.result (keeps
 
 pub returns-in_err-index-clause-refused : goal.returns-in_err-index-clause-refused
 returns-in_err-index-clause-refused c = err-of c.from_residual-in_err-index.result (keeps-unchanged c.args.state.now c.core_module.new.state c.import.new.self c.in_ok-core_type.ensures.goes.types c.in_err-index.ensures.refused)
+
+pub returns-in_err-core_type-clause-paid : goal.returns-in_err-core_type-clause-paid
+returns-in_err-core_type-clause-paid c priced =
+    exit-room c.args.self.now.types.now c.args.self.now.merged [] ((20 + 2 * length c.args.name.now) + (module_cost c.args.self.now.types.now c.args.id c.args.known)) c.args.state.now c.core_module.new.state _ c.from_residual.result c.from_residual.ensures.1
+    (λ is. plain-no-room c.args.self.now.types.now c.args.self.now.merged [] (module_cost c.args.self.now.types.now c.args.id c.args.known) (20 + 2 * length c.args.name.now) c.args.state.now (no-room-of c.args.self.now.types.now c.args.self.now.merged [] (module_cost c.args.self.now.types.now c.args.id c.args.known) c.args.state.now _ is (c.in_err-core_type.ensures.paid priced)))
+
+pub returns-in_err-index-clause-paid : goal.returns-in_err-index-clause-paid
+returns-in_err-index-clause-paid c priced =
+    let later = priced-stays c.args.self.now.merged c.args.state.now c.core_module.new.state c.in_ok-core_type.ensures.goes.types priced in
+    exit-room c.args.self.now.types.now c.args.self.now.merged [] ((20 + 2 * length c.args.name.now) + (module_cost c.args.self.now.types.now c.args.id c.args.known)) c.args.state.now c.import.new.self _ c.from_residual-in_err-index.result c.from_residual-in_err-index.ensures.1
+    (λ is. listed-no-room c.args.self.now.types.now c.args.self.now.merged [] (module_cost c.args.self.now.types.now c.args.id c.args.known) (20 + 2 * length c.args.name.now) c.args.state.now c.core_module.new.state (c.in_ok-core_type.ensures.paid priced) (no-room-of c.args.self.now.types.now c.args.self.now.merged [] (20 + 2 * length c.args.name.now) c.core_module.new.state _ is (c.in_err-index.ensures.paid c.args.self.now.types.now c.args.self.now.merged later)))
+
+pub returns-clause-paid : goal.returns-clause-paid
+returns-clause-paid c priced =
+    let later = priced-stays c.args.self.now.merged c.args.state.now c.core_module.new.state c.in_ok-core_type.ensures.goes.types priced in
+    listed-paid c.args.self.now.types.now c.args.self.now.merged [] (module_cost c.args.self.now.types.now c.args.id c.args.known) (20 + 2 * length c.args.name.now) c.args.state.now c.core_module.new.state c.import.new.self (c.in_ok-core_type.ensures.paid priced) (c.in_ok-index.ensures.paid c.args.self.now.types.now c.args.self.now.merged later)

@@ -4,6 +4,10 @@ use Rattle.wac_encode_scopes.specs.States.{Goes, IsTypeAt}
 use Rattle.wac_encode_scopes.specs.private.Components.{DefinesPrimitiveType}
 use Rattle.wac_encode_scopes.proofs.Stepped.{goes-none, all-none}
 use Rattle.wac_encode_interfaces.proofs.Written.{if-ok, ok-of, indexed-at, primitive-goes, primitive-at}
+use Rattle.wac_encode_interfaces.proofs.Answered.{pays-any}
+use Rattle.wac_encode_scopes.specs.Contents.{content_of}
+use Rattle.wac_encode_scopes.specs.private.Paid.{primitive_cost}
+use Rattle.std.specs.Prelude.{[]}
 use Rattle.wac_encode_interfaces.proofs.writer.TypeWriter.primitive.Goals as goal
 
 pub returns-in-Some-clause-goes : goal.returns-in-Some-clause-goes
@@ -29,3 +33,11 @@ returns-in-None-clause-is c =
 
 pub returns-in-Some-clause-types : goal.returns-in-Some-clause-types
 returns-in-Some-clause-types c = all-none c.args.state.now
+
+pub returns-in-Some-clause-paid : goal.returns-in-Some-clause-paid
+returns-in-Some-clause-paid c priced =
+    pays-any c.args.self.now.types.now c.args.self.now.merged [] (primitive_cost (content_of c.args.state.now.here.content)) c.args.state.now
+
+pub returns-in-None-clause-paid : goal.returns-in-None-clause-paid
+returns-in-None-clause-paid c priced =
+    c.define_primitive.ensures.paid c.args.self.now.types.now c.args.self.now.merged priced

@@ -1,7 +1,9 @@
 use Rattle.std.proofs.Common.{sym, refl, ◌∙◌}
-use Rattle.wac_encode_stacks.specs.Scopes.{index_at, listed}
+use Rattle.wac_encode_stacks.specs.Scopes.{index_at, listed, defined}
 use Rattle.wac_encode_scopes.proofs.Stepped.{goes-none, all-none}
 use Rattle.wac_encode_interfaces.proofs.Written.{on-ok, named-at}
+use Rattle.wac_encode_scopes.proofs.Paying.{pays-nothing}
+use Rattle.std.specs.Prelude.{◌≡◌, []}
 use Rattle.wac_encode_interfaces.proofs.writer.TypeWriter.record_item.Goals as goal
 
 pub returns-in_default-clause-goes : goal.returns-in_default-clause-goes
@@ -30,3 +32,15 @@ returns-in_default-clause-types c = all-none c.args.state.now
 
 pub returns-then-is_listed-clause-types : goal.returns-then-is_listed-clause-types
 returns-then-is_listed-clause-types c = all-none c.args.state.now
+
+pub returns-in_default-clause-paid : goal.returns-in_default-clause-paid
+returns-in_default-clause-paid c priced =
+    pays-nothing c.args.self.now.types.now c.args.self.now.merged [] c.args.state.now
+
+pub returns-then-is_listed-clause-paid : goal.returns-then-is_listed-clause-paid
+returns-then-is_listed-clause-paid c priced =
+    pays-nothing c.args.self.now.types.now c.args.self.now.merged [] c.args.state.now
+
+pub returns-clause-paid : goal.returns-clause-paid
+returns-clause-paid c priced =
+    c.record.ensures.paid c.args.self.now.types.now (λ same. (let no : listed ≡ defined = same in cc)) priced

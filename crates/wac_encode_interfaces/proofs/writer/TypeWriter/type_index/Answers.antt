@@ -1,5 +1,5 @@
 use Rattle.std.specs.Prelude.{length}
-use Rattle.std.proofs.Common.{sym, subst}
+use Rattle.std.proofs.Common.{sym, subst, ap}
 use Rattle.wac_types_shapes.specs.declared.shapes.component.ItemKind.TheVariants as kind
 use Rattle.wac_types_shapes.specs.declared.shapes.component.«Type».{«Type» as AnyType}
 use Rattle.wac_types_shapes.specs.declared.shapes.component.«Type».TheVariants as ty
@@ -10,6 +10,12 @@ use Rattle.wac_encode_scopes.proofs.Stepped.{goes-none, all-none}
 use Rattle.wac_encode_interfaces.specs.private.Items.{IsItemReady, IsTypeIndex}
 use Rattle.wac_encode_interfaces.specs.private.Worlds.{written_in}
 use Rattle.wac_encode_interfaces.proofs.Written.{on-ok, if-ok, goes-as, type-as, ready-as, closed-as, indexed-at, resource-bound, resource-index, has-index, no-module}
+use Rattle.wac_encode_interfaces.proofs.Answered.{paid-for-as, pays-any, same-answer}
+use Rattle.wac_types_weight.specs.private.Laws.{Covers}
+use Rattle.wac_encode_scopes.specs.Contents.{content_of}
+use Rattle.wac_encode_scopes.specs.private.Paid.{primitive_cost, type_cost, world_cost}
+use Rattle.wac_encode_values.proofs.Covered.{end-own}
+use Rattle.wac_types_shapes.specs.declared.shapes.component.ResourceId.{ResourceId}
 use Rattle.wac_encode_interfaces.proofs.writer.TypeWriter.type_index.Goals as goal
 
 pub bring_resource-requires : goal.bring_resource-requires
@@ -104,3 +110,30 @@ unreachable-requires-in-Module c = no-module c.args.ty c.in-Module.field-0 c.in-
 
 pub returns-in-Some-clause-types : goal.returns-in-Some-clause-types
 returns-in-Some-clause-types c = all-none c.args.state.now
+
+pub returns-in-Resource-clause-paid : goal.returns-in-Resource-clause-paid
+returns-in-Resource-clause-paid c ts covers priced =
+    let ready = subst (λ (a : AnyType). IsItemReady c.args.self.now.types.now c.args.self.now.merged (written_in c.args.self.now.worlds.now) c.args.state.now (kind.TypeItem a)) c.in-Resource.is c.requires.ready in
+    let end = c.resolve_resource-end.result in
+    let there = subst (λ (r : ResourceId). Covers c.args.self.now.types.now ts (ty.Resource r)) (sym c.resolve_resource-end.ensures.end) (c.weight_law.ensures.covers_resource c.args.self.now.types.now ts c.in-Resource.id (subst (Covers c.args.self.now.types.now ts) c.in-Resource.is covers)) in
+    same-answer c.args.self.now.types.now c.args.self.now.merged ts 0 (type_cost c.args.self.now.types.now (content_of c.args.state.now.here.content) c.args.ty) c.args.state.now c.bring_resource.new.self c.bring_resource.result (sym (ap (type_cost c.args.self.now.types.now (content_of c.args.state.now.here.content)) c.in-Resource.is))
+    (c.bring_resource.ensures.paid c.args.self.now.types.now (end-own c.args.self.now.types.now c.in-Resource.id end c.resolve_resource-end.ensures.held ready.held c.resolve_resource-end.ensures.no_alias) ts there priced)
+
+pub returns-in-Value-clause-paid : goal.returns-in-Value-clause-paid
+returns-in-Value-clause-paid c ts covers priced =
+    same-answer c.args.self.now.types.now c.args.self.now.merged ts (primitive_cost (content_of c.args.state.now.here.content)) (type_cost c.args.self.now.types.now (content_of c.args.state.now.here.content) c.args.ty) c.args.state.now c.value.new.state c.value.result (sym (ap (type_cost c.args.self.now.types.now (content_of c.args.state.now.here.content)) c.in-Value.is))
+    (c.value.ensures.paid ts (subst (Covers c.args.self.now.types.now ts) c.in-Value.is covers) priced)
+
+pub returns-in-Func-clause-paid : goal.returns-in-Func-clause-paid
+returns-in-Func-clause-paid c ts covers priced =
+    same-answer c.args.self.now.types.now c.args.self.now.merged ts 0 (type_cost c.args.self.now.types.now (content_of c.args.state.now.here.content) c.args.ty) c.args.state.now c.func.new.state c.func.result (sym (ap (type_cost c.args.self.now.types.now (content_of c.args.state.now.here.content)) c.in-Func.is))
+    (paid-for-as c.args.self.now.types.now c.args.self.now.values.types.now c.args.self.now.merged c.args.self.now.values.merged (ty.Func c.in-Func.id) 0 c.args.state.now c.func.new.state c.func.result c.requires.writer.types c.requires.writer.merged c.func.ensures.paid ts (subst (Covers c.args.self.now.types.now ts) c.in-Func.is covers) priced)
+
+pub returns-in-World-clause-paid : goal.returns-in-World-clause-paid
+returns-in-World-clause-paid c ts covers priced =
+    same-answer c.args.self.now.types.now c.args.self.now.merged ts (world_cost c.args.self.now.types.now c.in-World.id) (type_cost c.args.self.now.types.now (content_of c.args.state.now.here.content) c.args.ty) c.args.state.now c.world.new.state c.world.result (sym (ap (type_cost c.args.self.now.types.now (content_of c.args.state.now.here.content)) c.in-World.is))
+    (c.world.ensures.paid ts (subst (Covers c.args.self.now.types.now ts) c.in-World.is covers) priced)
+
+pub returns-in-Some-clause-paid : goal.returns-in-Some-clause-paid
+returns-in-Some-clause-paid c ts covers priced =
+    pays-any c.args.self.now.types.now c.args.self.now.merged ts (type_cost c.args.self.now.types.now (content_of c.args.state.now.here.content) c.args.ty) c.args.state.now

@@ -1,4 +1,4 @@
-use Rattle.std.specs.Prelude.{Some}
+use Rattle.std.specs.Prelude.{Some, ◌+◌, length}
 use Rattle.std.proofs.Common.{sym}
 use Rattle.wac_types_shapes.specs.declared.shapes.component.«Type».TheVariants as ty
 use Rattle.wac_encode_stacks.specs.Scopes.{defined}
@@ -7,6 +7,10 @@ use Rattle.wac_encode_scopes.specs.private.Components.{DefinesComponent}
 use Rattle.wac_encode_scopes.proofs.Stepped.{goes-none, all-none}
 use Rattle.wac_encode_interfaces.specs.private.Worlds.{written_in}
 use Rattle.wac_encode_interfaces.proofs.Written.{if-ok, ok-of, indexed-at, type-at, has-world, world-goes}
+use Rattle.wac_encode_interfaces.proofs.Answered.{pays-any, up-to-answer, with-more-answer}
+use Rattle.std.specs.List.{flat_map}
+use Rattle.wac_binary.specs.Bytes.{decl_bytes}
+use Rattle.wac_encode_scopes.specs.private.Paid.{world_cost}
 use Rattle.wac_encode_interfaces.proofs.writer.TypeWriter.world.Goals as goal
 
 pub returns-in-Some-clause-goes : goal.returns-in-Some-clause-goes
@@ -34,3 +38,13 @@ returns-clause-is c =
 
 pub returns-in-Some-clause-types : goal.returns-in-Some-clause-types
 returns-in-Some-clause-types c = all-none c.args.state.now
+
+pub returns-in-Some-clause-paid : goal.returns-in-Some-clause-paid
+returns-in-Some-clause-paid c ts covers priced =
+    pays-any c.args.self.now.types.now c.args.self.now.merged ts (world_cost c.args.self.now.types.now c.args.world) c.args.state.now
+
+pub returns-clause-paid : goal.returns-clause-paid
+returns-clause-paid c ts covers priced =
+    let n = 17 + length (flat_map decl_bytes c.in-Some-get.component.now) in
+    up-to-answer c.args.self.now.types.now c.args.self.now.merged ts n (world_cost c.args.self.now.types.now c.args.world) c.args.state.now c.define_component.new.self c.define_component.result (c.requires.writer.small c.args.world c.in-Some-get.component.now (sym c.in-Some-get.ensures))
+    (with-more-answer c.args.self.now.types.now c.args.self.now.merged ts n c.args.state.now c.define_component.new.self c.define_component.result (c.define_component.ensures.paid c.args.self.now.types.now c.args.self.now.merged priced))

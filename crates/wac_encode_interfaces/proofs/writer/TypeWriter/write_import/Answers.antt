@@ -9,6 +9,11 @@ use Rattle.wac_encode_interfaces.specs.private.Parts.{sides_in, WritesItem}
 use Rattle.wac_encode_interfaces.proofs.Bound.{one-some}
 use Rattle.wac_encode_interfaces.proofs.Written.{on-ok}
 use Rattle.wac_encode_interfaces.proofs.Sided.{import-item, export-item, number-of}
+use Rattle.wac_types_shapes.specs.shapes.Kinds.{kind_type}
+use Rattle.wac_types_weight.specs.private.Laws.{Covers}
+use Rattle.wac_encode_scopes.specs.private.Paid.{IsAnswerPaid}
+use Rattle.wac_encode_interfaces.specs.private.Paid.{part_cost, side_cost}
+use Rattle.wac_encode_interfaces.proofs.Answered.{same-answer}
 use Rattle.wac_encode_interfaces.proofs.writer.TypeWriter.write_import.Goals as goal
 
 pub write_item-requires-clause-item : goal.write_item-requires-clause-item
@@ -25,11 +30,15 @@ write_item-requires-clause-number c =
 pub write_item-requires-clause-next : goal.write_item-requires-clause-next
 write_item-requires-clause-next c = c.requires.next c.entry_at.result.0.now c.entry_at.result.1.now c.entry_at.ensures
 
-pub returns : goal.returns
-returns c = record {
-  writes =
-      on-ok c.write_item.result (λ h n k at.
-      let same = one-some {A = Name × ItemKind} (c.entry_at.result.0.now, c.entry_at.result.1.now) (n, k) (sym c.entry_at.ensures ∙ at) in
-      subst (λ (e : Name × ItemKind). WritesItem c.args.self.now.types.now c.args.self.now.merged c.args.parts.now imported e.0 c.args.state.now c.write_item.new.state) same h)
-      c.write_item.ensures.writes;
-}
+pub returns-clause-writes : goal.returns-clause-writes
+returns-clause-writes c =
+    on-ok c.write_item.result (λ h n k at.
+    let same = one-some {A = Name × ItemKind} (c.entry_at.result.0.now, c.entry_at.result.1.now) (n, k) (sym c.entry_at.ensures ∙ at) in
+    subst (λ (e : Name × ItemKind). WritesItem c.args.self.now.types.now c.args.self.now.merged c.args.parts.now imported e.0 c.args.state.now c.write_item.new.state) same h)
+    c.write_item.ensures.writes
+
+pub returns-clause-paid : goal.returns-clause-paid
+returns-clause-paid c n k ts at covers priced =
+    let same = one-some {A = Name × ItemKind} (c.entry_at.result.0.now, c.entry_at.result.1.now) (n, k) (sym c.entry_at.ensures ∙ at) in
+    subst (λ (e : Name × ItemKind). IsAnswerPaid c.args.self.now.types.now c.args.self.now.merged ts (part_cost c.args.self.now.types.now c.args.parts.now imported c.args.position e.0 e.1) c.args.state.now c.write_item.new.state c.write_item.result) same
+    (same-answer c.args.self.now.types.now c.args.self.now.merged ts (side_cost c.args.self.now.types.now c.entry_at.result.0.now c.entry_at.result.1.now (nat_le c.len.result c.args.position)) (part_cost c.args.self.now.types.now c.args.parts.now imported c.args.position c.entry_at.result.0.now c.entry_at.result.1.now) c.args.state.now c.write_item.new.state c.write_item.result (ap (λ (m : ℕ). side_cost c.args.self.now.types.now c.entry_at.result.0.now c.entry_at.result.1.now (nat_le m c.args.position)) c.len.ensures) (c.write_item.ensures.paid ts (subst (λ (e : Name × ItemKind). Covers c.args.self.now.types.now ts (kind_type e.1)) (sym same) covers) priced))
