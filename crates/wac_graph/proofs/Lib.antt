@@ -10,6 +10,7 @@ mod BuildingLemmas
 mod DependencyLemmas
 mod TwiceLemmas
 mod BeginLemmas
+mod WithinLemmas
 pub mod ConflictFreeLemmas
 pub mod WantedAskedLemmas
 pub mod lemmas

@@ -5,6 +5,7 @@ use Rattle.wac_edges.specs.cycles.Cycles.{Path, step, further}
 use Rattle.wac_types_shapes.specs.primitives.Name.{Name}
 use Rattle.wac_types_shapes.specs.declared.shapes.component.InterfaceId.{InterfaceId}
 use Rattle.wac_types_collection.specs.collection.Collection.{Collection, interface_exports}
+use Rattle.wac_types_weight.proofs.Near.{near-is-least}
 use Rattle.wac_merge_classes.specs.entries.Classes.{Entry, by_names, class_names}
 use Rattle.wac_merge_classes.specs.terms.ClassOrder.{RestsOn, by_use, by_resource, grouped}
 use Rattle.wac_merge_classes.specs.terms.Merge.{Merged, IsMerge, names_behind}
@@ -13,6 +14,7 @@ use Rattle.wac_merge_classes.specs.terms.NoDisagreement.{HasNoDisagreement}
 use Rattle.wac_types_shapes.specs.declared.shapes.component.ItemKind.{ItemKind}
 use Rattle.wac_merge_classes.specs.entries.Agreement.{AllMembersAgree}
 use Rattle.wac_merge_imports.specs.unions.EntryFaults.{HasEntryWith, HasFaultsOfEntries}
+use Rattle.wac_merge_imports.specs.unions.Lighter.{IsLighter}
 use Rattle.wac_merge_imports.specs.unions.MergedScope.{BindsAsClasses}
 use Rattle.wac_merge.specs.Aggregate.{Aggregate}
 use Rattle.wac_merge.specs.MergedPlaces.{MentionsBefore}
@@ -121,3 +123,18 @@ nothing_agrees g none =
   where
     nothing : (k : ℕ) (e : Entry) → slice_get [] k ≡ Some e → ⊥
     nothing k e at = cc
+
+-- what weighs no more than nothing of one collection weighs no more than nothing of another
+pub nothing_lighter : (g : Graph) (d : Collection) (es : List Entry) (m : Merged) → asked_entries g ≡ [] → es ≡ [] → IsLighter d es m → IsLighter g.types (outer_entries g) m
+nothing_lighter g d es m none are lighter =
+    let same : outer_entries g ≡ [] = ap to_merge none in
+    subst (λ (l : List Entry). IsLighter g.types l m) (sym same) (moved (subst (λ (l : List Entry). IsLighter d l m) are lighter))
+  where
+    moved : IsLighter d [] m → IsLighter g.types [] m
+    moved l =
+        let least = near-is-least d [] [] (λ t h. absurd h) in record {
+          names = l.names;
+          items = l.items;
+          inside = l.inside;
+          near = omega (arith, l.near, least);
+        }

@@ -1,9 +1,11 @@
 //! Encoding a graph as a component.
-ghost use Rattle.std.specs.Prelude.{◌≡◌, Bool, IsTrue, OnOk, IfOk, IfErr, IfSome, List, None};
+ghost use Rattle.std.specs.Prelude.{◌≡◌, ◌≤◌, ◌^◌, length, Bool, true, IsTrue, OnOk, IfOk, IfErr, IfSome, List, None};
 ghost use Rattle.wac_binary.specs.Bytes.{bytes_of};
 ghost use Rattle.wac_binary.specs.Fits.{Fits};
 ghost use Rattle.wac_binary.specs.Items.{Item as AnItem};
 ghost use Rattle.wac_encode_imports.specs.private.Imports.{AreImported};
+ghost use Rattle.wac_encode_imports.specs.private.Small.{imports_cost};
+ghost use Rattle.wac_encode_scopes.specs.private.Paid.{total};
 ghost use Rattle.wac_graph.specs.private.Kept.{KeepsImports};
 ghost use Rattle.wac_graph_model.specs.meaning.Means.{Means};
 ghost use Rattle.wac_graph_encode.specs.private.places.Places.{IsMergedFor, ArePlaced};
@@ -11,6 +13,8 @@ ghost use Rattle.std.specs.Result.{IsErrAnd};
 ghost use Rattle.wac_graph_model.specs.causes.Cause.{AnswersFor, Cause, CauseKind, cause_of, HasMerge, Occurs, Stands};
 ghost use Rattle.wac_graph_model.specs.causes.OuterNames.{export_names, import_names};
 ghost use Rattle.wac_graph_model.specs.causes.TypeFaults.{HasNoTypeFault};
+ghost use Rattle.wac_graph_model.specs.declared.causes.errors.EncodeError.TheVariants.{TooLarge};
+ghost use Rattle.wac_graph_model.specs.weight.GraphWeight.{bound};
 ghost use Rattle.wac_names.specs.validation.Valid.{AreValid};
 
 use crate::graph::CompositionGraph;
@@ -46,7 +50,8 @@ impl CompositionGraph {
     /// - [`ExplicitImportMergeConflict`](EncodeError::ExplicitImportMergeConflict) if an import node does.
     /// - [`ImportsUseEachOther`](EncodeError::ImportsUseEachOther) if imports depend on each other in a cycle.
     /// - [`TypeNotWritable`](EncodeError::TypeNotWritable) if a type that a node needs has a fault.
-    /// - [`TooLarge`](EncodeError::TooLarge) if an index, a count or a size does not fit 32 bits.
+    /// - [`TooLarge`](EncodeError::TooLarge) if an index, a count or a size does not fit 32 bits. All fit if the weight is
+    ///   below 2^26.
     /// - [`ValidationFailure`](EncodeError::ValidationFailure) if `validate` is set and a name of an import or export
     ///   is invalid or clashes with another.
     pub fn encode(&self, options: EncodeOptions<'_>) -> Result<Vec<u8>, EncodeError>
@@ -58,6 +63,10 @@ impl CompositionGraph {
         ensures refused { (cause : Cause) → Stands self.now options.entry cause → IsErrAnd result (AnswersFor cause) }
         // If bytes are returned, there is no cause of any kind.
         ensures none { OnOk result ((kind : CauseKind) → Occurs self.now options.entry kind → ⊥) }
+        // The bytes are at most 64 for each unit of the weight of the graph and the options.
+        ensures short { IfOk result (λ bytes. length bytes.items ≤ bound self.now options.entry) }
+        // `TooLarge` is returned only if that bound is 2 ^ 32 or more.
+        ensures too_large { IfErr result (λ e. e ≡ TooLarge → 2 ^ 32 ≤ bound self.now options.entry) }
         // If names are validated, those of the component are valid together.
         ensures valid { IfOk result (λ bytes. IsTrue options.entry.validate → (items : List AnItem) × (bytes.items ≡ bytes_of items) × AreValid (import_names items) (export_names items)) }
     {
@@ -65,6 +74,7 @@ impl CompositionGraph {
         class_laws(); // proof only
         order_law(); // proof only
         self.law(); // proof only
+        wac_graph_model::weight::order_law(); // proof only
         let reader = self.reader();
         let ordered = reader.ordered()?;
         self.check_conflicts()?;
@@ -98,6 +108,8 @@ impl CompositionGraph {
         ensures placed { IfOk result (λ b. ArePlaced self.now b.1) }
         ensures kept { IfOk result (λ b. KeepsImports self.now b.1.merge) }
         ensures fault { IfErr result (λ e. cause_of e ≡ None) }
+        ensures small { IfOk result (λ b. total merge.merge.types true b.0 ≤ imports_cost merge.merge) }
+        ensures too_large { IfErr result (λ e. e ≡ TooLarge → 2 ^ 32 ≤ imports_cost merge.merge) }
     {
         distinct_classes_law(); // proof only
         import_fault_law(); // proof only

@@ -5,6 +5,7 @@ ghost use Rattle.wac_merge.specs.Aggregate.{IsFault};
 ghost use Rattle.wac_merge_classes.specs.entries.Agreement.{AllMembersAgree};
 ghost use Rattle.wac_merge_classes.specs.entries.Classes.{by_names};
 ghost use Rattle.wac_merge_classes.specs.terms.Faults.{Disagrees};
+ghost use Rattle.wac_merge_imports.specs.unions.Lighter.{IsLighter};
 ghost use Rattle.wac_graph_model.specs.causes.Cause.{HasMerge, HasNoConflict};
 ghost use Rattle.wac_graph_model.specs.nodes.Entries.{asked_entries, to_merge};
 ghost use Rattle.wac_graph_model.specs.nodes.OuterImports.{outer_entries};
@@ -38,6 +39,7 @@ impl CompositionGraph {
         requires apart { HasNoConflict self.now }
         ensures merged { IfOk result (λ a. IsMergedFor self.now a.0) }
         ensures kept { IfOk result (λ a. KeepsImports self.now a.0) }
+        ensures lighter { IfOk result (λ a. IsLighter self.now.types (outer_entries self.now) a.0.merge) }
         ensures agreed { OnOk result (AllMembersAgree by_names self.now.types (outer_entries self.now)) }
         ensures asked { IfOk result (λ a. map entry_view a.1.items ≡ asked_entries self.now) }
         ensures merges { OnOk result (HasMerge self.now) }
@@ -68,6 +70,7 @@ impl CompositionGraph {
         requires { asked_entries self.now ≡ [] }
         ensures merged { IfOk result (IsMergedFor self.now) }
         ensures kept { IfOk result (KeepsImports self.now) }
+        ensures lighter { IfOk result (λ a. IsLighter self.now.types (outer_entries self.now) a.merge) }
         ensures agreed { AllMembersAgree by_names self.now.types (outer_entries self.now) }
         ensures merges { HasMerge self.now }
         ensures refused { IfErr result (λ e. e ≡ EncodeError.OutOfMemory) }

@@ -1,3 +1,4 @@
 pub mod nodes
 pub mod meaning
 pub mod causes
+pub mod weight

@@ -1,4 +1,5 @@
 pub mod nodes
 pub mod meaning
 pub mod causes
+pub mod weight
 pub mod private

@@ -3,11 +3,13 @@
 //! - [`nodes`]: nodes, packages and the errors of calls; the graph as a value, its steps and its invariant.
 //! - [`meaning`]: when component items mean a graph.
 //! - [`causes`]: why a graph is not encoded.
+//! - [`weight`]: what a graph weighs, which bounds how much is written of it.
 #![tactic(auto)]
 
 pub mod causes;
 pub mod meaning;
 pub mod nodes;
+pub mod weight;
 
 pub use causes::EncodeError;
 pub use nodes::{

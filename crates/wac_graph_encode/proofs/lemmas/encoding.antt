@@ -6,3 +6,4 @@ pub mod NeededLemmas
 pub mod LoopLemmas
 pub mod TellLemmas
 pub mod NodeLemmas
+pub mod RootCosts

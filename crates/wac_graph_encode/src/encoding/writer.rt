@@ -1,5 +1,5 @@
 //! From a graph and its written imports to the bytes of a component.
-ghost use Rattle.std.specs.Prelude.{◌≡◌, ℕ, ◌<◌, Contains, IsSomeAnd, true, false, OnOk, IfOk, IfErr, IfSome, IfNone, Some, None, List, length, slice_get};
+ghost use Rattle.std.specs.Prelude.{◌≡◌, ℕ, ◌<◌, ◌≤◌, ◌+◌, ◌*◌, ◌^◌, ◌⊎◌, [], Contains, IsSomeAnd, true, false, OnOk, IfOk, IfErr, IfSome, IfNone, Some, None, List, length, slice_get};
 ghost use Rattle.wac_binary.specs.Bytes.{bytes_of};
 ghost use Rattle.wac_binary.specs.Fits.{Fits};
 ghost use Rattle.wac_binary.specs.Items.{Item as AnItem};
@@ -32,6 +32,17 @@ ghost use Rattle.wac_graph_reader.specs.private.reading.EncoderView.{progress};
 ghost use Rattle.wac_graph_reader.specs.private.writing.Naming.{IsNamed};
 ghost use Rattle.wac_graph_encode.specs.private.encoding.Root.{AddsRoots, BeginsNodes, BeginsRoot, EndsNodes, HasNodeWorlds, IsFaultlessNode, IsGraphWriter, IsNodeReady, IsOpenRoot, IsPackageReady, KeepsRoot, RecordsName, WritesOne, WroteOne};
 ghost use Rattle.wac_graph_encode.specs.private.places.Places.{ArePlaced};
+ghost use Rattle.wac_graph_encode.specs.private.encoding.Costs.{AreShortArguments, CostsWithin, CostsWithPackages, world_part};
+ghost use Rattle.std.specs.List.{sum_by};
+ghost use Rattle.wac_types_collection.specs.collection.Collection.{Collection as ACollection};
+ghost use Rattle.wac_encode_scopes.specs.private.Paid.{total, IsAnswerPaid};
+ghost use Rattle.wac_encode_interfaces.specs.private.Paid.{AreSmallWorlds};
+ghost use Rattle.wac_encode_imports.specs.private.Told.{entries_items};
+ghost use Rattle.wac_binary.specs.declared.fault.BinaryFault.TheVariants.{OutOfMemory as NoMemory};
+ghost use Rattle.wac_graph_model.specs.declared.causes.errors.EncodeError.TheVariants.{TooLarge};
+ghost use Rattle.wac_graph_model.specs.weight.GraphWeight.{bound as bound_of};
+ghost use Rattle.wac_graph_model.specs.private.weight.Costs.{package_cost};
+ghost use Rattle.wac_graph_model.specs.private.weight.Written.{item_cost, order_cost, slots_cost};
 
 use crate::encoding::laws::growth_law;
 use crate::places::{ImportPlaces, import_indexes};
@@ -40,8 +51,8 @@ use wac_binary::{BinaryFault, Sort};
 use wac_encode_imports::tell_graph;
 use wac_encode_interfaces::{TypeWriter, WorldTypes, definition_roots, world_types};
 use wac_encode_scopes::{ClosedTypes, How, State, lending_law};
-use wac_encode_stacks::still_law;
-use wac_graph_model::{EncodeError, EncodeOptions, NodeId, NodeKind, PackageId};
+use wac_encode_stacks::{index_law, size_law, still_law};
+use wac_graph_model::{EncodeError, EncodeOptions, NodeId, NodeKind, PackageId, weight};
 use wac_graph_reader::{Encoder, GraphReader, dependency_name, sort_of, write_processor};
 use wac_merge::laws::{class_laws, order_law};
 use wac_types::{ItemKind, Package, Type};
@@ -71,6 +82,8 @@ fn push_roots(
     ensures { OnOk result (AddsRoots reader.now define_components n found.old.items found.new.items) }
 {
     reader.law(); // proof only
+    reader.types().law(); // proof only
+    weight::order_law(); // proof only
     match reader.kind(n) {
         NodeKind::Definition => {
             let (_, ty) = reader.definition(n);
@@ -102,6 +115,8 @@ fn node_worlds(
     ensures written { IfOk result (λ ws. AreWorldTypes reader.now.types (written_in ws)) }
     ensures there { IfOk result (λ ws. (n : AnId) → Contains order.now n → HasNodeWorlds reader.now define_components (written_in ws) n) }
     ensures fault { IfErr result (λ e. cause_of e ≡ None) }
+    ensures sizes { IfOk result (λ ws. AreSmallWorlds reader.now.types (written_in ws)) }
+    ensures heavy { IfErr result (λ e. e ≡ TooLarge → (o : Asked) → 2 ^ 32 ≤ bound_of reader.now o) }
 {
     let mut roots = Vec::new(reader.allocator());
     for n in order {
@@ -137,9 +152,12 @@ pub fn write(
     requires faultless { (outer : List ℕ) → IsOuterOrder reader.now outer → (n : AnId) → Contains order.now n → IsFaultlessNode reader.now options.define_components (outer_bindings reader.now outer) n }
     ensures means { IfOk result (λ bytes. (items : List AnItem) × (bytes.items ≡ bytes_of items) × Fits items × Means items reader.now options.entry) }
     ensures fault { IfErr result (λ e. cause_of e ≡ None) }
+    ensures short { IfOk result (λ bytes. (c : ACollection) (b : _) → length bytes.items ≤ 8 + total c b state + 4 * entries_items reader.now.types (outer_entries reader.now) + order_cost reader.now options.entry order.now) }
+    ensures too_large { IfErr result (λ e. e ≡ TooLarge → (c : ACollection) (b : _) → (2 ^ 32 ≤ 8 + total c b state + 4 * entries_items reader.now.types (outer_entries reader.now) + order_cost reader.now options.entry order.now) ⊎ (2 ^ 32 ≤ bound_of reader.now options.entry)) }
 {
     wac_binary::laws::law(); // proof only
     reader.law(); // proof only
+    size_law(); // proof only
     tell_imports(reader, &mut state, imports)?;
     let encoder = write_nodes(reader, state, imports, order, options.define_components)?;
     let (mut component, indexes) = encoder.finish();
@@ -161,7 +179,9 @@ fn tell_imports(
     requires agreed { AllMembersAgree by_names reader.now.types (outer_entries reader.now) }
     requires binds { BindsAsClasses by_names reader.now.types (outer_entries reader.now) imports.now.merge.merge }
     requires bound { (outer : List ℕ) → IsOuterOrder reader.now outer → HasNoUnbound reader.now.types (outer_entries reader.now) outer }
-    ensures { OnOk result (BeginsRoot reader.now imports.now state.new) }
+    ensures begins { OnOk result (BeginsRoot reader.now imports.now state.new) }
+    ensures cost { OnOk result ((c : ACollection) (b : _) → total reader.now.types false state.new ≤ total c b state.old + 4 * entries_items reader.now.types (outer_entries reader.now)) }
+    ensures memory { IfErr result (λ e. e ≡ NoMemory) }
 {
     wac_binary::laws::law(); // proof only
     reader.law(); // proof only
@@ -191,9 +211,12 @@ fn write_nodes(
     ensures root { IfOk result (λ e. IsRoot e.state.here.content) }
     ensures room { IfOk result (λ e. HasRoom reader.now e.indexes.items) }
     ensures fault { IfErr result (λ e. cause_of e ≡ None) }
+    ensures cost { IfOk result (λ e. (o : Asked) → o.define_components ≡ define_components → total reader.now.types false e.state ≤ total reader.now.types false state + (sum_by (item_cost reader.now o) order.now + slots_cost reader.now o)) }
+    ensures too_large { IfErr result (λ e. e ≡ TooLarge → (o : Asked) → o.define_components ≡ define_components → (2 ^ 32 ≤ total reader.now.types false state + (sum_by (item_cost reader.now o) order.now + slots_cost reader.now o)) ⊎ (2 ^ 32 ≤ bound_of reader.now o)) }
 {
     class_laws(); // proof only
     order_law(); // proof only
+    weight::order_law(); // proof only
     reader.law(); // proof only
     let indexes = import_indexes(reader, imports)?;
     let closed = ClosedTypes::new(reader.types())?;
@@ -220,6 +243,7 @@ impl<'a> GraphWriter<'a> {
         ensures written { OnOk result (EndsNodes self.now encoder.new order.now) }
         ensures kept { length encoder.new.indexes.items ≡ length encoder.old.indexes.items }
         ensures fault { IfErr result (λ e. cause_of e ≡ None) }
+        ensures cost { (o : Asked) → o.define_components ≡ self.now.define_components → CostsWithPackages self.now.reader.now o (sum_by (item_cost self.now.reader.now o) order.now) encoder.old encoder.new result }
     {
         wac_binary::laws::law(); // proof only
         self.reader.law(); // proof only
@@ -240,7 +264,9 @@ impl<'a> GraphWriter<'a> {
         ensures root { OnOk result (KeepsRoot self.now.reader.now encoder.old.state encoder.new.state) }
         ensures kept { length encoder.new.indexes.items ≡ length encoder.old.indexes.items }
         ensures fault { IfErr result (λ e. cause_of e ≡ None) }
+        ensures cost { (o : Asked) → o.define_components ≡ self.now.define_components → CostsWithPackages self.now.reader.now o (item_cost self.now.reader.now o n) encoder.old encoder.new result }
     {
+        weight::order_law(); // proof only
         lending_law(); // proof only
         let index = match self.reader.kind(n) {
             NodeKind::Instantiation(_) => self.write_instantiation(encoder, n)?,
@@ -261,11 +287,15 @@ impl<'a> GraphWriter<'a> {
         ensures root { OnOk result (KeepsRoot self.now.reader.now encoder.old.state encoder.new.state) }
         ensures kept { encoder.new.indexes ≡ encoder.old.indexes }
         ensures fault { IfErr result (λ e. cause_of e ≡ None) }
+        ensures cost { (o : Asked) → CostsWithin self.now.reader.now.types (item_cost self.now.reader.now o n) encoder.old.state encoder.new.state result }
     {
+        size_law(); // proof only
         growth_law(); // proof only
         self.reader.law(); // proof only
+        self.reader.types().law(); // proof only
         let (name, ty) = self.reader.definition(n);
         let index = self.types.definition(&mut encoder.state, ty)?;
+        index_law(index); // proof only
         let export = encoder.state.builder().export(name, Sort::Type, index)?;
         self.name_definition(&mut encoder.state, ty, export)?;
         Ok(export)
@@ -274,7 +304,8 @@ impl<'a> GraphWriter<'a> {
     /// Records the export of a definition as a name of its value type, unless that has one.
     fn name_definition(&self, state: &mut State, ty: Type, index: u32) -> Result<(), BinaryFault>
         requires writer { IsGraphWriter self.now }
-        ensures { OnOk result (RecordsName self.now.reader.now ty index state.old state.new) }
+        ensures records { OnOk result (RecordsName self.now.reader.now ty index state.old state.new) }
+        ensures paid { state.old.around.items ≡ [] → IsAnswerPaid self.now.reader.now.types false [] 0 state.old state.new result }
     {
         self.reader.types().law(); // proof only
         still_law(); // proof only
@@ -298,12 +329,16 @@ impl<'a> GraphWriter<'a> {
         ensures root { OnOk result (KeepsRoot self.now.reader.now encoder.old.state encoder.new.state) }
         ensures kept { encoder.new.indexes ≡ encoder.old.indexes }
         ensures fault { IfErr result (λ e. cause_of e ≡ None) }
+        ensures cost { (o : Asked) → o.define_components ≡ self.now.define_components → CostsWithPackages self.now.reader.now o (item_cost self.now.reader.now o n) encoder.old encoder.new result }
     {
+        size_law(); // proof only
+        weight::order_law(); // proof only
         growth_law(); // proof only
         self.reader.law(); // proof only
         let (id, package) = self.reader.package_of(n.0);
         let arguments = arguments(self.reader, self.imports, &encoder.indexes, n)?;
         let component = self.component(encoder, id, package)?;
+        index_law(component); // proof only
         let index = encoder.state.builder().instantiate(component, &arguments)?;
         Ok(index)
     }
@@ -324,7 +359,9 @@ impl<'a> GraphWriter<'a> {
         ensures bottom { OnOk result (IsRoot encoder.new.state.here.content) }
         ensures kept { encoder.new.indexes ≡ encoder.old.indexes }
         ensures fault { IfErr result (λ e. cause_of e ≡ None) }
+        ensures cost { (o : Asked) → o.define_components ≡ self.now.define_components → CostsWithPackages self.now.reader.now o (world_part self.now.reader.now o «package».now) encoder.old encoder.new result }
     {
+        weight::order_law(); // proof only
         if let Some(index) = encoder.components.get(id) {
             return Ok(index);
         }
@@ -342,7 +379,9 @@ impl<'a> GraphWriter<'a> {
         ensures root { OnOk result (KeepsRoot self.now.reader.now state.old state.new) }
         ensures bottom { OnOk result (IsRoot state.new.here.content) }
         ensures fault { IfErr result (λ e. cause_of e ≡ None) }
+        ensures cost { (o : Asked) → o.define_components ≡ self.now.define_components → CostsWithin self.now.reader.now.types (package_cost o.define_components «package».now + world_part self.now.reader.now o «package».now) state.old state.new result }
     {
+        size_law(); // proof only
         growth_law(); // proof only
         self.reader.types().law(); // proof only
         if self.define_components {
@@ -366,7 +405,8 @@ fn arguments<'a>(
     requires placed { ArePlaced reader.now imports.now }
     requires instantiation { IsSomeAnd (node_at reader.now n) (λ node. node.kind ≡ instantiation) }
     requires room { HasRoom reader.now indexes.now }
-    ensures { IfOk result (λ v. IfSome (node_at reader.now n) (λ node. AreArgumentItems reader.now imports.now.places.items (index_in indexes.now) n 0 (imports_of reader.now node) (arguments_of v.items))) }
+    ensures items { IfOk result (λ v. IfSome (node_at reader.now n) (λ node. AreArgumentItems reader.now imports.now.places.items (index_in indexes.now) n 0 (imports_of reader.now node) (arguments_of v.items))) }
+    ensures short { IfOk result (λ v. AreShortArguments (arguments_of v.items)) }
 {
     let names = reader.imports_at(n.0);
     let count = names.len();
@@ -375,6 +415,7 @@ fn arguments<'a>(
     for i in 0..count {
         let name = names.name_at(i);
         let (sort, index) = argument(reader, imports, indexes, n, i, name, sources[i]);
+        index_law(index); // proof only
         arguments.push((name, sort, index))?;
     }
     Ok(arguments)

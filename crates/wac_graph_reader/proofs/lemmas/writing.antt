@@ -14,3 +14,6 @@ pub mod NamingLemmas
 pub mod FurtherRows
 pub mod WriteDefinitionLemmas
 pub mod NoImportLemmas
+pub mod ItemSizes
+pub mod NameSizes
+pub mod AliasSizes

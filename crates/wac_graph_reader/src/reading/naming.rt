@@ -9,12 +9,14 @@ ghost use Rattle.wac_graph_model.specs.meaning.Means.{AreNames};
 ghost use Rattle.wac_graph_model.specs.private.meaning.Encoding.{HasRoom, index_in};
 ghost use Rattle.wac_types_shapes.specs.primitives.Name.{Name as AName};
 ghost use Rattle.wac_graph_reader.specs.private.writing.Naming.{AreLowest, AreNamesOf, IsNamed, IsNamedAt};
+ghost use Rattle.wac_graph_reader.specs.private.writing.Sizes.{AreShortNames};
 
 use crate::reading::encoder::sort_of;
 use crate::reading::reader::GraphReader;
 use std::alloc::AllocError;
 use std::collections::BTreeMap;
 use wac_binary::Sort;
+use wac_encode_stacks::index_law;
 use wac_graph_model::NodeId;
 
 impl<'a> GraphReader<'a> {
@@ -28,7 +30,8 @@ impl<'a> GraphReader<'a> {
     ) -> Result<Vec<(Sort, u32, &str)>, AllocError>
         requires room { HasRoom self.now indexes.now }
         requires named { named ≡ false → (sort : ASort) (n : AnId) → IsNamed self.now sort n → ⊥ }
-        ensures { IfOk result (λ names. AreNames self.now (index_in indexes.now) (names_of names.items)) }
+        ensures names { IfOk result (λ names. AreNames self.now (index_in indexes.now) (names_of names.items)) }
+        ensures short { IfOk result (λ names. AreShortNames (names_of names.items)) }
     {
         let end = self.names_end(named);
         let mut names = Vec::new(self.alloc);
@@ -51,7 +54,8 @@ impl<'a> GraphReader<'a> {
     ) -> Result<(), AllocError>
         requires room { HasRoom self.now indexes.now }
         requires end { (n : AnId) → end ≤ n.0 → IsNamed self.now sort n → ⊥ }
-        ensures { OnOk result ((more : List (ASort × ℕ × AName)) × AreNamesOf self.now (index_in indexes.now) sort more × (names_of names.new.items ≡ names_of names.old.items ++ more)) }
+        ensures names { OnOk result ((more : List (ASort × ℕ × AName)) × AreNamesOf self.now (index_in indexes.now) sort more × (names_of names.new.items ≡ names_of names.old.items ++ more)) }
+        ensures short { OnOk result (AreShortNames (names_of names.old.items) → AreShortNames (names_of names.new.items)) }
     {
         let mut more = self.sort_names(indexes, end, sort)?;
         names.append(&mut more)?;
@@ -93,11 +97,13 @@ impl<'a> GraphReader<'a> {
     ) -> Result<Vec<(Sort, u32, &str)>, AllocError>
         requires room { HasRoom self.now indexes.now }
         requires end { (n : AnId) → end ≤ n.0 → IsNamed self.now sort n → ⊥ }
-        ensures { IfOk result (λ names. AreNamesOf self.now (index_in indexes.now) sort (names_of names.items)) }
+        ensures names { IfOk result (λ names. AreNamesOf self.now (index_in indexes.now) sort (names_of names.items)) }
+        ensures short { IfOk result (λ names. AreShortNames (names_of names.items)) }
     {
         let lowest = self.lowest_named(indexes, end, sort)?;
         let mut names = Vec::new(self.alloc);
         for (index, n) in &lowest {
+            index_law(*index); // proof only
             names.push((sort, *index, self.name_of(*n)))?;
         }
         Ok(names)

@@ -14,3 +14,4 @@ pub mod PlugExample
 pub mod BeginningRows
 pub mod FitRows
 pub mod ImportItemRows
+pub mod WeightRows

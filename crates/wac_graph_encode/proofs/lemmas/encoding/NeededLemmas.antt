@@ -1,13 +1,17 @@
 -- The types inside which worlds are written before the nodes.
-use Rattle.std.proofs.Common.{◌≡◌, ℕ, zero, suc, ◌+◌, ◌<◌, ◌≤◌, ◌⊎◌, inl, inr, Bool, true, false, List, [], ◌∷◌, ◌++◌, length, refl, ap, sym, ◌∙◌, subst, arith, Contains, Option, Some, None, IfSome, IsSomeAnd, slice_get, Result, Ok, Err, OnOk, is_ok, if◌then◌else◌}
+use Rattle.std.proofs.Common.{◌≡◌, ℕ, zero, suc, ◌+◌, ◌*◌, ◌<◌, ◌≤◌, ◌⊎◌, inl, inr, Bool, true, false, List, [], ◌∷◌, ◌++◌, length, refl, ap, sym, ◌∙◌, subst, arith, Contains, Option, Some, None, IfSome, IsSomeAnd, slice_get, Result, Ok, Err, OnOk, is_ok, if◌then◌else◌}
 use Rattle.std.specs.BTreeSet.{BTreeSet}
 use Rattle.std.proofs.lemmas.List.{append-nil}
-use Rattle.wac_types_shapes.specs.primitives.Name.{Name}
+use Rattle.std.specs.Option.{option_and_then}
+use Rattle.wac_types_shapes.specs.primitives.Name.{Name, option_case}
 use Rattle.wac_types_shapes.specs.declared.shapes.component.ItemKind.TheVariants.{TypeItem}
 use Rattle.wac_types_shapes.specs.declared.shapes.component.«Type».{«Type» as AnyType}
 use Rattle.wac_types_shapes.specs.declared.shapes.component.«Type».TheVariants as ty
 use Rattle.wac_types_collection.specs.collection.Bound.{Bindings}
-use Rattle.wac_types_collection.specs.collection.Collection.{holds_type}
+use Rattle.wac_types_collection.specs.collection.Collection.{IsWellFormed, holds_type}
+use Rattle.wac_types_weight.specs.Weight.{weight, item_weight}
+use Rattle.wac_types_weight.specs.Text.{scope_weight}
+use Rattle.wac_types_weight.proofs.Scopes.{text-is-less}
 use Rattle.wac_types_collection.specs.collection.Package.{PackageParts}
 use Rattle.wac_types_collection.proofs.lemmas.wide.Members.{in_none, in_one, in_left, in_right, in_either, in_at, in_first}
 use Rattle.wac_edges.specs.declared.node.NodeId.{NodeId}
@@ -16,7 +20,10 @@ use Rattle.wac_encode_interfaces.specs.private.Ready.{IsClean}
 use Rattle.wac_encode_interfaces.specs.private.Worlds.{Worlds, HaveWorlds}
 use Rattle.wac_graph_model.specs.declared.nodes.packages.PackageId.{PackageId}
 use Rattle.wac_graph_model.specs.nodes.Graph as graph
-use Rattle.wac_graph_model.specs.nodes.Graph.{Graph, GraphNode, Kind, node_at, package_at}
+use Rattle.wac_graph_model.specs.nodes.Graph.{Graph, GraphNode, Kind, node_at, package_at, package_of}
+use Rattle.wac_graph_model.specs.declared.nodes.options.EncodeOptions.{EncodeOptions}
+use Rattle.wac_graph_model.specs.weight.GraphWeight.{kind_weight, bound}
+use Rattle.wac_graph_model.specs.private.weight.Written.{NodeIsPart}
 use Rattle.wac_graph_model.specs.declared.nodes.node.NodeKind.{NodeKind}
 use Rattle.wac_graph_model.specs.declared.nodes.node.NodeKind.TheVariants as code
 use Rattle.wac_graph_model.specs.meaning.Means.{is_import}
@@ -40,6 +47,7 @@ module _ (g : Graph) (n : NodeId) (k : Kind) (is : IsSomeAnd (node_at g n) (λ n
       defined = λ node t at defined typed. absurd (not_defined (sym (of-node node at) ∙ defined));
       imported = λ node id at instance owner not_here. absurd (not_imported (sym (of-node node at) ∙ instance) not_here);
     };
+    light = λ o t h. absurd (in_none t h);
   }
 
 instance-no-definition : graph.instantiation ≡ graph.definition → ⊥
@@ -77,8 +85,8 @@ some-same x y h = cc
 
 -- a definition
 pub definition-roots : (g : Graph) (n : NodeId) (define : Bool) (t : AnyType) (xs ys roots : List AnyType) → IsSomeAnd (node_at g n) (λ node. node.kind ≡ graph.definition) → IfSome (node_at g n) (λ node. node.item_kind ≡ TypeItem t)
-    → AreDefinitionRoots g.types t roots → (m : Bindings) × IsFaultlessNode g define m n → ys ≡ xs ++ roots → AddsRoots g define n xs ys
-definition-roots g n define t xs ys roots is typed are faultless grown = by (node_at g n) refl is typed
+    → AreDefinitionRoots g.types t roots → NodeIsPart → ((u : AnyType) → Contains roots u → scope_weight g.types u ≤ weight g.types t) → (m : Bindings) × IsFaultlessNode g define m n → ys ≡ xs ++ roots → AddsRoots g define n xs ys
+definition-roots g n define t xs ys roots is typed are part light faultless grown = by (node_at g n) refl is typed
   where
     by : (o : Option GraphNode) → node_at g n ≡ o → IsSomeAnd o (λ node. node.kind ≡ graph.definition) → IfSome o (λ node. node.item_kind ≡ TypeItem t) → AddsRoots g define n xs ys
     by None at h typed = absurd h
@@ -91,12 +99,18 @@ definition-roots g n define t xs ys roots is typed are faultless grown = by (nod
         defined = λ other u there defined of. subst (HaveDefinedWorlds g.types ws) (same-type t u (sym typed ∙ ap (λ (x : GraphNode). x.item_kind) (some-same node other (sym at ∙ there)) ∙ of)) (are.enough ws all);
         imported = λ other id there instance owner not_here. absurd (let wrong : graph.definition ≡ graph.instantiation = sym h ∙ ap (λ (x : GraphNode). x.kind) (some-same node other (sym at ∙ there)) ∙ instance in cc);
       };
+      light = λ o u among.
+          let whole = part g o n node at in
+          let own : kind_weight g n.0 node node.kind ≡ item_weight g.types node.item_kind = ap (kind_weight g n.0 node) h in
+          let weighs : item_weight g.types node.item_kind ≡ weight g.types t = ap (item_weight g.types) typed in
+          let less = light u among in
+          omega (arith, whole, own, weighs, less);
     }
 
 -- an instantiation of a package that is imported
 pub package-roots : (g : Graph) → IsSound g → (n : NodeId) (define : Bool) (id : PackageId) (p : PackageParts) (xs ys : List AnyType) → define ≡ false → IsSomeAnd (node_at g n) (λ node. node.kind ≡ graph.instantiation)
-    → IfSome (node_at g n) (λ node. node.owner ≡ Some id) → package_at g id ≡ Some p → (m : Bindings) × IsFaultlessNode g define m n → ys ≡ xs ++ ty.World p.world ∷ [] → AddsRoots g define n xs ys
-package-roots g sound n define id p xs ys not_defined is owned registered faultless grown = by (node_at g n) refl is owned
+    → IfSome (node_at g n) (λ node. node.owner ≡ Some id) → package_at g id ≡ Some p → IsWellFormed g.types → NodeIsPart → (m : Bindings) × IsFaultlessNode g define m n → ys ≡ xs ++ ty.World p.world ∷ [] → AddsRoots g define n xs ys
+package-roots g sound n define id p xs ys not_defined is owned registered wf part faultless grown = by (node_at g n) refl is owned
   where
     root : AnyType
     root = ty.World p.world
@@ -115,6 +129,14 @@ package-roots g sound n define id p xs ys not_defined is owned registered faultl
             subst (λ (x : PackageId). IfSome (package_at g x) (λ q. HaveWorlds g.types ws (ty.World q.world))) same
             (subst (λ (o : Option PackageParts). IfSome o (λ q. HaveWorlds g.types ws (ty.World q.world))) (sym registered) (all root (in_first root [])));
       };
+      light = λ o u among.
+          let whole = part g o n node at in
+          let own : kind_weight g n.0 node node.kind ≡ option_case (package_of g node) 0 (λ q. weight g.types (ty.World q.world)) = ap (kind_weight g n.0 node) h in
+          let parts : package_of g node ≡ Some p = ap (option_and_then (package_at g)) owned ∙ registered in
+          let weighs = ap (λ x. option_case x 0 (λ (q : PackageParts). weight g.types (ty.World q.world))) parts in
+          let less = text-is-less g.types root wf (sound.packages id p registered).0 in
+          let same = ap (scope_weight g.types) (in_one root u among) in
+          omega (arith, whole, own, weighs, less, same);
     }
 
 -- ---- the roots of the first nodes
@@ -124,12 +146,14 @@ pub record RootsSoFar (g : Graph) (define : Bool) (order : List NodeId) (i : ℕ
   pub held : (t : AnyType) → Contains found t → holds_type g.types t ≡ true
   pub clean : (t : AnyType) → Contains found t → IsClean g.types t
   pub enough : (ws : Worlds) → ((t : AnyType) → Contains found t → HaveWorlds g.types ws t) → (k : ℕ) (n : NodeId) → k < i → slice_get order k ≡ Some n → HasNodeWorlds g define ws n
+  pub light : (o : EncodeOptions) (t : AnyType) → Contains found t → 64 * scope_weight g.types t ≤ bound g o
 
 pub no-roots-yet : (g : Graph) (define : Bool) (order : List NodeId) → RootsSoFar g define order 0 []
 no-roots-yet g define order = record {
   held = λ t h. absurd (in_none t h);
   clean = λ t h. absurd (in_none t h);
   enough = λ ws all k n low at. absurd (omega (arith, low));
+  light = λ o t h. absurd (in_none t h);
 }
 
 last-or : (k i : ℕ) → k < i + 1 → (k < i) ⊎ (k ≡ i)
@@ -147,6 +171,7 @@ roots-more g define order i n found found' at adds was = record {
     | inr e ↦ subst (HasNodeWorlds g define ws) (some-same n x (sym at ∙ ap (slice_get order) (sym e) ∙ there))
         (adds.enough ws (λ t h. all t (subst (λ (xs : List AnyType). Contains xs t) (sym adds.added) (in_right found adds.roots t h))))
   ];
+  light = λ o t h. elim (in_either found adds.roots t (subst (λ (xs : List AnyType). Contains xs t) adds.added h)) [ inl l ↦ was.light o t l | inr r ↦ adds.light o t r ];
 }
 
 pub roots-all : (g : Graph) (define : Bool) (order : List NodeId) (i : ℕ) (found : List AnyType) (ws : Worlds) → length order ≤ i → RootsSoFar g define order i found → ((t : AnyType) → Contains found t → HaveWorlds g.types ws t) → (n : NodeId) → Contains order n → HasNodeWorlds g define ws n

@@ -1,5 +1,5 @@
 -- The root while the nodes of a graph are written into it.
-use Rattle.std.specs.Prelude.{ℕ, ◌≡◌, Bool, true, false, IfSome, List, [], ◌∷◌, ◌++◌, Some, Contains}
+use Rattle.std.specs.Prelude.{ℕ, ◌≡◌, ◌≤◌, ◌*◌, Bool, true, false, IfSome, List, [], ◌∷◌, ◌++◌, Some, Contains}
 use Rattle.wac_types_shapes.specs.declared.shapes.component.ItemKind.TheVariants.{TypeItem}
 use Rattle.wac_types_shapes.specs.declared.shapes.component.ValueType.{ValueType}
 use Rattle.wac_types_shapes.specs.declared.shapes.component.«Type».{«Type» as AnyType}
@@ -7,6 +7,7 @@ use Rattle.wac_types_shapes.specs.declared.shapes.component.«Type».TheVariants
 use Rattle.wac_types_collection.specs.collection.Bound.{Bindings}
 use Rattle.wac_types_collection.specs.collection.Collection.{holds_type}
 use Rattle.wac_types_collection.specs.collection.Package.{PackageParts}
+use Rattle.wac_types_weight.specs.Text.{scope_weight}
 use Rattle.wac_binary.specs.HasMeaning.{HasMeaning}
 use Rattle.wac_edges.specs.declared.node.NodeId.{NodeId}
 use Rattle.wac_encode_stacks.specs.Good.{Good}
@@ -21,6 +22,7 @@ use Rattle.wac_graph_model.specs.declared.nodes.options.EncodeOptions.{EncodeOpt
 use Rattle.wac_graph_model.specs.declared.nodes.packages.PackageId.{PackageId}
 use Rattle.wac_graph_model.specs.nodes.OuterImports.{IsOuterOrder, outer_bindings}
 use Rattle.wac_graph_model.specs.nodes.Graph.{Graph, GraphNode, definition, instantiation, node_at, package_at}
+use Rattle.wac_graph_model.specs.weight.GraphWeight.{bound}
 use Rattle.wac_graph_model.specs.private.meaning.Beginning.{Begins, Places}
 use Rattle.wac_graph_model.specs.private.meaning.Encoding.{HasRoom, index_in}
 use Rattle.wac_graph_model.specs.private.meaning.MergedImports.{merged_imports}
@@ -77,6 +79,7 @@ pub record AddsRoots (g : Graph) (define_components : Bool) (n : NodeId) (old ne
   pub held : (t : AnyType) → Contains roots t → holds_type g.types t ≡ true
   pub clean : (t : AnyType) → Contains roots t → IsClean g.types t
   pub enough : (ws : Worlds) → ((t : AnyType) → Contains roots t → HaveWorlds g.types ws t) → HasNodeWorlds g define_components ws n
+  pub light : (o : EncodeOptions) (t : AnyType) → Contains roots t → 64 * scope_weight g.types t ≤ bound g o
 
 -- The writer has the types of the graph, and the merged imports of it.
 pub record IsGraphWriter (w : GraphWriter) : Type 0 where

@@ -36,7 +36,7 @@ exports_length a g e = ap (λ (x : Graph). length x.exports) (sym e) ∙ length-
 
 module _ (g : Graph) where
   -- one export more
-  further_next : (i : ℕ) → i < length g.exports → further_of g (take (i + 1) g.exports) ≡ further_of g (take i g.exports) ++ further_at g i
+  pub further_next : (i : ℕ) → i < length g.exports → further_of g (take (i + 1) g.exports) ≡ further_of g (take i g.exports) ++ further_at g i
   further_next i small =
       let (x, at) = the_entry g.exports i small in
       let next : i + 1 ≡ suc i = omega arith in

@@ -1,9 +1,13 @@
-use Rattle.std.proofs.Common.{◌≡◌, ◌∙◌, List, IfSome, ap, refl, sym, subst}
+use Rattle.std.proofs.Common.{◌≡◌, ◌∙◌, ◌+◌, ◌*◌, ◌^◌, ◌≤◌, ◌⊎◌, inl, inr, true, List, IfSome, ap, arith, length, refl, sym, subst}
 use Rattle.wac_binary.specs.Bytes.{bytes_of}
 use Rattle.wac_binary.specs.Fits.{Fits}
 use Rattle.wac_binary.specs.Items.{Item}
 use Rattle.wac_graph_model.specs.causes.Cause.{AnswersFor, CauseKind, Occurs, Stands, cause_of, kind_of_cause}
 use Rattle.wac_graph_model.specs.private.causes.Search.{IsRefused}
+use Rattle.wac_graph_model.specs.private.weight.Written.{order_cost}
+use Rattle.wac_graph_model.specs.weight.GraphWeight.{bound}
+use Rattle.wac_graph_model.specs.declared.causes.errors.EncodeError.{EncodeError}
+use Rattle.wac_graph_model.specs.declared.causes.errors.EncodeError.TheVariants.{TooLarge}
 use Rattle.wac_merge_classes.specs.entries.Classes.{by_names}
 use Rattle.wac_graph_model.specs.nodes.OuterImports.{outer_bindings, outer_entries}
 use Rattle.wac_merge_classes.specs.terms.Faults.{HasNoCircle}
@@ -17,10 +21,13 @@ use Rattle.wac_graph_reader.proofs.lemmas.writing.CauseLemmas.{names_cause, refu
 use Rattle.wac_graph_encode.proofs.lemmas.places.OuterNameLemmas.{items_valid, names_valid, fault_stands, fault_answers}
 use Rattle.wac_merge_classes.specs.entries.Agreement.{AllMembersAgree}
 use Rattle.wac_merge_imports.specs.unions.MergedScope.{BindsAsClasses}
+use Rattle.wac_encode_imports.specs.private.Told.{entries_items}
 use Rattle.wac_encode_imports.specs.private.ToldGraph.{HasNoUnbound}
+use Rattle.wac_encode_scopes.specs.private.Paid.{total}
 use Rattle.wac_graph_encode.specs.private.encoding.Root.{IsFaultlessNode}
 use Rattle.wac_graph.proofs.BeginLemmas.{faultless_node, no_unbound, nodes_there}
 use Rattle.wac_graph.proofs.WantedAskedLemmas.{IsDefinition}
+use Rattle.wac_graph.proofs.WithinLemmas.{imports_large, names_never_large, never_large, written_within}
 use Rattle.wac_graph.proofs.graph.CompositionGraph.encode.Goals as goal
 
 pub returns-in_err-ordered-clause-cause : goal.returns-in_err-ordered-clause-cause
@@ -134,3 +141,56 @@ write-requires-clause-faultless c = λ outer is n within.
 pub check_names-requires-clause-nodes : goal.check_names-requires-clause-nodes
 check_names-requires-clause-nodes c =
     nodes_there c.args.self.now c.deref-2.result.now (subst (λ ns. Writes c.args.self.now.edges (is_written c.args.self.now) ns) (sym c.deref-2.ensures.value) (subst (λ g. Writes g.edges (is_written g) c.in_ok-ordered.ordered.order.items) c.reader-reader.ensures c.in_ok-ordered.ensures.whole))
+
+-- ---- the bound
+pub returns-clause-short : goal.returns-clause-short
+returns-clause-short c =
+    let g = c.args.self.now in
+    let o = c.args.options in
+    let m = c.in_ok-merge.merge.merge in
+    let order = c.deref.result.now in
+    let writes : Writes g.edges (is_written g) order = subst (λ ns. Writes g.edges (is_written g) ns) (sym c.deref.ensures.value) (subst (λ (x : Graph). Writes x.edges (is_written x) c.in_ok-ordered.ordered.order.items) c.reader-reader.ensures c.in_ok-ordered.ensures.whole) in
+    let most = written_within c.order_law-2.ensures.fits g o order m (total m.types true c.in_ok-state.state) c.in_ok-merge.ensures.merged.whole.ordered c.law.ensures writes c.in_ok-merge.ensures.lighter c.in_ok-state.ensures.small in
+    let written = subst (λ (x : Graph). length c.in_ok-bytes.bytes.items ≤ 8 + total m.types true c.in_ok-state.state + 4 * entries_items x.types (outer_entries x) + order_cost x o order) c.reader-reader.ensures (c.in_ok-bytes.ensures.short m.types true) in
+    omega (arith, most, written)
+
+pub returns-in_err-ordered-clause-too_large : goal.returns-in_err-ordered-clause-too_large
+returns-in_err-ordered-clause-too_large c = exit_cause (λ (e : EncodeError). e ≡ TooLarge → 2 ^ 32 ≤ bound c.args.self.now c.args.options) c.from_residual.result (c.in_err-ordered.field-0).0 c.from_residual.ensures.1
+    (never_large c.reader-reader.result c.args.options (c.in_err-ordered.field-0).0 (c.in_err-ordered.ensures.refused c.args.options))
+
+pub returns-in_err-check_conflicts-clause-too_large : goal.returns-in_err-check_conflicts-clause-too_large
+returns-in_err-check_conflicts-clause-too_large c = exit_cause (λ (e : EncodeError). e ≡ TooLarge → 2 ^ 32 ≤ bound c.args.self.now c.args.options) c.from_residual-in_err-check_conflicts.result (c.in_err-check_conflicts.field-0).0 c.from_residual-in_err-check_conflicts.ensures.1
+    (never_large c.args.self.now c.args.options (c.in_err-check_conflicts.field-0).0 (c.in_err-check_conflicts.ensures.refused c.args.options))
+
+pub returns-in_err-merge-clause-too_large : goal.returns-in_err-merge-clause-too_large
+returns-in_err-merge-clause-too_large c = exit_cause (λ (e : EncodeError). e ≡ TooLarge → 2 ^ 32 ≤ bound c.args.self.now c.args.options) c.from_residual-in_err-merge.result (c.in_err-merge.field-0).0 c.from_residual-in_err-merge.ensures.1
+    (never_large c.args.self.now c.args.options (c.in_err-merge.field-0).0 (c.in_err-merge.ensures.refused c.args.options))
+
+pub returns-in_err-check_types-clause-too_large : goal.returns-in_err-check_types-clause-too_large
+returns-in_err-check_types-clause-too_large c = exit_cause (λ (e : EncodeError). e ≡ TooLarge → 2 ^ 32 ≤ bound c.args.self.now c.args.options) c.from_residual-in_err-check_types.result (c.in_err-check_types.field-0).0 c.from_residual-in_err-check_types.ensures.1
+    (never_large c.args.self.now c.args.options (c.in_err-check_types.field-0).0 (c.in_err-check_types.ensures.refused c.args.options refl))
+
+pub returns-in_err-check_names-clause-too_large : goal.returns-in_err-check_names-clause-too_large
+returns-in_err-check_names-clause-too_large c = exit_cause (λ (e : EncodeError). e ≡ TooLarge → 2 ^ 32 ≤ bound c.args.self.now c.args.options) c.from_residual-in_err-check_names.result (c.in_err-check_names.field-0).0 c.from_residual-in_err-check_names.ensures.1
+    (names_never_large _ (c.in_err-check_names.field-0).0 c.in_err-check_names.ensures.fault.1)
+
+pub returns-in_err-state-clause-too_large : goal.returns-in_err-state-clause-too_large
+returns-in_err-state-clause-too_large c =
+    let g = c.args.self.now in
+    let order = c.in_ok-ordered.ordered.order.items in
+    let writes : Writes g.edges (is_written g) order = subst (λ (x : Graph). Writes x.edges (is_written x) order) c.reader-reader.ensures c.in_ok-ordered.ensures.whole in
+    exit_cause (λ (e : EncodeError). e ≡ TooLarge → 2 ^ 32 ≤ bound c.args.self.now c.args.options) c.from_residual-in_err-state.result (c.in_err-state.field-0).0 c.from_residual-in_err-state.ensures.1
+    (λ large. imports_large c.order_law-2.ensures.fits g c.args.options order c.in_ok-merge.merge.merge c.in_ok-merge.ensures.merged.whole.ordered c.law.ensures writes c.in_ok-merge.ensures.lighter (c.in_err-state.ensures.too_large large))
+
+pub returns-in_err-bytes-clause-too_large : goal.returns-in_err-bytes-clause-too_large
+returns-in_err-bytes-clause-too_large c =
+    let g = c.args.self.now in
+    let o = c.args.options in
+    let m = c.in_ok-merge.merge.merge in
+    let order = c.deref.result.now in
+    let writes : Writes g.edges (is_written g) order = subst (λ ns. Writes g.edges (is_written g) ns) (sym c.deref.ensures.value) (subst (λ (x : Graph). Writes x.edges (is_written x) c.in_ok-ordered.ordered.order.items) c.reader-reader.ensures c.in_ok-ordered.ensures.whole) in
+    let most = written_within c.order_law-2.ensures.fits g o order m (total m.types true c.in_ok-state.state) c.in_ok-merge.ensures.merged.whole.ordered c.law.ensures writes c.in_ok-merge.ensures.lighter c.in_ok-state.ensures.small in
+    exit_cause (λ (e : EncodeError). e ≡ TooLarge → 2 ^ 32 ≤ bound c.args.self.now c.args.options) c.from_residual-in_err-bytes.result (c.in_err-bytes.field-0).0 c.from_residual-in_err-bytes.ensures.1
+    (λ large.
+    let many = subst (λ (x : Graph). (2 ^ 32 ≤ 8 + total m.types true c.in_ok-state.state + 4 * entries_items x.types (outer_entries x) + order_cost x o order) ⊎ (2 ^ 32 ≤ bound x o)) c.reader-reader.ensures (c.in_err-bytes.ensures.too_large large m.types true) in
+    elim many [ inl more ↦ omega (arith, most, more) | inr heavy ↦ heavy ])

@@ -12,6 +12,7 @@ use Rattle.wac_merge_classes.specs.declared.terms.fault.MergeFault.{MergeFault}
 use Rattle.wac_merge_classes.specs.entries.Agreement.{AllMembersAgree}
 use Rattle.wac_merge_classes.specs.entries.Classes as merge
 use Rattle.wac_merge_imports.specs.unions.EntryFaults.{HasFaultsOfEntries}
+use Rattle.wac_merge_imports.specs.unions.Lighter.{IsLighter}
 use Rattle.wac_merge_imports.specs.unions.MergedScope.{BindsAsClasses}
 use Rattle.wac_graph_model.specs.nodes.Asked.{Entry}
 use Rattle.wac_graph_model.specs.nodes.Entries.{asked_entries, to_merge}
@@ -98,3 +99,12 @@ returns-in-Ok-clause-agreed c =
     let same : map entry_view c.as_slice.result.now ≡ asked_entries g = ap (map entry_view) c.as_slice.ensures.value ∙ c.in_ok-entries.ensures in
     let entries : c.in_ok-aggregator.aggregator.entries ≡ to_merge (asked_entries g) = c.in_ok-aggregator.ensures ∙ ap to_merge same in
     subst (λ (t : Collection). AllMembersAgree merge.by_names t (to_merge (asked_entries g))) types (subst (λ (es : List merge.Entry). AllMembersAgree merge.by_names c.self.inside.types es) entries c.in-Ok.ensures.agreed)
+
+pub returns-in-Ok-clause-lighter : goal.returns-in-Ok-clause-lighter
+returns-in-Ok-clause-lighter c =
+    let g = c.args.self.now in
+    let m = c.in-Ok.merge.merge in
+    let types : c.self.inside.types ≡ g.types = ap (λ (h : Graph). h.types) c.self.view_is in
+    let same : map entry_view c.as_slice.result.now ≡ asked_entries g = ap (map entry_view) c.as_slice.ensures.value ∙ c.in_ok-entries.ensures in
+    let entries : c.in_ok-aggregator.aggregator.entries ≡ to_merge (asked_entries g) = c.in_ok-aggregator.ensures ∙ ap to_merge same in
+    subst (λ (t : Collection). IsLighter t (to_merge (asked_entries g)) m) types (subst (λ (es : List merge.Entry). IsLighter c.self.inside.types es m) entries c.in-Ok.ensures.lighter)

@@ -4,7 +4,7 @@ use Rattle.wac_merge.specs.Aggregate.{Aggregate}
 use Rattle.wac_graph_model.specs.private.meaning.MergedImports.{ExportsOnce}
 use Rattle.wac_graph_model.specs.nodes.Entries.{to_merge}
 use Rattle.wac_graph_model.specs.nodes.Graph.{Graph}
-use Rattle.wac_graph.proofs.NothingLemmas.{has_merge, keeps_nothing, lists_nothing, merges_nothing, nothing_agrees}
+use Rattle.wac_graph.proofs.NothingLemmas.{has_merge, keeps_nothing, lists_nothing, merges_nothing, nothing_agrees, nothing_lighter}
 use Rattle.wac_graph.proofs.graph.CompositionGraph.merged_nothing.Goals as goal
 
 pub returns-in-Ok-clause-merged : goal.returns-in-Ok-clause-merged
@@ -35,3 +35,8 @@ returns-in-Ok-clause-kept c =
 
 pub returns-in-Ok-clause-agreed : goal.returns-in-Ok-clause-agreed
 returns-in-Ok-clause-agreed c = nothing_agrees c.args.self.now c.requires
+
+pub returns-in-Ok-clause-lighter : goal.returns-in-Ok-clause-lighter
+returns-in-Ok-clause-lighter c =
+    let entries : c.new.result.entries ≡ [] = ap (λ (a : Aggregate). a.entries) c.new.ensures in
+    nothing_lighter c.args.self.now c.new-types.result c.new.result.entries c.in-Ok.merge.merge c.requires entries c.in-Ok.ensures.lighter

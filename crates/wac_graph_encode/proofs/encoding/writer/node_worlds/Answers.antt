@@ -8,6 +8,8 @@ use Rattle.wac_encode_interfaces.specs.private.Ready.{IsClean}
 use Rattle.wac_encode_interfaces.specs.private.Worlds.{AreWorldTypes, HaveWorlds, written_in}
 use Rattle.wac_graph_reader.proofs.lemmas.writing.WriteArgumentsLemmas.{element}
 use Rattle.wac_graph_encode.proofs.lemmas.encoding.NeededLemmas.{RootsSoFar, no-roots-yet, roots-more, roots-all}
+use Rattle.wac_encode_interfaces.specs.private.Paid.{AreSmallWorlds, IsHeavy}
+use Rattle.wac_graph_encode.proofs.lemmas.encoding.RootCosts.{heavy-roots, heavy-exit, memory-exit}
 use Rattle.wac_graph_encode.proofs.encoding.writer.node_worlds.Goals as goal
 
 pub loop-n-init : goal.loop-n-init
@@ -45,3 +47,13 @@ returns-clause-there c =
     let ws = written_in c.in_ok-worlds.worlds in
     roots-all c.args.reader.now c.args.define_components c.args.order.now c.loop-n.n-index c.loop-n.roots.items ws (omega (arith, c.loop-n-test.false)) c.loop-n.invariant
     (λ t h. subst (λ (x : Collection). HaveWorlds x ws t) c.types.ensures (c.in_ok-worlds.ensures.there t (subst (λ (xs : List AnyType). Contains xs t) (sym c.as_slice.ensures.value) h)))
+
+pub returns-clause-sizes : goal.returns-clause-sizes
+returns-clause-sizes c = subst (λ (x : Collection). AreSmallWorlds x (written_in c.in_ok-worlds.worlds)) c.types.ensures c.in_ok-worlds.ensures.sizes
+
+pub returns-in_err-push_roots-clause-heavy : goal.returns-in_err-push_roots-clause-heavy
+returns-in_err-push_roots-clause-heavy c = memory-exit _ c.from_residual.result c.from_residual.ensures.1
+
+pub returns-in_err-worlds-clause-heavy : goal.returns-in_err-worlds-clause-heavy
+returns-in_err-worlds-clause-heavy c = heavy-exit (c.in_err-worlds.field-0).0 c.from_residual-in_err-worlds.result c.from_residual-in_err-worlds.ensures.1
+    (λ large o. heavy-roots c.args.reader.now c.args.define_components c.args.order.now c.loop-n.n-index c.loop-n.roots.items c.loop-n.invariant (subst (λ (x : Collection). IsHeavy x c.loop-n.roots.items) c.types.ensures (subst (λ (xs : List AnyType). IsHeavy c.types.result.now xs) c.as_slice.ensures.value (c.in_err-worlds.ensures.small large))) o)

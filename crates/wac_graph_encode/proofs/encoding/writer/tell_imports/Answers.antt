@@ -1,6 +1,7 @@
 use Rattle.std.proofs.Common.{sym, subst}
 use Rattle.wac_encode_imports.specs.private.Imports.{AreImported}
 use Rattle.wac_graph_encode.proofs.lemmas.encoding.TellLemmas.{tell-held, tell-merged, tell-ordered, tell-bound, tell-agreed, tell-clean, begins-root}
+use Rattle.wac_graph_encode.proofs.lemmas.encoding.RootCosts.{told-total}
 use Rattle.wac_graph_encode.proofs.encoding.writer.tell_imports.Goals as goal
 
 pub tell_graph-requires-clause-finished : goal.tell_graph-requires-clause-finished
@@ -27,5 +28,8 @@ tell_graph-requires-clause-clean c = tell-clean c.args.reader.now c.args.imports
 pub tell_graph-requires-clause-imported : goal.tell_graph-requires-clause-imported
 tell_graph-requires-clause-imported c = subst (λ ps. AreImported c.args.imports.now.merge.merge ps c.args.state.now) (sym c.as_slice.ensures.value) c.requires.imported
 
-pub returns : goal.returns
-returns c = begins-root c.args.reader.now c.args.imports.now c.requires.placed c.types.result.now c.types.ensures (record { counted = c.law.ensures.counted; earlier = c.law.ensures.earlier; bounds_counted = c.law.ensures.instances_counted; bounds_earlier = c.law.ensures.instances_earlier; types_counted = c.law.ensures.types_counted; types_earlier = c.law.ensures.types_earlier }) c.args.state.now c.tell_graph.new.state c.requires.imported c.in_ok-tell_graph.ensures
+pub returns-clause-cost : goal.returns-clause-cost
+returns-clause-cost c = told-total c.args.reader.now c.args.imports.now c.requires.placed c.types.result.now c.types.ensures c.args.state.now c.tell_graph.new.state c.requires.imported c.in_ok-tell_graph.ensures.told c.in_ok-tell_graph.ensures.cost
+
+pub returns-clause-begins : goal.returns-clause-begins
+returns-clause-begins c = begins-root c.args.reader.now c.args.imports.now c.requires.placed c.types.result.now c.types.ensures (record { counted = c.law.ensures.counted; earlier = c.law.ensures.earlier; bounds_counted = c.law.ensures.instances_counted; bounds_earlier = c.law.ensures.instances_earlier; types_counted = c.law.ensures.types_counted; types_earlier = c.law.ensures.types_earlier }) c.args.state.now c.tell_graph.new.state c.requires.imported c.in_ok-tell_graph.ensures.told

@@ -9,6 +9,11 @@ use Rattle.wac_graph_reader.proofs.lemmas.writing.MeansLemmas.{in_order}
 use Rattle.wac_graph_reader.proofs.lemmas.writing.WriteArgumentsLemmas.{room_kept}
 use Rattle.wac_graph_encode.specs.private.encoding.Root.{HasNodeWorlds}
 use Rattle.wac_graph_encode.proofs.lemmas.encoding.LoopLemmas.{order-at, nodes-begin}
+use Rattle.std.proofs.Common.{inl, inr, arith}
+use Rattle.wac_encode_interfaces.specs.private.Paid.{AreSmallWorlds}
+use Rattle.wac_encode_scopes.specs.private.Paid.{total}
+use Rattle.wac_graph_reader.proofs.lemmas.writing.CauseLemmas.{exit_cause}
+use Rattle.wac_graph_encode.proofs.lemmas.encoding.RootCosts.{memory-exit}
 use Rattle.wac_graph_encode.proofs.encoding.writer.write_nodes.Goals as goal
 
 pub node_worlds-requires-clause-closed : goal.node_worlds-requires-clause-closed
@@ -22,7 +27,7 @@ node_worlds-requires-clause-faultless c = λ n within. (outer_bindings c.args.re
 
 pub write_nodes-requires-clause-writer : goal.write_nodes-requires-clause-writer
 write_nodes-requires-clause-writer c = record {
-  writer = c.new-types.ensures.writer (subst (λ (t : Collection). AreClosedTypes t c.in_ok-closed.closed) (c.types.ensures ∙ sym c.types-2.ensures) c.in_ok-closed.ensures) (subst (λ (t : Collection). AreWorldTypes t (written_in c.in_ok-worlds.worlds)) (sym c.types-2.ensures) c.in_ok-worlds.ensures.written);
+  writer = c.new-types.ensures.writer (subst (λ (t : Collection). AreClosedTypes t c.in_ok-closed.closed) (c.types.ensures ∙ sym c.types-2.ensures) c.in_ok-closed.ensures) (subst (λ (t : Collection). AreWorldTypes t (written_in c.in_ok-worlds.worlds)) (sym c.types-2.ensures) c.in_ok-worlds.ensures.written) (subst (λ (t : Collection). AreSmallWorlds t (written_in c.in_ok-worlds.worlds)) (sym c.types-2.ensures) c.in_ok-worlds.ensures.sizes);
   types = c.new-types.ensures.types ∙ c.types-2.ensures;
   own = c.new-types.ensures.merged;
   placed = c.requires.placed;
@@ -46,3 +51,26 @@ returns-clause-root c = (c.in_ok-write_nodes.ensures.written (record { define_co
 
 pub returns-clause-room : goal.returns-clause-room
 returns-clause-room c = room_kept c.args.reader.now c.in_ok-indexes.indexes.items c.write_nodes.new.encoder.indexes.items (c.in_ok-write_nodes.ensures.kept ∙ ap (λ v. length v.items) c.new-encoder.ensures.indexes) c.in_ok-indexes.ensures.room
+
+pub returns-clause-cost : goal.returns-clause-cost
+returns-clause-cost c = λ o same.
+    let costs = c.in_ok-write_nodes.ensures.cost o same in
+    let less = c.order_law-2.ensures.components c.args.reader.now o c.write_nodes.new.encoder.components in
+    let begins = ap (total c.args.reader.now.types false) c.new-encoder.ensures.state in
+    omega (arith, costs, less, begins)
+
+pub returns-in_err-indexes-clause-too_large : goal.returns-in_err-indexes-clause-too_large
+returns-in_err-indexes-clause-too_large c = memory-exit _ c.from_residual.result c.from_residual.ensures.1
+
+pub returns-in_err-closed-clause-too_large : goal.returns-in_err-closed-clause-too_large
+returns-in_err-closed-clause-too_large c = memory-exit _ c.from_residual-in_err-closed.result c.from_residual-in_err-closed.ensures.1
+
+pub returns-in_err-worlds-clause-too_large : goal.returns-in_err-worlds-clause-too_large
+returns-in_err-worlds-clause-too_large c = exit_cause _ c.from_residual-in_err-worlds.result (c.in_err-worlds.field-0).0 c.from_residual-in_err-worlds.ensures.1 (λ large o same. inr (c.in_err-worlds.ensures.heavy large o))
+
+pub returns-in_err-write_nodes-clause-too_large : goal.returns-in_err-write_nodes-clause-too_large
+returns-in_err-write_nodes-clause-too_large c = exit_cause _ c.from_residual-in_err-write_nodes.result (c.in_err-write_nodes.field-0).0 c.from_residual-in_err-write_nodes.ensures.1
+    (λ large o same.
+    let costs = c.in_err-write_nodes.ensures.cost o same large in
+    let begins = ap (total c.args.reader.now.types false) c.new-encoder.ensures.state in
+    inl (omega (arith, costs, begins)))

@@ -1,0 +1,5 @@
+pub mod AskedOnce
+pub mod AskedPaid
+pub mod Fitting
+pub mod Spreading
+pub mod WrittenPaid

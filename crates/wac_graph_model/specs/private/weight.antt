@@ -1,0 +1,3 @@
+pub mod AskedWeight
+pub mod Costs
+pub mod Written
