@@ -7,13 +7,6 @@ use anyhow::{Result, bail};
 use std::alloc::Global;
 use wac_graph::types::{ItemKind, SubtypeChecker, Types, ValueType};
 
-/// What is compared, by a function of this module or of `types`.
-#[derive(Clone, Copy)]
-pub enum Items {
-    Tuples,
-    Sharing,
-}
-
 /// How many levels of equal tuples there are.
 const LEVELS: u64 = 16;
 
@@ -34,8 +27,11 @@ fn above(
     Ok(next)
 }
 
-/// Adds levels of equal tuples, each of two of the level before, and a tuple of the last level.
-fn sharing(graph: &mut Graph, count: u64, is_crossed: bool) -> Result<ItemKind> {
+/// Adds levels of equal tuples, each of two of the level before, and a tuple of the last. Deep levels have one tuple each.
+fn add(graph: &mut Graph, is_deep: bool, count: u64, is_crossed: bool) -> Result<ValueType> {
+    if is_deep {
+        return tuples(graph, count);
+    }
     let mut level = Vec::new(graph.alloc);
     for _ in 0..count / LEVELS {
         level.push(BOOL)?;
@@ -45,38 +41,28 @@ fn sharing(graph: &mut Graph, count: u64, is_crossed: bool) -> Result<ItemKind> 
         level = above(graph, &level, step, is_crossed)?;
         step = step.saturating_mul(2);
     }
-    Ok(ItemKind::Value(tuple(graph, &level)?))
-}
-
-/// Adds an item.
-fn add(graph: &mut Graph, items: Items, count: u64, is_crossed: bool) -> Result<ItemKind> {
-    match items {
-        Items::Tuples => Ok(ItemKind::Value(tuples(graph, count)?)),
-        Items::Sharing => sharing(graph, count, is_crossed),
-    }
+    tuple(graph, &level)
 }
 
 /// Returns 1 if the first item is a subtype of the second, else zero.
-fn compare(first: &Types, a: ItemKind, second: &Types, b: ItemKind) -> Result<usize> {
+fn compare(first: &Types, a: ValueType, second: &Types, b: ValueType) -> Result<usize> {
+    let (a, b) = (ItemKind::Value(a), ItemKind::Value(b));
     if !first.contains(a.ty()) || !second.contains(b.ty()) {
         bail!("an item is not in its collection");
     }
     let mut checker = SubtypeChecker::new();
-    match checker.is_subtype(a, first, b, second) {
-        Ok(()) => Ok(1),
-        Err(_) => Ok(0),
-    }
+    Ok(usize::from(checker.is_subtype(a, first, b, second).is_ok()))
 }
 
-/// Adds two items and compares them, up to a step. Returns 1 if the first is a subtype of the second, else zero.
-pub fn take(alloc: Global, items: Items, count: u64, last: Step) -> Result<usize> {
+/// Adds two items of tuples and compares them, up to a step. Returns 1 if the first is a subtype of the second, else zero.
+pub fn take(alloc: Global, is_deep: bool, count: u64, last: Step) -> Result<usize> {
     let mut first = Graph::new(alloc);
     let mut second = Graph::new(alloc);
     if last == Step::Prepare {
         return Ok(0);
     }
-    let a = add(&mut first, items, count, false)?;
-    let b = add(&mut second, items, count, true)?;
+    let a = add(&mut first, is_deep, count, false)?;
+    let b = add(&mut second, is_deep, count, true)?;
     if last == Step::Measure {
         compare(first.types(), a, second.types(), b)
     } else {

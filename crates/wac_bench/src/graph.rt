@@ -6,10 +6,13 @@ use wac_graph::types::{
     DefinedType, FuncType, Interface, InterfaceId, ItemKind, Resource, ResourceId, Type, Types,
     ValueType, World,
 };
-use wac_graph::{CompositionGraph, EncodeOptions, NodeId, PackageId, plug};
+use wac_graph::{CompositionGraph, EncodeOptions, NodeId, Nodes, PackageId, plug};
 
 /// A component with nothing in it.
 const EMPTY_COMPONENT: [u8; 8] = [0x00, 0x61, 0x73, 0x6d, 0x0d, 0x00, 0x01, 0x00];
+
+/// Items by name.
+pub type Items<'a> = &'a [(&'a str, ItemKind)];
 
 /// A composition graph. Its methods have no contract, so that a workload is proved without those of the graph.
 #[derive(Drop)]
@@ -38,6 +41,11 @@ impl Graph {
         self.graph.types()
     }
 
+    /// The nodes of the graph.
+    pub fn nodes(&self) -> Nodes<'_> {
+        self.graph.nodes()
+    }
+
     /// Adds a defined type.
     pub fn defined(&mut self, defined: DefinedType) -> Result<ValueType> {
         Ok(ValueType::Defined(self.graph.add_defined_type(defined)?))
@@ -64,32 +72,23 @@ impl Graph {
     }
 
     /// Adds an interface that uses no other, as an instance of it.
-    pub fn instance(&mut self, id: Option<&str>, exports: &[(&str, ItemKind)]) -> Result<ItemKind> {
+    pub fn instance(&mut self, id: Option<&str>, exports: Items<'_>) -> Result<ItemKind> {
         let interface = Interface::new(self.alloc, id, exports)?;
         Ok(ItemKind::Instance(self.interface(interface)?))
     }
 
     /// Adds a world, as a component of it.
-    pub fn component(
-        &mut self,
-        imports: &[(&str, ItemKind)],
-        exports: &[(&str, ItemKind)],
-    ) -> Result<ItemKind> {
+    pub fn component(&mut self, imports: Items<'_>, exports: Items<'_>) -> Result<ItemKind> {
         let world = World::new(self.alloc, None, imports, exports)?;
         Ok(ItemKind::Component(self.graph.add_world(world)?))
     }
 
     /// Registers an empty component of a new world.
-    pub fn register(
-        &mut self,
-        name: &str,
-        imports: &[(&str, ItemKind)],
-        exports: &[(&str, ItemKind)],
-    ) -> Result<PackageId> {
-        let world = World::new(self.alloc, None, imports, exports)?;
+    pub fn register(&mut self, id: &str, takes: Items<'_>, gives: Items<'_>) -> Result<PackageId> {
+        let world = World::new(self.alloc, None, takes, gives)?;
         let world = self.graph.add_world(world)?;
         let bytes = Vec::from_array(self.alloc, EMPTY_COMPONENT)?;
-        let package = self.graph.new_package(name, None, bytes, world)?;
+        let package = self.graph.new_package(id, None, bytes, world)?;
         Ok(self.graph.register_package(package)?)
     }
 
@@ -127,24 +126,17 @@ impl Graph {
         self.graph.alias_instance_export(instance, name).ok()
     }
 
-    /// Sets an argument of an instance.
-    pub fn set_argument(&mut self, instance: NodeId, name: &str, argument: NodeId) -> Option<()> {
-        if !self.graph.has_node(instance) || !self.graph.has_node(argument) {
+    /// Sets an argument of an instance, or unsets it.
+    pub fn argument(&mut self, of: NodeId, name: &str, node: NodeId, is_set: bool) -> Option<()> {
+        let graph = &mut self.graph;
+        if !graph.has_node(of) || !graph.has_node(node) {
             return None;
         }
-        self.graph
-            .set_instantiation_argument(instance, name, argument)
-            .ok()
-    }
-
-    /// Unsets an argument of an instance.
-    pub fn unset_argument(&mut self, instance: NodeId, name: &str, argument: NodeId) -> Option<()> {
-        if !self.graph.has_node(instance) {
-            return None;
+        if is_set {
+            graph.set_instantiation_argument(of, name, node).ok()
+        } else {
+            graph.unset_instantiation_argument(of, name, node).ok()
         }
-        self.graph
-            .unset_instantiation_argument(instance, name, argument)
-            .ok()
     }
 
     /// Exports a node.

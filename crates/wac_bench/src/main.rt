@@ -2,22 +2,21 @@
 //! workload, and prints by which power of the count each step grows.
 //!
 //! Without words it does a little of each workload, and prints what comes of it. With the words WORKLOAD COUNT STEP it does the
-//! steps of a workload up to this one, and prints nothing. Other words end it with status 2.
+//! steps of a workload up to this one, and prints nothing. With the word `bounds` it prints how many bytes are written of types
+//! that are mentioned far away, beside the bound by their weight. Other words are refused.
 #![tactic(auto)]
 
-mod churn;
+mod bounds;
 mod comparing;
 mod deep;
 mod graph;
-mod levels;
 mod nodes;
 mod types;
 mod workloads;
 
-use anyhow::Result;
+use anyhow::{Result, bail};
 use std::env::{self, Env};
-use std::process::ExitCode;
-use workloads::{Step, WORKLOADS};
+use workloads::{Step, WORKLOADS, take};
 
 /// The words after the program's name.
 fn words<R: Env + AllocGlobal>(rt: &R) -> Result<Vec<String>> {
@@ -30,40 +29,30 @@ fn words<R: Env + AllocGlobal>(rt: &R) -> Result<Vec<String>> {
 
 /// Does a little of each workload, and prints what comes of it.
 fn show(rt: &HostRuntime) -> Result<()> {
-    for (word, sort, few) in WORKLOADS {
-        let counted = sort.take(rt.alloc(), *few, Step::Measure)?;
-        println!(rt; "{word} {few}: {counted}")?;
+    for (words, few) in WORKLOADS {
+        for word in words.split_ascii_whitespace() {
+            let counted = take(rt.alloc(), word, *few, Step::Measure)?;
+            println!(rt; "{word} {few}: {counted}")?;
+        }
     }
+    bounds::show(rt, &[(3, 2)])
+}
+
+/// Does the steps of a workload up to one.
+fn measure(rt: &HostRuntime, word: &str, count: &str, step: &str) -> Result<()> {
+    let (Some(step), Ok(count)) = (Step::of_word(step), count.parse::<u64>()) else {
+        bail!("the words are to be WORKLOAD COUNT STEP");
+    };
+    let _counted = take(rt.alloc(), word, count, step)?;
     Ok(())
 }
 
-/// Does the steps of a workload up to one. Returns whether there are such a workload and step.
-fn take(rt: &HostRuntime, word: &str, count: &str, step: &str) -> Result<bool> {
-    let found = WORKLOADS.iter().find(|(of, _, _)| *of == word);
-    let asked = (found, Step::of_word(step), count.parse::<u64>());
-    let (Some((_, sort, _)), Some(step), Ok(count)) = asked else {
-        return Ok(false);
-    };
-    let _counted = sort.take(rt.alloc(), count, step)?;
-    Ok(true)
-}
-
-/// Does what the words ask for. Returns whether they ask for anything.
-fn run(rt: &HostRuntime, words: &[String]) -> Result<bool> {
-    match words {
-        [] => {
-            show(rt)?;
-            Ok(true)
-        }
-        [word, count, step] => take(rt, word.as_str(), count.as_str(), step.as_str()),
-        _ => Ok(false),
+fn main(rt: HostRuntime) -> Result<()> {
+    let words = words(&rt)?;
+    match words.as_slice() {
+        [] => show(&rt),
+        [word] if word.as_str() == "bounds" => bounds::show(&rt, bounds::SIZES),
+        [word, count, step] => measure(&rt, word.as_str(), count.as_str(), step.as_str()),
+        _ => bail!("the words are to be none, `bounds`, or WORKLOAD COUNT STEP"),
     }
-}
-
-fn main(rt: HostRuntime) -> Result<ExitCode> {
-    if run(&rt, &words(&rt)?)? {
-        return Ok(ExitCode::SUCCESS);
-    }
-    println!(rt; "no words, or WORKLOAD COUNT STEP")?;
-    Ok(ExitCode::from(2))
 }

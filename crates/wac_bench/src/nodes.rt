@@ -1,4 +1,4 @@
-//! Graphs of packages, instances and aliases.
+//! Graphs of packages, instances and aliases, of which some are removed and made again.
 
 use crate::graph::{Graph, refused};
 use crate::types::{STRING, U32, all_numbered, functions, numbered, records};
@@ -9,6 +9,9 @@ use wac_graph::{NodeId, PackageId};
 
 /// How many arguments each instance of a fan has.
 const ARGUMENTS: u64 = 8;
+
+/// How often half of the triples are removed and made again.
+const TURNS: u32 = 10;
 
 /// The parameters of the functions that are exported.
 const PARAMS: &[(&str, ValueType)] = &[("x", U32), ("y", STRING)];
@@ -32,7 +35,7 @@ fn link(graph: &mut Graph, kind: ItemKind, number: u64, b: Option<NodeId>) -> Re
     let package = graph.register(name.as_str(), &[("b", kind)], &[("a", kind)])?;
     let instance = refused(graph.instantiate(package))?;
     if let Some(b) = b {
-        refused(graph.set_argument(instance, "b", b))?;
+        refused(graph.argument(instance, "b", b, true))?;
     }
     refused(graph.alias(instance, "a"))
 }
@@ -61,15 +64,10 @@ fn aliased(graph: &mut Graph, giver: PackageId, names: &[String]) -> Result<Vec<
 }
 
 /// Makes an instance of a package with these arguments.
-fn pass_all(
-    graph: &mut Graph,
-    taker: PackageId,
-    names: &[String],
-    arguments: &[NodeId],
-) -> Option<()> {
-    let instance = graph.instantiate(taker)?;
-    for (name, argument) in names.iter().zip(arguments) {
-        graph.set_argument(instance, name.as_str(), *argument)?;
+fn pass_all(graph: &mut Graph, to: PackageId, names: &[String], given: &[NodeId]) -> Option<()> {
+    let instance = graph.instantiate(to)?;
+    for (name, argument) in names.iter().zip(given) {
+        graph.argument(instance, name.as_str(), *argument, true)?;
     }
     Some(())
 }
@@ -123,6 +121,59 @@ fn import_own(graph: &mut Graph, number: u64) -> Result<()> {
 pub fn wide(graph: &mut Graph, count: u64) -> Result<()> {
     for number in 0..count {
         import_own(graph, number)?;
+    }
+    Ok(())
+}
+
+/// An instance, the alias of its export, and an instance that has the alias as its argument.
+type Triple = [NodeId; 3];
+
+/// Makes a triple of packages with the export `a` and with the import `b`, and exports its alias by this name.
+fn triple(graph: &mut Graph, [giver, taker]: [PackageId; 2], name: &str) -> Option<Triple> {
+    let giver = graph.instantiate(giver)?;
+    let alias = graph.alias(giver, "a")?;
+    let taker = graph.instantiate(taker)?;
+    graph.argument(taker, "b", alias, true)?;
+    graph.export(alias, name)?;
+    Some([giver, alias, taker])
+}
+
+/// Removes every other triple and then makes each again.
+fn turn(graph: &mut Graph, by: [PackageId; 2], names: &[String], all: &mut [Triple]) -> Option<()> {
+    for (number, [giver, alias, taker]) in all.iter().enumerate() {
+        if number % 2 == 1 {
+            graph.argument(*taker, "b", *alias, false)?;
+            graph.remove(*giver)?;
+            graph.remove(*taker)?;
+        }
+    }
+    for (number, (made, name)) in all.iter_mut().zip(names).enumerate() {
+        if number % 2 == 1 {
+            *made = triple(graph, by, name.as_str())?;
+        }
+    }
+    Some(())
+}
+
+/// Registers the packages, makes triples, and turns them over, up to a step.
+pub fn churn(graph: &mut Graph, count: u64, last: Step) -> Result<()> {
+    let names = all_numbered(graph.alloc, "e", count)?;
+    let kind = graph.function(&[], None)?;
+    let giver = graph.register("n:provider", &[], &[("a", kind)])?;
+    let taker = graph.register("n:consumer", &[("b", kind)], &[])?;
+    if last == Step::Prepare {
+        return Ok(());
+    }
+    let packages = [giver, taker];
+    let mut triples = Vec::new(graph.alloc);
+    for name in &names {
+        triples.push(refused(triple(graph, packages, name.as_str()))?)?;
+    }
+    if last == Step::Make {
+        return Ok(());
+    }
+    for _ in 0..TURNS {
+        refused(turn(graph, packages, &names, &mut triples))?;
     }
     Ok(())
 }

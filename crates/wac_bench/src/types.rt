@@ -3,9 +3,7 @@
 use crate::graph::Graph;
 use anyhow::Result;
 use std::alloc::{AllocError, Global};
-use wac_graph::types::{
-    DefinedType, Interface, ItemKind, Named, PrimitiveType, Record, Text, Type, ValueType, Variant,
-};
+use wac_graph::types::{DefinedType, ItemKind, PrimitiveType, Record, Type, ValueType, Variant};
 
 /// How many functions an interface over a record exports.
 const FUNCTIONS: u64 = 20;
@@ -67,36 +65,26 @@ pub fn functions<'a>(
     Ok(items)
 }
 
-/// Adds a function over a record and a list of a variant, and inserts it as an export.
-fn insert_function(
-    graph: &mut Graph,
-    exports: &mut Named<ItemKind>,
-    number: u64,
-    (record, variant): (ValueType, ValueType),
-) -> Result<()> {
+/// Adds a function over a record and a list of a variant.
+fn function(graph: &mut Graph, record: ValueType, variant: ValueType) -> Result<ItemKind> {
     let list = graph.defined(DefinedType::List(variant))?;
     let option = graph.defined(DefinedType::Option(record))?;
-    let kind = graph.function(&[("x", record), ("y", list)], Some(option))?;
-    let name = numbered(graph.alloc, "f", number)?;
-    exports.insert(graph.alloc, name.as_str(), kind)?;
-    Ok(())
+    graph.function(&[("x", record), ("y", list)], Some(option))
 }
 
 /// Adds an interface of a record, of a variant and of functions over both.
 pub fn records(graph: &mut Graph, id: &str) -> Result<ItemKind> {
-    let mut exports = Named::new(graph.alloc);
+    let names = all_numbered(graph.alloc, "f", FUNCTIONS)?;
+    let mut exports = Vec::new(graph.alloc);
     let record = record(graph)?;
     let variant = variant(graph, record)?;
     for (name, ty) in [("rec", record), ("var", variant)] {
-        exports.insert(graph.alloc, name, ItemKind::TypeItem(Type::Value(ty)))?;
+        exports.push((name, ItemKind::TypeItem(Type::Value(ty))))?;
     }
-    for number in 0..FUNCTIONS {
-        insert_function(graph, &mut exports, number, (record, variant))?;
+    for name in &names {
+        exports.push((name.as_str(), function(graph, record, variant)?))?;
     }
-    let id = Some(Text::new(graph.alloc, id)?);
-    let uses = Named::new(graph.alloc);
-    let interface = graph.interface(Interface { id, uses, exports })?;
-    Ok(ItemKind::Instance(interface))
+    graph.instance(Some(id), &exports)
 }
 
 /// A text with a number after it.

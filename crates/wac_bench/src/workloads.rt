@@ -1,33 +1,21 @@
 //! The workloads, and their steps.
 
-use crate::churn::churn;
-use crate::comparing::{self, Items};
-use crate::deep::{defining, handles, resources, shared};
+use crate::comparing;
+use crate::deep::{Levels, defining, handles, import_levels, places, resources, shared};
 use crate::graph::Graph;
-use crate::levels::{Levels, import_levels, places};
-use crate::nodes::{aliases, chain, fan, plug, wide};
-use anyhow::Result;
+use crate::nodes::{aliases, chain, churn, fan, plug, wide};
+use anyhow::{Result, bail};
 use std::alloc::Global;
 
-/// What is measured: a graph that is made and encoded, or items that are compared.
-#[derive(Clone, Copy)]
-pub enum Sort {
-    Chain,
-    Fan,
-    Aliases,
-    Plug,
-    Churn,
-    Wide,
-    Shared,
-    Defining,
-    Handles,
-    Resources,
-    /// The same, but the package is imported.
-    Referred,
-    Levels(Levels),
-    Places,
-    Comparing(Items),
-}
+/// The words of the workloads, with a small count for each.
+pub const WORKLOADS: &[(&str, u64)] = &[
+    ("chain fan aliases plug churn wide", 10),
+    ("handles resources referred", 10),
+    ("shared", 40),
+    ("defining", 50),
+    ("deep doubled listed nested sides owned turns places", 4),
+    ("comparing-tuples comparing-sharing", 60),
+];
 
 /// A step. A workload does all up to one.
 #[derive(Clone, Copy, PartialEq, Eq)]
@@ -42,31 +30,6 @@ pub enum Step {
     Measure,
 }
 
-/// The workloads: a word, what it measures, and a small count.
-pub const WORKLOADS: &[(&str, Sort, u64)] = &[
-    ("chain", Sort::Chain, 10),
-    ("fan", Sort::Fan, 10),
-    ("aliases", Sort::Aliases, 10),
-    ("plug", Sort::Plug, 10),
-    ("churn", Sort::Churn, 10),
-    ("wide", Sort::Wide, 10),
-    ("shared", Sort::Shared, 40),
-    ("defining", Sort::Defining, 50),
-    ("handles", Sort::Handles, 10),
-    ("resources", Sort::Resources, 10),
-    ("referred", Sort::Referred, 10),
-    ("deep", Sort::Levels(Levels::Deep), 4),
-    ("doubled", Sort::Levels(Levels::Doubled), 4),
-    ("listed", Sort::Levels(Levels::Listed), 4),
-    ("nested", Sort::Levels(Levels::Nested), 4),
-    ("sides", Sort::Levels(Levels::Sides), 4),
-    ("owned", Sort::Levels(Levels::Owned), 4),
-    ("turns", Sort::Levels(Levels::Turns), 4),
-    ("places", Sort::Places, 4),
-    ("comparing-tuples", Sort::Comparing(Items::Tuples), 60),
-    ("comparing-sharing", Sort::Comparing(Items::Sharing), 60),
-];
-
 impl Step {
     /// The step of a word.
     pub fn of_word(word: &str) -> Option<Step> {
@@ -80,38 +43,43 @@ impl Step {
     }
 }
 
-/// Makes a graph, up to a step. One whose parts are not counted is given them first.
-fn make(graph: &mut Graph, sort: Sort, count: u64, last: Step) -> Result<()> {
-    match sort {
-        Sort::Aliases => aliases(graph, count, last),
-        Sort::Plug => plug(graph, count, last),
-        Sort::Churn => churn(graph, count, last),
+/// Makes the graph of a workload, up to a step. One whose parts are not counted is given them first.
+fn make(graph: &mut Graph, word: &str, count: u64, last: Step) -> Result<()> {
+    match word {
+        "aliases" => aliases(graph, count, last),
+        "plug" => plug(graph, count, last),
+        "churn" => churn(graph, count, last),
         _ if last == Step::Prepare => Ok(()),
-        Sort::Chain => chain(graph, count),
-        Sort::Fan => fan(graph, count),
-        Sort::Wide => wide(graph, count),
-        Sort::Shared => shared(graph, count),
-        Sort::Defining => defining(graph, count),
-        Sort::Handles => handles(graph, count),
-        Sort::Resources | Sort::Referred => resources(graph, count),
-        Sort::Levels(levels) => import_levels(graph, levels, count),
-        Sort::Places => places(graph, count),
-        Sort::Comparing(_) => Ok(()),
+        "chain" => chain(graph, count),
+        "fan" => fan(graph, count),
+        "wide" => wide(graph, count),
+        "shared" => shared(graph, count),
+        "defining" => defining(graph, count),
+        "handles" => handles(graph, count),
+        "resources" | "referred" => resources(graph, count),
+        "deep" => import_levels(graph, Levels::Deep, count),
+        "doubled" => import_levels(graph, Levels::Doubled, count),
+        "listed" => import_levels(graph, Levels::Listed, count),
+        "nested" => import_levels(graph, Levels::Nested, count),
+        "sides" => import_levels(graph, Levels::Sides, count),
+        "owned" => import_levels(graph, Levels::Owned, count),
+        "turns" => import_levels(graph, Levels::Turns, count),
+        "places" => places(graph, count),
+        _ => bail!("there is no such workload"),
     }
 }
 
-impl Sort {
-    /// Does the steps up to one. Returns the number of bytes or of subtypes if all are done, else zero.
-    pub fn take(self, alloc: Global, count: u64, last: Step) -> Result<usize> {
-        if let Sort::Comparing(items) = self {
-            return comparing::take(alloc, items, count, last);
-        }
-        let mut graph = Graph::new(alloc);
-        make(&mut graph, self, count, last)?;
-        if last == Step::Measure {
-            graph.encode(!matches!(self, Sort::Referred))
-        } else {
-            Ok(0)
-        }
+/// Does the steps of a workload up to one. Returns the number of bytes or of subtypes if all are done, else zero.
+pub fn take(alloc: Global, word: &str, count: u64, last: Step) -> Result<usize> {
+    if let "comparing-tuples" | "comparing-sharing" = word {
+        return comparing::take(alloc, word == "comparing-tuples", count, last);
+    }
+    let mut graph = Graph::new(alloc);
+    make(&mut graph, word, count, last)?;
+    if last == Step::Measure {
+        // The package is imported by the word `referred`, else it is defined.
+        graph.encode(word != "referred")
+    } else {
+        Ok(0)
     }
 }
