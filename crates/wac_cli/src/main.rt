@@ -9,6 +9,7 @@ mod status;
 
 use crate::command::{command, read_words};
 use crate::make::run;
+use crate::status::Status;
 use std::env;
 use std::io::IsTerminal;
 use std::process::ExitCode;
@@ -20,12 +21,15 @@ fn main(rt: HostRuntime) -> anyhow::Result<ExitCode> {
     let matches = match command.try_get_matches_from(words.as_slice()) {
         Ok(matches) => matches,
         Err(error) => {
-            error.print(&rt)?;
-            return Ok(ExitCode::from(error.exit_code() as u8));
+            let code = match error.print(&rt) {
+                Ok(()) => error.exit_code() as u8,
+                Err(_) => Status::Failed.code(),
+            };
+            return Ok(ExitCode::from(code));
         }
     };
     let asked = read_words(&matches);
     let is_terminal = rt.stdout().is_terminal();
-    let status = run(&rt, &asked, is_terminal)?;
+    let status = run(&rt, &asked, is_terminal);
     Ok(ExitCode::from(status.code()))
 }

@@ -76,7 +76,7 @@ fn options<'a>(asked: &Asked<'_, 'a>) -> Option<EncodeOptions<'a>> {
     })
 }
 
-/// Encodes the graph and writes the component. Tells why it cannot be encoded.
+/// Encodes the graph and writes the component. Tells why it cannot be encoded or written.
 fn encode<R: Files + Print + Eprint + AllocGlobal>(
     rt: &R,
     asked: &Asked,
@@ -84,10 +84,7 @@ fn encode<R: Files + Print + Eprint + AllocGlobal>(
     options: EncodeOptions<'_>,
 ) -> io::Result<Status> {
     match script.encode(options) {
-        Ok(bytes) => {
-            put_component(rt, asked, &bytes)?;
-            Ok(Status::Done)
-        }
+        Ok(bytes) => put_component(rt, asked, &bytes),
         Err(error) => {
             let fault = script.encode_fault(&error)?;
             let (name, text) = (asked.script, fault.text.as_str());
@@ -116,8 +113,7 @@ fn make<R: Files + Print + Eprint + AllocGlobal>(
         script.name_nodes()?;
     }
     if let Some(picture) = picture_of(asked.format) {
-        put_picture(rt, asked, &script, picture)?;
-        return Ok(Status::Done);
+        return put_picture(rt, asked, &script, picture);
     }
     encode(rt, asked, &script, options)
 }
@@ -125,7 +121,7 @@ fn make<R: Files + Print + Eprint + AllocGlobal>(
 /// Does what the command line asks for.
 ///
 /// # Errors
-/// If a write fails, or memory runs out.
+/// If standard error is closed, or memory runs out.
 fn attempt<R: Files + Input + Print + Eprint + AllocGlobal>(
     rt: &R,
     asked: &Asked,
@@ -141,28 +137,34 @@ fn attempt<R: Files + Input + Print + Eprint + AllocGlobal>(
         eprintln!(rt; "error: the processor is NAME@VERSION")?;
         return Ok(Status::Usage);
     };
-    let bytes = read_script(rt, asked.script)?;
+    let name = asked.script;
+    let bytes = match read_script(rt, name) {
+        Ok(bytes) => bytes,
+        Err(error) => {
+            eprintln!(rt; "{name}: error: the script cannot be read: {error}")?;
+            return Ok(Status::Failed);
+        }
+    };
     match str::from_utf8(bytes.as_slice()) {
         Ok(text) => make(rt, asked, text, options),
         Err(_) => {
-            let name = asked.script;
             eprintln!(rt; "{name}: error: the script is not UTF-8")?;
             Ok(Status::Refused)
         }
     }
 }
 
-/// Does what the command line asks for. Tells when a read or a write fails.
+/// Does what the command line asks for. Tells when memory runs out.
 pub fn run<R: Files + Input + Print + Eprint + AllocGlobal>(
     rt: &R,
     asked: &Asked,
     is_terminal: bool,
-) -> io::Result<Status> {
+) -> Status {
     match attempt(rt, asked, is_terminal) {
-        Ok(status) => Ok(status),
+        Ok(status) => status,
         Err(error) => {
-            eprintln!(rt; "error: {error}")?;
-            Ok(Status::Failed)
+            let _told = eprintln!(rt; "error: {error}");
+            Status::Failed
         }
     }
 }

@@ -1,5 +1,9 @@
+mod Examples
 mod ItemLemmas
+mod LabelLemmas
 mod ListLemmas
+mod ReasonLemmas
 mod RunLemmas
+mod SaidLemmas
 mod StepLemmas
 mod WordLemmas

@@ -1,7 +1,7 @@
 -- What refused calls leave.
-use Rattle.std.proofs.Common.{◌≡◌, ◌∙◌, refl, ap, sym, subst, inl, inr, ℕ, List, Option, Some, None, Result, Ok, Err, IsErr, IsSome}
+use Rattle.std.proofs.Common.{◌≡◌, ◌∙◌, ◌⊎◌, refl, ap, sym, subst, inl, inr, ℕ, List, Option, Some, None, Result, Ok, Err, IsErr, IsSome}
 use Rattle.std.proofs.lemmas.Bool.{false≢true}
-use Rattle.std.specs.Prelude.{IfSome}
+use Rattle.std.specs.Prelude.{IfSome, IfErr}
 use Rattle.std.specs.Option.{option_copied, option_map}
 use Rattle.semver.specs.Identifiers.{parts_of}
 use Rattle.semver.specs.declared.Version.{Version}
@@ -41,7 +41,7 @@ use Rattle.wac_script.specs.labels.Things.{Labelling}
 use Rattle.wac_script.specs.lines.Words.{Word, spelled}
 use Rattle.wac_script.specs.declared.refusal.Refusal.{Refusal}
 use Rattle.wac_script.specs.declared.refusal.Refusal.TheVariants as refusal
-use Rattle.wac_script.specs.Steps.{Leaves, Makes, Adds, Answers, AnswersPlain, Plugged, Changes, PutsResource, with_types}
+use Rattle.wac_script.specs.Steps.{Leaves, Makes, Adds, Answers, AnswersPlain, Plugged, Changes, PutsResource, with_types, IsMemory, IsWiringCall, CannotAdd, CannotAlter}
 
 -- A graph that is unchanged is what any refusal leaves.
 pub unchanged : (g : Graph) (e : Refusal) → Leaves g e g
@@ -58,14 +58,14 @@ unchanged g (refusal.Export _) = refl
 
 -- The same of a call that is refused before it touches the graph.
 pub refused-first : (labels : Labelling) (cores : List CoreExtern) (of_file : List ℕ) (g : Graph) (call : Call) (r : Result Thing Refusal)
-    → IsErr r → Answers labels cores of_file g call r g
-refused-first labels cores of_file g call (Ok t) h = absurd (false≢true h)
-refused-first labels cores of_file g call (Err e) h = unchanged g e
+    → (IsWiringCall call → ⊥) → IsErr r → Answers labels cores of_file g call r g
+refused-first labels cores of_file g call (Ok t) other h = absurd (false≢true h)
+refused-first labels cores of_file g call (Err e) other h = (unchanged g e, λ wiring. absurd (other wiring))
 
 pub change-refused-first : (labels : Labelling) (g : Graph) (c : Change) (r : Result (Unit {0}) Refusal)
-    → IsErr r → Changes labels g c r g
-change-refused-first labels g c (Ok t) h = absurd (false≢true h)
-change-refused-first labels g c (Err e) h = unchanged g e
+    → IsErr r → IfErr r (λ e. IsMemory e ⊎ CannotAlter labels g c) → Changes labels g c r g
+change-refused-first labels g c (Ok t) h reason = absurd (false≢true h)
+change-refused-first labels g c (Err e) h reason = (unchanged g e, λ wiring. reason)
 
 pub plug-refused-first : (labels : Labelling) (socket : Word) (plugs : List Word) (g : Graph) (r : Result (Unit {0}) Refusal)
     → IsErr r → Plugged labels socket plugs g r g
@@ -122,7 +122,7 @@ grown old new types is kept = kept ∙ ap (with_types old) is
 pub resource-made : (labels : Labelling) (cores : List CoreExtern) (old new : Graph) (name : Bor (List ℕ)) (r : Resource) (result : Result Thing Refusal)
     → r ≡ record { name = name.now; alias = None } → PutsResource r old result new → AnswersPlain labels cores old (said.Resource name) result new
 resource-made labels cores old new name r (Ok (thing.Resource id)) is h = (h.0, h.1 ∙ ap (λ x. with_types old (with_resource old.types x)) is)
-resource-made labels cores old new name r (Err e) is h = h
+resource-made labels cores old new name r (Err e) is h = (h, λ wiring. absurd wiring)
 resource-made labels cores old new name r (Ok (thing.Value _)) is h = absurd h
 resource-made labels cores old new name r (Ok (thing.Func _)) is h = absurd h
 resource-made labels cores old new name r (Ok (thing.Interface _)) is h = absurd h
@@ -136,7 +136,7 @@ resource-made labels cores old new name r (Ok (thing.Node _)) is h = absurd h
 pub alias-made : (labels : Labelling) (cores : List CoreExtern) (old new : Graph) (name source : Bor (List ℕ)) (r : Resource) (result : Result Thing Refusal)
     → IsAliasOf labels name.now source.now r → PutsResource r old result new → AnswersPlain labels cores old (said.ResourceAlias name source) result new
 alias-made labels cores old new name source r (Ok (thing.Resource id)) is h = (r, is, h.0, h.1)
-alias-made labels cores old new name source r (Err e) is h = h
+alias-made labels cores old new name source r (Err e) is h = (h, λ wiring. absurd wiring)
 alias-made labels cores old new name source r (Ok (thing.Value _)) is h = absurd h
 alias-made labels cores old new name source r (Ok (thing.Func _)) is h = absurd h
 alias-made labels cores old new name source r (Ok (thing.Interface _)) is h = absurd h
@@ -150,7 +150,7 @@ alias-made labels cores old new name source r (Ok (thing.Node _)) is h = absurd 
 pub owned-made : (labels : Labelling) (cores : List CoreExtern) (old new : Graph) (name source owner : Bor (List ℕ)) (r : Resource) (result : Result Thing Refusal)
     → IsOwnedAliasOf labels name.now source.now owner.now r → PutsResource r old result new → AnswersPlain labels cores old (said.OwnedAlias name source owner) result new
 owned-made labels cores old new name source owner r (Ok (thing.Resource id)) is h = (r, is, h.0, h.1)
-owned-made labels cores old new name source owner r (Err e) is h = h
+owned-made labels cores old new name source owner r (Err e) is h = (h, λ wiring. absurd wiring)
 owned-made labels cores old new name source owner r (Ok (thing.Value _)) is h = absurd h
 owned-made labels cores old new name source owner r (Ok (thing.Func _)) is h = absurd h
 owned-made labels cores old new name source owner r (Ok (thing.Interface _)) is h = absurd h
@@ -162,9 +162,9 @@ owned-made labels cores old new name source owner r (Ok (thing.Node _)) is h = a
 
 -- A call that is refused and leaves the graph unchanged.
 pub refused-same : (labels : Labelling) (cores : List CoreExtern) (of_file : List ℕ) (old new : Graph) (call : Call) (r : Result Thing Refusal)
-    → IsErr r → new ≡ old → Answers labels cores of_file old call r new
-refused-same labels cores of_file old new call (Ok t) h same = absurd (false≢true h)
-refused-same labels cores of_file old new call (Err e) h same = subst (λ g. Leaves old e g) (sym same) (unchanged old e)
+    → (IsWiringCall call → ⊥) → IsErr r → new ≡ old → Answers labels cores of_file old call r new
+refused-same labels cores of_file old new call (Ok t) other h same = absurd (false≢true h)
+refused-same labels cores of_file old new call (Err e) other h same = (subst (λ g. Leaves old e g) (sym same) (unchanged old e), λ wiring. absurd (other wiring))
 
 -- The parts of a borrowed version.
 pub parts-of-ref : (r : Option (Bor Version)) (o : Option Version) → option_copied r ≡ o → option_map (λ v. parts_of v.now) r ≡ option_map parts_of o
@@ -176,20 +176,26 @@ pub registered-as : (mid other new : Graph) (p q : PackageParts) (id : PackageId
 registered-as mid other new p q id is same h = subst (λ g. Registers g q (Ok id) new) is (subst (λ x. Registers mid x (Ok id) new) same h)
 
 pub change-refused-same : (labels : Labelling) (old new : Graph) (c : Change) (r : Result (Unit {0}) Refusal)
-    → IsErr r → new ≡ old → Changes labels old c r new
-change-refused-same labels old new c (Ok t) h same = absurd (false≢true h)
-change-refused-same labels old new c (Err e) h same = subst (λ g. Leaves old e g) (sym same) (unchanged old e)
+    → IsErr r → new ≡ old → IfErr r (λ e. IsMemory e ⊎ CannotAlter labels old c) → Changes labels old c r new
+change-refused-same labels old new c (Ok t) h same reason = absurd (false≢true h)
+change-refused-same labels old new c (Err e) h same reason = (subst (λ g. Leaves old e g) (sym same) (unchanged old e), λ wiring. reason)
 
 -- The same of calls that are no package.
 pub plain-refused-first : (labels : Labelling) (cores : List CoreExtern) (g : Graph) (call : Call) (r : Result Thing Refusal)
-    → IsErr r → AnswersPlain labels cores g call r g
-plain-refused-first labels cores g call (Ok t) h = absurd (false≢true h)
-plain-refused-first labels cores g call (Err e) h = unchanged g e
+    → (IsWiringCall call → ⊥) → IsErr r → AnswersPlain labels cores g call r g
+plain-refused-first labels cores g call (Ok t) other h = absurd (false≢true h)
+plain-refused-first labels cores g call (Err e) other h = (unchanged g e, λ wiring. absurd (other wiring))
 
-pub plain-refused-same : (labels : Labelling) (cores : List CoreExtern) (old new : Graph) (call : Call) (r : Result Thing Refusal)
-    → IsErr r → new ≡ old → AnswersPlain labels cores old call r new
-plain-refused-same labels cores old new call (Ok t) h same = absurd (false≢true h)
-plain-refused-same labels cores old new call (Err e) h same = subst (λ g. Leaves old e g) (sym same) (unchanged old e)
+-- The same of calls that have a reason.
+pub wiring-refused-first : (labels : Labelling) (cores : List CoreExtern) (g : Graph) (call : Call) (r : Result Thing Refusal)
+    → IsErr r → IfErr r (λ e. IsMemory e ⊎ CannotAdd labels cores g call) → AnswersPlain labels cores g call r g
+wiring-refused-first labels cores g call (Ok t) h reason = absurd (false≢true h)
+wiring-refused-first labels cores g call (Err e) h reason = (unchanged g e, λ wiring. reason)
+
+pub wiring-refused-same : (labels : Labelling) (cores : List CoreExtern) (old new : Graph) (call : Call) (r : Result Thing Refusal)
+    → IsErr r → new ≡ old → IfErr r (λ e. IsMemory e ⊎ CannotAdd labels cores old call) → AnswersPlain labels cores old call r new
+wiring-refused-same labels cores old new call (Ok t) h same reason = absurd (false≢true h)
+wiring-refused-same labels cores old new call (Err e) h same reason = (subst (λ g. Leaves old e g) (sym same) (unchanged old e), λ wiring. reason)
 
 -- A call that is no package reads no file.
 pub without-file : (labels : Labelling) (cores : List CoreExtern) (of_file : List ℕ) (old new : Graph) (call : Call) (r : Result Thing Refusal)
@@ -202,4 +208,4 @@ without-file labels cores of_file old new call (Err e) plain h = h
 pub plugged-changes : (labels : Labelling) (old new : Graph) (socket : Bor (List ℕ)) (plugs : Bor (List (Bor (List ℕ)))) (r : Result (Unit {0}) Refusal)
     → Plugged labels socket.now (spelled plugs.now) old r new → Changes labels old (change.Plug socket plugs) r new
 plugged-changes labels old new socket plugs (Ok t) h = h
-plugged-changes labels old new socket plugs (Err e) h = h
+plugged-changes labels old new socket plugs (Err e) h = (h, λ wiring. absurd wiring)

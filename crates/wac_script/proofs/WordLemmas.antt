@@ -1,7 +1,7 @@
 -- Facts about words.
 use Rattle.std.proofs.Common.{◌≡◌, ◌≢◌, ◌<◌, ◌+◌, ◌++◌, ◌∷◌, [], ◌∙◌, ℕ, List, Some, None, Option, ap, sym, subst, length, take, drop, get_or, append_assoc, append-nil, take-append-drop}
 use Rattle.std.proofs.lemmas.List.{drop_more, take_more, map_push, map-append}
-use Rattle.std.specs.Prelude.{MatchOption, IfSome, codes}
+use Rattle.std.specs.Prelude.{MatchOption}
 use Rattle.std.specs.Borrow.{Bor}
 use Rattle.std.specs.List.{AllByRecursion}
 use Rattle.std.specs.Char.{is_not_whitespace}
@@ -9,9 +9,6 @@ use Rattle.std.specs.Str.{NoCharPasses}
 use Rattle.std.specs.Str.Iter.{split_whitespace_steps, split_whitespace_rest}
 use Rattle.std.specs.Str.Pattern.{FindsTextPrefix, StripsPrefix}
 use Rattle.std.specs.declared.str.SplitWhitespace.{SplitWhitespace}
-use Rattle.wac_script.specs.lines.Says.{SaysMade, SaysLine}
-use Rattle.wac_script.specs.declared.lines.calls.Line.{Line}
-use Rattle.wac_script.specs.declared.lines.calls.Line.TheVariants as line
 use Rattle.wac_script.specs.lines.Words.{Word, spelled, HasNoPrefix, AreWords, none, comment, more, IsFirstWord, BeginsComment}
 
 -- What `strip_prefix` says at a text.
@@ -68,12 +65,3 @@ words-comment text s t x words step begins so_far =
 
 pub words-end : (text rest : List ℕ) (words : List Word) → NoCharPasses is_not_whitespace rest → WordsSoFar text rest words → AreWords text words
 words-end text rest words white so_far = subst (λ l. AreWords text l) (append-nil words) (so_far [] (none rest white))
-
--- A label, `=` and a call are a line.
-pub made-line : (label : Word) (words : List Word) (o : Option Line) → IfSome o (λ line. SaysMade label words line) → IfSome o (λ line. SaysLine (label ∷ codes "=" ∷ words) line)
-made-line label words None h = tt
-made-line label words (Some line.Nothing) h = absurd h
-made-line label words (Some (line.Make name call)) h = (words, ap (λ n. n ∷ codes "=" ∷ words) (sym h.0), h.1)
-made-line label [] (Some (line.Core name item)) h = absurd h
-made-line label (first ∷ words) (Some (line.Core name item)) h = (words, ap (λ n. n ∷ codes "=" ∷ first ∷ words) (sym h.0) ∙ ap (λ w. name.now ∷ codes "=" ∷ w ∷ words) h.1, h.2)
-made-line label words (Some (line.Change change)) h = absurd h

@@ -1,1 +1,3 @@
 pub mod Listed
+pub mod Unsaid
+pub mod Missing

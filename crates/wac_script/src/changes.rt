@@ -10,6 +10,7 @@ use crate::packages::plug_in;
 use crate::refusal::Refusal;
 use std::alloc::Global;
 use wac_graph::CompositionGraph;
+use wac_graph_model::one_export_answer;
 
 /// Makes a call that makes nothing which could have a label.
 pub(crate) fn change(
@@ -61,6 +62,7 @@ fn export(
 ) -> Result<(), Refusal>
     ensures { Changes (things_of labels.now) graph.old (said.Export node.entry name.entry) result graph.new }
 {
+    one_export_answer(); // proof only
     let id = node_of(alloc, labels, graph, node)?;
     match graph.export(id, name) {
         Ok(()) => Ok(()),

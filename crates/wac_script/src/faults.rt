@@ -76,7 +76,7 @@ impl Script {
     }
 
     /// Returns a node's label, or its number.
-    pub(crate) fn node_text(&self, id: NodeId) -> io::Result<String> {
+    fn node_text(&self, id: NodeId) -> io::Result<String> {
         match self.label_of(id) {
             Some((label, _)) => Ok(String::from_str(self.alloc, label)?),
             None => Ok(format!(in self.alloc; "{id}")?),

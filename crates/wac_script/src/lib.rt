@@ -6,7 +6,7 @@
 //!
 //! - [`Script`]: a graph with labels. [`Script::line`] makes the call of a line.
 //! - [`package_file`]: the file whose bytes a line needs.
-//! - [`Refusal`]: why a line is refused.
+//! - [`LineError`]: why a line is refused. [`Refusal`]: why its call is.
 //! - [`Script::encode_fault`]: why the graph cannot be encoded, with the line to blame.
 //! - [`Picture`]: the graph as DOT or Mermaid text, or the list of its imports.
 #![tactic(auto)]
@@ -28,5 +28,5 @@ pub use drawing::Picture;
 pub use faults::EncodeFault;
 pub use labels::{WordError, WordFault};
 pub use packages::package_file;
-pub use refusal::Refusal;
+pub use refusal::{LineError, Refusal};
 pub use script::Script;

@@ -7,7 +7,7 @@ mod reading;
 mod shapes;
 mod words;
 
-pub(crate) use calls::{Call, Change, Line};
+pub(crate) use calls::{Call, Change, Line, PackageWords};
 pub(crate) use reading::{called, is_call};
 pub(crate) use shapes::{CoreItem, Shape};
 pub(crate) use words::{

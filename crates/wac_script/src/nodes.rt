@@ -1,10 +1,11 @@
 //! Calls that add a node.
-ghost use Rattle.std.specs.Prelude.{◌≡◌, true, IfOk, IsSome};
+ghost use Rattle.std.specs.Prelude.{◌≡◌, ◌⊎◌, true, IfOk, IfErr, IsSome};
 ghost use Rattle.wac_types_collection.specs.collection.Collection.{holds_type};
 ghost use Rattle.wac_types_shapes.specs.shapes.Kinds.{kind_type};
 ghost use Rattle.wac_graph_model.specs.nodes.Graph.{node_at};
 ghost use Rattle.wac_script.specs.declared.lines.calls.Call.TheVariants as said;
-ghost use Rattle.wac_script.specs.labels.Things.{things_of, cores_of, IsThing};
+ghost use Rattle.wac_script.specs.labels.Things.{things_of, cores_of, IsThing, IsWordMemory};
+ghost use Rattle.wac_script.specs.private.Missing.{IsNoNode};
 ghost use Rattle.wac_script.specs.labels.Items.{IsItem};
 ghost use Rattle.wac_script.specs.declared.labels.things.Thing.TheVariants.{Node as node_thing};
 ghost use Rattle.wac_script.specs.Steps.{AnswersPlain};
@@ -25,6 +26,7 @@ pub(crate) fn node_of(
 ) -> Result<NodeId, WordError>
     ensures named { IfOk result (λ id. IsThing (things_of labels.now) label.now (node_thing id)) }
     ensures there { IfOk result (λ id. IsSome (node_at graph.now id)) }
+    ensures refused { IfErr result (λ e. IsWordMemory e ⊎ IsNoNode (things_of labels.now) label.now graph.now) }
 {
     let id = labels.node_of(label)?;
     if !graph.has_node(id) {

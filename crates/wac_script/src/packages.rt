@@ -1,5 +1,5 @@
 //! Packages, and plugging them.
-ghost use Rattle.std.specs.Prelude.{◌≡◌, ℕ, true, Some, IfOk, IfSome, IsSome, slice_get};
+ghost use Rattle.std.specs.Prelude.{◌≡◌, ◌⊎◌, ℕ, true, Some, IfOk, IfErr, IfSome, IsSome, slice_get};
 ghost use Rattle.std.specs.List.{AllZip};
 ghost use Rattle.std.specs.Option.{option_map};
 ghost use Rattle.semver.specs.Identifiers.{parts_of};
@@ -9,12 +9,13 @@ ghost use Rattle.wac_graph_model.specs.nodes.Graph.{package_at};
 ghost use Rattle.wac_graph_model.specs.declared.nodes.packages.PackageId.{PackageId as AnId};
 ghost use Rattle.wac_script.specs.lines.Words.{spelled};
 ghost use Rattle.wac_script.specs.declared.lines.calls.Call.TheVariants as said;
-ghost use Rattle.wac_script.specs.labels.Things.{things_of, cores_of, IsThing};
+ghost use Rattle.wac_script.specs.labels.Things.{things_of, cores_of, IsThing, IsWordMemory};
+ghost use Rattle.wac_script.specs.private.Missing.{IsNoPackage};
 ghost use Rattle.wac_script.specs.declared.labels.things.Thing.TheVariants.{Package as package_thing, World as world_thing};
 ghost use Rattle.wac_script.specs.Steps.{Answers, AreBytes, ArePackages, IsVersion, IsFileOf, NamesFile, Plugged, SayFile};
 
 use crate::labels::{Thing, Things, WordError, WordFault, refused};
-use crate::lines::{Call, Line, after_prefix, optional, words_of};
+use crate::lines::{Call, Line, PackageWords, after_prefix, optional, words_of};
 use crate::refusal::Refusal;
 use semver::Version;
 use std::alloc::{AllocError, Global};
@@ -41,6 +42,7 @@ pub(crate) fn package_of(
 ) -> Result<PackageId, WordError>
     ensures named { IfOk result (λ id. IsThing (things_of labels.now) label.now (package_thing id)) }
     ensures there { IfOk result (λ id. IsSome (package_at graph.now id)) }
+    ensures refused { IfErr result (λ e. IsWordMemory e ⊎ IsNoPackage (things_of labels.now) label.now graph.now) }
 {
     let id = labels.package_of(label)?;
     if !graph.has_package(id) {
@@ -97,18 +99,15 @@ pub(crate) fn register(
     alloc: Global,
     labels: &Things,
     graph: &mut CompositionGraph,
-    name: &str,
-    version: &str,
-    file: &str,
-    world: &str,
+    words: PackageWords<'_>,
     bytes: Vec<u8>,
 ) -> Result<Thing, Refusal>
-    ensures { Answers (things_of labels.now) (cores_of labels.now) bytes.items graph.old (said.Package name.entry version.entry file.entry world.entry) result graph.new }
+    ensures { Answers (things_of labels.now) (cores_of labels.now) bytes.items graph.old (said.Package words.entry) result graph.new }
 {
-    let bytes = package_bytes(alloc, file, bytes)?;
-    let number = version_of(alloc, version)?;
-    let world = world_of(alloc, labels, graph, world)?;
-    let parts = graph.new_package(name, number.as_ref(), bytes, world)?;
+    let bytes = package_bytes(alloc, words.file, bytes)?;
+    let number = version_of(alloc, words.version)?;
+    let world = world_of(alloc, labels, graph, words.world)?;
+    let parts = graph.new_package(words.name, number.as_ref(), bytes, world)?;
     match graph.register_package(parts) {
         Ok(id) => Ok(Thing::Package(id)),
         Err(source) => Err(Refusal::Register(source)),
@@ -157,14 +156,14 @@ fn file_of<'a>(line: Line<'a, '_>) -> Option<&'a str>
 {
     let Line::Make {
         label: _,
-        call: Call::Package { file, .. },
+        call: Call::Package(words),
     } = line
     else {
         return None;
     };
-    match after_prefix(file, "hex:") {
+    match after_prefix(words.file, "hex:") {
         Some(_) => None,
-        None => Some(file),
+        None => Some(words.file),
     }
 }
 

@@ -1,4 +1,7 @@
-//! Why a line is refused.
+//! Why a line or a call is refused.
+ghost use Rattle.std.specs.Prelude.{◌≡◌};
+ghost use Rattle.wac_script.specs.declared.refusal.Refusal.TheVariants as refusal;
+ghost use Rattle.wac_script.specs.Steps.{refused_by};
 
 use crate::labels::WordError;
 use std::alloc::AllocError;
@@ -10,6 +13,17 @@ use wac_graph::{
 };
 
 /// Why a line is refused.
+#[derive(Debug, Drop)]
+pub enum LineError {
+    /// No call has the name.
+    UnknownCall(String),
+    /// The call takes other words.
+    OtherWords(String),
+    /// The call is refused.
+    Call(Refusal),
+}
+
+/// Why a call is refused.
 #[derive(Debug, Drop)]
 pub enum Refusal {
     /// A word is not what the call takes, or a name occurs twice.
@@ -35,16 +49,21 @@ pub enum Refusal {
 }
 
 impl From<AllocError> for Refusal {
+    ghost from_gives = { λ _ e. e ≡ refusal.OutOfMemory };
+
     fn from(_e: AllocError) -> Refusal {
         Refusal::OutOfMemory
     }
 }
 
 impl From<WordError> for Refusal {
+    ghost from_gives = { λ source e. e ≡ refused_by source };
+
     fn from(source: WordError) -> Refusal {
         match source {
             WordError::OutOfMemory => Refusal::OutOfMemory,
-            _ => Refusal::Words(source),
+            WordError::Word { fault, word } => Refusal::Words(WordError::Word { fault, word }),
+            WordError::Shape(source) => Refusal::Words(WordError::Shape(source)),
         }
     }
 }
@@ -118,6 +137,16 @@ impl fmt::Display for Refusal {
             Refusal::Export(source) => write_export(source, f),
             Refusal::Plug(source) => write_plug(source, f),
             Refusal::OutOfMemory => f.write_str("out of memory"),
+        }
+    }
+}
+
+impl fmt::Display for LineError {
+    fn fmt<W: fmt::Write>(&self, f: &mut fmt::Formatter<W>) -> fmt::Result {
+        match self {
+            LineError::UnknownCall(name) => write!(f, "no call has this name: `{name}`"),
+            LineError::OtherWords(call) => write!(f, "the call takes other words: `{call}`"),
+            LineError::Call(source) => write!(f, "{source}"),
         }
     }
 }

@@ -1,5 +1,5 @@
 //! A graph that is made line by line.
-ghost use Rattle.std.specs.Prelude.{◌≡◌, [], IsTrue, List, None, OnOk, IfOk, IfErr, IfSome};
+ghost use Rattle.std.specs.Prelude.{◌≡◌, ◌≤◌, ◌^◌, ◌⊎◌, [], length, IsTrue, IsSome, MatchResult, List, None, OnOk, IfOk, IfErr, IfSome};
 ghost use Rattle.wac_types_shapes.specs.primitives.Name.{find_name};
 ghost use Rattle.std.specs.Result.{IsErrAnd};
 ghost use Rattle.wac_binary.specs.Bytes.{bytes_of};
@@ -8,19 +8,23 @@ ghost use Rattle.wac_binary.specs.Items.{Item as AnItem};
 ghost use Rattle.wac_graph_model.specs.meaning.Means.{Means};
 ghost use Rattle.wac_graph_model.specs.causes.Cause.{AnswersFor, Cause, CauseKind, cause_of, Occurs, Stands};
 ghost use Rattle.wac_graph_model.specs.causes.OuterNames.{export_names, import_names};
+ghost use Rattle.wac_graph_model.specs.declared.causes.errors.EncodeError.TheVariants.{TooLarge};
+ghost use Rattle.wac_graph_model.specs.weight.GraphWeight.{bound};
 ghost use Rattle.wac_names.specs.validation.Valid.{AreValid};
 ghost use Rattle.wac_script.specs.lines.Words.{spelled};
-ghost use Rattle.wac_script.specs.labels.Things.{things_of, cores_of};
+ghost use Rattle.wac_script.specs.labels.Things.{things_of, cores_of, IsWordMemory};
 ghost use Rattle.wac_script.specs.declared.lines.calls.Line.TheVariants as said;
 ghost use Rattle.wac_script.specs.Steps.{Answers, NamesThing, AreNamed, Plugged};
-ghost use Rattle.wac_script.specs.Runs.{state_of, Runs, RunsLine, RunsWords, IsBlank};
+ghost use Rattle.wac_script.specs.declared.refusal.LineError.TheVariants as line_error;
+ghost use Rattle.wac_script.specs.declared.refusal.Refusal.TheVariants as refusal;
+ghost use Rattle.wac_script.specs.Runs.{state_of, Runs, RunsLine, RunsWords, RanOut, IsMisread, IsBlank};
 
 use crate::changes::change;
 use crate::labels::{Thing, Things, WordError, WordFault, refused};
 use crate::lines::{Call, CoreItem, Line, called, is_call, words_of};
 use crate::nodes::{alias, define, import, instantiate};
 use crate::packages::{plug_in, register};
-use crate::refusal::Refusal;
+use crate::refusal::{LineError, Refusal};
 use crate::types::{
     add_alias, add_async_func, add_func, add_interface, add_module, add_owned_alias, add_resource,
     add_shape, add_world,
@@ -71,25 +75,42 @@ impl Script {
     /// it names one.
     ///
     /// # Errors
-    /// A [`Refusal`]. No label is added. The graph is unchanged, but for these:
+    /// - [`UnknownCall`](LineError::UnknownCall) or [`OtherWords`](LineError::OtherWords) only if no call takes the
+    ///   words. Then nothing changes.
+    /// - [`Call`](LineError::Call) if the call is refused. A line that instantiates, aliases, sets, exports or names is
+    ///   refused only if it cannot be done, or memory runs out.
+    ///
+    /// No label is added then, and the graph is unchanged, but for these refusals:
     ///
     /// - [`Register`](Refusal::Register): the package's instance type may have been added.
     /// - [`Plug`](Refusal::Plug): what the steps of `plug` before the error added remains.
     /// - [`OutOfMemory`](Refusal::OutOfMemory): what the line makes may have been added, without its label.
-    pub fn line(&mut self, number: usize, line: &str, bytes: Vec<u8>) -> Result<(), Refusal>
+    pub fn line(&mut self, number: usize, line: &str, bytes: Vec<u8>) -> Result<(), LineError>
         ensures { RunsLine number line.now bytes.items (state_of self.old) result (state_of self.new) }
     {
-        let words = words_of(self.alloc, line)?;
+        let Ok(words) = words_of(self.alloc, line) else {
+            return Err(LineError::Call(Refusal::OutOfMemory));
+        };
         self.run_words(number, &words, bytes)
     }
 
     /// Makes the call of the words of a line.
-    fn run_words(&mut self, number: usize, words: &[&str], bytes: Vec<u8>) -> Result<(), Refusal>
-        ensures { RunsWords number (spelled words.now) bytes.items (state_of self.old) result (state_of self.new) }
+    fn run_words(&mut self, number: usize, words: &[&str], bytes: Vec<u8>) -> Result<(), LineError>
+        ensures { RanOut (state_of self.old) result (state_of self.new) ⊎ RunsWords number (spelled words.now) bytes.items (state_of self.old) result (state_of self.new) }
     {
         let Some(line) = Line::read(words) else {
-            return Err(self.misread(words));
+            return Err(misread(self.alloc, words));
         };
+        match self.run(number, line, bytes) {
+            Ok(()) => Ok(()),
+            Err(refusal) => Err(LineError::Call(refusal)),
+        }
+    }
+
+    /// Does what a line says.
+    fn run(&mut self, number: usize, line: Line<'_, '_>, bytes: Vec<u8>) -> Result<(), Refusal>
+        ensures { Runs number line.entry bytes.items (state_of self.old) result (state_of self.new) }
+    {
         match line {
             Line::Nothing => Ok(()),
             Line::Make { label, call } => self.make(number, label, call, bytes),
@@ -98,20 +119,9 @@ impl Script {
         }
     }
 
-    /// Returns why no call takes words.
-    fn misread(&self, words: &[&str]) -> Refusal {
-        let call = called(words);
-        let fault = if is_call(call) {
-            WordFault::OtherWords
-        } else {
-            WordFault::UnknownCall
-        };
-        refused(self.alloc, fault, call).into()
-    }
-
     /// Fails if something has the label.
     fn check_label(&self, label: &str) -> Result<(), WordError>
-        ensures { OnOk result (find_name (state_of self.now).labels label.now ≡ None) }
+        ensures { MatchResult result (λ done. find_name (state_of self.now).labels label.now ≡ None) (λ e. IsWordMemory e ⊎ IsSome (find_name (state_of self.now).labels label.now)) }
     {
         if self.labels.contains(label) {
             return Err(refused(self.alloc, WordFault::LabelTwice, label));
@@ -189,9 +199,26 @@ impl Script {
         ensures cause { IfErr result (λ e. IfSome (cause_of e) (Stands (state_of self.now).graph options.entry)) }
         ensures refused { (cause : Cause) → Stands (state_of self.now).graph options.entry cause → IsErrAnd result (AnswersFor cause) }
         ensures none { OnOk result ((kind : CauseKind) → Occurs (state_of self.now).graph options.entry kind → ⊥) }
+        ensures short { IfOk result (λ bytes. length bytes.items ≤ bound (state_of self.now).graph options.entry) }
+        ensures too_large { IfErr result (λ e. e ≡ TooLarge → 2 ^ 32 ≤ bound (state_of self.now).graph options.entry) }
         ensures valid { IfOk result (λ bytes. IsTrue options.entry.validate → (items : List AnItem) × (bytes.items ≡ bytes_of items) × AreValid (import_names items) (export_names items)) }
     {
         self.graph.encode(options)
+    }
+}
+
+/// Returns why no call takes words.
+fn misread(alloc: Global, words: &[&str]) -> LineError
+    ensures { IsMisread result ⊎ (result ≡ line_error.Call refusal.OutOfMemory) }
+{
+    let call = called(words);
+    let Ok(name) = String::from_str(alloc, call) else {
+        return LineError::Call(Refusal::OutOfMemory);
+    };
+    if is_call(call) {
+        LineError::OtherWords(name)
+    } else {
+        LineError::UnknownCall(name)
     }
 }
 
@@ -233,12 +260,7 @@ fn add(
         Call::Interface { id, items } => add_interface(labels, graph, id, items),
         Call::World { imports, exports } => add_world(labels, graph, imports, exports),
         Call::Module { imports, exports } => add_module(labels, graph, imports, exports),
-        Call::Package {
-            name,
-            version,
-            file,
-            world,
-        } => register(alloc, labels, graph, name, version, file, world, bytes),
+        Call::Package(words) => register(alloc, labels, graph, words, bytes),
         Call::New(label) => instantiate(alloc, labels, graph, label),
         Call::Alias { node, export } => alias(alloc, labels, graph, node, export),
         Call::Import { name, item } => import(alloc, labels, graph, name, item),

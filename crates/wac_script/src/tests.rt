@@ -130,6 +130,7 @@ fn each_shape_can_be_said(rt: HostRuntime) {
 const WORDS: &[(&str, &str)] = &[
     ("a = nothing", "1: no call has this name: `nothing`"),
     ("clear", "1: no call has this name: `clear`"),
+    ("set = x y", "1: no call has this name: `x`"),
     ("# a comment\nset a", "2: the call takes other words: `set`"),
     ("l = list", "1: the call takes other words: `list`"),
     ("f = func\nl = list f", "2: expected a value type: `f`"),
@@ -351,17 +352,7 @@ const LOGGING_BYTES: &str =
 #[test]
 fn three_packages_make_a_component(rt: HostRuntime) {
     assert_outcomes(&rt, &[(LOGGING, LOGGING_BYTES)]);
-    let alloc = rt.alloc();
-    let mut script = Script::new(alloc);
-    match run(alloc, &mut script, LOGGING) {
-        Ok(None) => {}
-        Ok(Some(refusal)) => assert!(&rt; false, "{refusal}"),
-        Err(_) => assert!(&rt; false, "out of memory"),
-    }
-    match script.picture(Picture::Mermaid) {
-        Ok(found) => assert!(&rt; found.as_str() == LOGGING_PICTURE, "{found}"),
-        Err(_) => assert!(&rt; false, "out of memory"),
-    }
+    assert_pictures(&rt, LOGGING, &[(Picture::Mermaid, LOGGING_PICTURE)]);
 }
 
 const LOGGING_PICTURE: &str = "flowchart LR
@@ -398,18 +389,46 @@ const PICTURES: &[(Picture, &str)] = &[
     (Picture::Imports, "z function\n"),
 ];
 
-#[test]
-fn a_graph_has_pictures(rt: HostRuntime) {
+// A definition of a type that depends on another, and a label with signs that mean something else in a picture.
+const SIGNS: &[(Picture, &str)] = &[
+    (
+        Picture::Dot,
+        "digraph {\n    rankdir=LR\n    node [shape=box]\n    n0 [label=\"d: definition (value type) as a\"]\n    n1 [label=\"e: definition (value type) as b\"]\n    n0 -> n1 [style=dashed]\n    n2 [label=\"\\\"x\\\"#<&`>: import c (function)\"]\n}\n",
+    ),
+    (
+        Picture::Mermaid,
+        "flowchart LR\n    n0[\"d: definition (value type) as a\"]\n    n1[\"e: definition (value type) as b\"]\n    n0 -.-> n1\n    n2[\"#quot;x#quot;#35;#lt;#amp;#96;#gt;: import c (function)\"]\n",
+    ),
+    (Picture::Imports, "c function \"x\"#<&`>\n"),
+];
+
+/// Checks the pictures of the graph that a script makes.
+fn assert_pictures<R: Abort + AllocGlobal>(rt: &R, text: &str, rows: &[(Picture, &str)]) {
     let alloc = rt.alloc();
-    let text =
-        "f = func\nw = world exports x=f\nv = world y=f z=f\np = package a:b _ hex: w\nq = package c:d _ hex: v\nn = new p\na = alias n x\nm = new q\nset m y a";
     let mut script = Script::new(alloc);
-    let made = run(alloc, &mut script, text);
-    assert!(&rt; made.is_ok(), "the script is made");
-    for (picture, want) in PICTURES {
+    match run(alloc, &mut script, text) {
+        Ok(None) => {}
+        Ok(Some(refusal)) => assert!(rt; false, "{refusal}"),
+        Err(_) => assert!(rt; false, "out of memory"),
+    }
+    for (picture, want) in rows {
         match script.picture(*picture) {
-            Ok(found) => assert!(&rt; found.as_str() == *want, "{found}"),
-            Err(_) => assert!(&rt; false, "out of memory"),
+            Ok(found) => assert!(rt; found.as_str() == *want, "{found}"),
+            Err(_) => assert!(rt; false, "out of memory"),
         }
     }
+}
+
+#[test]
+fn a_graph_has_pictures(rt: HostRuntime) {
+    assert_pictures(
+        &rt,
+        "f = func\nw = world exports x=f\nv = world y=f z=f\np = package a:b _ hex: w\nq = package c:d _ hex: v\nn = new p\na = alias n x\nm = new q\nset m y a",
+        PICTURES,
+    );
+    assert_pictures(
+        &rt,
+        "t = enum x\nd = define a t\nr = record x=t\ne = define b r\nf = func\n\"x\"#<&`> = import c f",
+        SIGNS,
+    );
 }

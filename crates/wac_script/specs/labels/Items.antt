@@ -74,10 +74,15 @@ pub record IsInterface (labels : Labelling) (word : Word) (words : List Word) (i
   pub named : IsId word i.id
   pub listed : AreListed labels words i.uses i.exports
 
+-- The first word, if there is one, does not begin with `id:`.
+abbrev pub HasNoWorldId : List Word → Type 0
+HasNoWorldId [] = Unit {0}
+HasNoWorldId (first ∷ rest) = HasNoPrefix (codes "id:") first
+
 -- The first word is `id:` and this id, if there is one, and the rest are the other words.
 abbrev pub IsWorldId : List Word → Option Name → List Word → Type 0
 IsWorldId words (Some id) rest = words ≡ (codes "id:" ++ id) ∷ rest
-IsWorldId words None rest = words ≡ rest
+IsWorldId words None rest = HasNoWorldId words × (words ≡ rest)
 
 -- The words are those of this world: of its imports, after its id if there is one, and of its exports.
 abbrev pub IsWorld : Labelling → List Word → List Word → World → Type 0

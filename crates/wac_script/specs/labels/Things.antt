@@ -3,6 +3,8 @@ use Rattle.std.specs.Prelude.{◌≡◌, List, Some}
 use Rattle.std.specs.Option.{option_map}
 use Rattle.wac_types_shapes.specs.primitives.Name.{Name, find_name}
 use Rattle.wac_types_shapes.specs.declared.shapes.core_types.CoreExtern.{CoreExtern}
+use Rattle.wac_script.specs.declared.labels.faults.WordError.{WordError}
+use Rattle.wac_script.specs.declared.labels.faults.WordError.TheVariants as error
 use Rattle.wac_script.specs.declared.labels.things.Thing.{Thing}
 use Rattle.wac_script.specs.declared.labels.things.Labelled.{Labelled}
 use Rattle.wac_script.specs.declared.labels.things.Things.{Things}
@@ -18,6 +20,11 @@ things_of t = t.things
 -- The imports and exports of core modules that have labels.
 abbrev pub cores_of : Things → List CoreExtern
 cores_of t = t.cores.items
+
+-- Memory ran out for an error of words.
+abbrev pub IsWordMemory : WordError → Type 0
+IsWordMemory error.OutOfMemory = Unit {0}
+IsWordMemory _ = ⊥
 
 -- The label stands for this thing.
 abbrev pub IsThing : Labelling → Name → Thing → Type 0

@@ -53,7 +53,7 @@ SaysCall (first ∷ words) (call.AsyncFunc params results) = (first ≡ codes "a
 SaysCall words (call.Interface id items) = words ≡ codes "interface" ∷ id.now ∷ spelled items.now
 SaysCall words (call.World imports exports) = HasHalves words (codes "world") (codes "exports") imports.now exports.now
 SaysCall words (call.Module imports exports) = HasHalves words (codes "module") (codes "exports") imports.now exports.now
-SaysCall words (call.Package name version file world) = words ≡ codes "package" ∷ name.now ∷ version.now ∷ file.now ∷ world.now ∷ []
+SaysCall words (call.Package p) = words ≡ codes "package" ∷ p.name.now ∷ p.version.now ∷ p.file.now ∷ p.world.now ∷ []
 SaysCall words (call.New label) = words ≡ codes "new" ∷ label.now ∷ []
 SaysCall words (call.Alias node exported) = words ≡ codes "alias" ∷ node.now ∷ exported.now ∷ []
 SaysCall words (call.Import name item) = words ≡ codes "import" ∷ name.now ∷ item.now ∷ []
@@ -74,9 +74,17 @@ SaysMade label [] (line.Core name item) = ⊥
 SaysMade label (first ∷ words) (line.Core name item) = (name.now ≡ label) × (first ≡ codes "core") × SaysCoreItem words item
 SaysMade label words (line.Change change) = ⊥
 
--- The words of a line say this.
+-- The second word is `=`: the line gives a label, which is the first.
+abbrev pub GivesLabel : List Word → Type 0
+GivesLabel words = (label : Word) × (rest : List Word) × (words ≡ label ∷ codes "=" ∷ rest)
+
+-- The words of a line say this. A line that gives a label is no change.
 abbrev pub SaysLine : List Word → Line → Type 0
 SaysLine words (line.Make label call) = (rest : List Word) × (words ≡ label.now ∷ codes "=" ∷ rest) × SaysCall rest call
 SaysLine words (line.Core label item) = (rest : List Word) × (words ≡ label.now ∷ codes "=" ∷ codes "core" ∷ rest) × SaysCoreItem rest item
 SaysLine words line.Nothing = words ≡ []
-SaysLine words (line.Change change) = SaysChange words change
+SaysLine words (line.Change change) = (GivesLabel words → ⊥) × SaysChange words change
+
+-- The words of a line say nothing that a line can say.
+abbrev pub SaysNoLine : List Word → Type 0
+SaysNoLine words = (said : Line) → SaysLine words said → ⊥

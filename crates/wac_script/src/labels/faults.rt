@@ -8,9 +8,6 @@ use wac_graph::types::ShapeError;
 /// What is wrong with a word.
 #[derive(Clone, Copy, Debug, Error)]
 pub enum WordFault {
-    /// No call has the name.
-    #[error("no call has this name")]
-    UnknownCall,
     /// The call takes other words.
     #[error("the call takes other words")]
     OtherWords,

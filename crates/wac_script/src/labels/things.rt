@@ -1,8 +1,11 @@
 //! Labels, and what they stand for.
-ghost use Rattle.std.specs.Prelude.{◌≡◌, ◌<◌, ◌++◌, ◌∷◌, [], ◌↔◌, Some, IfOk, OnOk, OnErr, IsTrue, IsSome, length, slice_get};
+ghost use Rattle.std.specs.Prelude.{◌≡◌, ◌<◌, ◌++◌, ◌∷◌, ◌⊎◌, [], ◌↔◌, Some, IfOk, MatchResult, OnOk, OnErr, IsTrue, IsSome, length, slice_get};
 ghost use Rattle.std.specs.Option.{option_copied};
 ghost use Rattle.wac_types_shapes.specs.primitives.Name.{find_name};
-ghost use Rattle.wac_script.specs.labels.Things.{things_of, cores_of, IsThing};
+ghost use Rattle.wac_edges.specs.declared.node.NodeId.{NodeId as ANode};
+ghost use Rattle.wac_graph_model.specs.declared.nodes.packages.PackageId.{PackageId as APackage};
+ghost use Rattle.wac_script.specs.declared.labels.things.Thing.{Thing as AThing};
+ghost use Rattle.wac_script.specs.labels.Things.{things_of, cores_of, IsThing, IsWordMemory};
 ghost use Rattle.wac_script.specs.declared.labels.things.Thing.TheVariants.{Core as core_thing, Resource as resource_thing, Interface as interface_thing, World as world_thing, Package as package_thing, Node as node_thing};
 
 use crate::labels::faults::{WordError, WordFault, refused};
@@ -114,7 +117,7 @@ impl Things {
     /// # Errors
     /// - [`UnknownLabel`](WordFault::UnknownLabel) if nothing has the label.
     pub(crate) fn thing(&self, label: &str) -> Result<Thing, WordError>
-        ensures { IfOk result (λ t. IsThing (things_of self.now) label.now t) }
+        ensures { MatchResult result (λ t. IsThing (things_of self.now) label.now t) (λ e. IsWordMemory e ⊎ ((t : AThing) → IsThing (things_of self.now) label.now t → ⊥)) }
     {
         match self.things.get(label) {
             Some(labelled) => Ok(labelled.thing),
@@ -216,7 +219,7 @@ impl Things {
     /// # Errors
     /// - [`UnknownLabel`](WordFault::UnknownLabel) or [`NotPackage`](WordFault::NotPackage).
     pub(crate) fn package_of(&self, label: &str) -> Result<PackageId, WordError>
-        ensures { IfOk result (λ p. IsThing (things_of self.now) label.now (package_thing p)) }
+        ensures { MatchResult result (λ p. IsThing (things_of self.now) label.now (package_thing p)) (λ e. IsWordMemory e ⊎ ((p : APackage) → IsThing (things_of self.now) label.now (package_thing p) → ⊥)) }
     {
         let thing = self.thing(label)?;
         match thing {
@@ -230,7 +233,7 @@ impl Things {
     /// # Errors
     /// - [`UnknownLabel`](WordFault::UnknownLabel) or [`NotNode`](WordFault::NotNode).
     pub(crate) fn node_of(&self, label: &str) -> Result<NodeId, WordError>
-        ensures { IfOk result (λ n. IsThing (things_of self.now) label.now (node_thing n)) }
+        ensures { MatchResult result (λ n. IsThing (things_of self.now) label.now (node_thing n)) (λ e. IsWordMemory e ⊎ ((n : ANode) → IsThing (things_of self.now) label.now (node_thing n) → ⊥)) }
     {
         let thing = self.thing(label)?;
         match thing {

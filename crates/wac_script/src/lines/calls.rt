@@ -2,6 +2,19 @@
 
 use crate::lines::shapes::{CoreItem, Shape};
 
+/// The words of a package.
+#[derive(Clone, Copy)]
+pub(crate) struct PackageWords<'a> {
+    /// The name.
+    pub name: &'a str,
+    /// The version, or `_`.
+    pub version: &'a str,
+    /// The file of the component, or `hex:` and its bytes.
+    pub file: &'a str,
+    /// The label of the component's world.
+    pub world: &'a str,
+}
+
 /// A call that makes something, by its words.
 #[derive(Clone, Copy)]
 pub(crate) enum Call<'a, 'b> {
@@ -61,16 +74,7 @@ pub(crate) enum Call<'a, 'b> {
         exports: &'b [&'a str],
     },
     /// `package NAME VERSION FILE WORLD`
-    Package {
-        /// The name.
-        name: &'a str,
-        /// The version, or `_`.
-        version: &'a str,
-        /// The file of the component, or `hex:` and its bytes.
-        file: &'a str,
-        /// The label of the component's world.
-        world: &'a str,
-    },
+    Package(PackageWords<'a>),
     /// `new PACKAGE`
     New(&'a str),
     /// `alias NODE EXPORT`

@@ -1,25 +1,45 @@
 //! What the words of a line say.
-ghost use Rattle.std.specs.Prelude.{◌≡◌, ◌∷◌, [], IfSome, codes};
-ghost use Rattle.wac_script.specs.lines.Words.{spelled};
-ghost use Rattle.wac_script.specs.lines.Says.{SaysShape, SaysCoreItem, SaysCall, SaysChange, SaysMade, SaysLine};
+ghost use Rattle.std.specs.Prelude.{◌≡◌, ◌≢◌, ◌∷◌, [], List, MatchOption, codes};
+ghost use Rattle.wac_script.specs.lines.Words.{Word, spelled};
+ghost use Rattle.wac_script.specs.lines.Says.{SaysShape, SaysCoreItem, SaysCall, SaysChange, SaysMade, SaysLine, SaysNoLine};
+ghost use Rattle.wac_script.specs.private.Unsaid.{SaysNoShape, SaysNoCoreItem, SaysNoTypeCall, SaysNoNodeCall, SaysNoCall, SaysNoChange, SaysNothingMade};
 
-use crate::lines::calls::{Call, Change, Line};
+use crate::lines::calls::{Call, Change, Line, PackageWords};
 use crate::lines::shapes::{CoreItem, Shape};
 use crate::lines::words::halves;
 
 impl<'a, 'b> Line<'a, 'b> {
     /// Returns what the words of a line say. `None` if no call takes them.
     pub(crate) fn read(words: &'b [&'a str]) -> Option<Line<'a, 'b>>
-        ensures { IfSome result (λ line. SaysLine (spelled words.now) line) }
+        ensures { MatchOption result (SaysNoLine (spelled words.now)) (λ line. SaysLine (spelled words.now) line) }
     {
         match words {
             [] => Some(Line::Nothing),
-            [label, "=", rest @ ..] => read_made(label, rest),
-            [call, rest @ ..] => {
-                let change = read_change(call, rest)?;
-                Some(Line::Change(change))
-            }
+            [first, rest @ ..] => read_some(first, rest),
         }
+    }
+}
+
+/// Returns the words after `=`, if the words begin with it.
+fn after_equals<'a, 'b>(words: &'b [&'a str]) -> Option<&'b [&'a str]>
+    ensures { MatchOption result ((rest : List Word) → spelled words.now ≢ codes "=" ∷ rest) (λ rest. spelled words.now ≡ codes "=" ∷ spelled rest.now) }
+{
+    match words {
+        ["=", rest @ ..] => Some(rest),
+        _ => None,
+    }
+}
+
+/// Reads a line that has words.
+fn read_some<'a, 'b>(first: &'a str, rest: &'b [&'a str]) -> Option<Line<'a, 'b>>
+    ensures { MatchOption result (SaysNoLine (first.now ∷ spelled rest.now)) (λ line. SaysLine (first.now ∷ spelled rest.now) line) }
+{
+    if let Some(made) = after_equals(rest) {
+        return read_made(first, made);
+    }
+    match read_change(first, rest) {
+        Some(change) => Some(Line::Change(change)),
+        None => None,
     }
 }
 
@@ -45,7 +65,7 @@ pub(crate) fn is_call(word: &str) -> bool {
 
 /// Returns the word, if there is one alone.
 fn one<'a>(words: &[&'a str]) -> Option<&'a str>
-    ensures { IfSome result (λ w. spelled words.now ≡ w.now ∷ []) }
+    ensures { MatchOption result ((w : Word) → spelled words.now ≢ w ∷ []) (λ w. spelled words.now ≡ w.now ∷ []) }
 {
     match words {
         [word] => Some(*word),
@@ -55,7 +75,7 @@ fn one<'a>(words: &[&'a str]) -> Option<&'a str>
 
 /// Returns the two words, if there are two.
 fn two<'a>(words: &[&'a str]) -> Option<(&'a str, &'a str)>
-    ensures { IfSome result (λ w. spelled words.now ≡ w.0.now ∷ w.1.now ∷ []) }
+    ensures { MatchOption result ((w : Word) (v : Word) → spelled words.now ≢ w ∷ v ∷ []) (λ w. spelled words.now ≡ w.0.now ∷ w.1.now ∷ []) }
 {
     match words {
         [first, second] => Some((*first, *second)),
@@ -65,7 +85,7 @@ fn two<'a>(words: &[&'a str]) -> Option<(&'a str, &'a str)>
 
 /// Reads a list of any length, or of a fixed one.
 fn read_list<'a, 'b>(words: &'b [&'a str]) -> Option<Shape<'a, 'b>>
-    ensures { IfSome result (λ shape. SaysShape (codes "list" ∷ spelled words.now) shape) }
+    ensures { MatchOption result (SaysNoShape (codes "list" ∷ spelled words.now)) (λ shape. SaysShape (codes "list" ∷ spelled words.now) shape) }
 {
     match words {
         [element] => Some(Shape::List(*element)),
@@ -79,7 +99,7 @@ fn read_list<'a, 'b>(words: &'b [&'a str]) -> Option<Shape<'a, 'b>>
 
 /// Reads a value type, by the name of its call and the other words.
 fn read_shape<'a, 'b>(call: &str, words: &'b [&'a str]) -> Option<Shape<'a, 'b>>
-    ensures { IfSome result (λ shape. SaysShape (call.now ∷ spelled words.now) shape) }
+    ensures { MatchOption result (SaysNoShape (call.now ∷ spelled words.now)) (λ shape. SaysShape (call.now ∷ spelled words.now) shape) }
 {
     match call {
         "record" => Some(Shape::Record(words)),
@@ -102,7 +122,7 @@ fn read_shape<'a, 'b>(call: &str, words: &'b [&'a str]) -> Option<Shape<'a, 'b>>
 
 /// Reads a table.
 fn read_table<'a, 'b>(words: &'b [&'a str]) -> Option<CoreItem<'a, 'b>>
-    ensures { IfSome result (λ item. SaysCoreItem (codes "table" ∷ spelled words.now) item) }
+    ensures { MatchOption result (SaysNoCoreItem (codes "table" ∷ spelled words.now)) (λ item. SaysCoreItem (codes "table" ∷ spelled words.now) item) }
 {
     let [element, initial, maximum, marks @ ..] = words else {
         return None;
@@ -117,7 +137,7 @@ fn read_table<'a, 'b>(words: &'b [&'a str]) -> Option<CoreItem<'a, 'b>>
 
 /// Reads a memory.
 fn read_memory<'a, 'b>(words: &'b [&'a str]) -> Option<CoreItem<'a, 'b>>
-    ensures { IfSome result (λ item. SaysCoreItem (codes "memory" ∷ spelled words.now) item) }
+    ensures { MatchOption result (SaysNoCoreItem (codes "memory" ∷ spelled words.now)) (λ item. SaysCoreItem (codes "memory" ∷ spelled words.now) item) }
 {
     let [initial, maximum, marks @ ..] = words else {
         return None;
@@ -131,7 +151,7 @@ fn read_memory<'a, 'b>(words: &'b [&'a str]) -> Option<CoreItem<'a, 'b>>
 
 /// Reads a global.
 fn read_global<'a, 'b>(words: &'b [&'a str]) -> Option<CoreItem<'a, 'b>>
-    ensures { IfSome result (λ item. SaysCoreItem (codes "global" ∷ spelled words.now) item) }
+    ensures { MatchOption result (SaysNoCoreItem (codes "global" ∷ spelled words.now)) (λ item. SaysCoreItem (codes "global" ∷ spelled words.now) item) }
 {
     let [ty, marks @ ..] = words else {
         return None;
@@ -141,7 +161,7 @@ fn read_global<'a, 'b>(words: &'b [&'a str]) -> Option<CoreItem<'a, 'b>>
 
 /// Reads an import or export of a core module, by its sort and the other words.
 fn read_core<'a, 'b>(sort: &str, words: &'b [&'a str]) -> Option<CoreItem<'a, 'b>>
-    ensures { IfSome result (λ item. SaysCoreItem (sort.now ∷ spelled words.now) item) }
+    ensures { MatchOption result (SaysNoCoreItem (sort.now ∷ spelled words.now)) (λ item. SaysCoreItem (sort.now ∷ spelled words.now) item) }
 {
     match sort {
         "func" => {
@@ -161,7 +181,7 @@ fn read_core<'a, 'b>(sort: &str, words: &'b [&'a str]) -> Option<CoreItem<'a, 'b
 
 /// Reads a resource, or an alias of one.
 fn read_resource<'a, 'b>(words: &'b [&'a str]) -> Option<Call<'a, 'b>>
-    ensures { IfSome result (λ call. SaysCall (codes "resource" ∷ spelled words.now) call) }
+    ensures { MatchOption result (SaysNoCall (codes "resource" ∷ spelled words.now)) (λ call. SaysCall (codes "resource" ∷ spelled words.now) call) }
 {
     match words {
         [name] => Some(Call::Resource(*name)),
@@ -180,7 +200,7 @@ fn read_resource<'a, 'b>(words: &'b [&'a str]) -> Option<Call<'a, 'b>>
 
 /// Reads an async function.
 fn read_async<'a, 'b>(words: &'b [&'a str]) -> Option<Call<'a, 'b>>
-    ensures { IfSome result (λ call. SaysCall (codes "async" ∷ spelled words.now) call) }
+    ensures { MatchOption result (SaysNoCall (codes "async" ∷ spelled words.now)) (λ call. SaysCall (codes "async" ∷ spelled words.now) call) }
 {
     let ["func", rest @ ..] = words else {
         return None;
@@ -191,7 +211,7 @@ fn read_async<'a, 'b>(words: &'b [&'a str]) -> Option<Call<'a, 'b>>
 
 /// Reads an interface.
 fn read_interface<'a, 'b>(words: &'b [&'a str]) -> Option<Call<'a, 'b>>
-    ensures { IfSome result (λ call. SaysCall (codes "interface" ∷ spelled words.now) call) }
+    ensures { MatchOption result (SaysNoCall (codes "interface" ∷ spelled words.now)) (λ call. SaysCall (codes "interface" ∷ spelled words.now) call) }
 {
     let [id, items @ ..] = words else {
         return None;
@@ -201,7 +221,7 @@ fn read_interface<'a, 'b>(words: &'b [&'a str]) -> Option<Call<'a, 'b>>
 
 /// Reads a resource, a function, an interface, a world or a core module.
 fn read_type<'a, 'b>(call: &str, words: &'b [&'a str]) -> Option<Call<'a, 'b>>
-    ensures { IfSome result (λ c. SaysCall (call.now ∷ spelled words.now) c) }
+    ensures { MatchOption result (SaysNoTypeCall (call.now ∷ spelled words.now)) (λ c. SaysCall (call.now ∷ spelled words.now) c) }
 {
     match call {
         "resource" => read_resource(words),
@@ -225,22 +245,22 @@ fn read_type<'a, 'b>(call: &str, words: &'b [&'a str]) -> Option<Call<'a, 'b>>
 
 /// Reads a package.
 fn read_package<'a, 'b>(words: &'b [&'a str]) -> Option<Call<'a, 'b>>
-    ensures { IfSome result (λ call. SaysCall (codes "package" ∷ spelled words.now) call) }
+    ensures { MatchOption result (SaysNoCall (codes "package" ∷ spelled words.now)) (λ call. SaysCall (codes "package" ∷ spelled words.now) call) }
 {
     let [name, version, file, world] = words else {
         return None;
     };
-    Some(Call::Package {
+    Some(Call::Package(PackageWords {
         name: *name,
         version: *version,
         file: *file,
         world: *world,
-    })
+    }))
 }
 
 /// Reads a package or a node.
 fn read_node<'a, 'b>(call: &str, words: &'b [&'a str]) -> Option<Call<'a, 'b>>
-    ensures { IfSome result (λ c. SaysCall (call.now ∷ spelled words.now) c) }
+    ensures { MatchOption result (SaysNoNodeCall (call.now ∷ spelled words.now)) (λ c. SaysCall (call.now ∷ spelled words.now) c) }
 {
     match call {
         "package" => read_package(words),
@@ -263,7 +283,7 @@ fn read_node<'a, 'b>(call: &str, words: &'b [&'a str]) -> Option<Call<'a, 'b>>
 
 /// Reads a call that makes something, by its name and the other words.
 fn read_call<'a, 'b>(call: &str, words: &'b [&'a str]) -> Option<Call<'a, 'b>>
-    ensures { IfSome result (λ c. SaysCall (call.now ∷ spelled words.now) c) }
+    ensures { MatchOption result (SaysNoCall (call.now ∷ spelled words.now)) (λ c. SaysCall (call.now ∷ spelled words.now) c) }
 {
     if let Some(shape) = read_shape(call, words) {
         return Some(Call::Shape(shape));
@@ -276,7 +296,7 @@ fn read_call<'a, 'b>(call: &str, words: &'b [&'a str]) -> Option<Call<'a, 'b>>
 
 /// Reads the words after `LABEL =`.
 fn read_made<'a, 'b>(label: &'a str, words: &'b [&'a str]) -> Option<Line<'a, 'b>>
-    ensures { IfSome result (λ line. SaysMade label.now (spelled words.now) line) }
+    ensures { MatchOption result (SaysNothingMade label.now (spelled words.now)) (λ line. SaysMade label.now (spelled words.now) line) }
 {
     match words {
         ["core", sort, rest @ ..] => {
@@ -293,7 +313,7 @@ fn read_made<'a, 'b>(label: &'a str, words: &'b [&'a str]) -> Option<Line<'a, 'b
 
 /// Reads an argument that is set.
 fn read_set<'a, 'b>(words: &'b [&'a str]) -> Option<Change<'a, 'b>>
-    ensures { IfSome result (λ change. SaysChange (codes "set" ∷ spelled words.now) change) }
+    ensures { MatchOption result (SaysNoChange (codes "set" ∷ spelled words.now)) (λ change. SaysChange (codes "set" ∷ spelled words.now) change) }
 {
     let [node, name, argument] = words else {
         return None;
@@ -307,7 +327,7 @@ fn read_set<'a, 'b>(words: &'b [&'a str]) -> Option<Change<'a, 'b>>
 
 /// Reads packages that are plugged.
 fn read_plug<'a, 'b>(words: &'b [&'a str]) -> Option<Change<'a, 'b>>
-    ensures { IfSome result (λ change. SaysChange (codes "plug" ∷ spelled words.now) change) }
+    ensures { MatchOption result (SaysNoChange (codes "plug" ∷ spelled words.now)) (λ change. SaysChange (codes "plug" ∷ spelled words.now) change) }
 {
     let [socket, plugs @ ..] = words else {
         return None;
@@ -320,7 +340,7 @@ fn read_plug<'a, 'b>(words: &'b [&'a str]) -> Option<Change<'a, 'b>>
 
 /// Reads a call without a label, by its name and the other words.
 fn read_change<'a, 'b>(call: &str, words: &'b [&'a str]) -> Option<Change<'a, 'b>>
-    ensures { IfSome result (λ change. SaysChange (call.now ∷ spelled words.now) change) }
+    ensures { MatchOption result (SaysNoChange (call.now ∷ spelled words.now)) (λ change. SaysChange (call.now ∷ spelled words.now) change) }
 {
     match call {
         "set" => read_set(words),

@@ -6,7 +6,7 @@ use Rattle.wac_script.proofs.StepLemmas.{plain-refused-first, define-kept}
 use Rattle.wac_script.proofs.nodes.define.Goals as goal
 
 pub returns-in_err-kind : goal.returns-in_err-kind
-returns-in_err-kind c = plain-refused-first (things_of c.args.labels.now) (cores_of c.args.labels.now) c.args.graph.now (said.Define c.args.name c.args.item) c.from_residual.result c.from_residual.ensures.0
+returns-in_err-kind c = plain-refused-first (things_of c.args.labels.now) (cores_of c.args.labels.now) c.args.graph.now (said.Define c.args.name c.args.item) c.from_residual.result (λ wiring. wiring) c.from_residual.ensures.0
 
 pub returns-in-Ok : goal.returns-in-Ok
 returns-in-Ok c = (
@@ -16,4 +16,4 @@ returns-in-Ok c = (
 )
 
 pub returns-in-Err : goal.returns-in-Err
-returns-in-Err c = define-kept c.args.graph.now c.define_type.new.self c.args.name.now c.ty.result c.in-Err.source c.in-Err.ensures.step
+returns-in-Err c = (define-kept c.args.graph.now c.define_type.new.self c.args.name.now c.ty.result c.in-Err.source c.in-Err.ensures.step, λ wiring. absurd wiring)

@@ -9,16 +9,16 @@ use Rattle.wac_script.proofs.StepLemmas.{refused-first, refused-same, register-l
 use Rattle.wac_script.proofs.packages.register.Goals as goal
 
 pub returns-in_err-bytes : goal.returns-in_err-bytes
-returns-in_err-bytes c = refused-first (things_of c.args.labels.now) (cores_of c.args.labels.now) c.args.bytes.items c.args.graph.now (said.Package c.args.name c.args.version c.args.file c.args.world) c.from_residual.result c.from_residual.ensures.0
+returns-in_err-bytes c = refused-first (things_of c.args.labels.now) (cores_of c.args.labels.now) c.args.bytes.items c.args.graph.now (said.Package c.args.words) c.from_residual.result (λ wiring. wiring) c.from_residual.ensures.0
 
 pub returns-in_err-number : goal.returns-in_err-number
-returns-in_err-number c = refused-first (things_of c.args.labels.now) (cores_of c.args.labels.now) c.args.bytes.items c.args.graph.now (said.Package c.args.name c.args.version c.args.file c.args.world) c.from_residual-in_err-number.result c.from_residual-in_err-number.ensures.0
+returns-in_err-number c = refused-first (things_of c.args.labels.now) (cores_of c.args.labels.now) c.args.bytes.items c.args.graph.now (said.Package c.args.words) c.from_residual-in_err-number.result (λ wiring. wiring) c.from_residual-in_err-number.ensures.0
 
 pub returns-in_err-world : goal.returns-in_err-world
-returns-in_err-world c = refused-first (things_of c.args.labels.now) (cores_of c.args.labels.now) c.args.bytes.items c.args.graph.now (said.Package c.args.name c.args.version c.args.file c.args.world) c.from_residual-in_err-world.result c.from_residual-in_err-world.ensures.0
+returns-in_err-world c = refused-first (things_of c.args.labels.now) (cores_of c.args.labels.now) c.args.bytes.items c.args.graph.now (said.Package c.args.words) c.from_residual-in_err-world.result (λ wiring. wiring) c.from_residual-in_err-world.ensures.0
 
 pub returns-in_err-parts : goal.returns-in_err-parts
-returns-in_err-parts c = refused-same (things_of c.args.labels.now) (cores_of c.args.labels.now) c.args.bytes.items c.args.graph.now c.new_package.new.self (said.Package c.args.name c.args.version c.args.file c.args.world) c.from_residual-in_err-parts.result c.from_residual-in_err-parts.ensures.0 c.in_err-parts.ensures.added
+returns-in_err-parts c = refused-same (things_of c.args.labels.now) (cores_of c.args.labels.now) c.args.bytes.items c.args.graph.now c.new_package.new.self (said.Package c.args.words) c.from_residual-in_err-parts.result (λ wiring. wiring) c.from_residual-in_err-parts.ensures.0 c.in_err-parts.ensures.added
 
 pub returns-in-Ok : goal.returns-in-Ok
 returns-in-Ok c =
@@ -30,14 +30,16 @@ returns-in-Ok c =
       c.in_ok-number.ensures,
       c.in_ok-bytes.ensures,
       c.in_ok-world.ensures.named,
-      registered-as c.new_package.new.self (with_types c.args.graph.now types) c.register_package.new.self _ (package_parts c.args.name.now (option_map parts_of c.in_ok-number.number) c.in_ok-bytes.bytes.items c.in_ok-world.world interfaces) c.in-Ok.id
+      registered-as c.new_package.new.self (with_types c.args.graph.now types) c.register_package.new.self _ (package_parts c.args.words.name.now (option_map parts_of c.in_ok-number.number) c.in_ok-bytes.bytes.items c.in_ok-world.world interfaces) c.in-Ok.id
           (grown c.args.graph.now c.new_package.new.self types c.in_ok-parts.ensures.added.0 c.in_ok-parts.ensures.added.1)
-          (c.in_ok-parts.ensures.built ∙ ap (λ v. package_parts c.args.name.now v c.in_ok-bytes.bytes.items c.in_ok-world.world interfaces) (parts-of-ref c.as_ref.result c.in_ok-number.number c.as_ref.ensures.value))
+          (c.in_ok-parts.ensures.built ∙ ap (λ v. package_parts c.args.words.name.now v c.in_ok-bytes.bytes.items c.in_ok-world.world interfaces) (parts-of-ref c.as_ref.result c.in_ok-number.number c.as_ref.ensures.value))
           c.in-Ok.ensures.step,
     )
 
 pub returns : goal.returns
 returns c =
-    let types = with_instance_of c.args.graph.now.types c.in_ok-world.world in
-    register-left c.args.graph.now c.new_package.new.self c.register_package.new.self c.in_ok-world.world c.in_ok-parts.parts c.in-Err.source
-    (grown c.args.graph.now c.new_package.new.self types c.in_ok-parts.ensures.added.0 c.in_ok-parts.ensures.added.1) c.in-Err.ensures.step
+    let types = with_instance_of c.args.graph.now.types c.in_ok-world.world in (
+      register-left c.args.graph.now c.new_package.new.self c.register_package.new.self c.in_ok-world.world c.in_ok-parts.parts c.in-Err.source
+          (grown c.args.graph.now c.new_package.new.self types c.in_ok-parts.ensures.added.0 c.in_ok-parts.ensures.added.1) c.in-Err.ensures.step,
+      λ wiring. absurd wiring,
+    )

@@ -4,7 +4,7 @@ use Rattle.wac_script.proofs.StepLemmas.{plain-refused-first, alias-made}
 use Rattle.wac_script.proofs.types.add_alias.Goals as goal
 
 pub returns-in_err-resource : goal.returns-in_err-resource
-returns-in_err-resource c = plain-refused-first (things_of c.args.labels.now) (cores_of c.args.labels.now) c.args.graph.now (said.ResourceAlias c.args.name c.args.source) c.from_residual.result c.from_residual.ensures.0
+returns-in_err-resource c = plain-refused-first (things_of c.args.labels.now) (cores_of c.args.labels.now) c.args.graph.now (said.ResourceAlias c.args.name c.args.source) c.from_residual.result (λ wiring. wiring) c.from_residual.ensures.0
 
 pub returns : goal.returns
 returns c = alias-made (things_of c.args.labels.now) (cores_of c.args.labels.now) c.args.graph.now c.put_resource.new.graph c.args.name c.args.source c.in_ok-resource.resource c.put_resource.result c.in_ok-resource.ensures c.put_resource.ensures

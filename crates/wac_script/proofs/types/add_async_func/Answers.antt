@@ -5,10 +5,10 @@ use Rattle.wac_script.proofs.StepLemmas.{plain-refused-first, grown}
 use Rattle.wac_script.proofs.types.add_async_func.Goals as goal
 
 pub returns-in_err-func : goal.returns-in_err-func
-returns-in_err-func c = plain-refused-first (things_of c.args.labels.now) (cores_of c.args.labels.now) c.args.graph.now (said.AsyncFunc c.args.params c.args.results) c.from_residual.result c.from_residual.ensures.0
+returns-in_err-func c = plain-refused-first (things_of c.args.labels.now) (cores_of c.args.labels.now) c.args.graph.now (said.AsyncFunc c.args.params c.args.results) c.from_residual.result (λ wiring. wiring) c.from_residual.ensures.0
 
 pub returns-in-Ok : goal.returns-in-Ok
 returns-in-Ok c = (c.in_ok-func.func, c.in_ok-func.ensures, c.in-Ok.ensures.added.0.0, grown c.args.graph.now c.add_func_type.new.self (with_func c.args.graph.now.types c.in_ok-func.func) c.in-Ok.ensures.added.0.1 c.in-Ok.ensures.added.1)
 
 pub returns-in-Err : goal.returns-in-Err
-returns-in-Err c = c.in-Err.ensures.added
+returns-in-Err c = (c.in-Err.ensures.added, λ wiring. absurd wiring)

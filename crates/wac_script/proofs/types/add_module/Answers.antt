@@ -5,10 +5,10 @@ use Rattle.wac_script.proofs.StepLemmas.{plain-refused-first, grown}
 use Rattle.wac_script.proofs.types.add_module.Goals as goal
 
 pub returns-in_err-module : goal.returns-in_err-module
-returns-in_err-module c = plain-refused-first (things_of c.args.labels.now) (cores_of c.args.labels.now) c.args.graph.now (said.Module c.args.imports c.args.exports) c.from_residual.result c.from_residual.ensures.0
+returns-in_err-module c = plain-refused-first (things_of c.args.labels.now) (cores_of c.args.labels.now) c.args.graph.now (said.Module c.args.imports c.args.exports) c.from_residual.result (λ wiring. wiring) c.from_residual.ensures.0
 
 pub returns-in-Ok : goal.returns-in-Ok
 returns-in-Ok c = (c.in_ok-module.module, c.in_ok-module.ensures, c.in-Ok.ensures.added.0.0, grown c.args.graph.now c.add_module_type.new.self (with_module c.args.graph.now.types c.in_ok-module.module) c.in-Ok.ensures.added.0.1 c.in-Ok.ensures.added.1)
 
 pub returns-in-Err : goal.returns-in-Err
-returns-in-Err c = c.in-Err.ensures.added
+returns-in-Err c = (c.in-Err.ensures.added, λ wiring. absurd wiring)
