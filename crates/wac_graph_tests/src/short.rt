@@ -1,5 +1,5 @@
 // Types and packages that are added by one call, and the definitions that a definition depends on.
-use crate::parts::{assert_row, define, instantiate};
+use crate::parts::{assert_row, define, encode, instantiate};
 use crate::short::Call::{
     Enumeration, Flags, Func, Instance, List, Optional, Outcome, Record, Tuple, Variant,
 };
@@ -16,6 +16,9 @@ const ABSENT: ValueType = ValueType::Defined(DefinedTypeId(9));
 
 // The function that each graph of these rows has.
 const FUNCTION: ItemKind = ItemKind::Func(FuncTypeId(0));
+
+// What a call says at its end that was refused memory.
+const NO_MEMORY: &str = "out of memory";
 
 const NOT_HELD: &str = "the type was not added: it mentions a type that is not of the collection";
 
@@ -156,15 +159,24 @@ fn described(rt: &(impl Abort + AllocGlobal), graph: &CompositionGraph, item: It
     text.expect(rt, "a text")
 }
 
+// The definition that the call adds, or why it is refused.
+fn told(rt: &(impl Abort + AllocGlobal), graph: &mut CompositionGraph, call: Call) -> String {
+    match make(graph, call) {
+        Ok(item) => described(rt, graph, item),
+        Err(error) => error.with_reason(rt.alloc()).expect(rt, "a reason"),
+    }
+}
+
 #[test]
 fn types_are_added_by_one_call(rt: HostRuntime) {
     for row in CALLS {
         let mut graph = CompositionGraph::new(rt.alloc());
         graph.func(&[], None).expect(&rt, "a function");
-        let text = match make(&mut graph, row.0) {
-            Ok(item) => described(&rt, &graph, item),
-            Err(error) => error.with_reason(rt.alloc()).expect(&rt, row.1),
-        };
+        let mut text = told(&rt, &mut graph, row.0);
+        // A call that was refused memory is made once more.
+        if text.as_str().ends_with(NO_MEMORY) {
+            text = told(&rt, &mut graph, row.0);
+        }
         assert_row(&rt, text.as_str() == row.1, row.1);
     }
 }
@@ -179,6 +191,17 @@ fn add(
     let bytes = Vec::from_array(rt.alloc(), EMPTY_COMPONENT).expect(rt, "bytes");
     let version = Version::new(1, 0, 0);
     graph.add_package("ns:pkg", Some(&version), bytes, imports, exports)
+}
+
+// Why the package is refused.
+fn refusal(
+    rt: &(impl Abort + AllocGlobal),
+    graph: &mut CompositionGraph,
+    imports: &[(&str, ItemKind)],
+    exports: &[(&str, ItemKind)],
+) -> String {
+    let error = add(rt, graph, imports, exports).expect_err(rt, "a refusal");
+    error.with_reason(rt.alloc()).expect(rt, "a reason")
 }
 
 // Packages that are refused, with their imports and exports and with the reason.
@@ -223,8 +246,10 @@ fn a_package_is_added_by_one_call(rt: HostRuntime) {
         "World { id: None, uses: {}, imports: {\"a\": Func(FuncTypeId(0))}, exports: {\"b\": Func(FuncTypeId(0))} }";
     assert_row(&rt, text.as_str() == want, want);
     for row in REFUSED {
-        let error = add(&rt, &mut graph, row.0, row.1).expect_err(&rt, row.2);
-        let text = error.with_reason(rt.alloc()).expect(&rt, row.2);
+        let mut text = refusal(&rt, &mut graph, row.0, row.1);
+        if text.as_str().ends_with(NO_MEMORY) {
+            text = refusal(&rt, &mut graph, row.0, row.1);
+        }
         assert_row(&rt, text.as_str() == row.2, row.2);
     }
 }
@@ -245,7 +270,8 @@ fn plugs_are_given_as_a_slice(rt: HostRuntime) {
     assert!(rt; held);
     let passed = graph.plug(socket, &[plug, plug]).expect(&rt, "plugged");
     assert_row(&rt, passed.len() == 1, "the second match is passed over");
-    assert_row(&rt, graph.encode(EncodeOptions::default()).is_ok(), "bytes");
+    let bytes = encode(&graph, EncodeOptions::default());
+    assert_row(&rt, bytes.is_ok(), "bytes");
 }
 
 // Asserts which definitions a node depends on.
