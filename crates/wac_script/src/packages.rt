@@ -17,6 +17,7 @@ ghost use Rattle.wac_script.specs.Steps.{Answers, AreBytes, ArePackages, IsVersi
 use crate::labels::{Thing, Things, WordError, WordFault, refused};
 use crate::lines::{Call, Line, PackageWords, after_prefix, optional, words_of};
 use crate::refusal::Refusal;
+use hex::FromHexError;
 use semver::Version;
 use std::alloc::{AllocError, Global};
 use wac_graph::types::{Type, WorldId};
@@ -90,6 +91,7 @@ fn package_bytes(alloc: Global, file: &str, bytes: Vec<u8>) -> Result<Vec<u8>, W
     };
     match hex::decode(alloc, digits) {
         Ok(bytes) => Ok(bytes),
+        Err(FromHexError::OutOfMemory) => Err(WordError::OutOfMemory),
         Err(_) => Err(refused(alloc, WordFault::NotHex, digits)),
     }
 }
