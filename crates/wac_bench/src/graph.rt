@@ -168,11 +168,16 @@ impl Graph {
 
     /// Encodes the graph, its outer names unvalidated. Returns the number of bytes.
     pub fn encode(&self, define_components: bool) -> Result<usize> {
+        Ok(self.encoded(define_components)?.len())
+    }
+
+    /// Encodes the graph, its outer names unvalidated.
+    pub fn encoded(&self, define_components: bool) -> Result<Vec<u8>> {
         let options = EncodeOptions {
             define_components,
             validate: false,
             processor: None,
         };
-        Ok(self.graph.encode(options)?.len())
+        Ok(self.graph.encode(options)?)
     }
 }

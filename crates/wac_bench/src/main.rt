@@ -11,6 +11,7 @@ mod comparing;
 mod deep;
 mod graph;
 mod nodes;
+mod reading;
 mod types;
 mod workloads;
 

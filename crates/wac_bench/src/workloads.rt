@@ -1,9 +1,9 @@
 //! The workloads, and their steps.
 
-use crate::comparing;
 use crate::deep::{Levels, defining, handles, import_levels, places, resources, shared};
 use crate::graph::Graph;
 use crate::nodes::{aliases, chain, churn, fan, plug, wide};
+use crate::{comparing, reading};
 use anyhow::{Result, bail};
 use std::alloc::Global;
 
@@ -15,6 +15,8 @@ pub const WORKLOADS: &[(&str, u64)] = &[
     ("defining", 50),
     ("deep doubled listed nested sides owned turns places", 4),
     ("comparing-tuples comparing-sharing", 60),
+    ("reading-types", 10),
+    ("reading-modules", 1),
 ];
 
 /// A step. A workload does all up to one.
@@ -26,7 +28,7 @@ pub enum Step {
     Make,
     /// Removes a part and makes it again.
     Turn,
-    /// Encodes or compares it.
+    /// Encodes, compares or reads it.
     Measure,
 }
 
@@ -37,7 +39,7 @@ impl Step {
             "prepared" => Some(Step::Prepare),
             "made" | "added" => Some(Step::Make),
             "turned" => Some(Step::Turn),
-            "encoded" | "compared" => Some(Step::Measure),
+            "encoded" | "compared" | "read" => Some(Step::Measure),
             _ => None,
         }
     }
@@ -73,6 +75,9 @@ fn make(graph: &mut Graph, word: &str, count: u64, last: Step) -> Result<()> {
 pub fn take(alloc: Global, word: &str, count: u64, last: Step) -> Result<usize> {
     if let "comparing-tuples" | "comparing-sharing" = word {
         return comparing::take(alloc, word == "comparing-tuples", count, last);
+    }
+    if let "reading-types" | "reading-modules" = word {
+        return reading::take(alloc, word == "reading-modules", count, last);
     }
     let mut graph = Graph::new(alloc);
     make(&mut graph, word, count, last)?;

@@ -117,13 +117,28 @@ pub fn command<'a>(alloc: Global) -> Result<Command<'a>, AllocError> {
     let check = Command::new(alloc, "check")
         .about("Makes a script's graph and encodes it, and writes nothing")
         .arg(script(alloc))?;
+    let component = Arg::new(alloc, "component")
+        .required(true)
+        .help("The component, or - for standard input");
+    let parts = Command::new(alloc, "parts")
+        .about("Lists the parts of a component, a line each")
+        .arg(component)?;
     Command::new(alloc, "wac_cli")
-        .about("Composes WebAssembly components from a script")
+        .about("Composes WebAssembly components from a script, and lists their parts")
         .version("0.1.0")
         .subcommand_required(true)
         .subcommand(compose(alloc)?)?
         .subcommand(plug(alloc)?)?
-        .subcommand(check)
+        .subcommand(check)?
+        .subcommand(parts)
+}
+
+/// Returns the file of the component whose parts are asked for, if they are.
+pub fn asks_parts<'a>(matches: &'a ArgMatches<'_>) -> Option<&'a str> {
+    match matches.subcommand() {
+        Some(("parts", words)) => words.get_str("component"),
+        _ => None,
+    }
 }
 
 /// Returns the format of a word: the bytes, if there is no word.

@@ -5,8 +5,8 @@ use std::io::{Input, Read, Write};
 use std::rt::Files;
 use std::{fs, io};
 
-/// Returns the bytes of a script: of a file, or of standard input for `-`.
-pub fn read_script<R: Files + Input + AllocGlobal>(rt: &R, name: &str) -> io::Result<Vec<u8>> {
+/// Returns the bytes of a file, or of standard input for `-`.
+pub fn read_file<R: Files + Input + AllocGlobal>(rt: &R, name: &str) -> io::Result<Vec<u8>> {
     if name != "-" {
         return fs::read(rt, name);
     }

@@ -5,10 +5,12 @@ mod command;
 mod files;
 mod make;
 mod output;
+mod parts;
 mod status;
 
-use crate::command::{command, read_words};
+use crate::command::{asks_parts, command, read_words};
 use crate::make::run;
+use crate::parts::list_parts;
 use crate::status::Status;
 use std::env;
 use std::io::IsTerminal;
@@ -28,6 +30,9 @@ fn main(rt: HostRuntime) -> anyhow::Result<ExitCode> {
             return Ok(ExitCode::from(code));
         }
     };
+    if let Some(name) = asks_parts(&matches) {
+        return Ok(ExitCode::from(list_parts(&rt, name).code()));
+    }
     let asked = read_words(&matches);
     let is_terminal = rt.stdout().is_terminal();
     let status = run(&rt, &asked, is_terminal);

@@ -1,7 +1,7 @@
 //! From a script to what is written.
 
 use crate::command::{Asked, Format};
-use crate::files::{beside, read_script};
+use crate::files::{beside, read_file};
 use crate::output::{picture_of, put_component, put_picture};
 use crate::status::Status;
 use std::io::{Eprint, Input, Print};
@@ -138,7 +138,7 @@ fn attempt<R: Files + Input + Print + Eprint + AllocGlobal>(
         return Ok(Status::Usage);
     };
     let name = asked.script;
-    let bytes = match read_script(rt, name) {
+    let bytes = match read_file(rt, name) {
         Ok(bytes) => bytes,
         Err(error) => {
             eprintln!(rt; "{name}: error: the script cannot be read: {error}")?;

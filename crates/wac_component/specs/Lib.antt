@@ -1,0 +1,12 @@
+pub mod Parts
+pub mod Reader
+pub mod Numbers
+pub mod CoreTypes
+pub mod Types
+pub mod Canons
+pub mod Reading
+pub mod Views
+pub mod CoreViews
+pub mod PartViews
+pub mod Gives
+pub mod Written

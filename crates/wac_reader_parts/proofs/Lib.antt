@@ -1,0 +1,14 @@
+pub mod Bounds
+pub mod Passed
+pub mod Names
+pub mod Loop
+pub mod Same
+pub mod EachLoop
+pub mod Builtins
+pub mod CoreInstances
+pub mod Views
+pub mod Rows
+pub mod Fronts
+pub mod Elements
+pub mod Components
+pub mod Contents

@@ -1,0 +1,10 @@
+pub mod Gives
+pub mod Faults
+pub mod Sorts
+pub mod Resources
+pub mod CoreTypes
+pub mod Cores
+pub mod Canons
+pub mod Tables
+pub mod Fronts
+pub mod Sections
