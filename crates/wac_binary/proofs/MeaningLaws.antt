@@ -75,7 +75,7 @@ things_read r (core_type m) _ = same_list _
 things_read r (nested bs) t = with_added r (record r { nested_bytes = r.nested_bytes ++ bs ∷ [] }) s.Component t (component_at (length r.nested_bytes)) (record { modules = refl; functions = refl; values = refl; types = refl; components = refl; instances = refl })
 things_read r (instantiate i args) t =
     with_added r
-    (record r { scope = record r.scope { instances = r.scope.instances ++ unbound ∷ [] }; instantiations = r.instantiations ++ record { component = stands_for r s.Component i; arguments = map (λ a. (a.0, stands_for r a.1 a.2)) args } ∷ [] })
+    (record r { scope = record r.scope { instances = r.scope.instances ++ unbound ∷ [] }; instantiations = r.instantiations ++ record { component = stands_for r s.Component i; arguments = map (λ a. (a.0, a.1, stands_for r a.1 a.2)) args } ∷ [] })
     s.Instance t (instance_at (length r.instantiations)) (record { modules = refl; functions = refl; values = refl; types = refl; components = refl; instances = refl })
 things_read r (alias_item (export_alias u i n)) t = with_added r _ u t _ (record { modules = refl; functions = refl; values = refl; types = refl; components = refl; instances = refl })
 things_read r (alias_item (outer_alias u k i)) t = with_added r _ u t _ (record { modules = refl; functions = refl; values = refl; types = refl; components = refl; instances = refl })

@@ -3,6 +3,7 @@ pub mod Leb
 pub mod Bytes
 pub mod Indexes
 pub mod Fits
+pub mod Format
 pub mod Customs
 pub mod Views
 pub mod Unfold

@@ -22,10 +22,10 @@ pub data Thing : Type 0 where
   -- A type that is defined here, with its tree.
   written : Tree → Thing
 
--- An instantiation, with what its indexes refer to.
+-- An instantiation, with what its indexes refer to. An argument is a name, a sort and what its index refers to.
 pub record Instantiation : Type 0 where
   pub component : Thing
-  pub arguments : List (Name × Thing)
+  pub arguments : List (Name × Sort × Thing)
 
 -- An export, with what its index refers to, and its tree if it has one.
 pub record Export : Type 0 where
@@ -133,7 +133,7 @@ read r (core_type m) = record r { scope = record r.scope { core_types = r.scope.
 read r (nested bs) = with_thing (record r { scope = counted_up r.scope s.Component; nested_bytes = r.nested_bytes ++ bs ∷ [] }) s.Component (component_at (length r.nested_bytes))
 read r (instantiate i args) =
     with_thing
-    (record r { scope = record r.scope { instances = r.scope.instances ++ unbound ∷ [] }; instantiations = r.instantiations ++ record { component = stands_for r s.Component i; arguments = map (λ a. (a.0, stands_for r a.1 a.2)) args } ∷ [] })
+    (record r { scope = record r.scope { instances = r.scope.instances ++ unbound ∷ [] }; instantiations = r.instantiations ++ record { component = stands_for r s.Component i; arguments = map (λ a. (a.0, a.1, stands_for r a.1 a.2)) args } ∷ [] })
     s.Instance (instance_at (length r.instantiations))
 read r (alias_item (export_alias t i n)) = with_thing (record r { scope = with_alias r.scope t (bound_at r.scope.instances i) n }) t (aliased_thing (bound_at r.scope.instances i) t (stands_for r s.Instance i) n)
 read r (alias_item (outer_alias t k i)) = with_thing (record r { scope = with_outer r.scope t k (root_scope r k) i }) t (outer_thing r t k i)

@@ -1,11 +1,10 @@
 -- What the calls of a composition leave in the graph.
 use Rattle.std.proofs.Common.{◌≡◌, ℕ, List, [], ◌∷◌, ◌++◌, length, refl, ap, ◌∙◌, sym, subst, Option, Some, None, Ok, IsSome, is_some}
-use Rattle.std.specs.Prelude.{IfSome, IsSomeAnd}
+use Rattle.std.specs.Prelude.{IsSomeAnd}
 use Rattle.std.proofs.lemmas.Bool.{false≢true}
 use Rattle.wac_types_shapes.specs.primitives.Name.{Name, option_case}
-use Rattle.wac_types_shapes.specs.keys.Key.{VersionParts}
 use Rattle.wac_types_shapes.specs.shapes.Named.{named_at}
-use Rattle.wac_types_collection.specs.collection.Collection.{Collection, item_at, world_imports, world_exports, with_world}
+use Rattle.wac_types_collection.specs.collection.Collection.{item_at, world_imports, world_exports, with_world}
 use Rattle.wac_types_collection.specs.collection.Package.{PackageParts}
 use Rattle.wac_types_collection.specs.declared.collection.collection.Held.{Held}
 use Rattle.wac_types_shapes.specs.declared.shapes.component.Interface.{Interface}
@@ -16,24 +15,24 @@ use Rattle.wac_edges.specs.declared.node.NodeId.{NodeId}
 use Rattle.wac_graph_model.specs.declared.nodes.packages.PackageId.{PackageId}
 use Rattle.wac_edges.specs.Edge.{alias_edge}
 use Rattle.wac_graph_model.specs.nodes.Graph.{Graph, GraphNode, node_at, package_at}
-use Rattle.wac_graph_model.specs.nodes.Steps.{Adds, AddsNode, Registers, Instantiates, instance_node, Aliases, export_named, SetsArgument}
+use Rattle.wac_graph_model.specs.nodes.Steps.{Adds, Registers, Instantiates, instance_node, Aliases, export_named, SetsArgument}
 use Rattle.wac_binary.specs.Bytes.{preamble}
 use Rattle.wac_graph_model.specs.nodes.Stays.{Stays, IsAliasBy}
 use Rattle.wac_graph_model.proofs.lemmas.nodes.StaysLemmas.{stays-trans, instance-stays, alias-stays, argument-stays, registered-there}
-use Rattle.wac_demo.specs.Composed.{HasPackageParts, IsInstanceOf, GivesExport, IsEmptyPackage, IsPackageOf}
+use Rattle.wac_demo.specs.Composed.{HasPackageParts, IsInstanceOf, GivesExport, IsEmptyPackage}
 
 pub item-last : {A : Type 0} (xs : List (Held A)) (x : Held A) → item_at (xs ++ x ∷ []) (length xs) ≡ Some x.item
 item-last [] x = refl
 item-last (y ∷ xs) x = item-last xs x
 
 -- the package that was made of a new world and registered
-pub registered-is : (g0 g1 g2 g3 : Graph) (w : World) (world : WorldId) (p : PackageParts) (id : PackageId) (name : Name) (version : Option VersionParts) (imports exports : List (Name × ItemKind))
+pub registered-is : (g0 g1 g2 g3 : Graph) (w : World) (world : WorldId) (p : PackageParts) (id : PackageId) (name : Name) (imports exports : List (Name × ItemKind))
     → Adds g0 (Ok world) g1 (λ id types. (id.0 ≡ length g0.types.worlds) × (types ≡ with_world g0.types w))
     → (w.imports ≡ imports) → (w.exports ≡ exports)
-    → (p.name ≡ name) → (p.version ≡ version) → (p.bytes ≡ preamble) → (p.world ≡ world)
-    → Stays g1 g3 → Registers g2 p (Ok id) g3 → IsPackageOf g3 id name version imports exports
-registered-is g0 g1 g2 g3 w world p id name version imports exports added is_imports is_exports is_name is_version is_bytes is_world kept h =
-    subst (λ o. IsSomeAnd o (λ p. HasPackageParts g3.types p name version imports exports))
+    → (p.name ≡ name) → (p.version ≡ None) → (p.bytes ≡ preamble) → (p.world ≡ world)
+    → Stays g1 g3 → Registers g2 p (Ok id) g3 → IsEmptyPackage g3 id name imports exports
+registered-is g0 g1 g2 g3 w world p id name imports exports added is_imports is_exports is_name is_version is_bytes is_world kept h =
+    subst (λ o. IsSomeAnd o (λ p. HasPackageParts g3.types p name imports exports))
     (sym there) (is_name, is_version, is_bytes, listed_imports, listed_exports)
   where
     there : package_at g3 id ≡ Some p
@@ -73,7 +72,7 @@ alias-later old new instance id p name a kept is h =
 -- the parts of a registered package of this name
 pub parts-of : (g : Graph) (id : PackageId) (name : Name) (imports exports : List (Name × ItemKind)) → IsEmptyPackage g id name imports exports → (p : PackageParts) × (package_at g id ≡ Some p) × (p.name ≡ name)
 parts-of g id name imports exports h = at (package_at g id) refl h where
-  at : (o : Option PackageParts) → package_at g id ≡ o → IsSomeAnd o (λ p. HasPackageParts g.types p name None imports exports)
+  at : (o : Option PackageParts) → package_at g id ≡ o → IsSomeAnd o (λ p. HasPackageParts g.types p name imports exports)
       → (p : PackageParts) × (package_at g id ≡ Some p) × (p.name ≡ name)
   at None is h = absurd h
   at (Some p) is h = (p, is, h.0)
@@ -92,26 +91,6 @@ instance-there g2 g3 id name imports exports n registered step =
     let parts = parts-of g2 id name imports exports registered in
     let made = instance-stays g2 g3 id parts.0 n parts.1 step in
     ((id, parts.0, made.0, made.1.packages id parts.0 parts.1, parts.2), made.1)
-
--- the package is there
-pub package-there : (g : Graph) (id : PackageId) (name : Name) (version : Option VersionParts) (imports exports : List (Name × ItemKind)) → IsPackageOf g id name version imports exports → IsSome (package_at g id)
-package-there g id name version imports exports h = at (package_at g id) h where
-  at : (o : Option PackageParts) → IsSomeAnd o (λ p. HasPackageParts g.types p name version imports exports) → IsSome o
-  at None h = absurd h
-  at (Some p) h = refl
-
--- an instance of it has its parts
-pub package-instance : (g2 g3 : Graph) (id : PackageId) (name : Name) (version : Option VersionParts) (imports exports : List (Name × ItemKind)) (n : NodeId) → IsPackageOf g2 id name version imports exports → Instantiates g2 id (Ok n) g3
-    → (p : PackageParts) × (node_at g3 n ≡ Some (instance_node id p)) × (package_at g3 id ≡ Some p) × HasPackageParts g3.types p name version imports exports
-package-instance g2 g3 id name version imports exports n registered step = at (package_at g2 id) refl registered where
-  at : (o : Option PackageParts) → package_at g2 id ≡ o → IsSomeAnd o (λ p. HasPackageParts g2.types p name version imports exports)
-      → (p : PackageParts) × (node_at g3 n ≡ Some (instance_node id p)) × (package_at g3 id ≡ Some p) × HasPackageParts g3.types p name version imports exports
-  at None is h = absurd h
-  at (Some p) is h =
-      let made = instance-stays g2 g3 id p n is step in
-      let adds : AddsNode g2 n (instance_node id p) g3 = subst (λ o. IfSome o (λ p. AddsNode g2 n (instance_node id p) g3)) is step in
-      let types : g2.types ≡ g3.types = sym (ap (λ (g : Graph). g.types) adds.2) in
-      (p, made.0, made.1.packages id p is, subst (λ (t : Collection). HasPackageParts t p name version imports exports) types h)
 
 -- the calls of a composition that gives an export of one instance to another
 module _ (g2 g3 g4 g5 g6 g7 : Graph) (first second : PackageId) (one exported two imported : Name) (imports_one exports_one imports_two exports_two : List (Name × ItemKind)) (giver a taker : NodeId)

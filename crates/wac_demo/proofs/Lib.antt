@@ -4,4 +4,5 @@ mod Lines
 mod Passing
 mod Plugging
 mod Taking
+mod Using
 mod Weakening

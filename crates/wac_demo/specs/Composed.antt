@@ -1,10 +1,12 @@
 -- The compositions.
-use Rattle.std.specs.Prelude.{◌≡◌, ℕ, List, [], ◌∷◌, Option, Some, None, IsSomeAnd, true, false, codes, ◌⊎◌}
+use Rattle.std.specs.Prelude.{◌≡◌, ℕ, List, [], ◌∷◌, Some, None, IsSomeAnd, true, false, codes, ◌⊎◌}
 use Rattle.wac_types_shapes.specs.primitives.Name.{Name}
-use Rattle.wac_types_shapes.specs.keys.Key.{VersionParts}
+use Rattle.wac_types_shapes.specs.declared.shapes.component.DefinedType.TheVariants as def
+use Rattle.wac_types_shapes.specs.declared.shapes.component.DefinedTypeId.{DefinedTypeId}
 use Rattle.wac_types_shapes.specs.declared.shapes.component.InterfaceId.{InterfaceId}
 use Rattle.wac_types_shapes.specs.declared.shapes.component.ResourceId.{ResourceId}
 use Rattle.wac_types_shapes.specs.declared.shapes.component.«Type».TheVariants as ty
+use Rattle.wac_types_shapes.specs.declared.shapes.component.UsedType.{UsedType}
 use Rattle.wac_types_shapes.specs.declared.shapes.component.ValueType.TheVariants as val
 use Rattle.wac_types_collection.specs.collection.Collection.{Collection, item_at, world_imports, world_exports}
 use Rattle.wac_types_collection.specs.collection.Package.{PackageParts}
@@ -18,6 +20,7 @@ use Rattle.wac_graph_model.specs.declared.nodes.options.EncodeOptions.{EncodeOpt
 use Rattle.wac_graph_model.specs.declared.nodes.packages.PackageId.{PackageId}
 use Rattle.wac_graph_model.specs.nodes.Graph.{Graph, import, node_at, package_at, export_at}
 use Rattle.wac_graph_model.specs.nodes.Options.{default_options}
+use Rattle.wac_graph_model.specs.nodes.Definitions.{definition_node}
 use Rattle.wac_graph_model.specs.meaning.Means.{Means}
 use Rattle.wac_graph_model.specs.nodes.Steps.{IsEmpty, instance_node}
 use Rattle.wac_graph_model.specs.nodes.Stays.{IsAliasBy, IsArgumentBy}
@@ -66,17 +69,14 @@ IsPlugged g = IsPluggedInto g (codes "my:plug") (codes "a") (codes "my:socket") 
 abbrev pub IsPrecedence : Graph → Type 0
 IsPrecedence g = IsPluggedInto g (codes "my:first") (codes "a") (codes "my:socket") (codes "run")
 
--- The package has this name and version, these imports and exports, and the bytes of an empty component.
-abbrev pub HasPackageParts : Collection → PackageParts → Name → Option VersionParts → List (Name × ItemKind) → List (Name × ItemKind) → Type 0
-HasPackageParts types p name version imports exports =
-    (p.name ≡ name) × (p.version ≡ version) × (p.bytes ≡ preamble) × (world_imports types p.world ≡ imports) × (world_exports types p.world ≡ exports)
+-- The package has this name and no version, these imports and exports, and the bytes of an empty component.
+abbrev pub HasPackageParts : Collection → PackageParts → Name → List (Name × ItemKind) → List (Name × ItemKind) → Type 0
+HasPackageParts types p name imports exports =
+    (p.name ≡ name) × (p.version ≡ None) × (p.bytes ≡ preamble) × (world_imports types p.world ≡ imports) × (world_exports types p.world ≡ exports)
 
--- The same for the package with an id; then without a version.
-abbrev pub IsPackageOf : Graph → PackageId → Name → Option VersionParts → List (Name × ItemKind) → List (Name × ItemKind) → Type 0
-IsPackageOf g id name version imports exports = IsSomeAnd (package_at g id) (λ p. HasPackageParts g.types p name version imports exports)
-
+-- The same for the package with an id.
 abbrev pub IsEmptyPackage : Graph → PackageId → Name → List (Name × ItemKind) → List (Name × ItemKind) → Type 0
-IsEmptyPackage g id name imports exports = IsPackageOf g id name None imports exports
+IsEmptyPackage g id name imports exports = IsSomeAnd (package_at g id) (λ p. HasPackageParts g.types p name imports exports)
 
 -- The item is a function without parameters and result.
 abbrev pub IsPlainFunction : Collection → ItemKind → Type 0
@@ -97,24 +97,33 @@ abbrev pub TakesResource : Collection → ResourceId → Name → ItemKind → T
 TakesResource types r name (kind.Func f) = item_at types.funcs f.0 ≡ Some (record { params = (name, val.Own r) ∷ []; result = None; is_async = false })
 TakesResource types r name _ = ⊥
 
+-- The interface with this number has this id, these used types and these exports.
+abbrev pub IsInterfaceOf : Collection → InterfaceId → Name → List (Name × UsedType) → List (Name × ItemKind) → Type 0
+IsInterfaceOf types i id uses exports = IsSomeAnd (item_at types.interfaces i.0) (λ it. (it.id ≡ Some id) × (it.uses ≡ uses) × (it.exports ≡ exports))
+
 -- The composition `resource`: the interface `n:p/i` is imported. It exports a resource `r` and a function `f` that takes one as `x`.
 abbrev pub IsResourceImport : Graph → Type 0
 IsResourceImport g =
     (n : NodeId) × (i : InterfaceId) × (r : ResourceId) × (f : ItemKind)
     × IsSomeAnd (node_at g n) (λ node. (node.kind ≡ import (codes "n:p/i")) × (node.item_kind ≡ kind.Instance i))
-    × IsSomeAnd (item_at g.types.interfaces i.0) (λ it. (it.id ≡ Some (codes "n:p/i")) × (it.uses ≡ []) × (it.exports ≡ (codes "r", kind.TypeItem (ty.Resource r)) ∷ (codes "f", f) ∷ []))
+    × IsInterfaceOf g.types i (codes "n:p/i") [] ((codes "r", kind.TypeItem (ty.Resource r)) ∷ (codes "f", f) ∷ [])
     × (item_at g.types.resources r.0 ≡ Some (record { name = codes "r"; alias = None }))
     × TakesResource g.types r (codes "x") f
 
--- The options are the default ones, but packages are imported.
-abbrev pub ImportPackages : EncodeOptions → Type 0
-ImportPackages options = (options.define_components ≡ false) × (options.validate ≡ true) × (options.processor ≡ None)
+-- The item is this defined type.
+abbrev pub item_of : DefinedTypeId → ItemKind
+item_of t = kind.TypeItem (ty.Value (val.Defined t))
 
--- The composition `dependency`: an instance of `foo:bar` in version 1.0.0, which imports and exports nothing.
-abbrev pub IsImportedPackage : Graph → Type 0
-IsImportedPackage g =
-    (n : NodeId) × (id : PackageId) × (p : PackageParts)
-    × (node_at g n ≡ Some (instance_node id p)) × (package_at g id ≡ Some p) × HasPackageParts g.types p (codes "foo:bar") (Some (1, 0, 0, [], [])) [] []
+-- The composition `dependency`: the interface `n:p/i` is defined as `d`. It uses and exports the enum `t` of `n:p/j`, which has the case `a`.
+-- `n:p/j` also exports a function `g`.
+abbrev pub IsUserDefinition : Graph → Type 0
+IsUserDefinition g =
+    (n : NodeId) × (i : InterfaceId) × (j : InterfaceId) × (t : DefinedTypeId) × (f : ItemKind)
+    × (node_at g n ≡ Some (definition_node (codes "d") (ty.Interface i)))
+    × IsInterfaceOf g.types i (codes "n:p/i") ((codes "t", record { interface = j; name = None }) ∷ []) ((codes "t", item_of t) ∷ [])
+    × IsInterfaceOf g.types j (codes "n:p/j") [] ((codes "t", item_of t) ∷ (codes "g", f) ∷ [])
+    × (item_at g.types.defined t.0 ≡ Some (def.Enum (record { 0 = codes "a" ∷ [] })))
+    × IsPlainFunction g.types f
 
 -- An instance of the package is its own argument for this import.
 abbrev pub IsItsOwnArgument : Graph → Name → Name → Type 0
@@ -168,4 +177,4 @@ pub data IsComposed (word bytes : List ℕ) : Type 0 where
   of_readme : word ≡ readme_word → Compose bytes AreDefault IsReadme → IsComposed word bytes
   of_plug : word ≡ plug_word → Compose bytes AreDefault IsPlugged → IsComposed word bytes
   of_resource : word ≡ resource_word → Compose bytes AreDefault IsResourceImport → IsComposed word bytes
-  of_dependency : word ≡ dependency_word → Compose bytes ImportPackages IsImportedPackage → IsComposed word bytes
+  of_dependency : word ≡ dependency_word → Compose bytes AreDefault IsUserDefinition → IsComposed word bytes

@@ -4,7 +4,7 @@ ghost use Rattle.std.specs.Prelude.{◌≡◌, ℕ, Some, IsSome, codes, IfOk, I
 ghost use Rattle.wac_types_shapes.specs.shapes.Named.{named_pairs};
 ghost use Rattle.wac_graph_model.specs.nodes.Graph.{Graph, package_at};
 ghost use Rattle.wac_graph_model.specs.nodes.Steps.{IsEmpty};
-ghost use Rattle.wac_demo.specs.Composed.{AreDefault, Compose, IsCycle, IsFunction, IsReadme, IsPlugged, IsPrecedence, IsPlainFunction, IsEmptyPackage, IsImportedPackage, ImportPackages, IsResourceImport, NameProcessor, RefusesCycle};
+ghost use Rattle.wac_demo.specs.Composed.{AreDefault, Compose, IsCycle, IsFunction, IsReadme, IsPlugged, IsPrecedence, IsPlainFunction, IsEmptyPackage, IsResourceImport, IsUserDefinition, NameProcessor, RefusesCycle};
 ghost use Rattle.wac_graph_model.specs.nodes.Stays.{Stays};
 ghost use Rattle.wac_graph.specs.declared.plugs.precedence.PassedOver.{PassedOver as AMatch};
 ghost use Rattle.wac_graph.specs.plugs.Precedence.{named_by};
@@ -12,9 +12,10 @@ ghost use Rattle.wac_demo.specs.Printed.{passed_line as line_of_second};
 ghost use Rattle.wac_demo.specs.private.Lines.{match_line, lines_of};
 
 use anyhow::Result;
-use semver::Version;
 use std::alloc::Global;
-use wac_graph::types::{FuncType, Interface, ItemKind, Resource, Type, ValueType, World};
+use wac_graph::types::{
+    DefinedType, Enum, FuncType, Interface, ItemKind, Resource, Type, ValueType, World,
+};
 use wac_graph::{
     CompositionGraph, EncodeError, EncodeOptions, PackageId, PassedOver, Processor, plug,
 };
@@ -91,22 +92,22 @@ pub fn resource(alloc: Global) -> Result<Vec<u8>>
     Ok(graph.encode(EncodeOptions::default())?)
 }
 
-/// Encodes an instance of a package that is imported.
+/// Encodes a definition of an interface that uses a type of another interface.
 pub fn dependency(alloc: Global) -> Result<Vec<u8>>
-    ensures { IfOk result (λ bytes. Compose bytes.items ImportPackages IsImportedPackage) }
+    ensures { IfOk result (λ bytes. Compose bytes.items AreDefault IsUserDefinition) }
 {
     let mut graph = CompositionGraph::new(alloc);
-    let nothing = World::new(alloc, None, &[], &[])?;
-    let world = graph.add_world(nothing)?;
-    let bytes = Vec::from_array(alloc, EMPTY_COMPONENT)?;
-    let version = Version::new(1, 0, 0);
-    let package = graph.new_package("foo:bar", Some(&version), bytes, world)?;
-    let id = graph.register_package(package)?;
-    graph.instantiate(id)?;
-    Ok(graph.encode(EncodeOptions {
-        define_components: false,
-        ..EncodeOptions::default()
-    })?)
+    let g = function(alloc, &mut graph)?;
+    let cases = Enum::new(alloc, &["a"])?;
+    let defined = graph.add_defined_type(DefinedType::Enum(cases))?;
+    let t = ItemKind::TypeItem(Type::Value(ValueType::Defined(defined)));
+    let exporter = Interface::new(alloc, Some("n:p/j"), &[("t", t), ("g", g)])?;
+    let used = graph.add_interface(exporter)?;
+    let uses = [("t", used, None)];
+    let user = Interface::with_uses(alloc, Some("n:p/i"), &uses, &[("t", t)])?;
+    let id = graph.add_interface(user)?;
+    graph.define_type("d", Type::Interface(id))?;
+    Ok(graph.encode(EncodeOptions::default())?)
 }
 
 /// Tries to encode an instance that is its own argument, which is an error.

@@ -1,5 +1,6 @@
 -- What is found of a resource.
-use Rattle.std.proofs.Common.{ℕ, zero, suc, ◌≡◌, ◌≤◌, Bool, List, [], ◌∷◌, length, None, refl, subst}
+use Rattle.std.specs.Prelude.{IfSome}
+use Rattle.std.proofs.Common.{ℕ, zero, suc, ◌≡◌, ◌≤◌, Bool, List, [], ◌∷◌, length, Option, Some, None, refl, sym, ◌∙◌, subst}
 use Rattle.wac_types_shapes.specs.primitives.Tree.{resource}
 use Rattle.wac_types_shapes.specs.declared.shapes.component.ResourceId.{ResourceId}
 use Rattle.wac_types_collection.specs.collection.Collection.{Collection}
@@ -13,13 +14,27 @@ use Rattle.wac_encode_stacks.specs.Scopes.{Where}
 use Rattle.wac_encode_scopes.specs.declared.scope.Scope.{Scope as OpenScope}
 use Rattle.wac_encode_scopes.specs.Books.{opened}
 use Rattle.wac_encode_scopes.specs.States.{outward, stack, IsPlace}
+use Rattle.wac_encode.specs.declared.state.ResourcePlace.{ResourcePlace}
 use Rattle.wac_encode.specs.declared.state.State.{State}
 use Rattle.wac_encode.specs.Root.{IsStateFor, IsResourcePlace}
+use Rattle.wac_encode.specs.private.Places.{place_in}
 use Rattle.wac_encode.proofs.Roots.{alone, innermost-is}
+
+-- What holds of the place that the scopes find holds of the resource's place.
+pub place-some : (P : ResourcePlace → Type 0) (o : Option (ℕ × ℕ × Bool)) (r : Option ResourcePlace) → r ≡ place_in o → IfSome o (λ f. P (record { out = f.0; index = f.1; is_type = f.2 })) → IfSome r P
+place-some P o r is h = subst (λ (x : Option ResourcePlace). IfSome x P) (sym is) (by o h)
+  where
+    by : (o : Option (ℕ × ℕ × Bool)) → IfSome o (λ f. P (record { out = f.0; index = f.1; is_type = f.2 })) → IfSome (place_in o) P
+    by None h = tt
+    by (Some f) h = h
+
+pub place-none : (o : Option (ℕ × ℕ × Bool)) (r : Option ResourcePlace) → r ≡ place_in o → r ≡ None → o ≡ None
+place-none None r is none = refl
+place-none (Some f) r is none = let no : Some (record { out = f.0; index = f.1; is_type = f.2 }) ≡ None = sym is ∙ none in cc
 
 -- The only open scope is 0 scopes out.
 pub found-place : Reaches → (c : Collection) (b : Bool) (m : Bindings) (s : State) (r : ResourceId) (k i : ℕ) (is_type : Bool) → IsStateFor c b m s
-    → (w : Where) × IsReached (stack b s.scopes) r k w × IsPlace w i is_type → IsResourcePlace m s r k i is_type
+    → (w : Where) × IsReached (stack b s.scopes) r k w × IsPlace w i is_type → IsResourcePlace m s r (record { out = k; index = i; is_type = is_type })
 found-place reaches c b m s r zero i is_type h (w, reached, place) =
     let at = reaches c (m ∷ []) (stack b s.scopes) r 0 w h.good reached in
     record {

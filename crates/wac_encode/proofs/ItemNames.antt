@@ -1,6 +1,5 @@
 -- Value types that an item names which a state is told of.
-use Rattle.std.specs.Prelude.{◌==◌, ◌&&◌, ◌||◌, is_none, is_some}
-use Rattle.std.specs.List.{list_all}
+use Rattle.std.specs.Prelude.{◌==◌, ◌&&◌, is_none, is_some, not}
 use Rattle.std.proofs.Common.{ℕ, eq-eqb, ◌≡◌, ◌⊎◌, inl, inr, Bool, true, false, if◌then◌else◌, List, [], ◌∷◌, length, Contains, Option, Some, None, refl, ap, sym, ◌∙◌, subst}
 use Rattle.wac_types_shapes.specs.primitives.Name.{Name, option_case}
 use Rattle.wac_types_shapes.specs.declared.shapes.component.DefinedTypeId.{DefinedTypeId}
@@ -13,28 +12,25 @@ use Rattle.wac_types_shapes.specs.declared.shapes.component.ItemKind.{ItemKind}
 use Rattle.wac_types_shapes.specs.declared.shapes.component.ItemKind.TheVariants as kind
 use Rattle.wac_types_shapes.specs.declared.shapes.component.«Type».{«Type» as AnyType}
 use Rattle.wac_types_shapes.specs.declared.shapes.component.«Type».TheVariants as ty
-use Rattle.wac_types_collection.specs.collection.Collection.{Collection, HasDefined, IsWellFormed, holds_value, item_at}
-use Rattle.wac_types_collection.specs.collection.Bound.{Bindings}
-use Rattle.wac_types_collection.proofs.lemmas.collection.Ends.{end_is_held}
-use Rattle.wac_types_collection.proofs.lemmas.collection.Steady.{within}
-use Rattle.wac_types_collection.proofs.lemmas.wide.Members.{in_at, in_first, in_none, in_parts, in_rest}
+use Rattle.wac_types_collection.specs.collection.Collection.{Collection, IsWellFormed}
+use Rattle.wac_types_collection.specs.collection.Bound.{Bindings, own_name}
+use Rattle.wac_types_collection.proofs.lemmas.wide.Members.{in_none, in_parts}
+use Rattle.wac_encode_faults.specs.Free.{IsFree}
 use Rattle.wac_binary.specs.declared.types.ComponentValType.{ComponentValType}
 use Rattle.wac_encode_stacks.specs.Scopes.{How, Indexed, Open, Where, at_type, at_export, defined, brought, listed}
 use Rattle.wac_encode_scopes.specs.declared.closed.ClosedTypes.{ClosedTypes}
 use Rattle.wac_encode_scopes.specs.Books.{opened}
-use Rattle.wac_encode_scopes.specs.private.Closed.{AreClosedTypes, SaysClosed, is_closed_in}
-use Rattle.wac_encode_scopes.specs.private.Interfaces.{own_in}
+use Rattle.wac_encode_scopes.specs.private.Closed.{AreApartItems, SaysApart}
 use Rattle.wac_encode_scopes.specs.States.{named_by, named_in, named_of, IsRecordedAt}
-use Rattle.wac_encode_scopes.specs.private.Telling.{all_own, definition_in, definition_of, is_one_of, telling, value_name}
-use Rattle.wac_encode_scopes.proofs.Owned.{own-lists, own-there}
+use Rattle.wac_encode_scopes.specs.private.Telling.{definition_in, definition_of, is_one_of, is_other, telling, value_name}
 use Rattle.wac_encode_values.specs.private.Values.{IsByName}
 use Rattle.wac_encode.specs.declared.state.State.{State}
 use Rattle.wac_encode.specs.Named.{HasNameIn, IsUsedByName}
 use Rattle.wac_encode.specs.Root.{IsStateFor}
-use Rattle.wac_encode.specs.Told.{BindsNoOwn, ExportsDefinition, MentionsNoResource, NamesDefinition}
+use Rattle.wac_encode.specs.Told.{ExportsDefinition, NamesDefinition}
 use Rattle.wac_encode.specs.private.Ready.{type_end}
 use Rattle.wac_encode.specs.private.Resources.{AreBoundAs}
-use Rattle.wac_encode.proofs.HeldItems.{item-held, no-true, of-one, own-held}
+use Rattle.wac_encode.proofs.HeldItems.{no-true, of-one, own-held}
 
 -- the place of a name
 
@@ -75,90 +71,63 @@ value-there c d (x ∷ es) e there is = by (option_case (definition_in c x) fals
     by false test (inl same) later = absurd (no-true (sym test ∙ here same))
     by false test (inr more) later = let r = later more in (r.0, ap (λ (t : Bool). if t then Some x.0 else value_name c es d) test ∙ r.1)
 
-all-true : {A : Type 0} (p : A → Bool) (xs : List A) → ((x : A) → Contains xs x → p x ≡ true) → list_all p xs ≡ true
-all-true p [] h = refl
-all-true p (x ∷ xs) h = ap (λ (t : Bool). t && list_all p xs) (h x (in_first x xs)) ∙ all-true p xs (λ y there. h y (in_rest x y xs there))
+module _ (c : Collection) (wf : IsWellFormed c) (b : Bool) (i : InterfaceId) (k : ℕ) (old new : State) (m : Bindings) (h : IsStateFor c b m old) (free : List ResourceId) (are : AreBoundAs c b false old free) (d : DefinedTypeId) (x : ExportsDefinition c m i d)
+    (test : DefinedTypeId → Bool) (apart : AreApartItems c (x.interface).exports (is_other c x.interface (is_one_of free)) test) where
+  abbrev it : Interface
+  it = x.interface
 
-and-false : (a : Bool) → (a && false) ≡ false
-and-false true = refl
-and-false false = refl
-
-or-right : (a b : Bool) → b ≡ true → (a || b) ≡ true
-or-right true b h = refl
-or-right false b h = h
-
-module _ (c : Collection) (wf : IsWellFormed c) (b : Bool) (i : InterfaceId) (k : ℕ) (old new : State) (m : Bindings) (h : IsStateFor c b m old) (free : List ResourceId) (are : AreBoundAs c b false old free) (closed : ClosedTypes) (are_closed : AreClosedTypes c closed) where
-  -- If none of the own resources was bound, all belong to the instance.
-  own-all : (it : Interface) → item_at c.interfaces i.0 ≡ Some it → BindsNoOwn c it m → all_own c it.uses it.exports (is_one_of free) ≡ true
-  own-all it at none = all-true (λ e. option_case (own_in c it.uses e) true (is_one_of free)) it.exports (λ e there. by e there (own_in c it.uses e) refl)
+  -- An own resource that is free in the definition belongs to the instance.
+  none-other : (r : ResourceId) → IsFree c (ty.Value (val.Defined d)) r → is_other c it (is_one_of free) r ≡ true → ⊥
+  none-other r in_type other = by (own_name c it.uses it.exports r) refl other
     where
-      by : (e : Name × ItemKind) → Contains it.exports e → (o : Option ResourceId) → own_in c it.uses e ≡ o → option_case (own_in c it.uses e) true (is_one_of free) ≡ true
-      by e there None is = ap (λ (o : Option ResourceId). option_case o true (is_one_of free)) is
-      by e there (Some r) is =
-          let at_e = in_at it.exports e there in
-          let own = own-there c it.uses it.exports at_e.0 e r at_e.2 (own-lists c it.uses e.0 e.1 r is r ∙ eq-eqb r.0 r.0 refl) in
-          ap (λ (o : Option ResourceId). option_case o true (is_one_of free)) is
-          ∙ of-one free r ((are c m h r).1 (own-held c wf i it at r own.0 own.1, ap is_some (none r own.0 own.1)))
+      by : (o : Option Name) → own_name c it.uses it.exports r ≡ o → (is_some o && not (is_one_of free r)) ≡ true → ⊥
+      by None named e = no-true e
+      by (Some n) named e =
+          let mine = of-one free r ((are c m h r).1 (own-held c wf i it x.there r n named, ap is_some (x.same r n in_type named))) in
+          no-true (sym (ap not mine) ∙ e)
 
-  module _ (d : DefinedTypeId) (x : ExportsDefinition c m i d) where
-    abbrev it : Interface
-    it = x.interface
+  tested : test d ≡ true
+  tested = by (test d) (apart (x.name, kind.TypeItem (ty.Value x.value)) d x.listed (ap definition_of x.resolves))
+    where
+      by : (t : Bool) → SaysApart c (is_other c it (is_one_of free)) d t → t ≡ true
+      by true says = refl
+      by false (r, in_type, other) = absurd (none-other r in_type other)
 
-    holds : HasDefined c d
-    holds =
-        let at = in_at it.exports (x.name, kind.TypeItem (ty.Value x.value)) x.listed in
-        let value = item-held c wf i it x.there at.0 (x.name, kind.TypeItem (ty.Value x.value)) at.2 in
-        within d.0 (length c.defined) (subst (λ (v : ValueType). holds_value c v ≡ true) x.resolves (end_is_held c wf x.value true value ∙ value))
+  abbrev before : Open
+  before = opened b old.scopes.here
 
-    closed-true : MentionsNoResource c d → is_closed_in closed d ≡ true
-    closed-true none = by (is_closed_in closed d) (are_closed d holds)
-      where
-        by : (t : Bool) → SaysClosed c d t → t ≡ true
-        by true says = refl
-        by false (r, reach) = absurd (none r reach)
+  abbrev after : Open
+  after = telling c it (is_one_of free) test k before
 
-    abbrev passes : DefinedTypeId → Bool
-    passes q = all_own c it.uses it.exports (is_one_of free) || is_closed_in closed q
+  abbrev recorded : Option Indexed
+  recorded = before.types (ty.Value (val.Defined d))
 
-    tested : BindsNoOwn c it m ⊎ MentionsNoResource c d → passes d ≡ true
-    tested (inl none) = ap (λ (t : Bool). t || is_closed_in closed d) (own-all it x.there none)
-    tested (inr none) = or-right (all_own c it.uses it.exports (is_one_of free)) (is_closed_in closed d) (closed-true none)
+  -- Its place among the exports of instances.
+  abbrev place-of : Bool → Bool → Option Name → Option Where
+  place-of test none name = if test && none then option_case name (before.exports d) (λ n. Some (at_export k n)) else before.exports d
 
-    abbrev before : Open
-    before = opened b old.scopes.here
+  unchanged : (test : Bool) (name : Option Name) → place-of test false name ≡ before.exports d
+  unchanged true name = refl
+  unchanged false name = refl
 
-    abbrev after : Open
-    after = telling c it (is_one_of free) (is_closed_in closed) k before
+  told-name : (u : Where) × (named_in d after ≡ Some u)
+  told-name = by (named_of recorded (before.exports d)) refl
+    where
+      by : (o : Option Where) → named_of recorded (before.exports d) ≡ o → (u : Where) × (named_in d after ≡ Some u)
+      by (Some w) is =
+          (w, ap (λ (t : Bool). named_of recorded (place-of (test d) t (value_name c it.exports d))) (ap is_none is) ∙ ap (named_of recorded) (unchanged (test d) (value_name c it.exports d)) ∙ is)
+      by None is =
+          let n = value-there c d it.exports (x.name, kind.TypeItem (ty.Value x.value)) x.listed (ap definition_of x.resolves) in
+          let u = placed recorded (at_export k n.0) in (
+            u.0,
+            ap (λ (t : Bool). named_of recorded (place-of (test d) t (value_name c it.exports d))) (ap is_none is)
+                ∙ ap (λ (t : Bool). named_of recorded (place-of t true (value_name c it.exports d))) tested
+                ∙ ap (λ (o : Option Name). named_of recorded (place-of true true o)) n.1
+                ∙ u.1,
+          )
 
-    abbrev recorded : Option Indexed
-    recorded = before.types (ty.Value (val.Defined d))
-
-    -- Its place among the exports of instances.
-    abbrev place-of : Bool → Bool → Option Name → Option Where
-    place-of test none name = if test && none then option_case name (before.exports d) (λ n. Some (at_export k n)) else before.exports d
-
-    unchanged : (test : Bool) (name : Option Name) → place-of test false name ≡ before.exports d
-    unchanged true name = refl
-    unchanged false name = refl
-
-    told-name : (u : Where) × (named_in d after ≡ Some u)
-    told-name = by (named_of recorded (before.exports d)) refl
-      where
-        by : (o : Option Where) → named_of recorded (before.exports d) ≡ o → (u : Where) × (named_in d after ≡ Some u)
-        by (Some w) is =
-            (w, ap (λ (t : Bool). named_of recorded (place-of (passes d) t (value_name c it.exports d))) (ap is_none is) ∙ ap (named_of recorded) (unchanged (passes d) (value_name c it.exports d)) ∙ is)
-        by None is =
-            let n = value-there c d it.exports (x.name, kind.TypeItem (ty.Value x.value)) x.listed (ap definition_of x.resolves) in
-            let u = placed recorded (at_export k n.0) in (
-              u.0,
-              ap (λ (t : Bool). named_of recorded (place-of (passes d) t (value_name c it.exports d))) (ap is_none is)
-                  ∙ ap (λ (t : Bool). named_of recorded (place-of t true (value_name c it.exports d))) (tested x.same)
-                  ∙ ap (λ (o : Option Name). named_of recorded (place-of true true o)) n.1
-                  ∙ u.1,
-            )
-
-    pub instance-named : opened b new.scopes.here ≡ after → HasNameIn b new d
-    instance-named is = (told-name.0, ap (named_in d) is ∙ told-name.1)
+  pub instance-named : opened b new.scopes.here ≡ after → HasNameIn b new d
+  instance-named is = (told-name.0, ap (named_in d) is ∙ told-name.1)
 
 -- a value type is used by its name
 

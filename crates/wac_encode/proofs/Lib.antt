@@ -8,4 +8,5 @@ pub mod HeldItems
 pub mod ItemNames
 pub mod ToldItems
 pub mod Importing
+pub mod Growing
 pub mod Examples

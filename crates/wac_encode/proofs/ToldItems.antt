@@ -25,10 +25,9 @@ use Rattle.wac_encode_stacks.specs.Instances.{taken_leaf}
 use Rattle.wac_encode_stacks.specs.Listed.{calling}
 use Rattle.wac_encode_stacks.specs.Scopes.{Open, listed}
 use Rattle.wac_encode_stacks.proofs.Aliases.{end-held}
-use Rattle.wac_encode_scopes.specs.declared.closed.ClosedTypes.{ClosedTypes}
 use Rattle.wac_encode_scopes.specs.declared.scope.Scope.{Scope as OpenScope}
 use Rattle.wac_encode_scopes.specs.Books.{opened}
-use Rattle.wac_encode_scopes.specs.private.Closed.{AreClosedTypes, is_closed_in}
+use Rattle.wac_encode_scopes.specs.private.Told.{TellsItems}
 use Rattle.wac_encode_scopes.specs.private.Listing.{BindsType}
 use Rattle.wac_encode_scopes.specs.Roots.{IsRoot, items_of}
 use Rattle.wac_encode_scopes.specs.States.{outward, stack, Goes, IsRecordedAt, IsTypeAt, RecordsHere}
@@ -283,16 +282,17 @@ module _ (c : Collection) (wf : IsWellFormed c) (b : Bool) (i : InterfaceId) (it
       by None bound None named e =
           absurd (no-some l (sym (ap (λ (o : Option Leaf). first_some o (told_bindings c (component_scope old) item k r)) bound ∙ told-own r ∙ ap (λ (o : Option Name). option_case o None leaf) named) ∙ e))
 
-pub tells-instance : GoodOnce → (c : Collection) → IsWellFormed c → (b : Bool) (i : InterfaceId) (k : ℕ) (closed : ClosedTypes) (free : List ResourceId) (old new : State) → HasInterface c i → AreClosedTypes c closed → AreBoundAs c b false old free
+pub tells-instance : GoodOnce → (c : Collection) → IsWellFormed c → (b : Bool) (i : InterfaceId) (k : ℕ) (free : List ResourceId) (old new : State) → HasInterface c i → AreBoundAs c b false old free
     → (m : Bindings) × IsStateFor c b m old × StandsFor c m (component_scope old) (kind.Instance i) k
-    → (AreClosedTypes c closed → (it : Interface) → item_at c.interfaces i.0 ≡ Some it → TellsInstance c b it (is_one_of free) k old.scopes new.scopes)
-    → ((it : Interface) → item_at c.interfaces i.0 ≡ Some it → RecordsHere b (telling c it (is_one_of free) (is_closed_in closed) k) old.scopes new.scopes) → TellsItem c b (kind.Instance i) k old new
-tells-instance once c wf b i k closed free old new has are_closed are (m, is, stands) tells records =
+    → ((it : Interface) → item_at c.interfaces i.0 ≡ Some it → TellsInstance c b it (is_one_of free) k old.scopes new.scopes)
+    → ((it : Interface) → item_at c.interfaces i.0 ≡ Some it → TellsItems c b it (is_one_of free) k old.scopes new.scopes) → TellsItem c b (kind.Instance i) k old new
+tells-instance once c wf b i k free old new has are (m, is, stands) tells records =
     let (it, at) = interface-there c.interfaces i.0 has in
     let (x, here, shows) = stands it at in
-    let recorded = records it at in
+    let items = records it at in
+    let recorded = items.records in
     let there = subst (λ (w : Scope). At w.instances k x) (sym (innermost-is b old.scopes is.root)) here in
-    let on = tells are_closed it at m [] x is.good there shows (λ r n test named. (own-none c wf b i it at k old m is x here free are r n test named, refl)) in
+    let on = tells it at m [] x is.good there shows (λ r n test named. (own-none c wf b i it at k old m is x here free are r n test named, refl)) in
     let state : IsStateFor c b (and_told c (component_scope old) (kind.Instance i) k m) new = record {
       root = subst IsRoot (sym recorded.content) is.root;
       good = subst (λ (n : Bindings). Good c (n ∷ []) (stack b new.scopes)) (same-told c wf b i it at k old m is x here free are) on.0;
@@ -302,9 +302,9 @@ tells-instance once c wf b i k closed free old new has are_closed are (m, is, st
       unchanged = ap items_of recorded.content;
       named = λ n h d names.
           let told = records names.interface names.there in
-          instance-named c wf b i k old new n h free are closed are_closed d names told.here;
+          instance-named c wf b i k old new n h free are d names told.told told.apart (told.records).here;
       state = λ n h.
           let same : m ≡ n = ap top (once c (m ∷ []) (n ∷ []) (stack b old.scopes) is.good h.good) in
           subst (λ (y : Bindings). IsStateFor c b (and_told c (component_scope old) (kind.Instance i) k y) new) same state;
-      other = other-records b (telling c it (is_one_of free) (is_closed_in closed) k) old new recorded;
+      other = other-records b (telling c it (is_one_of free) items.told k) old new recorded;
     }

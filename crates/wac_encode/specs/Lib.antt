@@ -1,5 +1,6 @@
 pub mod Root
 pub mod Lending
+pub mod Growth
 pub mod Named
 pub mod Errors
 pub mod Told

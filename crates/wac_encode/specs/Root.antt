@@ -17,6 +17,7 @@ use Rattle.wac_encode_scopes.specs.declared.scope.Scope.{Scope as OpenScope}
 use Rattle.wac_encode_scopes.specs.Contents.{IsTypeItem}
 use Rattle.wac_encode_scopes.specs.Roots.{IsRoot, items_of}
 use Rattle.wac_encode_scopes.specs.States.{stack, IsPlace}
+use Rattle.wac_encode.specs.declared.state.ResourcePlace.{ResourcePlace}
 use Rattle.wac_encode.specs.declared.state.State.{State}
 
 -- The items of the component.
@@ -70,11 +71,12 @@ abbrev pub RefersToType : Collection → Bindings → AnyType → State → ℕ 
 RefersToType c m (ty.Module x) s k = At ((component_scope s).core_types) k (held_tree c m (ty.Module x))
 RefersToType c m a s k = At ((component_scope s).types) k (held_tree c m a)
 
--- The resource is found in the component: at a type index if is_type, or else as an export of the instance with this index.
-pub record IsResourcePlace (m : Bindings) (s : State) (r : ResourceId) (out k : ℕ) (is_type : Bool) : Type 0 where
-  pub here : out ≡ 0
+-- The resource is found at this place in the component: at a type index if is_type, or else as an export of the instance with
+-- this index.
+pub record IsResourcePlace (m : Bindings) (s : State) (r : ResourceId) (p : ResourcePlace) : Type 0 where
+  pub here : p.out ≡ 0
   pub leaf : Leaf
   pub bound : m r ≡ Some leaf
   pub place : Where
-  pub index : IsPlace place k is_type
+  pub index : IsPlace place p.index p.is_type
   pub stands : Stands (component_scope s) (resource leaf) place

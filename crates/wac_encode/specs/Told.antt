@@ -1,5 +1,5 @@
 -- Items of which a caller tells a state at which index they are.
-use Rattle.std.specs.Prelude.{ℕ, ◌≡◌, ◌==◌, ◌⊎◌, Bool, if◌then◌else◌, Option, Some, None, slice_get, Contains}
+use Rattle.std.specs.Prelude.{ℕ, ◌≡◌, ◌==◌, Bool, if◌then◌else◌, Option, Some, None, slice_get, Contains}
 use Rattle.wac_types_shapes.specs.primitives.Name.{Name, option_case, first_some}
 use Rattle.wac_types_shapes.specs.primitives.Tree.{Leaf, Tree, resource}
 use Rattle.wac_types_shapes.specs.declared.shapes.component.Interface.{Interface}
@@ -15,9 +15,9 @@ use Rattle.wac_types_shapes.specs.declared.shapes.component.«Type».TheVariants
 use Rattle.wac_types_collection.specs.collection.Collection.{Collection, item_at}
 use Rattle.wac_types_collection.specs.collection.Aliases.{value_resolved}
 use Rattle.wac_types_collection.specs.collection.Held.{resolved}
-use Rattle.wac_types_collection.specs.reach.Reach.{Reaches}
 use Rattle.wac_types_collection.specs.collection.Bound.{Bindings, own_name}
 use Rattle.wac_binary.specs.Unfold.{Scope, Bound}
+use Rattle.wac_encode_faults.specs.Free.{IsFree}
 use Rattle.wac_encode_stacks.specs.Good.{At, IsHeld, IsOf}
 use Rattle.wac_encode_stacks.specs.Instances.{Shows, taken_leaf}
 use Rattle.wac_encode.specs.declared.state.State.{State}
@@ -54,16 +54,8 @@ told_bindings c w item k r = None
 abbrev pub and_told : Collection → Scope → ItemKind → ℕ → Bindings → Bindings
 and_told c w item k m r = first_some (m r) (told_bindings c w item k r)
 
--- No own resource of the interface is bound.
-abbrev pub BindsNoOwn : Collection → Interface → Bindings → Type 0
-BindsNoOwn c it m = (r : ResourceId) (n : Name) → own_name c it.uses it.exports r ≡ Some n → m r ≡ None
-
--- The definition mentions no resource.
-abbrev pub MentionsNoResource : Collection → DefinedTypeId → Type 0
-MentionsNoResource c d = (r : ResourceId) → Reaches c (ty.Value (val.Defined d)) (ty.Resource r) → ⊥
-
--- An instance exports the definition under a name of its interface, and the definition means the same in it as outside: the
--- instance binds all own resources of its interface, or the definition mentions no resource.
+-- An instance exports the definition under a name of its interface. The definition means the same in it as outside: no own
+-- resource of the interface that is free in it was bound before, so each is bound to the instance.
 pub record ExportsDefinition (c : Collection) (m : Bindings) (i : InterfaceId) (d : DefinedTypeId) : Type 0 where
   pub interface : Interface
   pub there : item_at c.interfaces i.0 ≡ Some interface
@@ -71,7 +63,7 @@ pub record ExportsDefinition (c : Collection) (m : Bindings) (i : InterfaceId) (
   pub value : ValueType
   pub listed : Contains interface.exports (name, kind.TypeItem (ty.Value value))
   pub resolves : value_resolved c value ≡ val.Defined d
-  pub same : BindsNoOwn c interface m ⊎ MentionsNoResource c d
+  pub same : (r : ResourceId) (n : Name) → IsFree c (ty.Value (val.Defined d)) r → own_name c interface.uses interface.exports r ≡ Some n → m r ≡ None
 
 -- The item is a name of the definition, where resources are bound by m before it is told.
 abbrev pub NamesDefinition : Collection → Bindings → ItemKind → DefinedTypeId → Type 0

@@ -17,5 +17,5 @@ mod telling;
 mod types;
 
 pub use encoder::TypeEncoder;
-pub use state::State;
+pub use state::{Found, ResourcePlace, State};
 pub use wac_encode_faults::{EncodeFault, WriteFault};

@@ -145,8 +145,8 @@ impl State {
     /// Records that an item of a collection is at an index of the component, in the index space of its sort.
     ///
     /// - An instance binds the own resources of its interface that are not bound yet. Value types that it exports have a name
-    ///   from then on: all of them if it binds all own resources of its interface, and else those that mention no resource.
-    ///   Other exports of it do not matter.
+    ///   from then on, but for those in which an own resource of its interface is free that was bound before. Other exports of
+    ///   it do not matter.
     /// - A type item of a resource binds it, if it is no alias and not bound yet.
     /// - Any other type item is a name of its type, unless an earlier one is.
     /// - Nothing is recorded of functions, components, core modules and values.

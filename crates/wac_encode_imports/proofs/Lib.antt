@@ -18,7 +18,7 @@ pub mod Stands
 pub mod Stood
 pub mod Telling
 pub mod Unions
-pub mod Whole
+pub mod Noted
 pub mod Costing
 pub mod ImportPaying
 pub mod ToldCosts

@@ -1,6 +1,5 @@
 -- What the imports of a merge are for the types of the entries.
-use Rattle.std.proofs.Common.{ℕ, eq-eqb, ◌≡◌, ◌<◌, ◌⊎◌, inl, inr, true, false, cond, List, [], ◌∷◌, map, length, Option, Some, None, slice_get, refl, ap, sym, ◌∙◌, subst, arith}
-use Rattle.std.proofs.Math.Path.{fun_ext}
+use Rattle.std.proofs.Common.{ℕ, eq-eqb, ◌≡◌, ◌<◌, ◌⊎◌, inl, inr, Bool, true, false, cond, List, [], ◌∷◌, map, length, Option, Some, None, slice_get, refl, ap, sym, ◌∙◌, subst, arith}
 use Rattle.wac_types_shapes.specs.primitives.Name.{Name, find_name, first_some, option_case}
 use Rattle.wac_types_shapes.specs.primitives.Tree.{Tree, Leaf, Place, exported, further_out, imported, position, named, fresh, resource, type_equal, instance, taken_from}
 use Rattle.wac_types_shapes.specs.shapes.Kinds.{kind_type}
@@ -38,14 +37,15 @@ use Rattle.wac_binary.specs.Unfold.{Scope}
 use Rattle.wac_binary.specs.HasMeaning.{IsValue}
 use Rattle.wac_encode_faults.specs.Free.{IsFree, IsUnbound}
 use Rattle.wac_encode_faults.specs.Free as free_resources
-use Rattle.wac_encode_stacks.specs.Good.{At, IsClosed, IsHeld, Stands, nothing_bound}
+use Rattle.wac_encode_stacks.specs.Good.{At, IsHeld, Stands}
 use Rattle.wac_encode_stacks.specs.Scopes.{at_type, at_export}
-use Rattle.wac_encode_stacks.proofs.Aliases.{end-held, is-its-end}
-use Rattle.wac_encode_stacks.proofs.HeldParts.{closed-carried, held-under-more}
+use Rattle.wac_encode_stacks.proofs.Aliases.{end-held}
+use Rattle.wac_encode_stacks.specs.Instances.{IsApart}
+use Rattle.wac_encode_stacks.proofs.HeldParts.{apart-carried}
 use Rattle.wac_encode_stacks.proofs.HeldValues.{holds-value}
-use Rattle.wac_encode_stacks.proofs.Moved.{changed, held-here, held-moves, on, taken}
+use Rattle.wac_encode_stacks.proofs.Moved.{on, taken}
 use Rattle.wac_encode_interfaces.specs.private.Imports.{RefersToImport}
-use Rattle.wac_encode_interfaces.proofs.Agreeing.{held-free}
+use Rattle.wac_encode_scopes.proofs.FreeAgreeing.{held-free}
 use Rattle.wac_encode_imports.specs.private.Imports.{merged_bindings}
 use Rattle.wac_encode_imports.specs.private.ToldGraph.{entry_bindings}
 use Rattle.wac_encode_imports.specs.private.Exports.{ExportNoNameTwice}
@@ -77,10 +77,10 @@ module _ (c : Collection) (wf : IsWellFormed c) (once : ExportNoNameTwice c) (es
     of-class : held_item m.types (merged_bindings m) imported (position p ∷ []) x.kind ≡ merged by_names c es end p class
     of-class = let i = import-at c es m merge ordered p x there in merge.items p i.number i.class x i.placed i.known there
 
-    -- The own resources of each entry of the class are bound to what the import exports under their names.
-    abbrev pub IsWhole : Type 0
-    IsWhole = (j : ℕ) (y : Entry) (i : InterfaceId) (it : Interface) → slice_get (members by_names es class) j ≡ Some y → y.kind ≡ kind.Instance i → item_at c.interfaces i.0 ≡ Some it
-        → (r : ResourceId) (n : Name) → own_name c it.uses it.exports r ≡ Some n → end r ≡ Some (at-path (position p ∷ (named n ∷ [])))
+    -- The own resources of each entry of the class, but for the others, are bound to what the import exports under their names.
+    abbrev pub IsBoundBut : (ResourceId → Bool) → Type 0
+    IsBoundBut others = (j : ℕ) (y : Entry) (i : InterfaceId) (it : Interface) → slice_get (members by_names es class) j ≡ Some y → y.kind ≡ kind.Instance i → item_at c.interfaces i.0 ≡ Some it
+        → (r : ResourceId) (n : Name) → own_name c it.uses it.exports r ≡ Some n → others r ≡ false → end r ≡ Some (at-path (position p ∷ (named n ∷ [])))
 
     module _ (w : Scope) (i : ℕ) (refers : RefersToImport m.types (merged_bindings m) w (position p) x.kind i) (j : ℕ) (e : Entry) (at_j : slice_get (members by_names es class) j ≡ Some e) where
       -- an instance
@@ -101,25 +101,7 @@ module _ (c : Collection) (wf : IsWellFormed c) (once : ExportNoNameTwice c) (es
         value-stands : (n : Name) (v : ValueType) → find_name it.exports n ≡ Some (kind.TypeItem (ty.Value v)) → Stands w (taken_from imported (position p ∷ []) (held_tree c (inner c wf es at class it) (ty.Value v))) (at_export i n)
         value-stands n v found = type-export w (position p) items i here n (held_tree c (inner c wf es at class it) (ty.Value v)) (value-same c wf es at class agreed held p j e at_j mate n v found)
 
-        -- A value type that mentions no resource has its tree at the root where the instance exports it.
-        pub closed-stands : (n : Name) (v : ValueType) (d : DefinedTypeId) → find_name it.exports n ≡ Some (kind.TypeItem (ty.Value v)) → value_resolved c v ≡ val.Defined d → IsClosed c (ty.Value (val.Defined d)) → holds_value c (val.Defined d) ≡ true
-            → (tree : Tree) × IsHeld c end (ty.Value (val.Defined d)) tree × IsValue tree × Stands w tree (at_export i n)
-        closed-stands n v d found resolves closed holds =
-            let inside = inner c wf es at class it in
-            let tree = held_tree c inside (ty.Value v) in
-            let at_end = subst (λ (u : ValueType). IsHeld c nothing_bound (ty.Value u) closed.0) (sym resolves) closed.1 in
-            let closed_v : IsClosed c (ty.Value v) = (closed.0, is-its-end c wf nothing_bound v closed.0 at_end) in
-            let within = held-under-more c nothing_bound inside (ty.Value v) closed.0 (λ r l e. no-some l e) closed_v.1 in
-            let in_instance = subst (λ (t : Tree). IsHeld c inside (ty.Value v) t) (sym (held-here c inside (ty.Value v) closed.0 within)) within in
-            let at_root : IsHeld c end (ty.Value v) (taken_from imported (position p ∷ []) tree) = closed-carried c (taken imported (position p ∷ [])) inside end (ty.Value v) tree closed_v in_instance in
-            let told = subst (λ (u : ValueType). IsHeld c end (ty.Value u) (taken_from imported (position p ∷ []) tree)) resolves (end-held c wf end v (taken_from imported (position p ∷ []) tree) at_root) in (
-              taken_from imported (position p ∷ []) tree,
-              told,
-              holds-value c wf end (val.Defined d) (taken_from imported (position p ∷ []) tree) holds told,
-              value-stands n v found,
-            )
-
-        -- What is bound in the instance is, taken from it, bound at the root in the end, if the instance is whole.
+        -- What is bound in the instance, but for the others, is bound at the root in the end, taken from the instance.
 
         abbrev in_it : List Place → Leaf
         in_it path = record { out = 0; side = exported; path = path }
@@ -134,37 +116,43 @@ module _ (c : Collection) (wf : IsWellFormed c) (once : ExportNoNameTwice c) (es
         leaf-taken r None own (Some path) bound_path = sym (bound_path path refl)
         leaf-taken r None own None bound_path = further (end r)
 
-        class-path : IsWhole → (r : ResourceId) (path : List Place) → class_binds by_names c es class r ≡ Some path → end r ≡ Some (at-path (position p ∷ path))
-        class-path whole r path binds =
-            let f = first-binding by_names c class (members by_names es class) r path binds in
-            let y = each-instance c wf es at class agreed held p j e at_j mate f.0 f.1 f.2 in
-            let b = instance-binds c class y.id r path (subst (λ (k : ItemKind). kind_binds by_names c class k r ≡ Some path) y.is f.3) in
-            whole f.0 f.1 y.id b.0 f.2 y.is b.1 r b.2 b.3 ∙ ap (λ (q : List Place). Some (at-path (position p ∷ q))) (sym b.4)
+        module _ (others : ResourceId → Bool) (bound_but : IsBoundBut others) where
+          class-path : (r : ResourceId) → others r ≡ false → (path : List Place) → class_binds by_names c es class r ≡ Some path → end r ≡ Some (at-path (position p ∷ path))
+          class-path r other path binds =
+              let f = first-binding by_names c class (members by_names es class) r path binds in
+              let y = each-instance c wf es at class agreed held p j e at_j mate f.0 f.1 f.2 in
+              let b = instance-binds c class y.id r path (subst (λ (k : ItemKind). kind_binds by_names c class k r ≡ Some path) y.is f.3) in
+              bound_but f.0 f.1 y.id b.0 f.2 y.is b.1 r b.2 b.3 other ∙ ap (λ (q : List Place). Some (at-path (position p ∷ q))) (sym b.4)
 
-        all-taken : IsWhole → changed (taken imported (position p ∷ [])) (inner c wf es at class it) ≡ end
-        all-taken whole = fun_ext (λ r. leaf-taken r (own_name c it.uses it.exports r) (λ n own. whole j e id it at_j is has r n own) (class_binds by_names c es class r) (λ path binds. class-path whole r path binds))
+          all-taken : (r : ResourceId) → others r ≡ false → on (taken imported (position p ∷ [])) (inner c wf es at class it r) ≡ end r
+          all-taken r other = leaf-taken r (own_name c it.uses it.exports r) (λ n own. bound_but j e id it at_j is has r n own other) (class_binds by_names c es class r) (λ path binds. class-path r other path binds)
 
-        -- Then each value type has its tree at the root where the instance exports it.
-        pub whole-stands : IsWhole → (n : Name) (v : ValueType) (d : DefinedTypeId) → find_name it.exports n ≡ Some (kind.TypeItem (ty.Value v)) → value_resolved c v ≡ val.Defined d → holds_value c (val.Defined d) ≡ true → (IsUnbound c end (ty.Interface id) → ⊥)
-            → (tree : Tree) × IsHeld c end (ty.Value (val.Defined d)) tree × IsValue tree × Stands w tree (at_export i n)
-        whole-stands whole n v d found resolves holds clean =
-            let tree = held_tree c end (ty.Value v) in
-            let inside = inner c wf es at class it in
-            let same : taken_from imported (position p ∷ []) (held_tree c inside (ty.Value v)) ≡ tree =
-            held-moves c (taken imported (position p ∷ [])) inside (ty.Value v) ∙ ap (λ (k : Bindings). held_tree c k (ty.Value v)) (all-taken whole) in
-            let at_root = held-free c end (ty.Value v) (λ r free. bound-here r (own_name c it.uses it.exports r) refl (end r) refl free) in
-            let told = subst (λ (u : ValueType). IsHeld c end (ty.Value u) tree) resolves (end-held c wf end v tree at_root) in
-            (tree, told, holds-value c wf end (val.Defined d) tree holds told, subst (λ (t : Tree). Stands w t (at_export i n)) same (value-stands n v found))
-          where
-            outside : (r : ResourceId) → own_name c it.uses it.exports r ≡ None → IsFree c (ty.Value v) r → end r ≡ None → ⊥
-            outside r none free_in unbound =
-                let f = find_at it.exports n (kind.TypeItem (ty.Value v)) found in
-                clean (r, free_resources.in_export id it n (kind.TypeItem (ty.Value v)) r has (at_in it.exports f.0 (n, kind.TypeItem (ty.Value v)) f.1) none free_in, unbound)
+          -- Then each value type that does not depend on the others has its tree at the root where the instance exports it.
+          pub bound-stands : (n : Name) (v : ValueType) (d : DefinedTypeId) → find_name it.exports n ≡ Some (kind.TypeItem (ty.Value v)) → value_resolved c v ≡ val.Defined d → holds_value c (val.Defined d) ≡ true → IsApart c others (ty.Value (val.Defined d)) → (IsUnbound c end (ty.Interface id) → ⊥)
+              → (tree : Tree) × IsHeld c end (ty.Value (val.Defined d)) tree × IsValue tree × Stands w tree (at_export i n)
+          bound-stands n v d found resolves holds apart clean =
+              let inside = inner c wf es at class it in
+              let tree = held_tree c inside (ty.Value v) in
+              let within = held-free c inside (ty.Value v) (λ r free. bound-here r free (own_name c it.uses it.exports r) refl (class_binds by_names c es class r) (end r) refl) in
+              let in_instance = subst (λ (u : ValueType). IsHeld c inside (ty.Value u) tree) resolves (end-held c wf inside v tree within) in
+              let told = apart-carried c (taken imported (position p ∷ [])) others inside end (ty.Value (val.Defined d)) tree apart (λ r l other at_l. sym (all-taken r other) ∙ ap (on (taken imported (position p ∷ []))) at_l) in_instance in (
+                taken_from imported (position p ∷ []) tree,
+                told,
+                holds-value c wf end (val.Defined d) (taken_from imported (position p ∷ []) tree) holds told,
+                value-stands n v found,
+              )
+            where
+              outside : (r : ResourceId) → own_name c it.uses it.exports r ≡ None → IsFree c (ty.Value v) r → end r ≡ None → ⊥
+              outside r none free_in unbound =
+                  let f = find_at it.exports n (kind.TypeItem (ty.Value v)) found in
+                  clean (r, free_resources.in_export id it n (kind.TypeItem (ty.Value v)) r has (at_in it.exports f.0 (n, kind.TypeItem (ty.Value v)) f.1) none free_in, unbound)
 
-            bound-here : (r : ResourceId) (o : Option Name) → own_name c it.uses it.exports r ≡ o → (l : Option Leaf) → end r ≡ l → IsFree c (ty.Value v) r → (x : Leaf) × (end r ≡ Some x)
-            bound-here r o own (Some l) some free_in = (l, some)
-            bound-here r None own None none free_in = absurd (outside r own free_in none)
-            bound-here r (Some q) own None none free_in = (at-path (position p ∷ (named q ∷ [])), whole j e id it at_j is has r q own)
+              bound-here : (r : ResourceId) → IsFree c (ty.Value v) r → (o : Option Name) → own_name c it.uses it.exports r ≡ o → (b : Option (List Place)) (l : Option Leaf) → end r ≡ l
+                  → (x : Leaf) × (first_some (option_case o None (λ q. Some (in_it (named q ∷ [])))) (first_some (option_case b None (λ path. Some (in_it path))) (option_case l None (λ y. Some (further_out y)))) ≡ Some x)
+              bound-here r free_in (Some q) own b l is = (in_it (named q ∷ []), refl)
+              bound-here r free_in None own (Some path) l is = (in_it path, refl)
+              bound-here r free_in None own None (Some y) is = (further_out y, refl)
+              bound-here r free_in None own None None is = absurd (outside r own free_in is)
 
       -- A type item of a value type has its tree at the root.
       pub type-stands-at : (v : ValueType) (d : DefinedTypeId) → e.kind ≡ kind.TypeItem (ty.Value v) → value_resolved c v ≡ val.Defined d → holds_value c (val.Defined d) ≡ true → (IsUnbound c end (ty.Value v) → ⊥)

@@ -1,5 +1,5 @@
 -- What a teller's calls record is true.
-use Rattle.std.proofs.Common.{ℕ, zero, suc, if◌then◌else◌, ◌≡◌, ◌+◌, ◌<◌, ◌||◌, ◌⊎◌, inl, inr, Bool, true, false, List, [], ◌∷◌, ◌++◌, length, Option, Some, None, slice_get, Contains, refl, ap, sym, ◌∙◌, subst, arith}
+use Rattle.std.proofs.Common.{ℕ, zero, suc, if◌then◌else◌, ◌≡◌, ◌+◌, ◌<◌, inl, inr, Bool, true, false, List, [], ◌∷◌, ◌++◌, length, Option, Some, None, slice_get, Contains, refl, ap, sym, ◌∙◌, subst, arith}
 use Rattle.std.proofs.lemmas.Option.{slice_get_within}
 use Rattle.std.proofs.lemmas.Result.{on_ok_weaker}
 use Rattle.std.specs.Borrow.{Bor}
@@ -24,13 +24,14 @@ use Rattle.wac_types_shapes.specs.declared.shapes.component.«Type».TheVariants
 use Rattle.wac_types_collection.specs.collection.Aliases.{value_resolved}
 use Rattle.wac_types_collection.specs.collection.Collection.{Collection, IsWellFormed, HasInterface, holds_type, holds_value, item_at, size}
 use Rattle.wac_types_collection.proofs.lemmas.collection.Chains.{end_held}
-use Rattle.wac_types_collection.proofs.lemmas.wide.Members.{in_at}
+use Rattle.wac_types_collection.proofs.lemmas.wide.Members.{at_in, in_at}
 use Rattle.wac_types_collection.specs.subtyping.CalledViews.{path_view}
 use Rattle.wac_merge.specs.MergedPlaces.{IsRootPlace}
 use Rattle.wac_merge_classes.specs.entries.Binding.{binding_class}
 use Rattle.wac_merge_classes.specs.entries.Classes.{Entry, by_names, imported_as}
 use Rattle.wac_merge_classes.specs.terms.Merge.{IsMerge, Merged, import_entries}
 use Rattle.wac_merge_classes.proofs.lemmas.entries.Opening.{below}
+use Rattle.wac_merge_classes.proofs.lemmas.terms.Found.{find_at}
 use Rattle.wac_types_collection.specs.collection.Bound.{Bindings}
 use Rattle.wac_binary.specs.declared.sorts.Sort.{Sort}
 use Rattle.wac_binary.specs.Unfold.{Scope}
@@ -40,20 +41,22 @@ use Rattle.wac_encode_stacks.specs.Scopes.{Open, Stack, at_type, at_export, bind
 use Rattle.wac_encode_scopes.specs.declared.scope.Scope.{Scope as TheScope}
 use Rattle.wac_encode_scopes.specs.declared.state.State.{State}
 use Rattle.wac_encode_scopes.specs.Books.{opened}
-use Rattle.wac_encode_scopes.specs.private.Closed.{SaysClosed, is_closed_in}
+use Rattle.wac_encode_scopes.specs.private.Closed.{AreApartItems, SaysApart}
 use Rattle.wac_encode_scopes.specs.Contents.{content_of}
 use Rattle.wac_encode_scopes.specs.States.{RecordsHere, outward, stack}
-use Rattle.wac_encode_scopes.specs.private.Telling.{definition_in, definition_of}
+use Rattle.wac_encode_scopes.specs.private.Telling.{definition_in, definition_of, is_one_of}
+use Rattle.wac_encode_scopes.proofs.ApartBits.{does-not-depend}
+use Rattle.wac_encode_imports.specs.declared.told.Others.{Others}
 use Rattle.wac_encode_imports.specs.declared.told.Teller.{Teller}
 use Rattle.wac_encode_interfaces.specs.private.Imports.{RefersToImport}
 use Rattle.wac_encode_imports.specs.private.Imports.{AreImported, merged_bindings}
 use Rattle.wac_encode_imports.specs.private.ToldGraph.{IsTold}
-use Rattle.wac_encode_imports.specs.private.Told.{BindsAll, BindsBelow, BindsOne, ChangesRecords, HasImports, AreWhole, HaveExports, IsDefinitionAt, IsGood, IsImportOf, IsTeller, IsTypeImport, KeepsGood, ReferToImports, bound_below, end_bindings, told_in}
+use Rattle.wac_encode_imports.specs.private.Told.{BindsAll, BindsBelow, BindsOne, ChangesRecords, HasImports, AreOthers, HaveExports, IsDefinitionAt, IsGood, IsImportOf, IsTeller, IsTypeImport, KeepsGood, ReferToImports, bound_below, end_bindings, told_in}
 use Rattle.wac_encode_imports.proofs.Bound.{no-some, one-some}
 use Rattle.wac_encode_imports.proofs.Members.{export-held}
 use Rattle.wac_encode_imports.proofs.Placed.{bound-place, entry-import, entry-member, member-import, unbound-place}
 use Rattle.wac_encode_imports.proofs.Records.{below-all, below-next, below-none, below-unbound, bound-good, exported-good, indexed-good, none-changed, one-changed, same-scope, then-changed, unbound-good}
-use Rattle.wac_encode_imports.proofs.Stands.{IsBoundThere, IsWhole, bound-low, bound-there, closed-stands, type-stands-at, whole-stands}
+use Rattle.wac_encode_imports.proofs.Stands.{IsBoundBut, IsBoundThere, bound-low, bound-stands, bound-there, type-stands-at}
 use Rattle.wac_encode_imports.proofs.Stood.{at-path}
 
 no-empty : {A : Type 0} (n : Name) (path : List Place) → [] ≡ named n ∷ path → A
@@ -192,17 +195,13 @@ kept-if (Some q) test d h = by (test q) refl h
     by true is e = (e, sym (ap test (one-some q d e)) ∙ is)
     by false is e = no-some d e
 
-pub told-none : (t : Teller) (whole : Bool) (e : Name × ItemKind) → definition_in t.types.now e ≡ None → told_in t whole e ≡ None
-told-none t whole e none = ap (λ (o : Option DefinedTypeId). option_case o None (λ d. if whole || is_closed_in t.closed.now d then Some d else None)) none
+pub told-none : (c : Collection) (test : DefinedTypeId → Bool) (e : Name × ItemKind) → definition_in c e ≡ None → told_in c test e ≡ None
+told-none c test e none = ap (λ (o : Option DefinedTypeId). option_case o None (λ d. if test d then Some d else None)) none
 
-pub told-some : (t : Teller) (whole : Bool) (e : Name × ItemKind) (d : DefinedTypeId) → definition_in t.types.now e ≡ Some d → (b : Bool) → (whole || is_closed_in t.closed.now d) ≡ b → told_in t whole e ≡ (if b then Some d else None)
-told-some t whole e d is b tested =
-    ap (λ (o : Option DefinedTypeId). option_case o None (λ q. if whole || is_closed_in t.closed.now q then Some q else None)) is
+pub told-some : (c : Collection) (test : DefinedTypeId → Bool) (e : Name × ItemKind) (d : DefinedTypeId) → definition_in c e ≡ Some d → (b : Bool) → test d ≡ b → told_in c test e ≡ (if b then Some d else None)
+told-some c test e d is b tested =
+    ap (λ (o : Option DefinedTypeId). option_case o None (λ q. if test q then Some q else None)) is
     ∙ ap (λ (x : Bool). if x then Some d else None) tested
-
-either-is : (a b : Bool) → (a || b) ≡ true → (a ≡ true) ⊎ (b ≡ true)
-either-is true b h = inl refl
-either-is false b h = inr h
 
 module _ (t : Teller) (s : State) (imports : HasImports t s) (e : Entry) (within : Contains t.merge.now.entries e) (p : ℕ) (of : IsImportOf t e p) (place : Sort × ℕ) (placed : slice_get t.places.now p ≡ Some place) where
   abbrev c : Collection
@@ -211,32 +210,30 @@ module _ (t : Teller) (s : State) (imports : HasImports t s) (e : Entry) (within
   refers : RefersToImport (t.merge.now.merge).types (merged_bindings t.merge.now.merge) (innermost (stack false s)) (position p) (of.entry).kind place.1
   refers = imports p of.entry place of.there placed
 
-  -- If the flag of the import is set, the own resources of each entry of its class are bound to its exports.
-  whole-at : (whole : List Bool) → AreWhole t whole → slice_get whole p ≡ Some true → (is : IsTeller t)
-      → IsWhole c is.ordered is.once t.merge.now.entries is.held is.agreed t.merge.now.merge is.merged is.acyclic is.bound p of.entry of.there
-  whole-at whole are set is j y id it at_y is_y has r n own =
+  -- The own resources of each entry of the class, but for the import's others, are bound to its exports.
+  bound-but : (sets : List Others) → AreOthers t sets → (others : Others) → slice_get sets p ≡ Some others → (is : IsTeller t)
+      → IsBoundBut c is.ordered is.once t.merge.now.entries is.held is.agreed t.merge.now.merge is.merged is.acyclic is.bound p of.entry of.there (is_one_of others.resources.keys)
+  bound-but sets are others at_p is j y id it at_y is_y has r n own left =
       let m = member-import c t.merge.now.entries t.merge.now.merge is.merged is.acyclic p of.entry of.there j y at_y in
       let of_y : IsImportOf t y p = record { entry = of.entry; there = of.there; named = m.2 } in
-      are.noted m.0 y m.1 p of_y set id it is_y has r n own is
+      are.noted m.0 y m.1 p others of_y at_p id it is_y has r n own left is
 
-  -- The instance that is imported for an entry exports the entry's value types that may be recorded.
-  pub entry-exports : (whole : List Bool) → AreWhole t whole → (flag : Bool) → slice_get whole p ≡ Some flag → (id : InterfaceId) (it : Interface) → e.kind ≡ kind.Instance id → item_at c.interfaces id.0 ≡ Some it → HaveExports t flag it place.1 s
-  entry-exports whole are flag is_flag id it is_instance has n k d found told is =
-      let x = kept-if (definition_in c (n, k)) (λ q. flag || is_closed_in t.closed.now q) d told in
+  -- The instance that is imported for an entry exports the entry's value types in which none of the others is free.
+  pub entry-exports : (sets : List Others) → AreOthers t sets → (others : Others) → slice_get sets p ≡ Some others → (id : InterfaceId) (it : Interface) → e.kind ≡ kind.Instance id → item_at c.interfaces id.0 ≡ Some it
+      → (test : DefinedTypeId → Bool) → AreApartItems c it.exports (is_one_of others.resources.keys) test → HaveExports t test it place.1 s
+  entry-exports sets are others at_p id it is_instance has test apart n k d found told is =
+      let these = is_one_of others.resources.keys in
+      let x = kept-if (definition_in c (n, k)) test d told in
       let at = in_at t.merge.now.entries e within in
       let v = definition-is c n k d x.0 in
       let found_v = found ∙ ap Some v.1 in
       let holds = definition-held c is.ordered v.0 d v.2 (export-held c is.ordered id it n (kind.TypeItem (ty.Value v.0)) has found_v) in
       let member = entry-member c t.merge.now.entries t.merge.now.merge is.merged is.acyclic at.0 e at.2 p of.entry of.there of.named in
-      elim (either-is flag (is_closed_in t.closed.now d) x.1) [
-        | inl set ↦
-            whole-stands c is.ordered is.once t.merge.now.entries is.held is.agreed t.merge.now.merge is.merged is.acyclic is.bound p of.entry of.there (innermost (stack false s)) place.1 refers member.0 e member.1 id it is_instance has
-            (whole-at whole are (is_flag ∙ ap Some set) is) n v.0 d found_v v.2 holds
-            (λ unbound. is.clean is.merged e within (subst (λ (q : ItemKind). IsUnbound c (end_bindings t is) (kind_type q)) (sym is_instance) unbound))
-        | inr is_closed ↦
-            closed-stands c is.ordered is.once t.merge.now.entries is.held is.agreed t.merge.now.merge is.merged is.acyclic is.bound p of.entry of.there (innermost (stack false s)) place.1 refers member.0 e member.1 id it is_instance has
-            n v.0 d found_v v.2 (subst (λ b. SaysClosed c d b) is_closed (is.closed d (below d.0 (length c.defined) holds))) holds
-      ]
+      let f = find_at it.exports n k found in
+      let says : SaysApart c these d true = subst (SaysApart c these d) x.1 (apart (n, k) d (at_in it.exports f.0 (n, k) f.1) x.0) in
+      bound-stands c is.ordered is.once t.merge.now.entries is.held is.agreed t.merge.now.merge is.merged is.acyclic is.bound p of.entry of.there (innermost (stack false s)) place.1 refers member.0 e member.1 id it is_instance has
+      these (bound-but sets are others at_p is) n v.0 d found_v v.2 holds (does-not-depend c these d says)
+      (λ unbound. is.clean is.merged e within (subst (λ (q : ItemKind). IsUnbound c (end_bindings t is) (kind_type q)) (sym is_instance) unbound))
 
   -- The type item that is imported for an entry names the entry's value type.
   pub entry-type : IsTypeImport t e.kind place.1 s
@@ -282,8 +279,8 @@ pub still-imports : (t : Teller) (s new : State) → ChangesRecords s new → Ha
 still-imports t s new x imports p e place there placed =
     subst (λ (w : Scope). RefersToImport (t.merge.now.merge).types (merged_bindings t.merge.now.merge) w (position p) e.kind place.1) (sym (same-scope s new x)) (imports p e place there placed)
 
-pub still-exports : (t : Teller) (flag : Bool) (it : Interface) (i : ℕ) (s new : State) → ChangesRecords s new → HaveExports t flag it i s → HaveExports t flag it i new
-still-exports t flag it i s new x exports n k d found definition is =
+pub still-exports : (t : Teller) (test : DefinedTypeId → Bool) (it : Interface) (i : ℕ) (s new : State) → ChangesRecords s new → HaveExports t test it i s → HaveExports t test it i new
+still-exports t test it i s new x exports n k d found definition is =
     let at = exports n k d found definition is in
     (at.0, at.1, at.2, subst (λ (w : Scope). Stands w at.0 (at_export i n)) (sym (same-scope s new x)) at.3)
 

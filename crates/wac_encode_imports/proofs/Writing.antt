@@ -17,13 +17,12 @@ use Rattle.wac_merge_classes.proofs.lemmas.entries.Lists.{some-at}
 use Rattle.wac_binary.specs.declared.sorts.Description.TheVariants as e
 use Rattle.wac_binary.specs.Indexes.{space, described_sort}
 use Rattle.wac_encode_stacks.specs.Instances.{ShowsWhole, ListsImport}
-use Rattle.wac_encode_stacks.specs.Scopes.{Open}
 use Rattle.wac_encode_scopes.specs.declared.state.State.{State}
 use Rattle.wac_encode_scopes.specs.private.Closed.{AreClosedTypes}
 use Rattle.wac_encode_scopes.specs.Contents.{count_of}
 use Rattle.wac_encode_scopes.specs.Roots.{ImportsResource, and_import}
-use Rattle.wac_encode_scopes.specs.States.{RecordsHere}
-use Rattle.wac_encode_scopes.specs.private.Telling.{TellsInstance}
+use Rattle.wac_encode_scopes.specs.private.Telling.{TellsInstance, telling}
+use Rattle.wac_encode_scopes.specs.private.Told.{TellsItems}
 use Rattle.wac_encode_interfaces.specs.private.FreeTrees.{TreesByFree}
 use Rattle.wac_encode_interfaces.specs.private.Imports.{ImportsBeside, ImportsOf, IsImportReady}
 use Rattle.wac_encode_interfaces.specs.private.Worlds.{written_in}
@@ -88,22 +87,26 @@ interface-there c j held =
 own-test : (x : ImportWriter) (m : Merged) (h : IsImportWriter x m) (p : ℕ) (it : Interface) (test : ResourceId → Bool) → ((r : ResourceId) → test r ≡ list_any (is_first_of x.bindings.now p r) it.exports) → IsOwnTest m p it test
 own-test x m h p it test is r q own = is r ∙ any-first x.bindings.now p m.types it.uses it.exports r q own ∙ first-is m x.bindings.now h.bindings p r
 
-pub writes-instance : (x : ImportWriter) (p : ℕ) (n : Name) (j : InterfaceId) (test : ResourceId → Bool) (f : Interface → Open → Open) (old mid new : State) (i : ℕ) → TreesByFree → ShowsWhole
-    → (AreClosedTypes x.types.now x.closed.now → (it : Interface) → item_at x.types.now.interfaces j.0 ≡ Some it → TellsInstance x.types.now true it test i mid new)
-    → ((it : Interface) → item_at x.types.now.interfaces j.0 ≡ Some it → RecordsHere true (f it) mid new)
+pub writes-instance : (x : ImportWriter) (p : ℕ) (n : Name) (j : InterfaceId) (test : ResourceId → Bool) (old mid new : State) (i : ℕ) → TreesByFree → ShowsWhole
+    → ((it : Interface) → item_at x.types.now.interfaces j.0 ≡ Some it → TellsInstance x.types.now true it test i mid new)
+    → ((it : Interface) → item_at x.types.now.interfaces j.0 ≡ Some it → TellsItems x.types.now true it test i mid new)
     → ((it : Interface) → item_at x.types.now.interfaces j.0 ≡ Some it → (r : ResourceId) → test r ≡ list_any (is_first_of x.bindings.now p r) it.exports)
     → ImportsOf x.writer.types.now x.writer.merged n (kind.Instance j) old mid i → ImportsBeside x.writer.merged n (kind.Instance j) i old mid → WritesImport x p n (kind.Instance j) old new i
-writes-instance x p n j test f old mid new i trees whole tells records is imports beside m h places may =
+writes-instance x p n j test old mid new i trees whole tells records is imports beside m h places may =
     let ws = written_in x.writer.worlds.now in
     let it = interface-there m.types j ((h.writable).held p (record { name = n; kind = kind.Instance j }) may.there) in
     let at : item_at x.types.now.interfaces j.0 ≡ Some it.0 = ap (λ (c : Collection). item_at c.interfaces j.0) h.types ∙ it.1 in
-    let told : TellsInstance m.types true it.0 test i mid new = subst (λ (c : Collection). TellsInstance c true it.0 test i mid new) h.types (tells (subst (λ (c : Collection). AreClosedTypes c x.closed.now) (sym h.types) h.closed) it.0 at) in
-    instance-brings m ws h.writable p n j may.there it.0 it.1 test (own-test x m h p it.0 test (is it.0 at)) whole trees places (f it.0) old mid new i may.written (imports-as x m h n (kind.Instance j) old mid i imports) (beside-as x m h n (kind.Instance j) i old mid beside) told (records it.0 at)
+    let told : TellsInstance m.types true it.0 test i mid new = subst (λ (c : Collection). TellsInstance c true it.0 test i mid new) h.types (tells it.0 at) in
+    let items = records it.0 at in
+    instance-brings m ws h.writable p n j may.there it.0 it.1 test (own-test x m h p it.0 test (is it.0 at)) whole trees places (telling x.types.now it.0 test items.told i) old mid new i may.written (imports-as x m h n (kind.Instance j) old mid i imports) (beside-as x m h n (kind.Instance j) i old mid beside) told items.records
 
 pub instance-held : (x : ImportWriter) (p : ℕ) (n : Name) (j : InterfaceId) (s : State) → MayWrite x p n (kind.Instance j) s → HasInterface x.types.now j
 instance-held x p n j s may =
     subst (λ (c : Collection). HasInterface c j) (sym (may.2).types)
     (within j.0 (length may.0.types.interfaces) (((may.2).writable).held p (record { name = n; kind = kind.Instance j }) (may.3).there))
+
+pub instance-closed : (x : ImportWriter) (p : ℕ) (n : Name) (j : InterfaceId) (s : State) → MayWrite x p n (kind.Instance j) s → AreClosedTypes x.types.now x.closed.now
+instance-closed x p n j s may = subst (λ (c : Collection). AreClosedTypes c x.closed.now) (sym (may.2).types) (may.2).closed
 
 pub writes-fresh : (x : ImportWriter) (p : ℕ) (n : Name) (q end : ResourceId) (old new : State) (i : ℕ) → ListsImport
     → ((m : Merged) → IsImportWriter x m → (end ≡ resolved m.types q) × (is_bound_at p (merged_bindings m (resolved m.types q)) ≡ true))

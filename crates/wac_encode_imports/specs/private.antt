@@ -2,6 +2,7 @@ pub mod Classes
 pub mod Exports
 pub mod Modules
 pub mod Written
+pub mod Others
 pub mod Told
 pub mod Distinct
 pub mod Imports

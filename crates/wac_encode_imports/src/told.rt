@@ -1,6 +1,6 @@
 //! What the imports of a merge are for the types of the entries' own collection.
 
-ghost use Rattle.std.specs.Prelude.{◌≡◌, ◌<◌, ◌≤◌, ◌*◌, ◌||◌, IfErr, [], ◌∷◌, Contains, IfOk, OnOk, Some, false, length, slice_get, slice_set, true};
+ghost use Rattle.std.specs.Prelude.{◌≡◌, ◌<◌, ◌≤◌, ◌*◌, IfErr, [], ◌∷◌, Contains, IfOk, OnOk, Some, false, length, slice_get, true};
 ghost use Rattle.wac_types_shapes.specs.primitives.Name.{Name as AName};
 ghost use Rattle.wac_types_shapes.specs.shapes.Kinds.{kind_type};
 ghost use Rattle.wac_types_shapes.specs.declared.shapes.component.DefinedTypeId.{DefinedTypeId as ADefinition};
@@ -25,13 +25,14 @@ ghost use Rattle.wac_encode_scopes.specs.private.Paid.{pending};
 ghost use Rattle.wac_encode_scopes.specs.Books.{opened};
 ghost use Rattle.wac_encode_scopes.specs.Roots.{IsRoot};
 ghost use Rattle.wac_binary.specs.declared.fault.BinaryFault.TheVariants.{OutOfMemory};
-ghost use Rattle.wac_encode_imports.specs.private.Told.{BindsNames, IsBlank, TellsWithin, entries_items, AreHeldExports, AreWhole, BindsAll, BindsItem, BindsKind, BindsOne, BindsOwn, HasImports, HaveExports, IsDefinitionAt, IsExport, IsImportOf, IsTeller, IsTypeImport, KeepsGood, Notes, told_in};
+ghost use Rattle.wac_encode_imports.specs.private.Others.{AddsOther};
+ghost use Rattle.wac_encode_imports.specs.private.Told.{BindsNames, IsBlank, TellsWithin, entries_items, AreHeldExports, AreOthers, BindsAll, BindsOne, HasImports, HaveExports, IsDefinitionAt, IsExport, IsImportOf, IsTeller, IsTypeImport, KeepsGood, Notes, NotesItem, NotesItems, told_in};
 
 use crate::imports::exports_law;
 use indexmap::IndexSet;
-use std::alloc::AllocError;
+use std::alloc::{AllocError, Global};
 use wac_binary::{BinaryFault, Sort};
-use wac_encode_scopes::{ClosedTypes, How, State};
+use wac_encode_scopes::{ClosedTypes, How, State, apart_items};
 use wac_merge::TypeAggregator;
 use wac_merge_classes::entries::bound::own_resource;
 use wac_merge_classes::entries::entry::Entry;
@@ -60,20 +61,37 @@ fn place_at(places: &[(Sort, u32)], position: usize) -> (Sort, u32)
     places[position]
 }
 
-/// Clears a flag.
-fn clear(flags: &mut Vec<bool>, position: usize)
-    requires { position < length flags.old.items }
-    ensures { flags.new.items ≡ slice_set flags.old.items position false }
-{
-    flags[position] = false;
+/// The own resources of an import's entries that are not bound to what it exports under their names.
+#[derive(Drop)]
+struct Others {
+    /// Each of them once.
+    resources: IndexSet<ResourceId>,
 }
 
-/// Whether a flag is set.
-fn is_set(flags: &[bool], position: usize) -> bool
-    requires { position < length flags.now }
-    ensures { slice_get flags.now position ≡ Some result }
+/// Adds a resource to those of the import at a position.
+fn add_other(
+    others: &mut Vec<Others>,
+    position: usize,
+    resource: ResourceId,
+) -> Result<(), AllocError>
+    requires { position < length others.old.items }
+    ensures { OnOk result (AddsOther position resource others.old.items others.new.items) }
 {
-    flags[position]
+    others[position].resources.insert(resource)?;
+    Ok(())
+}
+
+/// Returns no resources for each of some imports.
+fn no_others(alloc: Global, count: usize) -> Result<Vec<Others>, AllocError>
+    ensures { IfOk result (λ v. length v.items ≡ count) }
+{
+    let mut others = Vec::new(alloc);
+    for _i in 0..count {
+        others.push(Others {
+            resources: IndexSet::new(alloc),
+        })?;
+    }
+    Ok(others)
 }
 
 /// Whether a path is a single name, and this one.
@@ -166,91 +184,83 @@ impl<'a> Teller<'a> {
         is_alone(path, name)
     }
 
-    /// Whether an import binds the own resource of an item, if the item has one.
-    fn binds_item(
+    /// Notes the own resource of an item, if it has one that the import at a position does not bind.
+    fn note_item(
         &self,
+        others: &mut Vec<Others>,
         position: usize,
         uses: &Named<UsedType>,
         name: &str,
         item: ItemKind,
-    ) -> bool
+    ) -> Result<(), AllocError>
         requires teller { IsTeller self.now }
         requires held { holds_type self.now.types.now (kind_type item) ≡ true }
-        ensures { result ≡ true → BindsItem self.now position uses.now (name.now, item) }
+        requires position { position < length others.old.items }
+        ensures { OnOk result (NotesItem self.now position uses.now (name.now, item) others.old.items others.new.items) }
     {
-        match own_resource(self.types, uses, name, item) {
-            Some(resource) => self.is_export(position, name, resource),
-            None => true,
+        let Some(resource) = own_resource(self.types, uses, name, item) else {
+            return Ok(());
+        };
+        if self.is_export(position, name, resource) {
+            return Ok(());
         }
+        add_other(others, position, resource)
     }
 
-    /// Whether an import binds all own resources of an interface.
-    fn binds_own(&self, position: usize, interface: &Interface) -> bool
+    /// Notes the own resources of an interface that the import at a position does not bind.
+    fn note_own(
+        &self,
+        others: &mut Vec<Others>,
+        position: usize,
+        interface: &Interface,
+    ) -> Result<(), AllocError>
         requires teller { IsTeller self.now }
         requires held { AreHeldExports self.now interface.now }
-        ensures { result ≡ true → BindsOwn self.now position interface.now }
+        requires position { position < length others.old.items }
+        ensures { OnOk result (NotesItems self.now position interface.now (length interface.now.exports) others.old.items others.new.items) }
     {
         for i in 0..interface.exports.len() {
             let (name, item) = interface.exports.entry_at(i);
-            if !self.binds_item(position, &interface.uses, name, *item) {
-                return false;
-            }
+            self.note_item(others, position, &interface.uses, name, *item)?;
         }
-        true
+        Ok(())
     }
 
-    /// Whether an item is an instance, and an import binds all own resources of its interface.
-    fn binds_kind(&self, position: usize, item: ItemKind) -> bool
-        requires teller { IsTeller self.now }
-        requires held { holds_type self.now.types.now (kind_type item) ≡ true }
-        ensures { result ≡ true → BindsKind self.now position item }
-    {
-        let ItemKind::Instance(id) = item else {
-            return false;
-        };
-        self.binds_own(position, &self.types[id])
-    }
-
-    /// Clears the flag of the import of an entry's class, unless it binds all own resources of the entry.
-    fn note(&self, whole: &mut Vec<bool>, entry: &Entry)
+    /// Notes the own resources of an entry that the import of its class does not bind.
+    fn note(&self, others: &mut Vec<Others>, entry: &Entry) -> Result<(), AllocError>
         requires teller { IsTeller self.now }
         requires entry { Contains (self.now.merge.now).entries entry.now }
-        requires counted { length whole.old.items ≡ length self.now.places.now }
-        ensures { Notes self.now entry.now whole.old.items whole.new.items }
+        requires counted { length others.old.items ≡ length self.now.places.now }
+        ensures { OnOk result (Notes self.now entry.now others.old.items others.new.items) }
     {
         let position = self.position_of(entry);
-        if self.binds_kind(position, entry.kind()) {
-            return;
-        }
-        clear(whole, position);
+        let item = entry.kind();
+        let ItemKind::Instance(id) = item else {
+            return Ok(());
+        };
+        let interface = &self.types[id];
+        self.note_own(others, position, interface)
     }
 
-    /// Finds which imports bind all own resources of the entries of their class.
-    fn whole_imports(&self) -> Result<Vec<bool>, AllocError>
+    /// Finds the own resources of each import's entries that the import does not bind.
+    fn others(&self) -> Result<Vec<Others>, AllocError>
         requires { IsTeller self.now }
-        ensures { IfOk result (λ whole. AreWhole self.now whole.items) }
+        ensures { IfOk result (λ others. AreOthers self.now others.items) }
     {
-        let mut whole = vec![in self.types.allocator(); true; self.places.len()]?;
+        let mut others = no_others(self.types.allocator(), self.places.len())?;
         let entries = self.merge.entries();
         for i in 0..entries.len() {
-            self.note(&mut whole, &entries[i]);
+            self.note(&mut others, &entries[i])?;
         }
-        Ok(whole)
+        Ok(others)
     }
 
-    /// Whether a definition means at the root what it means in an instance.
-    fn may_tell(&self, whole: bool, definition: DefinedTypeId) -> bool
-        ensures { result ≡ (whole || is_closed_in self.now.closed.now definition) }
-    {
-        whole || self.closed.contains(definition)
-    }
-
-    /// Returns the definition of an item of an instance, if it may be recorded.
-    fn told_in(&self, whole: bool, item: ItemKind) -> Option<DefinedTypeId>
-        ensures { (n : AName) → result ≡ told_in self.now whole (n, item) }
+    /// Returns the definition of an item of an instance, if it is among these.
+    fn told_in(&self, told: &ClosedTypes, item: ItemKind) -> Option<DefinedTypeId>
+        ensures { (n : AName) → result ≡ told_in self.now.types.now (is_closed_in told.now) (n, item) }
     {
         let definition = definition_in(self.types, item)?;
-        if self.may_tell(whole, definition) {
+        if told.contains(definition) {
             Some(definition)
         } else {
             None
@@ -281,16 +291,16 @@ impl<'a> Teller<'a> {
         state.tell(false, definition, index, name)
     }
 
-    /// Records which value types an instance exports.
+    /// Records which value types an instance exports, if they are among `apart`.
     fn tell_values(
         &self,
         state: &mut State,
         told: &mut IndexSet<DefinedTypeId>,
         interface: &Interface,
         index: u32,
-        whole: bool,
+        apart: &ClosedTypes,
     ) -> Result<(), BinaryFault>
-        requires { HaveExports self.now whole interface.now index state.old }
+        requires { HaveExports self.now (is_closed_in apart.now) interface.now index state.old }
         ensures keeps { OnOk result (KeepsGood self.now state.old state.new) }
         ensures cost { OnOk result (TellsWithin self.now.types.now (2 * named_parts interface.now.exports) state.old state.new) }
         ensures memory { IfErr result (λ e. e ≡ OutOfMemory) }
@@ -298,7 +308,7 @@ impl<'a> Teller<'a> {
         interface.exports.law(); // proof only
         for i in 0..interface.exports.len() {
             let (name, item) = interface.exports.entry_at(i);
-            let definition = self.told_in(whole, *item);
+            let definition = self.told_in(apart, *item);
             self.tell_value(state, told, definition, index, name)?;
         }
         Ok(())
@@ -326,25 +336,28 @@ impl<'a> Teller<'a> {
         &self,
         state: &mut State,
         told: &mut IndexSet<DefinedTypeId>,
-        whole: &[bool],
+        others: &[Others],
         entry: &Entry,
     ) -> Result<(), BinaryFault>
         requires teller { IsTeller self.now }
         requires imports { HasImports self.now state.old }
-        requires whole { AreWhole self.now whole.now }
+        requires others { AreOthers self.now others.now }
         requires entry { Contains (self.now.merge.now).entries entry.now }
         ensures keeps { OnOk result (KeepsGood self.now state.old state.new) }
         ensures cost { OnOk result (TellsWithin self.now.types.now (2 * entry_weight self.now.types.now (kind_type entry.now.kind)) state.old state.new) }
         ensures memory { IfErr result (λ e. e ≡ OutOfMemory) }
     {
+        self.types.uses_law(); // proof only
         let position = self.position_of(entry);
         let (_, index) = place_at(self.places, position);
         let item = entry.kind();
         let ItemKind::Instance(id) = item else {
             return self.tell_type(state, item, index);
         };
-        let is_whole = is_set(whole, position);
-        self.tell_values(state, told, &self.types[id], index, is_whole)
+        let interface = &self.types[id];
+        let these = &others[position].resources;
+        let apart = apart_items(self.types, self.closed, interface, these)?;
+        self.tell_values(state, told, interface, index, &apart)
     }
 
     /// Records what the imports are for the value types of the entries.
@@ -355,12 +368,12 @@ impl<'a> Teller<'a> {
         ensures cost { OnOk result (TellsWithin self.now.types.now (2 * entries_items self.now.types.now (self.now.merge.now).entries) state.old state.new) }
         ensures memory { IfErr result (λ e. e ≡ OutOfMemory) }
     {
-        let flags = self.whole_imports()?;
-        let whole = flags.as_slice();
+        let found = self.others()?;
+        let others = found.as_slice();
         let mut told = IndexSet::new(self.types.allocator());
         let entries = self.merge.entries();
         for i in 0..entries.len() {
-            self.tell_entry(state, &mut told, whole, &entries[i])?;
+            self.tell_entry(state, &mut told, others, &entries[i])?;
         }
         Ok(())
     }
@@ -382,9 +395,9 @@ impl<'a> Teller<'a> {
 ///
 /// - A resource is bound to what the first class that binds it imports.
 /// - A value type that an import names is written by that import's index.
-/// - A value type that mentions no resource is an alias of the first instance's export that an entry lists it under. So is
-///   any other that an instance exports, if all own resources of its entries are bound to it under their names there.
-///   What is not recorded is written when it is first needed.
+/// - A value type is an alias of the first instance's export that an entry lists it under and under which it means the same
+///   at the root: each own resource of the class that is free in it is bound to that instance, under its name there. What is
+///   not recorded is written when it is first needed.
 ///
 /// No entry may have a resource that no class binds.
 ///

@@ -28,7 +28,7 @@ use Rattle.wac_encode_stacks.proofs.Values.{resource-held}
 use Rattle.wac_encode_faults.specs.Free as free
 use Rattle.wac_encode_faults.specs.Free.{parts, IsFree}
 use Rattle.wac_encode_interfaces.specs.private.FreeTrees.{TreesByFree}
-use Rattle.wac_encode_interfaces.proofs.Agreeing.{held-agree, held-free}
+use Rattle.wac_encode_scopes.proofs.FreeAgreeing.{held-agree, held-free}
 use Rattle.wac_encode_interfaces.proofs.Bound.{found-in}
 use Rattle.wac_encode_interfaces.proofs.TypesTree.{part-held}
 

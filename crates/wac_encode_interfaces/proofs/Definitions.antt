@@ -38,7 +38,7 @@ use Rattle.wac_encode_interfaces.specs.private.Items.{IsItemReady, IsTypeIndex, 
 use Rattle.wac_encode_interfaces.specs.private.Worlds.{Worlds}
 use Rattle.wac_encode_interfaces.specs.private.Defined.{HasDefinition, HasDefinedSides, IsComponentOf, exporting_one, IsDefinition, IsScopeType, IsPlainType}
 use Rattle.wac_encode_interfaces.proofs.Adding.{side-kept}
-use Rattle.wac_encode_interfaces.proofs.Agreeing.{held-free}
+use Rattle.wac_encode_scopes.proofs.FreeAgreeing.{held-free}
 use Rattle.wac_encode_interfaces.proofs.DefinedSides.{world-defined}
 use Rattle.wac_encode_interfaces.proofs.Faultless.{definition_of_none}
 use Rattle.wac_encode_interfaces.proofs.WorldsAhead.{no-scope}

@@ -51,7 +51,8 @@ use Rattle.wac_encode_interfaces.specs.private.Worlds.{Worlds, HaveWorlds, HaveI
 use Rattle.wac_encode_interfaces.specs.private.Written.{side_item, is_bound_at, begins_with, bound_so_far, listed_so_far, IsWritten, IsNext, IsItemOf, AreWritable, AddsToSide}
 use Rattle.wac_encode_interfaces.specs.private.Parts.{ListsInterface}
 use Rattle.wac_encode_interfaces.proofs.Adding.{side-kept}
-use Rattle.wac_encode_interfaces.proofs.Agreeing.{HasFree, IsFreeInInterface, held-agree, held-free, interface-agree, interface-free, interface-here, shows-types}
+use Rattle.wac_encode_scopes.proofs.FreeAgreeing.{HasFree, held-agree, held-free}
+use Rattle.wac_encode_interfaces.proofs.Agreeing.{IsFreeInInterface, interface-agree, interface-free, interface-here, shows-types}
 use Rattle.wac_encode_interfaces.proofs.Bound.{true-false, no-some, one-some, both-true, true-both, bound-at, bound-before, bound-next, unbound-yet, side-final, instance-leaf}
 use Rattle.wac_encode_interfaces.proofs.SideTrees.{final_tree, under-name, written-next, not-listed}
 

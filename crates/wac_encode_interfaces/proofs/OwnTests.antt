@@ -4,10 +4,8 @@ use Rattle.std.specs.Prelude.{◌==◌, is_none}
 use Rattle.std.specs.List.{list_any}
 use Rattle.std.proofs.lemmas.Bool.{eqb-true}
 use Rattle.std.proofs.lemmas.List.Folds.{list_any-append}
-use Rattle.indexmap.specs.IndexSet.{insert_key}
 use Rattle.wac_types_shapes.specs.primitives.Name.{Name, find_name}
 use Rattle.wac_types_shapes.proofs.lemmas.shapes.Names.{take_at}
-use Rattle.wac_types_shapes.specs.contracts.shapes.component.ResourceIdPartialEq.TheImpl as IdEq
 use Rattle.wac_types_shapes.specs.declared.shapes.component.ResourceId.{ResourceId}
 use Rattle.wac_types_shapes.specs.declared.shapes.component.UsedType.{UsedType}
 use Rattle.wac_types_shapes.specs.declared.shapes.component.ItemKind.{ItemKind}
@@ -16,9 +14,9 @@ use Rattle.wac_types_shapes.specs.declared.shapes.component.«Type».TheVariants
 use Rattle.wac_types_collection.specs.collection.Collection.{Collection}
 use Rattle.wac_types_collection.specs.collection.Bound.{is_alias, lists_own, own_name}
 use Rattle.wac_types_collection.proofs.lemmas.wide.Members.{in_first, in_rest}
-use Rattle.wac_encode_scopes.specs.private.Telling.{is_one_of}
+use Rattle.wac_encode_scopes.specs.private.Telling.{is_one_of, is_that}
 use Rattle.wac_encode_faults.specs.Cycle.{owner_of}
-use Rattle.wac_encode_interfaces.specs.private.Parts.{is_number, is_owned, owned_in, is_that}
+use Rattle.wac_encode_interfaces.specs.private.Parts.{is_number, is_owned, owned_in}
 use Rattle.wac_encode_interfaces.proofs.Bound.{true-false, one-some, no-some, both-true, true-both, any-in, in-any}
 
 id-is : (q r : ResourceId) → (q.0 == r.0) ≡ true → q ≡ r
@@ -125,24 +123,3 @@ module _ (entries : List (ResourceId × ℕ)) (p : ℕ) where
       or-none : (b : Bool) → (b || false) ≡ b
       or-none true = refl
       or-none false = refl
-
--- a resource is added to a set
-
-pub inserted : (old new : List ResourceId) (q : ResourceId) → new ≡ insert_key (IdEq.ghosts).eq old q → (r : ResourceId) → is_one_of new r ≡ (is_one_of old r || is_that (Some q) r)
-inserted old new q is r = by (list_any ((IdEq.ghosts).eq q) old) refl is
-  where
-    or-none : (b : Bool) → (b || false) ≡ b
-    or-none true = refl
-    or-none false = refl
-
-    or-same : (a b : Bool) → (b ≡ true → a ≡ true) → a ≡ (a || b)
-    or-same true b h = refl
-    or-same false true h = h refl
-    or-same false false h = refl
-
-    old-there : list_any ((IdEq.ghosts).eq q) old ≡ true → (r.0 == q.0) ≡ true → is_one_of old r ≡ true
-    old-there found same = ap (λ (z : ResourceId). is_one_of old z) (id-is r q same) ∙ found
-
-    by : (b : Bool) → list_any ((IdEq.ghosts).eq q) old ≡ b → new ≡ (if b then old else old ++ q ∷ []) → is_one_of new r ≡ (is_one_of old r || (r.0 == q.0))
-    by true found h = ap (λ (xs : List ResourceId). is_one_of xs r) h ∙ or-same (is_one_of old r) (r.0 == q.0) (old-there found)
-    by false found h = ap (λ (xs : List ResourceId). is_one_of xs r) h ∙ list_any-append (λ (z : ResourceId). r.0 == z.0) old (q ∷ []) ∙ (λ j. is_one_of old r || or-none (r.0 == q.0) j)

@@ -23,7 +23,8 @@ use Rattle.wac_encode_stacks.specs.Instances.{ShowsWhole, taken_leaf}
 use Rattle.wac_encode_stacks.specs.private.Brought.{GoodOnce}
 use Rattle.wac_encode_scopes.specs.declared.state.State.{State}
 use Rattle.wac_encode_scopes.specs.States.{stack, AllAddTypes, Goes, RecordsHere}
-use Rattle.wac_encode_scopes.specs.private.Telling.{is_one_of, with_own_names, TellsInstance}
+use Rattle.wac_encode_scopes.specs.private.Told.{TellsItems}
+use Rattle.wac_encode_scopes.specs.private.Telling.{is_one_of, with_own_names, TellsInstance, telling}
 use Rattle.wac_encode_interfaces.specs.private.Items.{AddsItem, RefersToItem}
 use Rattle.wac_encode_interfaces.specs.private.Worlds.{Worlds}
 use Rattle.wac_encode_interfaces.specs.declared.level.Level.{Level}
@@ -107,8 +108,8 @@ there-is [] i low = absurd (omega (arith, low))
 there-is (x ∷ xs) zero low = (x.item, refl)
 there-is (x ∷ xs) (suc i) low = there-is xs i (omega (arith, low))
 
-pub told-ok : {E : Type 0} → ShowsWhole → (c : Collection) → IsWellFormed c → (b : Bool) (s t : State) (k : ItemKind) (i : InterfaceId) (j : ℕ) (rs : List ResourceId) (f : Interface → Open → Open) → rs ≡ [] → k ≡ kind.Instance i → HasInterface c i → HasInstance c b s k j → (r : Result ⊤ E)
-    → OnOk r ((it : Interface) → item_at c.interfaces i.0 ≡ Some it → RecordsHere b (f it) s t) → OnOk r ((it : Interface) → item_at c.interfaces i.0 ≡ Some it → TellsInstance c b it (is_one_of rs) j s t) → AllAddTypes s t → OnOk r (Goes c b s t)
-told-ok law c wf b s t k i j rs f none is held has r records tells types =
+pub told-ok : {E : Type 0} → ShowsWhole → (c : Collection) → IsWellFormed c → (b : Bool) (s t : State) (k : ItemKind) (i : InterfaceId) (j : ℕ) (rs : List ResourceId) → rs ≡ [] → k ≡ kind.Instance i → HasInterface c i → HasInstance c b s k j → (r : Result ⊤ E)
+    → OnOk r ((it : Interface) → item_at c.interfaces i.0 ≡ Some it → TellsItems c b it (is_one_of rs) j s t) → OnOk r ((it : Interface) → item_at c.interfaces i.0 ≡ Some it → TellsInstance c b it (is_one_of rs) j s t) → AllAddTypes s t → OnOk r (Goes c b s t)
+told-ok law c wf b s t k i j rs none is held has r records tells types =
     let it = there-is c.interfaces i.0 held in
-    some-of r (λ p q types. told law c wf b (f it.0) s t k i j it.0 rs is it.1 none has (p it.0 it.1) (q it.0 it.1) types) records tells types
+    some-of r (λ p q types. let told-items = p it.0 it.1 in told law c wf b (telling c it.0 (is_one_of rs) told-items.told j) s t k i j it.0 rs is it.1 none has told-items.records (q it.0 it.1) types) records tells types

@@ -1,5 +1,5 @@
 //! Instances of component types.
-ghost use Rattle.std.specs.Prelude.{◌≡◌, ◌||◌, ◌+◌, ◌*◌, [], false, Some, IfOk, OnOk, OnErr, length, slice_get};
+ghost use Rattle.std.specs.Prelude.{◌≡◌, ◌+◌, ◌*◌, [], false, Some, IfOk, OnOk, OnErr, length, slice_get};
 ghost use Rattle.std.specs.List.{list_any};
 ghost use Rattle.wac_types_shapes.specs.declared.shapes.component.ResourceId.{ResourceId as AnyResource};
 ghost use Rattle.wac_types_shapes.specs.declared.shapes.component.Interface.{Interface as AnInterface};
@@ -19,14 +19,14 @@ ghost use Rattle.wac_encode_interfaces.specs.private.Refused.{KeepsScopes};
 ghost use Rattle.wac_encode_interfaces.specs.private.Worlds.{HaveInterfaceWorlds, written_in};
 ghost use Rattle.wac_encode_interfaces.specs.private.Writers.{IsWriter};
 ghost use Rattle.wac_encode_interfaces.specs.private.Written.{side_item, IsItemOf};
-ghost use Rattle.wac_encode_interfaces.specs.private.Parts.{sides_in, ArePlanned, MayFollow, WritesItem, ListsInterface, is_owned, is_that, owned_in};
+ghost use Rattle.wac_encode_interfaces.specs.private.Parts.{sides_in, ArePlanned, MayFollow, WritesItem, ListsInterface, is_owned, owned_in};
 
 use crate::sides::Parts;
 use crate::writer::TypeWriter;
 use indexmap::{IndexMap, IndexSet};
 use std::alloc::{AllocError, Global};
 use wac_binary::{BinaryFault, Description};
-use wac_encode_scopes::{Side, State};
+use wac_encode_scopes::{Side, State, add_resource};
 use wac_encode_stacks::{instance_law, step_law, still_law};
 use wac_types_collection::{InterfaceId, ItemKind, Named, ResourceId, Type};
 use wac_types_weight::weight_law;
@@ -44,20 +44,6 @@ fn owned_resource(
     };
     let owner = owners.get(&id)?;
     if *owner == number { Some(id) } else { None }
-}
-
-/// Adds a resource to a set, if there is one.
-fn add_resource(
-    set: &mut IndexSet<ResourceId>,
-    resource: Option<ResourceId>,
-) -> Result<(), AllocError>
-    ensures { OnOk result ((r : AnyResource) → is_one_of set.new.keys r ≡ (is_one_of set.old.keys r || is_that resource r)) }
-{
-    let Some(resource) = resource else {
-        return Ok(());
-    };
-    set.insert(resource)?;
-    Ok(())
 }
 
 /// Returns the resources of type items that have this number.

@@ -103,8 +103,8 @@ impl<'a> TypeWriter<'a> {
         }
     }
 
-    /// Records the value types that an exported instance exports: all of them if its interface has no own resource, or
-    /// else those that mention no resource.
+    /// Records the value types that an exported instance exports, but for those in which an own resource of its interface
+    /// is free.
     fn tell_exports(&self, state: &mut State, item: ItemKind, index: u32) -> Result<(), BinaryFault>
         requires writer { IsWriter self.now }
         requires held { holds_type self.now.types.now (kind_type item) ≡ true }

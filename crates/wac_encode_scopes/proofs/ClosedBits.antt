@@ -80,16 +80,16 @@ says-one c wf bits x false say at h = reaches-by c bits say (ty.Value (val.Defin
 
 -- one more bit
 
-bit-before : (bits : List Bool) (b : Bool) (i : ℕ) → i < length bits → slice_get (bits ++ b ∷ []) i ≡ slice_get bits i
+pub bit-before : (bits : List Bool) (b : Bool) (i : ℕ) → i < length bits → slice_get (bits ++ b ∷ []) i ≡ slice_get bits i
 bit-before [] b i lt = absurd (omega (arith, lt))
 bit-before (x ∷ bits) b zero lt = refl
 bit-before (x ∷ bits) b (suc i) lt = bit-before bits b i (omega (arith, lt))
 
-bit-last : (bits : List Bool) (b : Bool) → slice_get (bits ++ b ∷ []) (length bits) ≡ Some b
+pub bit-last : (bits : List Bool) (b : Bool) → slice_get (bits ++ b ∷ []) (length bits) ≡ Some b
 bit-last [] b = refl
 bit-last (x ∷ bits) b = bit-last bits b
 
-one-longer : (bits : List Bool) (b : Bool) → length (bits ++ b ∷ []) ≡ suc (length bits)
+pub one-longer : (bits : List Bool) (b : Bool) → length (bits ++ b ∷ []) ≡ suc (length bits)
 one-longer [] b = refl
 one-longer (x ∷ bits) b = ap suc (one-longer bits b)
 

@@ -9,6 +9,10 @@ pub mod Looked
 pub mod Brought
 pub mod PartLists
 pub mod ClosedBits
+pub mod FreeAgreeing
+pub mod ItemDefinitions
+pub mod ApartBits
+pub mod OtherOwn
 pub mod Additions
 pub mod Rooted
 pub mod Owned

@@ -1,50 +1,46 @@
 -- A scope stays good as an instance's own resources are bound and its value types recorded.
-use Rattle.std.specs.Prelude.{ℕ, zero, suc, ◌≡◌, ◌≤◌, ◌&&◌, ◌||◌, ◌⊎◌, Bool, true, false, List, [], ◌∷◌, ◌++◌, length, take, slice_get, Option, Some, None, if◌then◌else◌}
+use Rattle.std.specs.Prelude.{ℕ, zero, suc, ◌≡◌, ◌≤◌, ◌&&◌, Bool, true, false, not, List, [], ◌∷◌, ◌++◌, length, take, slice_get, Option, Some, None, is_some, if◌then◌else◌}
 use Rattle.std.specs.List.{list_all}
-use Rattle.std.proofs.Common.{refl, ap, ◌∙◌, sym, subst, arith, inl, inr, ⊎_elim}
+use Rattle.std.proofs.Common.{refl, ap, ◌∙◌, sym, subst, arith}
 use Rattle.std.proofs.Math.Path.{fun_ext}
-use Rattle.std.proofs.lemmas.Bool.{ltb-true}
 use Rattle.std.proofs.lemmas.List.{take_all}
 use Rattle.wac_types_shapes.specs.primitives.Name.{Name, find_name, option_case, first_some}
 use Rattle.wac_types_shapes.specs.primitives.Tree.{named, Leaf, resource, further_out, exported, items_in}
 use Rattle.wac_types_shapes.specs.shapes.Named.{NoNameTwice}
-use Rattle.wac_types_shapes.specs.shapes.Kinds.{kind_type}
 use Rattle.wac_types_shapes.proofs.lemmas.shapes.Names.{find_name-at, take_at}
 use Rattle.wac_types_shapes.specs.declared.shapes.component.ResourceId.{ResourceId}
 use Rattle.wac_types_shapes.specs.declared.shapes.component.DefinedTypeId.{DefinedTypeId}
 use Rattle.wac_types_shapes.specs.declared.shapes.component.InterfaceId.{InterfaceId}
 use Rattle.wac_types_shapes.specs.declared.shapes.component.Interface.{Interface}
 use Rattle.wac_types_shapes.specs.declared.shapes.component.UsedType.{UsedType}
-use Rattle.wac_types_shapes.specs.declared.shapes.component.ValueType.{ValueType}
-use Rattle.wac_types_shapes.specs.declared.shapes.component.ValueType.TheVariants as val
 use Rattle.wac_types_shapes.specs.declared.shapes.component.«Type».TheVariants as ty
 use Rattle.wac_types_shapes.specs.declared.shapes.component.ItemKind.{ItemKind}
 use Rattle.wac_types_shapes.specs.declared.shapes.component.ItemKind.TheVariants as kind
 use Rattle.wac_types_collection.specs.declared.collection.collection.Held.{Held}
 use Rattle.wac_types_collection.specs.declared.collection.collection.AddTypeError.{AddTypeError}
 use Rattle.wac_types_collection.specs.declared.collection.collection.AddTypeError.TheVariants as fault
-use Rattle.wac_types_collection.specs.collection.Collection.{Collection, IsWellFormed, item_at, item_of, holds_value, holds_type, holds_all, HasDefined, used_types, kind_types, interface_mentions}
-use Rattle.wac_types_collection.specs.collection.Aliases.{value_resolved}
+use Rattle.wac_types_collection.specs.collection.Collection.{Collection, IsWellFormed, item_at, item_of, holds_type, holds_all, used_types, kind_types, interface_mentions}
 use Rattle.wac_types_collection.specs.collection.Bound.{Bindings, own_name, inside_interface}
 use Rattle.wac_types_collection.specs.collection.Uses.{IsSound, named_right, unless, mention_fault, uses_fault}
-use Rattle.wac_types_collection.proofs.lemmas.collection.Ends.{end_is_held}
+use Rattle.wac_types_collection.proofs.lemmas.wide.Members.{at_in}
 use Rattle.wac_binary.specs.Unfold.{Bound}
 use Rattle.wac_encode_stacks.specs.Scopes.{Where, at_export, Open, Stack, env, envs, bind_at, export_at}
-use Rattle.wac_encode_stacks.specs.Good.{At, Stands, IsHeld, IsClosed, nothing_bound, Good, Onward}
+use Rattle.wac_encode_stacks.specs.Good.{At, Stands, Good, Onward}
 use Rattle.wac_encode_stacks.specs.private.Beside.{written_as}
-use Rattle.wac_encode_stacks.specs.private.Laws.{IsItsEnd, StaysOnward}
+use Rattle.wac_encode_stacks.specs.private.Laws.{StaysOnward}
 use Rattle.wac_encode_stacks.specs.Listed.{calling, BindsMore, IsItem}
-use Rattle.wac_encode_stacks.specs.Instances.{BindsInstance, Shows, taken_leaf, HasOwn, HasExported}
-use Rattle.wac_encode_scopes.specs.declared.closed.ClosedTypes.{ClosedTypes}
+use Rattle.wac_encode_stacks.specs.Instances.{BindsBut, Shows, taken_leaf, HasOwn, HasExported}
 use Rattle.wac_encode_scopes.specs.declared.scope.Scope.{Scope}
 use Rattle.wac_encode_scopes.specs.declared.state.State.{State}
 use Rattle.wac_encode_scopes.specs.Books.{opened}
 use Rattle.wac_encode_scopes.specs.States.{outward, stack, named_in}
-use Rattle.wac_encode_scopes.specs.private.Closed.{AreClosedTypes, SaysClosed, is_closed_in}
+use Rattle.wac_encode_scopes.specs.private.Closed.{AreApartItems, SaysApart}
 use Rattle.wac_encode_scopes.specs.private.Interfaces.{own_in}
-use Rattle.wac_encode_scopes.specs.private.Telling.{with_own_names, all_own, definition_of, definition_in, binding_own, exporting_values, telling, MayBind, TellsInstance}
+use Rattle.wac_encode_scopes.specs.private.Telling.{with_own_names, is_other, definition_in, binding_own, exporting_values, telling, MayBind, TellsInstance}
 use Rattle.wac_encode_scopes.specs.private.Steps.{ScopeChanges, that_passes, bound_to, told_to}
-use Rattle.wac_encode_scopes.proofs.Owned.{own-some, own-listed, own-at, own-before, own-found, at-below}
+use Rattle.wac_encode_scopes.proofs.ApartBits.{does-not-depend}
+use Rattle.wac_encode_scopes.proofs.ItemDefinitions.{definition-holds, definition-some}
+use Rattle.wac_encode_scopes.proofs.Owned.{own-some, own-at, own-before, at-below}
 use Rattle.wac_encode_scopes.proofs.Told.{none-more, other-more, mine-more, none-told, binding-none, binding-more, exporting-more, exporting-none}
 
 -- one resource more is bound in a bottom scope
@@ -110,28 +106,15 @@ inside-told c it test x m = fun_ext (λ r. by_own r (own_name c it.uses it.expor
 pub shows-told : (c : Collection) (it : Interface) (test : ResourceId → Bool) (x : Bound) (m : Bindings) → Shows c m it x → Shows c (with_own_names c it.uses it.exports test (taken_leaf x) m) it x
 shows-told c it test x m shows n a found = subst (λ (k : Bindings). IsItem c k exported n (kind.TypeItem a) (items_in x.type n)) (sym (inside-told c it test x m)) (shows n a found)
 
--- if all own resources are told, the instance is bound
-all-at : {A : Type 0} (p : A → Bool) (xs : List A) (i : ℕ) (y : A) → list_all p xs ≡ true → slice_get xs i ≡ Some y → p y ≡ true
-all-at p [] i y h at = let no : None ≡ Some y = at in cc
-all-at p (z ∷ xs) zero y h at =
-    let some : Some z ≡ Some y = at in
-    let same : z ≡ y = cc in
-    ap p (sym same) ∙ first (p z) (list_all p xs) h
+-- The own resources that do not belong elsewhere are bound to the instance.
+pub binds-but : (c : Collection) (it : Interface) (own : ResourceId → Bool) (x : Bound) (m : Bindings) → BindsBut c it (is_other c it own) x.side x.path (with_own_names c it.uses it.exports own (taken_leaf x) m)
+binds-but c it own x m r n is other =
+    ap (λ (b : Bool). if b then option_case (own_name c it.uses it.exports r) (m r) (λ k. Some (taken_leaf x k)) else m r) (mine (own r) (sym (ap (λ (a : Option Name). is_some a && not (own r)) is) ∙ other))
+    ∙ ap (λ (a : Option Name). option_case a (m r) (λ k. Some (taken_leaf x k))) is
   where
-    first : (a b : Bool) → (a && b) ≡ true → a ≡ true
-    first true b e = refl
-    first false b e = let both : false ≡ true = e in cc
-all-at p (z ∷ xs) (suc i) y h at = all-at p xs i y (second (p z) (list_all p xs) h) at
-  where
-    second : (a b : Bool) → (a && b) ≡ true → b ≡ true
-    second true b e = e
-    second false b e = let both : false ≡ true = e in cc
-
-pub binds-instance : (c : Collection) (it : Interface) (test : ResourceId → Bool) (x : Bound) (m : Bindings) → all_own c it.uses it.exports test ≡ true → BindsInstance c it x.side x.path (with_own_names c it.uses it.exports test (taken_leaf x) m)
-binds-instance c it test x m all r n own =
-    let from = own-found c it.uses it.exports r n own in
-    let passes : test r ≡ true = sym (ap (λ (a : Option ResourceId). option_case a true test) (own-listed c it.uses from.1.0 from.1.1 r from.3)) ∙ all-at (λ (y : Name × ItemKind). option_case (own_in c it.uses y) true test) it.exports from.0 from.1 all from.2 in
-    ap (λ b. if b then option_case (own_name c it.uses it.exports r) (m r) (λ k. Some (taken_leaf x k)) else m r) passes ∙ ap (λ (a : Option Name). option_case a (m r) (λ k. Some (taken_leaf x k))) own
+    mine : (b : Bool) → (true && not b) ≡ false → b ≡ true
+    mine true h = refl
+    mine false h = let both : true ≡ false = h in cc
 
 -- value types of the items are held
 
@@ -142,11 +125,6 @@ all-second p (x ∷ xs) ys h = all-second p xs ys (second (p x) (list_all p (xs 
     second : (a b : Bool) → (a && b) ≡ true → b ≡ true
     second true b e = e
     second false b e = let both : false ≡ true = e in cc
-
-kinds-at : (es : List (Name × ItemKind)) (i : ℕ) (y : Name × ItemKind) → slice_get es i ≡ Some y → slice_get (kind_types es) i ≡ Some (kind_type y.1)
-kinds-at [] i y at = let no : None ≡ Some y = at in cc
-kinds-at (z ∷ es) zero y at = let some : Some z ≡ Some y = at in let same : z ≡ y = cc in ap (λ (k : Name × ItemKind). Some (kind_type k.1)) same
-kinds-at (z ∷ es) (suc i) y at = kinds-at es i y at
 
 pub sound-held : (c : Collection) → IsSound c → (id : InterfaceId) (it : Interface) → item_at c.interfaces id.0 ≡ Some it → list_all (holds_type c) (kind_types it.exports) ≡ true
 sound-held c sound id it at = by_held (slice_get c.interfaces id.0) refl at
@@ -169,16 +147,8 @@ sound-held c sound id it at = by_held (slice_get c.interfaces id.0) refl at
 
 -- value types
 
-definition-is : (w : ValueType) (d : DefinedTypeId) → definition_of w ≡ Some d → w ≡ val.Defined d
-definition-is (val.Defined e) d h = let some : Some e ≡ Some d = h in let same : e ≡ d = cc in ap val.Defined same
-definition-is w d h = let no : None ≡ Some d = h in cc
-
-definition-some : (c : Collection) (n : Name) (k : ItemKind) (d : DefinedTypeId) → definition_in c (n, k) ≡ Some d → (v : ValueType) × (k ≡ kind.TypeItem (ty.Value v)) × (value_resolved c v ≡ val.Defined d)
-definition-some c n (kind.TypeItem (ty.Value v)) d h = (v, refl, definition-is (value_resolved c v) d h)
-definition-some c n k d h = let no : None ≡ Some d = h in cc
-
-module _ (exported_law : HasExported) (end_law : IsItsEnd) (c : Collection) (wf : IsWellFormed c) (it : Interface) (once : NoNameTwice it.exports) (held : list_all (holds_type c) (kind_types it.exports) ≡ true) (test : DefinedTypeId → Bool) (j : ℕ) (x : Bound) (m : Bindings) (ms : List Bindings) (o : Open) (os : Stack)
-    (at_j : At ((env o (envs os)).instances) j x) (shows : Shows c m it x) (either_ : (d : DefinedTypeId) → HasDefined c d → test d ≡ true → BindsInstance c it x.side x.path m ⊎ IsClosed c (ty.Value (val.Defined d))) where
+module _ (exported_law : HasExported) (c : Collection) (wf : IsWellFormed c) (it : Interface) (once : NoNameTwice it.exports) (held : list_all (holds_type c) (kind_types it.exports) ≡ true) (others : ResourceId → Bool) (test : DefinedTypeId → Bool) (apart : AreApartItems c it.exports others test) (j : ℕ) (x : Bound) (m : Bindings) (ms : List Bindings) (o : Open) (os : Stack)
+    (at_j : At ((env o (envs os)).instances) j x) (shows : Shows c m it x) (binds : BindsBut c it others x.side x.path m) where
   abbrev told_so : List (Name × ItemKind) → Open
   told_so es = exporting_values c es test j o
 
@@ -189,10 +159,9 @@ module _ (exported_law : HasExported) (end_law : IsItsEnd) (c : Collection) (wf 
   value-step i y at d is passes g =
       let v = definition-some c y.0 y.1 d is in
       let found : find_name it.exports y.0 ≡ Some (kind.TypeItem (ty.Value v.0)) = find_name-at it.exports i y.0 y.1 once at ∙ ap Some v.1 in
-      let holds : holds_value c v.0 ≡ true = ap (λ (k : ItemKind). holds_type c (kind_type k)) (sym v.1) ∙ all-at (holds_type c) (kind_types it.exports) i (kind_type y.1) held (kinds-at it.exports i y at) in
-      let there : HasDefined c d = ltb-true d.0 (length c.defined) (ap (holds_value c) (sym v.2) ∙ end_is_held c wf v.0 true holds ∙ holds) in
-      let whole_or : BindsInstance c it x.side x.path m ⊎ IsClosed c (ty.Value v.0) = ⊎_elim (λ binds. inl binds) (λ closed. inr (closed.0, end_law c wf nothing_bound v.0 closed.0 (subst (λ (w : ValueType). IsHeld c nothing_bound (ty.Value w) closed.0) (sym v.2) closed.1))) (either_ d there passes) in
-      (exported_law c wf m ms (told_so (take i it.exports)) os it j x v.0 d y.0 g at_j shows found holds v.2 whole_or).0
+      let holds = definition-holds c wf it.exports held i y d at is in
+      let says : SaysApart c others d true = subst (SaysApart c others d) passes (apart y d (at_in it.exports i y at) is) in
+      (exported_law c wf m ms (told_so (take i it.exports)) os it j x v.0 d y.0 others g at_j shows found v.2 holds binds (does-not-depend c others d says)).0
 
   tell-step : (i : ℕ) (y : Name × ItemKind) → slice_get it.exports i ≡ Some y → IsGoodWith (told_so (take i it.exports)) → IsGoodWith (told_so (take i it.exports ++ y ∷ []))
   tell-step i y at g = subst IsGoodWith (sym (exporting-more c test j (take i it.exports) y o)) (by_item (definition_in c y) refl)
@@ -220,19 +189,15 @@ module _ (exported_law : HasExported) (end_law : IsItsEnd) (c : Collection) (wf 
 
 -- both
 
-either-told : (c : Collection) (closed : ClosedTypes) (whole : Bool) (P : Type 0) (d : DefinedTypeId) → SaysClosed c d (is_closed_in closed d) → (whole ≡ true → P) → (whole || is_closed_in closed d) ≡ true → P ⊎ IsClosed c (ty.Value (val.Defined d))
-either-told c closed true P d says all h = inl (all refl)
-either-told c closed false P d says all h = inr (subst (SaysClosed c d) h says)
-
 pub scope-both : (b : Bool) (f g : Open → Open) (s t u : Scope) → ScopeChanges b f s t → ScopeChanges b g t u → ScopeChanges b (λ o. g (f o)) s u
 scope-both b f g s t u one two = (two.0 ∙ ap g one.0, two.1 ∙ ap (written_as (opened b u)) one.1)
 
-pub tells-instance : BindsMore → HasOwn → HasExported → IsItsEnd → StaysOnward → (c : Collection) → IsWellFormed c → (b : Bool) (it : Interface) → named_right c it.uses it.exports ≡ true → NoNameTwice it.exports → list_all (holds_type c) (kind_types it.exports) ≡ true → (closed : ClosedTypes) → AreClosedTypes c closed → (own : ResourceId → Bool) (j : ℕ) (st : State) (here : Scope)
-    → opened b here ≡ telling c it own (is_closed_in closed) j (opened b st.here) → TellsInstance c b it own j st (record st { here = here })
-tells-instance binds_law own_law exported_law end_law stays c wf b it right once held closed are own j st here step m ms x good at_j shows may =
+pub tells-instance : BindsMore → HasOwn → HasExported → StaysOnward → (c : Collection) → IsWellFormed c → (b : Bool) (it : Interface) → named_right c it.uses it.exports ≡ true → NoNameTwice it.exports → list_all (holds_type c) (kind_types it.exports) ≡ true → (own : ResourceId → Bool) (test : DefinedTypeId → Bool) → AreApartItems c it.exports (is_other c it own) test → (j : ℕ) (st : State) (here : Scope)
+    → opened b here ≡ telling c it own test j (opened b st.here) → TellsInstance c b it own j st (record st { here = here })
+tells-instance binds_law own_law exported_law stays c wf b it right once held own test apart j st here step m ms x good at_j shows may =
     subst (λ (p : Open). Onward c (with_own_names c it.uses it.exports own (taken_leaf x) m ∷ ms) (stack b st) (p ∷ outward b st.around.items)) (sym step) (
-      tell-all exported_law end_law c wf it once held (λ d. all_own c it.uses it.exports own || is_closed_in closed d) j x (with_own_names c it.uses it.exports own (taken_leaf x) m) ms (binding_own c it.uses it.exports own j (opened b st.here)) (outward b st.around.items) at_j (shows-told c it own x m shows)
-          (λ d there passes. either-told c closed (all_own c it.uses it.exports own) (BindsInstance c it x.side x.path (with_own_names c it.uses it.exports own (taken_leaf x) m)) d (are d there) (binds-instance c it own x m) passes)
+      tell-all exported_law c wf it once held (is_other c it own) test apart j x (with_own_names c it.uses it.exports own (taken_leaf x) m) ms (binding_own c it.uses it.exports own j (opened b st.here)) (outward b st.around.items) at_j (shows-told c it own x m shows)
+          (binds-but c it own x m)
           (bind-all binds_law own_law c it right once own j x m ms (opened b st.here) (outward b st.around.items) at_j shows may good),
       (stays c (m ∷ ms) (stack b st) good).1,
     )
@@ -257,27 +222,5 @@ exporting-next c test j es i k y a b s t u one at is step last =
     (λ o. ap (λ (z : Option DefinedTypeId). told_to z j y.0 (exporting_values c (take i es) test j o)) is ∙ sym (exporting-more c test j (take i es) y o) ∙ ap (λ (l : List (Name × ItemKind)). exporting_values c l test j o) (sym (ap (λ n. take n es) one ∙ take_at es i y at)))
     (scope-both b (exporting_values c (take i es) test j) (told_to a j y.0) s t u step last)
 
-pub telling-changes : (c : Collection) (it : Interface) (own : ResourceId → Bool) (is_closed : DefinedTypeId → Bool) (j : ℕ) (whole b : Bool) (s t u : Scope) → whole ≡ all_own c it.uses it.exports own → ScopeChanges b (binding_own c it.uses it.exports own j) s t → ScopeChanges b (exporting_values c it.exports (λ d. whole || is_closed d) j) t u → ScopeChanges b (telling c it own is_closed j) s u
-telling-changes c it own is_closed j whole b s t u is step last =
-    subst (λ (w : Bool). ScopeChanges b (λ o. exporting_values c it.exports (λ d. w || is_closed d) j (binding_own c it.uses it.exports own j o)) s u) is
-    (scope-both b (binding_own c it.uses it.exports own j) (exporting_values c it.exports (λ d. whole || is_closed d) j) s t u step last)
-
--- whether all own resources are told
-
-all-next : {A : Type 0} (p : A → Bool) (xs : List A) (y : A) → list_all p xs ≡ true → p y ≡ true → list_all p (xs ++ y ∷ []) ≡ true
-all-next p [] y h g = ap (λ b. b && true) g
-all-next p (x ∷ xs) y h g = by_first (p x) h (all-next p xs y)
-  where
-    by_first : (b : Bool) → (b && list_all p xs) ≡ true → (list_all p xs ≡ true → p y ≡ true → list_all p (xs ++ y ∷ []) ≡ true) → (b && list_all p (xs ++ y ∷ [])) ≡ true
-    by_first true e rest = rest e g
-    by_first false e rest = let both : false ≡ true = e in cc
-
-pub own-next : (c : Collection) (uses : List (Name × UsedType)) (test : ResourceId → Bool) (es : List (Name × ItemKind)) (i k : ℕ) (y : Name × ItemKind) → k ≡ suc i → slice_get es i ≡ Some y → option_case (own_in c uses y) true test ≡ true → all_own c uses (take i es) test ≡ true → all_own c uses (take k es) test ≡ true
-own-next c uses test es i k y one at passes all = ap (λ (l : List (Name × ItemKind)). all_own c uses l test) (ap (λ n. take n es) one ∙ take_at es i y at) ∙ all-next (λ (z : Name × ItemKind). option_case (own_in c uses z) true test) (take i es) y all passes
-
-pub own-fails : (c : Collection) (uses : List (Name × UsedType)) (test : ResourceId → Bool) (es : List (Name × ItemKind)) (i : ℕ) (y : Name × ItemKind) → slice_get es i ≡ Some y → option_case (own_in c uses y) true test ≡ false → all_own c uses es test ≡ false
-own-fails c uses test es i y at fails = by_all (all_own c uses es test) refl
-  where
-    by_all : (b : Bool) → all_own c uses es test ≡ b → b ≡ false
-    by_all false e = refl
-    by_all true e = let both : false ≡ true = sym fails ∙ all-at (λ (z : Name × ItemKind). option_case (own_in c uses z) true test) es i y e at in cc
+pub telling-changes : (c : Collection) (it : Interface) (own : ResourceId → Bool) (test : DefinedTypeId → Bool) (j : ℕ) (b : Bool) (s t u : Scope) → ScopeChanges b (binding_own c it.uses it.exports own j) s t → ScopeChanges b (exporting_values c it.exports test j) t u → ScopeChanges b (telling c it own test j) s u
+telling-changes c it own test j b s t u step last = scope-both b (binding_own c it.uses it.exports own j) (exporting_values c it.exports test j) s t u step last

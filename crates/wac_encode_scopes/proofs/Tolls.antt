@@ -17,7 +17,7 @@ use Rattle.wac_types_collection.specs.collection.Bound.{lists_own, own_name}
 use Rattle.wac_encode_scopes.specs.States.{named_of, named_in}
 use Rattle.wac_encode_scopes.specs.private.Interfaces.{own_in}
 use Rattle.wac_encode_scopes.specs.private.Paid.{prices, sum_below, alias_cost, if_some, if_index, telling_cost}
-use Rattle.wac_encode_scopes.specs.private.Telling.{all_own, definition_in, value_name, telling}
+use Rattle.wac_encode_scopes.specs.private.Telling.{definition_in, value_name, telling}
 use Rattle.wac_encode_scopes.proofs.Types.{eqb-swap}
 use Rattle.wac_encode_scopes.proofs.Owned.{own-lists, own-none}
 use Rattle.wac_encode_scopes.proofs.Told.{named-some}
@@ -120,16 +120,16 @@ told-cost k j true None w = omega arith
 told-cost k j true (Some n) w = omega arith
 told-cost k j false a w = omega arith
 
-module _ (c : Collection) (it : Interface) (own : ResourceId → Bool) (is_closed : DefinedTypeId → Bool) (j : ℕ) (o : Open) where
+module _ (c : Collection) (it : Interface) (own : ResourceId → Bool) (test : DefinedTypeId → Bool) (j : ℕ) (o : Open) where
   abbrev told_open : Open
-  told_open = telling c it own is_closed j o
+  told_open = telling c it own test j o
 
   costs-told : (k : ℕ) → costs k c told_open ≤ costs k c o + sum_by (item-cost k) it.exports
   costs-told k =
       let rs = below-le (λ n. alias_cost k (told_open.binds (record { 0 = n }))) (λ n. alias_cost k (o.binds (record { 0 = n })) + named-cost k (own_name c it.uses it.exports (record { 0 = n }))) (length c.resources)
       (λ n. told-cost k j (own (record { 0 = n })) (own_name c it.uses it.exports (record { 0 = n })) (o.binds (record { 0 = n }))) in
       let ds = below-le (λ n. alias_cost k (told_open.exports (record { 0 = n }))) (λ n. alias_cost k (o.exports (record { 0 = n })) + named-cost k (value_name c it.exports (record { 0 = n }))) (length c.defined)
-      (λ n. told-cost k j ((all_own c it.uses it.exports own || is_closed (record { 0 = n })) && is_none (named_of (o.types (ty.Value (val.Defined (record { 0 = n })))) (o.exports (record { 0 = n })))) (value_name c it.exports (record { 0 = n })) (o.exports (record { 0 = n }))) in
+      (λ n. told-cost k j (test (record { 0 = n }) && is_none (named_of (o.types (ty.Value (val.Defined (record { 0 = n })))) (o.exports (record { 0 = n })))) (value_name c it.exports (record { 0 = n })) (o.exports (record { 0 = n }))) in
       let rs_both = below-plus (λ n. alias_cost k (o.binds (record { 0 = n }))) (λ n. named-cost k (own_name c it.uses it.exports (record { 0 = n }))) (length c.resources) in
       let ds_both = below-plus (λ n. alias_cost k (o.exports (record { 0 = n }))) (λ n. named-cost k (value_name c it.exports (record { 0 = n }))) (length c.defined) in
       let owned = own-sum k c it.uses it.exports (length c.resources) in
@@ -156,7 +156,7 @@ module _ (c : Collection) (it : Interface) (own : ResourceId → Bool) (is_close
       by_export (Some w) e = absurd (named-some (o.types (ty.Value (val.Defined d))) w e)
 
   export-more : (x : ℕ) (d : DefinedTypeId) → if_index (o.exports d) x ≤ if_index (told_open.exports d) x
-  export-more x d = by_test (all_own c it.uses it.exports own || is_closed d) (is_none (named_in d o)) refl
+  export-more x d = by_test (test d) (is_none (named_in d o)) refl
     where
       by_test : (a b : Bool) → is_none (named_in d o) ≡ b → if_index (o.exports d) x ≤ if_index (if a && b then option_case (value_name c it.exports d) (o.exports d) (λ n. Some (at_export j n)) else o.exports d) x
       by_test false b h = le_refl (if_index (o.exports d) x)

@@ -23,6 +23,7 @@ pub mod state;
 pub use book::How;
 pub use closed::ClosedTypes;
 pub use encodable::Encodable;
+pub use instances::{add_resource, apart_items};
 pub use laws::{paying_law, priced_law};
 pub use parts::part_at;
 pub use root::lending_law;

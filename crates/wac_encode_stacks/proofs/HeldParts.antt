@@ -1,5 +1,5 @@
 -- The parts of what is held are held, and what is held further out is held here.
-use Rattle.std.specs.Prelude.{ℕ, zero, suc, ◌≡◌, Bool, true, false, List, [], ◌∷◌, map, Option, Some, None}
+use Rattle.std.specs.Prelude.{ℕ, zero, suc, ◌≡◌, Bool, true, false, if◌then◌else◌, List, [], ◌∷◌, map, Option, Some, None}
 use Rattle.std.specs.List.{AllByRecursion}
 use Rattle.std.proofs.Common.{refl, ap, ◌∙◌, sym, subst}
 use Rattle.std.proofs.Math.Path.{fun_ext}
@@ -22,6 +22,7 @@ use Rattle.wac_types_collection.specs.collection.Held.{resolved, part_at, option
 use Rattle.wac_types_collection.specs.collection.Bound.{Bindings, own_name, inside_interface, binds_here, by_place, held_tree}
 use Rattle.wac_binary.specs.HasMeaning.{IsValue, IsResource}
 use Rattle.wac_encode_stacks.specs.Good.{IsHeld, IsClosed, Carries}
+use Rattle.wac_encode_stacks.specs.Instances.{IsApart}
 use Rattle.wac_encode_stacks.specs.Listed.{IsItem}
 use Rattle.wac_encode_stacks.specs.private.HeldParts.{HeldCarried, HeldFurtherIn, HeldUnderMore, HoldsAll, HoldsParts, HoldsFuncParts, HoldsItems, HandlesAreBound, ResourceIsBound}
 use Rattle.wac_encode_stacks.proofs.Moved.{on, changed, own_leaf, held-here, held-moves, moved-moved, moved-defined, moved-func}
@@ -37,6 +38,21 @@ held-further-in c far m k a t x h = held-carried c (out_by k) far m a t x h
 
 pub held-under-more : HeldUnderMore
 held-under-more c m m' a t more h f n x = h f n (λ r l e. x r l (more r l e))
+
+-- bindings that give these resources what far binds them to, with its leaves changed, and all others what n gives them
+abbrev pub mixed : (Leaf → Leaf) → (ResourceId → Bool) → Bindings → Bindings → Bindings
+mixed f these far n r = if these r then on f (far r) else n r
+
+-- what does not depend on these resources is held wherever the leaves of all others are carried
+pub apart-carried : (c : Collection) (g : Leaf → Leaf) (these : ResourceId → Bool) (far m : Bindings) (a : AnyType) (t : Tree) → IsApart c these a → ((r : ResourceId) (l : Leaf) → these r ≡ false → far r ≡ Some l → m r ≡ Some (g l)) → IsHeld c far a t → IsHeld c m a (moved g t)
+apart-carried c g these far m a t apart carries h f n y =
+    apart n (mixed (λ l. f (g l)) these far n) (λ r other. sym (ap (λ (b : Bool). if b then on (λ l. f (g l)) (far r) else n r) other))
+    ∙ h (λ l. f (g l)) (mixed (λ l. f (g l)) these far n) (λ r l at. carried r l at (these r) refl)
+    ∙ sym (moved-moved t f g (λ l. f (g l)) refl)
+  where
+    carried : (r : ResourceId) (l : Leaf) → far r ≡ Some l → (b : Bool) → these r ≡ b → (if these r then on (λ k. f (g k)) (far r) else n r) ≡ Some (f (g l))
+    carried r l at true is = ap (λ (b : Bool). if b then on (λ k. f (g k)) (far r) else n r) is ∙ ap (on (λ k. f (g k))) at
+    carried r l at false is = ap (λ (b : Bool). if b then on (λ k. f (g k)) (far r) else n r) is ∙ y r (g l) (carries r l is at)
 
 -- what means no resource is held wherever its leaves are carried
 pub closed-carried : (c : Collection) (g : Leaf → Leaf) (far m : Bindings) (a : AnyType) (t : Tree) → IsClosed c a → IsHeld c far a t → IsHeld c m a (moved g t)

@@ -1,24 +1,27 @@
 -- What an instance in scope has.
-use Rattle.std.specs.Prelude.{ℕ, zero, suc, ◌≡◌, ◌==◌, ◌&&◌, Bool, true, false, not, List, [], ◌∷◌, ◌++◌, length, Option, Some, None, is_some, is_none, slice_get, if◌then◌else◌, ◌⊎◌}
-use Rattle.std.proofs.Common.{refl, ap, ◌∙◌, sym, subst, ⊎_elim}
+use Rattle.std.specs.Prelude.{ℕ, zero, suc, ◌≡◌, ◌==◌, ◌&&◌, Bool, true, false, not, List, [], ◌∷◌, ◌++◌, length, Option, Some, None, is_some, is_none, slice_get, if◌then◌else◌}
+use Rattle.std.proofs.Common.{refl, ap, ◌∙◌, sym, subst}
 use Rattle.std.proofs.lemmas.Bool.{eqb-true}
 use Rattle.wac_types_shapes.specs.primitives.Name.{Name, same_name, find_name, option_case}
 use Rattle.wac_types_shapes.proofs.lemmas.shapes.Names.{same_name-refl}
 use Rattle.wac_types_shapes.specs.declared.shapes.component.ResourceId.{ResourceId}
 use Rattle.wac_types_shapes.specs.declared.shapes.component.Interface.{Interface}
+use Rattle.wac_types_shapes.specs.declared.shapes.component.DefinedTypeId.{DefinedTypeId}
 use Rattle.wac_types_shapes.specs.declared.shapes.component.UsedType.{UsedType}
 use Rattle.wac_types_shapes.specs.declared.shapes.component.ValueType.{ValueType}
+use Rattle.wac_types_shapes.specs.declared.shapes.component.ValueType.TheVariants as val
 use Rattle.wac_types_shapes.specs.declared.shapes.component.«Type».TheVariants as ty
 use Rattle.wac_types_shapes.specs.declared.shapes.component.ItemKind.{ItemKind}
 use Rattle.wac_types_shapes.specs.declared.shapes.component.ItemKind.TheVariants as kind
 use Rattle.wac_types_shapes.specs.primitives.Tree.{Side, imported, exported, Place, named, Leaf, Tree, fresh, type_equal, further_out, taken_from, items_in}
 use Rattle.wac_types_collection.specs.collection.Collection.{Collection, IsWellFormed}
+use Rattle.wac_types_collection.specs.collection.Aliases.{value_resolved}
 use Rattle.wac_types_collection.specs.collection.Held.{source_of, resolved_in, resolved}
 use Rattle.wac_types_collection.specs.collection.Bound.{Bindings, is_alias, own_name, inside_interface, is_here, binds_here}
 use Rattle.wac_binary.specs.Unfold.{Bound, bound_type}
 use Rattle.wac_encode_stacks.specs.Scopes.{at_export, env, envs, export_at}
-use Rattle.wac_encode_stacks.specs.Good.{IsHeld, Carries, top, IsClosed}
-use Rattle.wac_encode_stacks.specs.Instances.{BindsInstance, HasExported, ShowsWhole, HasOwn}
+use Rattle.wac_encode_stacks.specs.Good.{IsHeld, top}
+use Rattle.wac_encode_stacks.specs.Instances.{BindsBut, IsApart, HasExported, ShowsWhole, HasOwn}
 use Rattle.wac_encode_stacks.specs.Listed.{FreshInInterface, CallsOwn, IsItem}
 use Rattle.wac_encode_stacks.proofs.Aliases.{end-held}
 use Rattle.wac_encode_stacks.proofs.HeldValues.{holds-value}
@@ -27,7 +30,7 @@ use Rattle.wac_encode_stacks.proofs.Steps.{top-onward, good-export_at}
 use Rattle.wac_encode_stacks.proofs.Moved.{on, own_leaf, taken}
 use Rattle.wac_encode_stacks.proofs.Whole.{not-here}
 use Rattle.wac_types_shapes.specs.declared.shapes.component.«Type».{«Type» as AnyType}
-use Rattle.wac_encode_stacks.proofs.HeldParts.{holds-items, held-carried, closed-carried}
+use Rattle.wac_encode_stacks.proofs.HeldParts.{holds-items, apart-carried}
 
 -- what is listed as its own is no alias
 own-no-alias : (c : Collection) (uses : List (Name × UsedType)) (es : List (Name × ItemKind)) (r : ResourceId) (n : Name) → own_name c uses es r ≡ Some n → is_alias c r ≡ false
@@ -81,31 +84,30 @@ pub has-own : HasOwn
 has-own c m o os it j b r n at shows found own =
     (b, at, ap (λ (x : Tree). bound_type b.side (b.path ++ named n ∷ []) (taken_from b.side b.path x)) (fresh-item c (inside_interface c it m) n (ty.Resource r) (items_in b.type n) (own-here c it m r n own) (shows n (ty.Resource r) found)))
 
--- what an instance binds, taken out of it
-carries-taken : (c : Collection) (it : Interface) (side : Side) (path : List Place) (m : Bindings) → BindsInstance c it side path m → Carries (taken side path) (inside_interface c it m) m
-carries-taken c it side path m binds r l = by_case (own_name c it.uses it.exports r) (m r) refl (binds r)
+-- what an instance binds, but for the others, taken out of it
+carries-taken : (c : Collection) (it : Interface) (others : ResourceId → Bool) (side : Side) (path : List Place) (m : Bindings) → BindsBut c it others side path m → (r : ResourceId) (l : Leaf) → others r ≡ false → inside_interface c it m r ≡ Some l → m r ≡ Some (taken side path l)
+carries-taken c it others side path m binds r l other = by_case (own_name c it.uses it.exports r) (m r) refl (λ n own. binds r n own other)
   where
     by_case : (o : Option Name) (b : Option Leaf) → m r ≡ b → ((n : Name) → o ≡ Some n → m r ≡ Some (record { out = 0; side = side; path = path ++ named n ∷ [] })) → option_case o (option_case b None (λ x. Some (further_out x))) (λ n. Some (own_leaf n)) ≡ Some l → m r ≡ Some (taken side path l)
     by_case (Some n) b e own h = own n refl ∙ ap (on (taken side path)) h
     by_case None None e own h = let no_none : None ≡ Some l = h in cc
     by_case None (Some x) e own h = e ∙ ap (on (taken side path)) h
 
-module _ (c : Collection) (wf : IsWellFormed c) (m : Bindings) (it : Interface) (b : Bound) (v : ValueType) (n : Name) (either_ : BindsInstance c it b.side b.path m ⊎ IsClosed c (ty.Value v)) where
-  held-taken-out : (u : Tree) → IsHeld c (inside_interface c it m) (ty.Value v) u → IsHeld c m (ty.Value v) (taken_from b.side b.path u)
-  held-taken-out u held = ⊎_elim
-      (λ binds. held-carried c (taken b.side b.path) (inside_interface c it m) m (ty.Value v) u (carries-taken c it b.side b.path m binds) held)
-      (λ closed. closed-carried c (taken b.side b.path) (inside_interface c it m) m (ty.Value v) u closed held)
-      either_
+module _ (c : Collection) (wf : IsWellFormed c) (m : Bindings) (it : Interface) (b : Bound) (v : ValueType) (d : DefinedTypeId) (n : Name) (is : value_resolved c v ≡ val.Defined d) (others : ResourceId → Bool) (binds : BindsBut c it others b.side b.path m) (apart : IsApart c others (ty.Value (val.Defined d))) where
+  held-taken-out : (u : Tree) → IsHeld c (inside_interface c it m) (ty.Value v) u → IsHeld c m (ty.Value (val.Defined d)) (taken_from b.side b.path u)
+  held-taken-out u held =
+      apart-carried c (taken b.side b.path) others (inside_interface c it m) m (ty.Value (val.Defined d)) u apart (carries-taken c it others b.side b.path m binds)
+      (subst (λ (w : ValueType). IsHeld c (inside_interface c it m) (ty.Value w) u) is (end-held c wf (inside_interface c it m) v u held))
 
-  exported-value : (x : Tree) → items_in b.type n ≡ x → IsItem c (inside_interface c it m) exported n (kind.TypeItem (ty.Value v)) x → (t : Tree) × IsHeld c m (ty.Value v) t × (bound_type b.side (b.path ++ named n ∷ []) (taken_from b.side b.path (items_in b.type n)) ≡ t)
+  exported-value : (x : Tree) → items_in b.type n ≡ x → IsItem c (inside_interface c it m) exported n (kind.TypeItem (ty.Value v)) x → (t : Tree) × IsHeld c m (ty.Value (val.Defined d)) t × (bound_type b.side (b.path ++ named n ∷ []) (taken_from b.side b.path (items_in b.type n)) ≡ t)
   exported-value fresh e h = let both : false ≡ true = h in cc
   exported-value (type_equal u) e h = (taken_from b.side b.path u, held-taken-out u h.1, ap (λ (x : Tree). bound_type b.side (b.path ++ named n ∷ []) (taken_from b.side b.path x)) e)
   exported-value x e h = absurd h
 
 pub has-exported : HasExported
-has-exported c wf m ms o os it j b v d n g at shows found holds is either_ =
-    let t = exported-value c wf m it b v n either_ (items_in b.type n) refl (shows n (ty.Value v) found) in
-    top-onward c m ms o (export_at d (at_export j n) o) os g (good-export_at c m (top ms) o (envs os) d (at_export j n) t.0 g.0 (subst (λ (w : ValueType). IsHeld c m (ty.Value w) t.0) is (end-held c wf m v t.0 t.1)) (holds-value c wf m v t.0 holds t.1) (b, at, t.2)) (kept-refl (env o (envs os)))
+has-exported c wf m ms o os it j b v d n others g at shows found is holds binds apart =
+    let t = exported-value c wf m it b v d n is others binds apart (items_in b.type n) refl (shows n (ty.Value v) found) in
+    top-onward c m ms o (export_at d (at_export j n) o) os g (good-export_at c m (top ms) o (envs os) d (at_export j n) t.0 g.0 t.1 (holds-value c wf m (val.Defined d) t.0 holds t.1) (b, at, t.2)) (kept-refl (env o (envs os)))
 
 here-named : (q n : Name) → is_here exported (named n ∷ []) (Some (own_leaf q)) ≡ same_name q n
 here-named q n = by_case (same_name q n)

@@ -1,5 +1,5 @@
 -- What an instance in scope exports, and what imports of the root add.
-use Rattle.std.specs.Prelude.{ℕ, ◌≡◌, ◌⊎◌, true, List, [], ◌∷◌, ◌++◌, length, map, Some, None}
+use Rattle.std.specs.Prelude.{ℕ, ◌≡◌, Bool, true, false, List, [], ◌∷◌, ◌++◌, length, map, Some, None}
 use Rattle.wac_types_shapes.specs.primitives.Name.{Name, find_name}
 use Rattle.wac_types_shapes.specs.declared.shapes.component.ResourceId.{ResourceId}
 use Rattle.wac_types_shapes.specs.declared.shapes.component.InterfaceId.{InterfaceId}
@@ -13,7 +13,7 @@ use Rattle.wac_types_shapes.specs.declared.shapes.component.ItemKind.TheVariants
 use Rattle.wac_types_shapes.specs.primitives.Tree.{Side, imported, exported, Place, position, named, Leaf, Tree, resource, items_in}
 use Rattle.wac_types_collection.specs.collection.Collection.{Collection, IsWellFormed, item_at, holds_value}
 use Rattle.wac_types_collection.specs.collection.Aliases.{value_resolved}
-use Rattle.wac_types_collection.specs.collection.Bound.{Bindings, own_name, inside_interface}
+use Rattle.wac_types_collection.specs.collection.Bound.{Bindings, own_name, inside_interface, held_tree}
 use Rattle.wac_binary.specs.declared.sorts.Description.{Description}
 use Rattle.wac_binary.specs.declared.sorts.Description.TheVariants as e
 use Rattle.wac_binary.specs.Indexes.{space, described_sort, indexes}
@@ -22,13 +22,21 @@ use Rattle.wac_binary.specs.Unfold.{Bound, described_item}
 use Rattle.wac_binary.specs.Meaning.{import_at, stands_for, meaning}
 use Rattle.wac_binary.specs.HasMeaning.{IsType, IsFunction, IsInstance, IsComponent, IsModule}
 use Rattle.wac_encode_stacks.specs.Scopes.{root, at_type, at_export, Open, Stack, env, envs, next_type, next_instance, bind_at, export_at}
-use Rattle.wac_encode_stacks.specs.Good.{At, Stands, IsHeld, IsClosed, Good, Onward}
+use Rattle.wac_encode_stacks.specs.Good.{At, Stands, IsHeld, Good, Onward}
 use Rattle.wac_encode_stacks.specs.private.Laws.{Adds}
 use Rattle.wac_encode_stacks.specs.Listed.{IsItem, calling}
 
 -- The bindings m bind each own resource of the interface to the export of its instance at this path.
 abbrev pub BindsInstance : Collection → Interface → Side → List Place → Bindings → Type 0
 BindsInstance c it side path m = (r : ResourceId) (n : Name) → own_name c it.uses it.exports r ≡ Some n → m r ≡ Some (record { out = 0; side = side; path = path ++ named n ∷ [] })
+
+-- The bindings m bind each own resource of the interface, but for the others, to the export of its instance at this path.
+abbrev pub BindsBut : Collection → Interface → (ResourceId → Bool) → Side → List Place → Bindings → Type 0
+BindsBut c it others side path m = (r : ResourceId) (n : Name) → own_name c it.uses it.exports r ≡ Some n → others r ≡ false → m r ≡ Some (record { out = 0; side = side; path = path ++ named n ∷ [] })
+
+-- The type has the same tree under bindings that differ for these resources alone.
+abbrev pub IsApart : Collection → (ResourceId → Bool) → AnyType → Type 0
+IsApart c these a = (m n : Bindings) → ((r : ResourceId) → these r ≡ false → m r ≡ n r) → held_tree c m a ≡ held_tree c n a
 
 -- The instance has the type items of the interface, with their trees inside it. Other items may be missing or more.
 abbrev pub Shows : Collection → Bindings → Interface → Bound → Type 0
@@ -48,13 +56,13 @@ HasOwn = (c : Collection) (m : Bindings) (o : Open) (os : Stack) (it : Interface
     → At ((env o (envs os)).instances) j b → Shows c m it b → find_name it.exports n ≡ Some (kind.TypeItem (ty.Resource r)) → own_name c it.uses it.exports r ≡ Some n
     → Stands (env o (envs os)) (resource (taken_leaf b n)) (at_export j n)
 
--- A value type that the interface exports may be recorded as an export of its instance. Either m binds the interface's
--- own resources to that instance, or the type mentions no resource.
+-- A value type that the interface exports may be recorded as an export of its instance, if m binds each own resource of the
+-- interface on which the type depends to that instance.
 abbrev pub HasExported : Type 0
-HasExported = (c : Collection) → IsWellFormed c → (m : Bindings) (ms : List Bindings) (o : Open) (os : Stack) (it : Interface) (j : ℕ) (b : Bound) (v : ValueType) (d : DefinedTypeId) (n : Name)
+HasExported = (c : Collection) → IsWellFormed c → (m : Bindings) (ms : List Bindings) (o : Open) (os : Stack) (it : Interface) (j : ℕ) (b : Bound) (v : ValueType) (d : DefinedTypeId) (n : Name) (others : ResourceId → Bool)
     → Good c (m ∷ ms) (o ∷ os) → At ((env o (envs os)).instances) j b → Shows c m it b
-    → find_name it.exports n ≡ Some (kind.TypeItem (ty.Value v)) → holds_value c v ≡ true → value_resolved c v ≡ val.Defined d
-    → BindsInstance c it b.side b.path m ⊎ IsClosed c (ty.Value v)
+    → find_name it.exports n ≡ Some (kind.TypeItem (ty.Value v)) → value_resolved c v ≡ val.Defined d → holds_value c (val.Defined d) ≡ true
+    → BindsBut c it others b.side b.path m → IsApart c others (ty.Value (val.Defined d))
     → Onward c (m ∷ ms) (o ∷ os) (export_at d (at_export j n) o ∷ os)
 
 -- The place of the root's next import in a path: its position among the imports.

@@ -1,8 +1,10 @@
 -- Components that are written by hand.
-use Rattle.std.specs.Prelude.{ℕ, ◌≡◌, Bool, true, List, [], ◌∷◌, ◌++◌, Option, Some, None, Result, Ok, Err, OnOk, IfOk}
+use Rattle.std.specs.Prelude.{ℕ, ◌≡◌, Bool, true, List, [], ◌∷◌, ◌++◌, length, Option, Some, None, Result, Ok, Err, OnOk, IfOk}
 use Rattle.std.proofs.Common.{refl, ap, sym, ◌∙◌, subst, inl}
 use Rattle.wac_types_shapes.specs.primitives.Name.{Name}
 use Rattle.wac_types_shapes.specs.primitives.Tree.{imported, Leaf}
+use Rattle.wac_types_shapes.specs.declared.shapes.component.DefinedType.{DefinedType}
+use Rattle.wac_types_shapes.specs.declared.shapes.component.DefinedTypeId.{DefinedTypeId}
 use Rattle.wac_types_shapes.specs.declared.shapes.component.Interface.{Interface}
 use Rattle.wac_types_shapes.specs.declared.shapes.component.InterfaceId.{InterfaceId}
 use Rattle.wac_types_shapes.specs.declared.shapes.component.ItemKind.{ItemKind}
@@ -11,7 +13,7 @@ use Rattle.wac_types_shapes.specs.declared.shapes.component.ResourceId.{Resource
 use Rattle.wac_types_shapes.specs.declared.shapes.component.ValueType.{ValueType}
 use Rattle.wac_types_shapes.specs.declared.shapes.component.«Type».{«Type» as AnyType}
 use Rattle.wac_types_shapes.specs.declared.shapes.component.«Type».TheVariants as ty
-use Rattle.wac_types_collection.specs.collection.Collection.{Collection, IsWellFormed, holds_type, item_at}
+use Rattle.wac_types_collection.specs.collection.Collection.{Collection, IsWellFormed, holds_type, item_at, with_defined}
 use Rattle.wac_types_collection.specs.collection.Bound.{Bindings, held_tree}
 use Rattle.wac_binary.specs.Unfold.{Bound, Scope}
 use Rattle.wac_binary.specs.HasMeaning.{IsInstance}
@@ -36,9 +38,10 @@ use Rattle.wac_encode_scopes.specs.declared.scope.Scope.{Scope as OpenScope}
 use Rattle.wac_encode_scopes.specs.Books.{opened}
 use Rattle.wac_encode_scopes.specs.Contents.{content_of}
 use Rattle.wac_encode_scopes.specs.States.{outward}
-use Rattle.wac_encode_interfaces.proofs.Agreeing.{held-free}
+use Rattle.wac_encode_scopes.proofs.FreeAgreeing.{held-free}
 use Rattle.wac_encode.specs.declared.state.State.{State}
 use Rattle.wac_encode.specs.Errors.{HasTypeFault, NamesLowest}
+use Rattle.wac_encode.specs.Growth.{AllKeepItems, StaysWhenGrown}
 use Rattle.wac_encode.specs.Imported.{ImportsBound}
 use Rattle.wac_encode.specs.Lending.{StaysWhenLent, with_component}
 use Rattle.wac_encode.specs.Root.{component_scope, written_items, IsStateFor, RefersToType, WritesTypes}
@@ -215,3 +218,10 @@ instance-stands lent imports whole c u wf b d s t i n r k j xs ys p q is from to
 
     there : At (component_scope t).types k (held_tree u before.0 (ty.Interface i))
     there = if-ok-is (RefersToInterface u d t i) r k is refers before.0 after
+
+-- a type that is added to the collection
+
+pub grown-ready : {E : Type 0} → StaysWhenGrown → AllKeepItems → (c d : Collection) (b : Bool) (s : State) (x : DefinedType) (r : Result DefinedTypeId E) (id : DefinedTypeId) → r ≡ Ok id → IfOk r (λ i. (i.0 ≡ length c.defined) × (d ≡ with_defined c x)) → IsWellFormed c → IsReadyFor c b s → IsReadyFor d b s
+grown-ready grows keeps c d b s x r id ok added wf h =
+    let is : (id.0 ≡ length c.defined) × (d ≡ with_defined c x) = subst (λ q. IfOk q (λ i. (i.0 ≡ length c.defined) × (d ≡ with_defined c x))) ok added in
+    (h.0, subst (λ (y : Collection). IsStateFor y b h.0 s) (sym is.1) (grows c (with_defined c x) b h.0 s wf ((keeps c).defined x) h.1))

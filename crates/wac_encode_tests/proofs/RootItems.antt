@@ -41,9 +41,9 @@ use Rattle.wac_encode_interfaces.specs.private.Imports.{ImportsBeside, ImportsOf
 use Rattle.wac_encode_interfaces.specs.private.Ready.{IsClean}
 use Rattle.wac_encode_interfaces.specs.private.Worlds.{HaveWorlds, written_in}
 use Rattle.wac_encode_interfaces.specs.declared.worlds.WorldTypes.{WorldTypes}
-use Rattle.wac_encode_interfaces.proofs.Agreeing.{held-free}
+use Rattle.wac_encode_scopes.proofs.FreeAgreeing.{held-free}
 use Rattle.wac_encode_interfaces.proofs.Bound.{any-in, in-any}
-use Rattle.wac_encode_interfaces.proofs.OwnTests.{inserted}
+use Rattle.wac_encode_scopes.proofs.OtherOwn.{resource-inserted}
 use Rattle.wac_encode_tests.specs.private.Opened.{item_resource, IsRootOf, IsImported, BindsAll, BindsNoneOf, CanImport}
 
 -- results that are in order
@@ -90,7 +90,7 @@ none-of-more b s old new q is here h r there = by (is_one_of old r) refl
     Free x = (c : Collection) (ms : List Bindings) → Good c ms (stack b s) → top ms x ≡ None
 
     last : is_one_of old r ≡ false → (r.0 == q.0) ≡ true
-    last miss = ap (λ (k : Bool). k || (r.0 == q.0)) (sym miss) ∙ sym (inserted old new q is r) ∙ there
+    last miss = ap (λ (k : Bool). k || (r.0 == q.0)) (sym miss) ∙ sym (resource-inserted old new q is r) ∙ there
 
     by : (k : Bool) → is_one_of old r ≡ k → Free r
     by true hit = h r hit

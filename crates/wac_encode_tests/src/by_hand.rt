@@ -13,10 +13,11 @@ use crate::rows::{Items, Row, assert_row};
 use crate::tables::{RootRow, definitions};
 use std::process::Abort;
 use wac_binary::{ComponentValType, Description};
-use wac_encode::laws::lending_law;
-use wac_encode::{EncodeFault, State, TypeEncoder, WriteFault};
+use wac_encode::laws::{growth_law, lending_law};
+use wac_encode::{EncodeFault, ResourcePlace, State, TypeEncoder, WriteFault};
 use wac_encode_stacks::{instance_law, root_law};
-use wac_types_shapes::{ItemKind, Type};
+use wac_types_collection::Types;
+use wac_types_shapes::{DefinedType, ItemKind, Type, ValueType};
 
 // A call that writes, of the item at a place.
 #[derive(Clone, Copy)]
@@ -249,13 +250,43 @@ fn imported(
     written.expect(rt, "an import")
 }
 
+// Adds a list of a value type to a collection. A component that is right for the collection stays right.
+fn list_added(
+    rt: &impl Abort,
+    types: &mut Types,
+    merged: bool,
+    state: &State,
+    part: ValueType,
+) -> ValueType
+    requires { IsReadyFor types.old merged state.now }
+    ensures { IsReadyFor types.new merged state.now }
+{
+    types.law(); // proof only
+    growth_law(); // proof only
+    let list = types.add_defined_type(DefinedType::List(part));
+    ValueType::Defined(list.expect(rt, "its id"))
+}
+
 // Writes the value type at a place. Returns its type index.
 fn used(rt: &impl Abort, items: &Items, merged: bool, state: &mut State, place: usize) -> u32
     requires { IsReadyFor items.now.types merged state.old }
     ensures { IsReadyFor items.now.types merged state.new }
 {
-    let types = &items.types;
     let value = items.value(rt, place);
+    value_used(rt, &items.types, merged, state, value)
+}
+
+// Writes a value type. Returns its type index.
+fn value_used(
+    rt: &impl Abort,
+    types: &Types,
+    merged: bool,
+    state: &mut State,
+    value: ValueType,
+) -> u32
+    requires { IsReadyFor types.now merged state.old }
+    ensures { IsReadyFor types.now merged state.new }
+{
     assert!(rt; types.contains(Type::Value(value)));
     let encoder = TypeEncoder::new(types, merged);
     let written = encoder.value_type(state, value);
@@ -371,14 +402,13 @@ fn refused(rt: &impl Abort, items: &Items, merged: bool, place: usize) -> Encode
 }
 
 // What a resource is bound to in a component that imports it.
-fn found(rt: &impl Abort, items: &Items, merged: bool, place: usize) -> Option<(usize, u32, bool)> {
+fn found(rt: &impl Abort, items: &Items, merged: bool, place: usize) -> Option<ResourcePlace> {
     let mut state = State::new(items.types.allocator());
     let resource = items.resource(rt, place);
-    let (before, _) = state.find(merged, resource);
+    let before = state.find(merged, resource).place;
     assert!(rt; before.is_none());
     imported(rt, items, merged, &mut state, "r", place);
-    let (after, _) = state.find(merged, resource);
-    after
+    state.find(merged, resource).place
 }
 
 // Each is written so.
@@ -426,5 +456,19 @@ fn a_function_over_a_resource_that_is_not_bound_is_refused(rt: HostRuntime) {
 #[test]
 fn a_resource_is_found_where_it_is_imported(rt: HostRuntime) {
     let items = Items::new(&rt, rt.alloc(), &[Resource]);
-    assert!(rt; found(&rt, &items, true, 0) == Some((0, 0, true)));
+    let place = found(&rt, &items, true, 0).expect(&rt, "its place");
+    assert!(rt; (place.out, place.index, place.is_type) == (0, 0, true));
+}
+
+#[test]
+fn types_are_added_between_two_encoders(rt: HostRuntime) {
+    let mut items = Items::new(&rt, rt.alloc(), &[Enumeration("a")]);
+    let mut state = State::new(rt.alloc());
+    assert!(rt; used(&rt, &items, true, &mut state, 0) == 0);
+    let part = items.value(&rt, 0);
+    let list = list_added(&rt, &mut items.types, true, &state, part);
+    assert!(rt; value_used(&rt, &items.types, true, &mut state, list) == 1);
+    let bytes = bytes(&rt, &mut state);
+    let want = [0x07, 0x07, 0x02, 0x6d, 0x01, 0x01, 0x61, 0x70, 0x00];
+    assert!(rt; bytes.as_slice().get(8..) == Some(want.as_slice()));
 }

@@ -161,6 +161,6 @@ fn components_are_begun_without_memory(rt: HostRuntime) {
     let resource = items.resource(&rt, 0);
     let _ = String::from_str(rt.alloc(), "the last growth");
     let state = State::new(rt.alloc());
-    let (found, _) = state.find(true, resource);
+    let found = state.find(true, resource).place;
     assert_row(&rt, found.is_none(), "a resource that nothing binds");
 }

@@ -156,6 +156,7 @@ impl CompositionGraph {
     {
         let edge = argument_edge(instantiation, position, argument);
         self.edges.add(edge)?;
+        // The set of satisfied imports cannot make room before it grows. If it cannot grow, the edge is removed again.
         match satisfy(&mut self.nodes, instantiation.0, position) {
             Ok(()) => Ok(()),
             Err(e) => {

@@ -2,6 +2,7 @@
 ghost use Rattle.std.specs.Prelude.{◌≡◌, ◌≤◌, ◌^◌, length, Bool, true, IsTrue, OnOk, IfOk, IfErr, IfSome, List, None};
 ghost use Rattle.wac_binary.specs.Bytes.{bytes_of};
 ghost use Rattle.wac_binary.specs.Fits.{Fits};
+ghost use Rattle.wac_binary.specs.Format.{AreInFormat};
 ghost use Rattle.wac_binary.specs.Items.{Item as AnItem};
 ghost use Rattle.wac_encode_imports.specs.private.Imports.{AreImported};
 ghost use Rattle.wac_encode_imports.specs.private.Small.{imports_cost};
@@ -39,6 +40,9 @@ impl CompositionGraph {
     ///
     /// An unsatisfied import of an instantiation gets the import of its class as its argument.
     ///
+    /// The clause `means` promises the order inside each part, and that parts 3 and 4 come last (`in_order`, `in_place`
+    /// and `last` of `Means`). Where types, imports and packages are among the items before them is only tested.
+    ///
     /// # Errors
     /// [`EncodeError`] says which error is returned if several apply.
     ///
@@ -55,8 +59,8 @@ impl CompositionGraph {
     /// - [`ValidationFailure`](EncodeError::ValidationFailure) if `validate` is set and a name of an import or export
     ///   is invalid or clashes with another.
     pub fn encode(&self, options: EncodeOptions<'_>) -> Result<Vec<u8>, EncodeError>
-        // The bytes are those of items that fit 32-bit sizes and mean this graph.
-        ensures means { IfOk result (λ bytes. (items : List AnItem) × (bytes.items ≡ bytes_of items) × Fits items × Means items self.now options.entry) }
+        // The bytes are those of items that fit 32-bit sizes, are in the format and mean this graph.
+        ensures means { IfOk result (λ bytes. (items : List AnItem) × (bytes.items ≡ bytes_of items) × Fits items × AreInFormat items × Means items self.now options.entry) }
         // A reported cause exists and is the first one.
         ensures cause { IfErr result (λ e. IfSome (cause_of e) (Stands self.now options.entry)) }
         // If there is a first cause, the result is an error that reports it.

@@ -69,7 +69,8 @@ use wac_types::{
 ///
 /// # Errors
 ///
-/// A call that returns an error leaves the graph unchanged.
+/// A call that returns an error leaves the graph unchanged. [`plug`](Self::plug) and [`add_package`](Self::add_package)
+/// are exceptions, and say what they leave.
 /// A call that allocates may run out of memory, which is `AllocError` or the `OutOfMemory` of its error type.
 /// A call without such an error allocates nothing.
 pub struct CompositionGraph {

@@ -8,7 +8,7 @@ ghost use Rattle.wac_graph.specs.declared.plugs.errors.PlugFault.{PlugFault as A
 ghost use Rattle.wac_graph.specs.plugs.Matching.{PlugMatches, AreAllMatches, NothingMatches, imports_of_package, exports_of_package};
 ghost use Rattle.wac_graph.specs.plugs.Precedence.{passed_over, named_by};
 ghost use Rattle.wac_graph.specs.plugs.Outcome.{IsFirstRefused, IsFirstFault, IsExportRefused};
-ghost use Rattle.wac_graph.specs.plugs.Plugging.{InOrder, Plugs, PlugsIn, PlugsAll, Keeps, answer_of};
+ghost use Rattle.wac_graph.specs.plugs.Plugging.{InOrder, PlugsAndExports, PlugsIn, PlugsAll, Keeps, answer_of};
 ghost use Rattle.wac_graph.specs.private.plugs.Fitting.{IsNodeOf};
 ghost use Rattle.wac_graph.specs.private.plugs.Ready.{plugs_at, AreReady};
 
@@ -59,20 +59,21 @@ fn exports_law(graph: &CompositionGraph, id: PackageId)
     graph.types()[world].exports.law(); // proof only
 }
 
-/// Does the work of [`plug`] for the matches that win.
+/// Plugs the matches that win into the node of the socket, and exports the node's exports.
 fn plug_all(
     graph: &mut CompositionGraph,
     wired: &[PlugPairs],
     socket: PackageId,
+    node: NodeId,
 ) -> Result<(), PlugError>
     requires ready { AreReady graph.old socket wired.now }
     requires socket { IsSome (package_at graph.old socket) }
-    ensures { Plugs graph.old socket (plugs_at graph.old socket wired.now) result graph.new }
+    requires node { IsNodeOf graph.old node socket }
+    ensures { PlugsAndExports node (names_of (exports_of_package graph.old socket)) graph.old (plugs_at graph.old socket wired.now) result graph.new }
 {
     graph.law(); // proof only
     imports_law(graph, socket); // proof only
     let world = graph[socket].ty();
-    let node = graph.instantiate(socket)?;
     plug_each(graph, wired, socket, node)?;
     if wired.is_empty() {
         return Err(PlugError::NoPlugHappened);
@@ -82,10 +83,10 @@ fn plug_all(
 
 /// Instantiates a socket package and sets its arguments to the exports of plug packages.
 ///
-/// 1. Each export of each plug is matched, in order, with the socket's import of the same name. If there is none, it is
+/// 1. The socket is instantiated.
+/// 2. Each export of each plug is matched, in order, with the socket's import of the same name. If there is none, it is
 ///    matched with the first import on the same track. It matches only if its type is a subtype of the import's.
-/// 2. The first match of each import wins. The others are passed over, and are returned in order.
-/// 3. The socket is instantiated.
+/// 3. The first match of each import wins. The others are passed over, and are returned in order.
 /// 4. A plug with a match that wins is instantiated once. Each export whose match wins is aliased and set as the argument.
 /// 5. If any export matched, each export of the socket is aliased and exported under its name, in order.
 ///
@@ -119,8 +120,9 @@ pub fn plug(
     one_export_answer(); // proof only
     imports_law(graph, socket); // proof only
     exports_law(graph, socket); // proof only
+    let node = graph.instantiate(socket)?;
     let Matches { wired, passed } = find_all_matches(graph, &plugs, socket)?;
-    plug_all(graph, &wired, socket)?;
+    plug_all(graph, &wired, socket, node)?;
     Ok(passed)
 }
 

@@ -1,5 +1,5 @@
 //! The changes of a graph by plugging.
-ghost use Rattle.std.specs.Prelude.{◌≡◌, true, IsSome, OnOk};
+ghost use Rattle.std.specs.Prelude.{◌≡◌, ◌<◌, true, length, IsSome, OnOk};
 ghost use Rattle.wac_types_collection.specs.collection.Collection.{holds_type, world_exports};
 ghost use Rattle.wac_types_shapes.specs.shapes.Named.{NoNameTwice, names_of};
 ghost use Rattle.wac_types_shapes.specs.declared.shapes.component.«Type».TheVariants.{World as world_type};
@@ -8,6 +8,7 @@ ghost use Rattle.wac_graph_model.specs.nodes.Steps.{Instantiates};
 ghost use Rattle.wac_graph.specs.private.plugs.Fitting.{AllFit, IsPair, node_imports};
 ghost use Rattle.wac_graph.specs.plugs.Matching.{Match, exports_of_package};
 ghost use Rattle.wac_graph.specs.private.plugs.Pairs.{matches_at, AreWithin};
+ghost use Rattle.wac_graph.specs.private.plugs.Positions.{IsInstancePosition};
 ghost use Rattle.wac_graph.specs.plugs.Plugging.{InOrder, Wires, PlugsIn, PassesOn, Keeps};
 
 use crate::graph::CompositionGraph;
@@ -59,6 +60,28 @@ fn wire(
     Ok(())
 }
 
+/// Returns the position of an export of a package's world among the exports of the package's instances.
+///
+/// The two lists have the same items, perhaps in another order.
+fn instance_position(graph: &CompositionGraph, id: PackageId, export: usize) -> usize
+    requires there { IsSome (package_at graph.now id) }
+    requires within { export < length (exports_of_package graph.now id) }
+    ensures { IsInstancePosition graph.now id export result }
+{
+    graph.law(); // proof only
+    let package = &graph[id];
+    let exports = &graph.types()[package.ty()].exports;
+    exports.law(); // proof only
+    let name = exports.name_at(export);
+    match graph.types()[package.instance_type()]
+        .exports
+        .get_full(name)
+    {
+        Some((position, _)) => position,
+        None => unreachable!(),
+    }
+}
+
 /// Instantiates a plug and wires its matches.
 pub fn plug_in(
     graph: &mut CompositionGraph,
@@ -70,7 +93,6 @@ pub fn plug_in(
     requires socket { IsSome (node_at graph.old socket) }
     requires within { AreWithin (exports_of_package graph.old plug) (node_imports graph.old socket) pairs.now }
     requires fit { AllFit graph.old plug socket (matches_at (exports_of_package graph.old plug) (node_imports graph.old socket) pairs.now) }
-    requires named { NoNameTwice (exports_of_package graph.old plug) }
     requires asked { NoNameTwice (node_imports graph.old socket) }
     ensures step { PlugsIn socket graph.old (record { plug = plug; matches = matches_at (exports_of_package graph.old plug) (node_imports graph.old socket) pairs.now }) result graph.new }
     ensures kept { OnOk result (Keeps graph.old graph.new) }
@@ -78,7 +100,9 @@ pub fn plug_in(
     graph.law(); // proof only
     let node = instantiate_plug(graph, plug, pairs.len())?;
     for i in 0..pairs.len() {
-        wire(graph, node, socket, pairs[i])?;
+        let Pair { export, import } = pairs[i];
+        let export = instance_position(graph, plug, export);
+        wire(graph, node, socket, Pair { export, import })?;
     }
     Ok(())
 }

@@ -14,6 +14,8 @@ mod defining;
 #[cfg(test)]
 mod dependencies;
 #[cfg(test)]
+mod edges;
+#[cfg(test)]
 mod encoding;
 mod examples;
 #[cfg(test)]

@@ -8,7 +8,10 @@ use wac_graph::types::{
     AddTypeError, DefinedType, DefinedTypeId, Enum, FuncType, FuncTypeId, Interface, ItemKind,
     ModuleType, PrimitiveType, Resource, Type, ValueType, World, WorldId,
 };
-use wac_graph::{CompositionGraph, EncodeOptions, Error, Node, NodeId, PackageId, Reason};
+use wac_graph::{
+    CompositionGraph, EncodeOptions, Error, InstantiationArgumentError, Node, NodeId, PackageId,
+    Reason,
+};
 
 // A call that takes memory. What it is made on is what the calls before it made.
 #[derive(Clone, Copy)]
@@ -41,7 +44,13 @@ enum Call {
     Dependencies,
     // The reason of an error.
     Reason,
+    // An argument is taken away under a name that no import has.
+    Misnamed,
     Clone,
+    // The node of the instance.
+    CloneNode,
+    // The kind of that node.
+    CloneKind,
     Encode,
 }
 
@@ -74,7 +83,10 @@ const CALLS: &[Call] = &[
     Call::Package,
     Call::Dependencies,
     Call::Reason,
+    Call::Misnamed,
     Call::Clone,
+    Call::CloneNode,
+    Call::CloneKind,
     Call::Encode,
 ];
 
@@ -194,6 +206,31 @@ impl Made {
         self.graph.set_node_name(INSTANCE, "n").is_ok()
     }
 
+    // Whether an argument that is taken away is refused by its name.
+    fn is_misnamed(&mut self, rt: &impl Abort) -> bool {
+        let held = self.graph.has_node(INSTANCE);
+        assert!(rt; held);
+        let answer = self
+            .graph
+            .unset_instantiation_argument(INSTANCE, "g", IMPORTED);
+        matches!(
+            answer,
+            Err(InstantiationArgumentError::InvalidArgumentName { .. })
+        )
+    }
+
+    fn is_node_cloned(&self, rt: &impl Abort) -> bool {
+        let held = self.graph.has_node(INSTANCE);
+        assert!(rt; held);
+        self.graph[INSTANCE].clone().is_ok()
+    }
+
+    fn is_kind_cloned(&self, rt: &impl Abort) -> bool {
+        let held = self.graph.has_node(INSTANCE);
+        assert!(rt; held);
+        self.graph[INSTANCE].kind().clone().is_ok()
+    }
+
     // Makes a call. Returns whether it was not refused.
     fn is_made(&mut self, rt: &impl Abort, call: Call) -> bool {
         match call {
@@ -216,7 +253,10 @@ impl Made {
                 let error = Error::from(AddTypeError::NotHeld);
                 error.with_reason(self.alloc).is_ok()
             }
+            Call::Misnamed => self.is_misnamed(rt),
             Call::Clone => self.graph.clone().is_ok(),
+            Call::CloneNode => self.is_node_cloned(rt),
+            Call::CloneKind => self.is_kind_cloned(rt),
             Call::Encode => self.graph.encode(EncodeOptions::default()).is_ok(),
             call => is_added(&mut self.graph, self.alloc, call),
         }

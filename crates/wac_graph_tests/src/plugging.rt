@@ -3,13 +3,14 @@ ghost use Rattle.std.specs.Prelude.{◌≡◌, ℕ, Some, IsSome, slice_get};
 ghost use Rattle.wac_graph_model.specs.nodes.Graph.{package_at};
 ghost use Rattle.wac_graph_model.specs.declared.nodes.packages.PackageId.{PackageId as AnId};
 
-use crate::parts::{assert_displayed, assert_row, package_name};
+use crate::parts::{self, assert_displayed, assert_row, package_name};
 use crate::tables::Row::{Func, Instance};
 use crate::tables::{Item, Made, Row, Want, assert_encoded};
 use std::process::Abort;
+use wac_graph::types::{FuncTypeId, ItemKind, Type, ValueType};
 use wac_graph::{
-    CompositionGraph, ExportError, Node, NodeKind, PackageId, PassedOver, PlugError, PlugFault,
-    plug,
+    CompositionGraph, ExportError, Node, NodeId, NodeKind, PackageId, PassedOver, PlugError,
+    PlugFault, plug,
 };
 
 // The second of two plugs.
@@ -426,6 +427,61 @@ fn what_is_passed_over_is_not_encoded(rt: HostRuntime) {
     let passed = answer(&rt, &made.graph, result);
     assert_row(&rt, passed.as_str() == TWO.answer, passed.as_str());
     assert_encoded(&rt, &made.graph, Want::Parts(ONE_ENCODED));
+}
+
+// A node that was removed leaves room for the socket's, so memory is first taken to find the matches.
+#[test]
+fn the_socket_is_instantiated_first(rt: HostRuntime) {
+    let mut made = Made::new(&rt, TYPES, &[]);
+    let packages = registered(&rt, &mut made, &ONE);
+    let node = parts::instantiate(&rt, &mut made.graph, packages.2);
+    parts::remove(&rt, &mut made.graph, node.expect(&rt, "a node"));
+    let result = plugged(&rt, &mut made.graph, packages);
+    let answer = answer(&rt, &made.graph, result);
+    assert_made(&rt, &made.graph, &ONE, answer.as_str() == REFUSED);
+    let count = made.graph.node_ids().count();
+    assert_row(&rt, count > 0, "the socket is instantiated");
+}
+
+// The exports `a` and `b` in the order of a world, and in that of an interface.
+fn exports(rt: &impl Abort, graph: &mut CompositionGraph) -> [(&'static str, ItemKind); 2] {
+    let plain = parts::function(rt, graph, &[], None);
+    let telling = parts::function(rt, graph, &[], Some(ValueType::BOOL));
+    [("a", plain), ("b", telling)]
+}
+
+// Registers a package that was made with another collection. Here its interface lists the exports in another order.
+fn reordered(rt: &(impl Abort + AllocGlobal), graph: &mut CompositionGraph) -> PackageId {
+    let mut other = CompositionGraph::new(rt.alloc());
+    let items = exports(rt, &mut other);
+    let world = parts::world(rt, &mut other, None, &[], &items);
+    let held = other.types().contains(Type::World(world));
+    assert!(rt; held);
+    let bytes = Vec::new(rt.alloc());
+    let package = other.new_package("my:plug", None, bytes, world);
+    let package = package.expect(rt, "a package");
+    let [a, b] = exports(rt, graph);
+    parts::instance(rt, graph, None, &[], &[b, a]);
+    parts::world(rt, graph, None, &[], &[a, b]);
+    let held = graph.types().holds_package(&package);
+    assert!(rt; held);
+    graph.register_package(package).expect(rt, "its id")
+}
+
+// The socket's import becomes the export of its name.
+#[test]
+fn exports_are_aliased_by_name(rt: HostRuntime) {
+    let mut graph = CompositionGraph::new(rt.alloc());
+    let plug = reordered(&rt, &mut graph);
+    let b = ItemKind::Func(FuncTypeId(1));
+    let socket = parts::register(&rt, &mut graph, ("my:socket", None), &[("b", b)], &[]);
+    let socket = socket.expect(&rt, "a socket");
+    let passed = plugged(&rt, &mut graph, (plug, None, socket)).expect(&rt, "plugged");
+    assert_row(&rt, passed.is_empty(), "nothing is passed over");
+    let source = graph.get_alias_source(NodeId(2));
+    assert_row(&rt, source == Some((NodeId(1), "b")), "a source");
+    let argument = graph.get_instantiation_arguments(NodeId(0)).next();
+    assert_row(&rt, argument == Some(("b", NodeId(2))), "an argument");
 }
 
 #[test]

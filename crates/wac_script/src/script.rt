@@ -4,6 +4,7 @@ ghost use Rattle.wac_types_shapes.specs.primitives.Name.{find_name};
 ghost use Rattle.std.specs.Result.{IsErrAnd};
 ghost use Rattle.wac_binary.specs.Bytes.{bytes_of};
 ghost use Rattle.wac_binary.specs.Fits.{Fits};
+ghost use Rattle.wac_binary.specs.Format.{AreInFormat};
 ghost use Rattle.wac_binary.specs.Items.{Item as AnItem};
 ghost use Rattle.wac_graph_model.specs.meaning.Means.{Means};
 ghost use Rattle.wac_graph_model.specs.causes.Cause.{AnswersFor, Cause, CauseKind, cause_of, Occurs, Stands};
@@ -195,7 +196,7 @@ impl Script {
     /// # Errors
     /// Those of [`CompositionGraph::encode`].
     pub fn encode(&self, options: EncodeOptions<'_>) -> Result<Vec<u8>, EncodeError>
-        ensures means { IfOk result (λ bytes. (items : List AnItem) × (bytes.items ≡ bytes_of items) × Fits items × Means items (state_of self.now).graph options.entry) }
+        ensures means { IfOk result (λ bytes. (items : List AnItem) × (bytes.items ≡ bytes_of items) × Fits items × AreInFormat items × Means items (state_of self.now).graph options.entry) }
         ensures cause { IfErr result (λ e. IfSome (cause_of e) (Stands (state_of self.now).graph options.entry)) }
         ensures refused { (cause : Cause) → Stands (state_of self.now).graph options.entry cause → IsErrAnd result (AnswersFor cause) }
         ensures none { OnOk result ((kind : CauseKind) → Occurs (state_of self.now).graph options.entry kind → ⊥) }

@@ -1,4 +1,5 @@
 pub mod ChunkLaws
 pub mod DeclLaws
+pub mod FormatLaws
 pub mod ModuleLaws
 pub mod AnswerLaws

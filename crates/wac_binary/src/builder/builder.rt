@@ -6,6 +6,7 @@ ghost use Rattle.wac_binary.specs.Bytes.{bytes_of};
 ghost use Rattle.wac_binary.specs.Indexes.{space, core_types, described_sort, adds, indexes};
 ghost use Rattle.wac_binary.specs.private.Spaces.{number as number_of};
 ghost use Rattle.wac_binary.specs.Fits.{Fits, TooLargeUnless};
+ghost use Rattle.wac_binary.specs.Format.{AreInFormat};
 ghost use Rattle.wac_binary.specs.Views.{arguments_of, func_of, defined_of};
 ghost use Rattle.wac_binary.specs.private.sections.ItemView.{item_of};
 ghost use Rattle.wac_binary.specs.private.builder.Written.{Written, Written_prop};
@@ -313,6 +314,7 @@ impl ComponentBuilder {
     pub fn finish(&self) -> Result<Vec<u8>, BinaryFault>
         ensures bytes { IfOk result (λ v. v.items ≡ bytes_of self.now) }
         ensures fits { Fits self.now }
+        ensures in_format { AreInFormat self.now }
         ensures memory { IfErr result (λ e. e ≡ OutOfMemory) }
     {
         let mut out = Vec::new(self.alloc);
@@ -329,6 +331,7 @@ impl ComponentBuilder {
     pub fn into_bytes(self) -> Result<Vec<u8>, BinaryFault>
         ensures bytes { IfOk result (λ v. v.items ≡ bytes_of self) }
         ensures fits { Fits self }
+        ensures in_format { AreInFormat self }
         ensures memory { IfErr result (λ e. e ≡ OutOfMemory) }
     {
         let ComponentBuilder {

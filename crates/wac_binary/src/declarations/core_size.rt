@@ -1,7 +1,9 @@
 //! Sizes in bytes of the declarations of core module types, known before anything is written.
 
-ghost use Rattle.std.specs.Prelude.{◌≡◌, ◌≤◌, ◌^◌, length};
+ghost use Rattle.std.specs.Prelude.{◌≡◌, ◌≤◌, ◌^◌, length, IfSome};
 ghost use Rattle.wac_binary.specs.Bytes.{vector, core_val, number, table_bytes, memory_bytes, entity, module_decl_bytes};
+ghost use Rattle.wac_binary.specs.declared.core_types.EntityType.TheVariants.{Table, Memory};
+ghost use Rattle.wac_binary.specs.Format.{IsU32, IsU64, EntityIsInFormat, ModuleDeclIsInFormat};
 ghost use Rattle.wac_binary.specs.private.declarations.ModuleView.{module_decl_of};
 
 use crate::core_types::{EntityType, MemoryType, TableType};
@@ -12,6 +14,7 @@ use wac_types_shapes::CoreType;
 fn number_size(n: u64) -> u128
     ensures is { result ≡ length (number (Some n)) }
     ensures small { result ≤ 2 ^ 64 }
+    ensures in_format { IsU64 n }
 {
     u128::from(unsigned_size(n))
 }
@@ -19,6 +22,7 @@ fn number_size(n: u64) -> u128
 fn optional_number_size(n: Option<u64>) -> u128
     ensures is { result ≡ length (number n) }
     ensures small { result ≤ 2 ^ 64 }
+    ensures in_format { IfSome n IsU64 }
 {
     match n {
         None => 0,
@@ -29,6 +33,7 @@ fn optional_number_size(n: Option<u64>) -> u128
 fn optional_index_size(n: Option<u32>) -> u128
     ensures is { result ≡ length (number n) }
     ensures small { result ≤ 2 ^ 32 }
+    ensures in_format { IfSome n IsU32 }
 {
     match n {
         None => 0,
@@ -46,6 +51,7 @@ fn core_values_size(types: &[CoreType]) -> u128
 fn table_size(t: &TableType) -> u128
     ensures is { result ≡ length (table_bytes t.now) }
     ensures small { result ≤ 2 ^ 66 }
+    ensures in_format { EntityIsInFormat (Table t.now) }
 {
     2 + number_size(t.minimum) + optional_number_size(t.maximum)
 }
@@ -53,6 +59,7 @@ fn table_size(t: &TableType) -> u128
 fn memory_size(t: &MemoryType) -> u128
     ensures is { result ≡ length (memory_bytes t.now) }
     ensures small { result ≤ 2 ^ 67 }
+    ensures in_format { EntityIsInFormat (Memory t.now) }
 {
     1 + number_size(t.minimum)
         + optional_number_size(t.maximum)
@@ -62,6 +69,7 @@ fn memory_size(t: &MemoryType) -> u128
 fn entity_size(item: &EntityType) -> u128
     ensures is { result ≡ length (entity item.now) }
     ensures small { result ≤ 2 ^ 68 }
+    ensures in_format { EntityIsInFormat item.now }
 {
     match item {
         EntityType::Function(i) => 1 + index_size(*i),
@@ -76,6 +84,7 @@ fn entity_size(item: &EntityType) -> u128
 pub fn module_decl_size(d: &ModuleDeclRef<'_>) -> u128
     ensures is { result ≡ length (module_decl_bytes (module_decl_of d.now)) }
     ensures small { result ≤ 2 ^ 69 }
+    ensures in_format { ModuleDeclIsInFormat (module_decl_of d.now) }
 {
     match d {
         ModuleDeclRef::Func { params, results } => {

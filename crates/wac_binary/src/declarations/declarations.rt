@@ -7,6 +7,7 @@ ghost use Rattle.wac_binary.specs.Bytes.{count as count_of, decl_bytes, decls_by
 ghost use Rattle.wac_binary.specs.Indexes.{decl_adds, declared, space};
 ghost use Rattle.wac_binary.specs.private.Spaces.{number as number_of};
 ghost use Rattle.wac_binary.specs.Fits.{DeclarationsFit, TooLargeUnless};
+ghost use Rattle.wac_binary.specs.Format.{DeclIsInFormat, DeclsAreInFormat};
 ghost use Rattle.wac_binary.specs.private.declarations.DeclView.{decl_of, scope_def};
 ghost use Rattle.wac_binary.specs.declared.sorts.Sort.TheVariants as s;
 ghost use Rattle.wac_binary.specs.private.declarations.WrittenDecls.{WrittenDecls, WrittenDecls_prop};
@@ -92,7 +93,8 @@ impl Declarations {
     /// Returns whether one more declaration fits 32-bit sizes. It adds an index to `space`.
     pub fn has_room(&self, d: &DeclRef<'_>, space: IndexSpace) -> bool
         requires { decl_adds (decl_of d.now) ≡ number_of space }
-        ensures { IsTrue result ↔ DeclarationsFit (self.now ++ decl_of d.now ∷ []) }
+        ensures room { IsTrue result ↔ DeclarationsFit (self.now ++ decl_of d.now ∷ []) }
+        ensures in_format { DeclIsInFormat (decl_of d.now) }
     {
         let index = self.counts[number(space)];
         fits(index, self.count, self.bytes.len(), decl_size(d))
@@ -122,6 +124,7 @@ impl Declarations {
     pub fn size(&self) -> u128
         ensures is { result ≡ length (unsigned (count_of (decls self.now)) ++ decls_bytes (decls self.now)) }
         ensures small { result ≤ 2 ^ 34 }
+        ensures in_format { DeclsAreInFormat (decls self.now) }
     {
         u128::from(unsigned_size(self.count)) + self.bytes.len()
     }

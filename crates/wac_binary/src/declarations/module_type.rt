@@ -5,6 +5,7 @@ ghost use Rattle.wac_binary.specs.Items.{module_import, module_func, module_expo
 ghost use Rattle.wac_binary.specs.Bytes.{module_decl_bytes, module_bytes};
 ghost use Rattle.wac_binary.specs.Indexes.{function_types};
 ghost use Rattle.wac_binary.specs.Fits.{ModuleFits, TooLargeUnless};
+ghost use Rattle.wac_binary.specs.Format.{ModuleIsInFormat};
 ghost use Rattle.wac_binary.specs.private.declarations.ModuleView.{module_decl_of};
 ghost use Rattle.wac_binary.specs.private.declarations.WrittenModule.{WrittenModule, WrittenModule_prop};
 
@@ -139,6 +140,7 @@ impl ModuleType {
     pub fn size(&self) -> u128
         ensures is { result ≡ length (module_bytes self.now) }
         ensures small { result ≤ 2 ^ 34 }
+        ensures in_format { ModuleIsInFormat self.now }
     {
         1 + u128::from(unsigned_size(self.count)) + u128::from(self.bytes.len() as u64)
     }

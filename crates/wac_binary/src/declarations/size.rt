@@ -1,8 +1,12 @@
 //! Sizes in bytes of the parts of items, known before anything is written.
+//!
+//! What a call reads is in the format: each number fits its type, and each text is UTF-8.
 
 ghost use Rattle.std.specs.Prelude.{◌≡◌, ◌+◌, ◌<◌, ◌≤◌, ◌^◌, ◌++◌, ◌∷◌, length};
 ghost use Rattle.wac_binary.specs.Leb.{leb, unsigned};
 ghost use Rattle.wac_binary.specs.Bytes.{text, value, optional, field, case, vector, argument, alias_bytes, sort, described};
+ghost use Rattle.std.specs.List.{AllByRecursion};
+ghost use Rattle.wac_binary.specs.Format.{IsU32, IsText, AreBytes, ValIsInFormat, OptionIsInFormat, FieldIsInFormat, CaseIsInFormat, DescriptionIsInFormat, AliasIsInFormat, ArgumentIsInFormat};
 ghost use Rattle.wac_binary.specs.Items.{export_alias, outer_alias};
 ghost use Rattle.wac_binary.specs.Views.{named, texts_of, arguments_of};
 
@@ -39,6 +43,7 @@ pub fn unsigned_size(n: u64) -> u64
 pub fn index_size(i: u32) -> u128
     ensures is { result ≡ length (unsigned i) }
     ensures small { result ≤ 2 ^ 32 }
+    ensures in_format { IsU32 i }
 {
     u128::from(unsigned_size(u64::from(i)))
 }
@@ -48,14 +53,17 @@ pub fn index_size(i: u32) -> u128
 pub fn text_size(t: &str) -> u128
     ensures is { result ≡ length (text t.now) }
     ensures small { result ≤ 2 ^ 64 }
+    ensures in_format { IsText t.now }
 {
-    u128::from(unsigned_size(t.len() as u64)) + t.len() as u128
+    let bytes = t.as_bytes();
+    u128::from(unsigned_size(bytes.len() as u64)) + bytes.len() as u128
 }
 
 /// Returns the number of bytes.
 pub fn bytes_size(bytes: &[u8]) -> u128
     ensures is { result ≡ length bytes.now }
     ensures small { result ≤ 2 ^ 64 }
+    ensures in_format { AreBytes bytes.now }
 {
     bytes.len() as u128
 }
@@ -64,6 +72,7 @@ pub fn bytes_size(bytes: &[u8]) -> u128
 pub fn value_size(t: ComponentValType) -> u128
     ensures is { result ≡ length (value t) }
     ensures small { result ≤ 2 ^ 32 }
+    ensures in_format { ValIsInFormat t }
 {
     match t {
         ComponentValType::Primitive(_) => 1,
@@ -75,6 +84,7 @@ pub fn value_size(t: ComponentValType) -> u128
 pub fn optional_size(t: Option<ComponentValType>) -> u128
     ensures is { result ≡ length (optional t) }
     ensures small { result ≤ 2 ^ 33 }
+    ensures in_format { OptionIsInFormat t }
 {
     match t {
         None => 1,
@@ -102,6 +112,7 @@ pub fn sort_size(s: Sort) -> u128
 fn described_size(d: Description) -> u64
     ensures is { result ≡ length (described d) }
     ensures small { result ≤ 12 }
+    ensures in_format { DescriptionIsInFormat d }
 {
     match d {
         Description::CoreModule(i) => 2 + unsigned_size(u64::from(i)),
@@ -116,15 +127,19 @@ fn described_size(d: Description) -> u64
 /// Returns the size of the name and the description of an import or export.
 #[inline(always)]
 pub fn named_size(name: &str, d: Description) -> u64
-    ensures { result ≡ length (0 ∷ (text name.now ++ described d)) }
+    ensures is { result ≡ length (0 ∷ (text name.now ++ described d)) }
+    ensures name_in_format { IsText name.now }
+    ensures in_format { DescriptionIsInFormat d }
 {
-    1 + unsigned_size(name.len() as u64) + name.len() as u64 + described_size(d)
+    let bytes = name.as_bytes();
+    1 + unsigned_size(bytes.len() as u64) + bytes.len() as u64 + described_size(d)
 }
 
 /// Returns the size of an alias of an instance's export.
 pub fn alias_export_size(s: Sort, instance: u32, name: &str) -> u128
     ensures is { result ≡ length (alias_bytes (export_alias s instance name.now)) }
     ensures small { result ≤ 2 ^ 65 }
+    ensures in_format { AliasIsInFormat (export_alias s instance name.now) }
 {
     sort_size(s) + 1 + index_size(instance) + text_size(name)
 }
@@ -133,6 +148,7 @@ pub fn alias_export_size(s: Sort, instance: u32, name: &str) -> u128
 pub fn alias_outer_size(s: Sort, count: u32, index: u32) -> u128
     ensures is { result ≡ length (alias_bytes (outer_alias s count index)) }
     ensures small { result ≤ 2 ^ 65 }
+    ensures in_format { AliasIsInFormat (outer_alias s count index) }
 {
     sort_size(s) + 1 + index_size(count) + index_size(index)
 }
@@ -141,6 +157,7 @@ pub fn alias_outer_size(s: Sort, count: u32, index: u32) -> u128
 pub fn argument_size(name: &str, s: Sort, index: u32) -> u128
     ensures is { result ≡ length (argument (name.now, s, index)) }
     ensures small { result ≤ 2 ^ 64 + 2 ^ 33 }
+    ensures in_format { ArgumentIsInFormat (name.now, s, index) }
 {
     text_size(name) + sort_size(s) + index_size(index)
 }
@@ -149,6 +166,7 @@ pub fn argument_size(name: &str, s: Sort, index: u32) -> u128
 pub fn arguments_size(arguments: &[(&str, Sort, u32)]) -> u128
     ensures is { result ≡ length (vector argument (arguments_of arguments.now)) }
     ensures small { result < 2 ^ 127 + 2 ^ 100 }
+    ensures in_format { AllByRecursion ArgumentIsInFormat (arguments_of arguments.now) }
 {
     let mut size = u128::from(unsigned_size(arguments.len() as u64));
     for a in arguments {
@@ -161,6 +179,7 @@ pub fn arguments_size(arguments: &[(&str, Sort, u32)]) -> u128
 pub fn fields_size(fields: &[(&str, ComponentValType)]) -> u128
     ensures is { result ≡ length (vector field (named fields.now)) }
     ensures small { result < 2 ^ 127 + 2 ^ 100 }
+    ensures in_format { AllByRecursion FieldIsInFormat (named fields.now) }
 {
     let mut size = u128::from(unsigned_size(fields.len() as u64));
     for field in fields {
@@ -172,6 +191,7 @@ pub fn fields_size(fields: &[(&str, ComponentValType)]) -> u128
 fn field_size(name: &str, t: ComponentValType) -> u128
     ensures is { result ≡ length (field (name.now, t)) }
     ensures small { result ≤ 2 ^ 64 + 2 ^ 33 }
+    ensures in_format { FieldIsInFormat (name.now, t) }
 {
     text_size(name) + value_size(t)
 }
@@ -180,6 +200,7 @@ fn field_size(name: &str, t: ComponentValType) -> u128
 pub fn cases_size(cases: &[(&str, Option<ComponentValType>)]) -> u128
     ensures is { result ≡ length (vector case (named cases.now)) }
     ensures small { result < 2 ^ 127 + 2 ^ 100 }
+    ensures in_format { AllByRecursion CaseIsInFormat (named cases.now) }
 {
     let mut size = u128::from(unsigned_size(cases.len() as u64));
     for c in cases {
@@ -191,6 +212,7 @@ pub fn cases_size(cases: &[(&str, Option<ComponentValType>)]) -> u128
 fn case_size(name: &str, t: Option<ComponentValType>) -> u128
     ensures is { result ≡ length (case (name.now, t)) }
     ensures small { result ≤ 2 ^ 64 + 2 ^ 34 }
+    ensures in_format { CaseIsInFormat (name.now, t) }
 {
     text_size(name) + optional_size(t) + 1
 }
@@ -199,6 +221,7 @@ fn case_size(name: &str, t: Option<ComponentValType>) -> u128
 pub fn values_size(types: &[ComponentValType]) -> u128
     ensures is { result ≡ length (vector value types.now) }
     ensures small { result < 2 ^ 127 + 2 ^ 100 }
+    ensures in_format { AllByRecursion ValIsInFormat types.now }
 {
     let mut size = u128::from(unsigned_size(types.len() as u64));
     for t in types {
@@ -211,6 +234,7 @@ pub fn values_size(types: &[ComponentValType]) -> u128
 pub fn texts_size(texts: &[&str]) -> u128
     ensures is { result ≡ length (vector text (texts_of texts.now)) }
     ensures small { result < 2 ^ 127 + 2 ^ 100 }
+    ensures in_format { AllByRecursion IsText (texts_of texts.now) }
 {
     let mut size = u128::from(unsigned_size(texts.len() as u64));
     for t in texts {

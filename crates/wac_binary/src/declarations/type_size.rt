@@ -2,6 +2,7 @@
 
 ghost use Rattle.std.specs.Prelude.{◌≡◌, ◌+◌, ◌<◌, ◌≤◌, ◌^◌, length};
 ghost use Rattle.wac_binary.specs.Bytes.{alias_bytes, value_def_bytes, type_bytes, decl_bytes, outcome};
+ghost use Rattle.wac_binary.specs.Format.{OptionIsInFormat, ValueIsInFormat, AliasIsInFormat, TypeIsInFormat, DeclIsInFormat};
 ghost use Rattle.wac_binary.specs.Views.{func_of, defined_of};
 ghost use Rattle.wac_binary.specs.private.declarations.DeclView.{alias_of, type_of, decl_of};
 
@@ -15,6 +16,7 @@ use crate::types::{ComponentValType, DefinedType, FuncType};
 fn outcome_size(t: Option<ComponentValType>) -> u128
     ensures is { result ≡ length (outcome t) }
     ensures small { result ≤ 2 ^ 33 }
+    ensures in_format { OptionIsInFormat t }
 {
     match t {
         None => 2,
@@ -25,6 +27,7 @@ fn outcome_size(t: Option<ComponentValType>) -> u128
 fn func_size(f: &FuncType<'_>) -> u128
     ensures is { result ≡ length (type_bytes (func_of f.now)) }
     ensures small { result < 2 ^ 127 + 2 ^ 101 }
+    ensures in_format { TypeIsInFormat (func_of f.now) }
 {
     1 + fields_size(f.params) + outcome_size(f.result)
 }
@@ -32,6 +35,7 @@ fn func_size(f: &FuncType<'_>) -> u128
 fn defined_size(t: &DefinedType<'_>) -> u128
     ensures is { result ≡ length (value_def_bytes (defined_of t.now)) }
     ensures small { result < 2 ^ 127 + 2 ^ 101 }
+    ensures in_format { ValueIsInFormat (defined_of t.now) }
 {
     match *t {
         DefinedType::Primitive(_) => 1,
@@ -55,6 +59,7 @@ fn defined_size(t: &DefinedType<'_>) -> u128
 pub fn alias_size(a: AliasRef<'_>) -> u128
     ensures is { result ≡ length (alias_bytes (alias_of a.entry)) }
     ensures small { result ≤ 2 ^ 65 }
+    ensures in_format { AliasIsInFormat (alias_of a.entry) }
 {
     match a {
         AliasRef::Export(sort, instance, name) => alias_export_size(sort, instance, name),
@@ -67,6 +72,7 @@ pub fn alias_size(a: AliasRef<'_>) -> u128
 pub fn type_size(t: TypeRef<'_>) -> u128
     ensures is { result ≡ length (type_bytes (type_of t.entry)) }
     ensures small { result < 2 ^ 127 + 2 ^ 102 }
+    ensures in_format { TypeIsInFormat (type_of t.entry) }
 {
     match t {
         TypeRef::Defined(t) => defined_size(t),
@@ -79,6 +85,7 @@ pub fn type_size(t: TypeRef<'_>) -> u128
 pub fn decl_size(d: &DeclRef<'_>) -> u128
     ensures is { result ≡ length (decl_bytes (decl_of d.now)) }
     ensures small { result < 2 ^ 127 + 2 ^ 103 }
+    ensures in_format { DeclIsInFormat (decl_of d.now) }
 {
     match *d {
         DeclRef::CoreModule(t) => 1 + t.size(),

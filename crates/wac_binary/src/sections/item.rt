@@ -5,14 +5,15 @@
 ghost use Rattle.std.specs.Prelude.{◌≡◌, List, ℕ, ◌++◌, ◌<◌, ◌^◌, length, OnOk, IfOk, IfErr};
 ghost use Rattle.wac_binary.specs.Bytes.{alone, item_bytes, section_id as id_of};
 ghost use Rattle.wac_binary.specs.Fits.{SectionFits};
+ghost use Rattle.wac_binary.specs.Format.{ItemIsInFormat};
 ghost use Rattle.wac_binary.specs.private.sections.ItemView.{item_of, alone_of};
 ghost use Rattle.wac_binary.specs.declared.fault.BinaryFault.TheVariants.{TooLarge};
 
 use crate::bytes::put::{put_argument, put_arguments, put_named, put_text, put_unsigned};
 use crate::declarations::decl::{AliasRef, TypeRef, put_alias, put_type};
 use crate::declarations::module_type::ModuleType;
-use crate::declarations::size::{bytes_size, text_size};
 use crate::fault::BinaryFault;
+use crate::sections::item_size::alone_item_size;
 use crate::sorts::{Description, Sort};
 use std::alloc::AllocError;
 
@@ -116,11 +117,9 @@ pub fn alone_size(indexes: u64, item: &AloneRef<'_>) -> Result<u64, BinaryFault>
     ensures size { IfOk result (λ n. n ≡ length (item_bytes (alone_of item.now))) }
     ensures room { OnOk result ((indexes < 2 ^ 32) × SectionFits (alone (alone_of item.now))) }
     ensures too_large { IfErr result (λ e. (e ≡ TooLarge) × ¬ ((indexes < 2 ^ 32) × SectionFits (alone (alone_of item.now)))) }
+    ensures in_format { ItemIsInFormat (alone_of item.now) }
 {
-    let size = match *item {
-        AloneRef::Component(bytes) => bytes_size(bytes),
-        AloneRef::Custom { name, bytes } => text_size(name) + bytes_size(bytes),
-    };
+    let size = alone_item_size(item);
     if indexes < 1 << 32 && size < 1 << 32 {
         Ok(size as u64)
     } else {

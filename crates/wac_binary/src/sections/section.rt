@@ -7,6 +7,7 @@ ghost use Rattle.std.specs.Prelude.{◌≡◌, List, ℕ, ◌+◌, ◌<◌, ◌�
 ghost use Rattle.std.specs.List.{flat_map};
 ghost use Rattle.wac_binary.specs.Bytes.{alone, item_bytes, section_bytes, section_id as id_of, is_shared as shared};
 ghost use Rattle.wac_binary.specs.Fits.{SectionFits};
+ghost use Rattle.wac_binary.specs.Format.{ItemIsInFormat};
 ghost use Rattle.wac_binary.specs.private.sections.ItemView.{item_of, alone_of};
 ghost use Rattle.wac_binary.specs.private.LastSection.{one, before, next_section};
 ghost use Rattle.wac_binary.specs.private.sections.OpenSection.{section, section_of, begun};
@@ -62,16 +63,19 @@ fn fits(last: Open, before: u64, more: u128) -> bool
 #[inline(always)]
 pub fn has_room(indexes: u64, last: &Option<Open>, things: &[u8], item: &ItemRef<'_>) -> bool
     requires { IfSome (section_of last.now things.now) SectionFits }
-    ensures { IsTrue result ↔ ((indexes < 2 ^ 32) × SectionFits (next_section (section_of last.now things.now) (item_of item.now))) }
+    ensures room { IsTrue result ↔ ((indexes < 2 ^ 32) × SectionFits (next_section (section_of last.now things.now) (item_of item.now))) }
+    ensures in_format { ItemIsInFormat (item_of item.now) }
 {
-    indexes < 1 << 32 && section_has_room(last, things, item)
+    let section_has_room = section_has_room(last, things, item);
+    indexes < 1 << 32 && section_has_room
 }
 
 /// Returns whether the section that an item is added to fits 32-bit sizes.
 #[inline(always)]
 fn section_has_room(last: &Option<Open>, things: &[u8], item: &ItemRef<'_>) -> bool
     requires { IfSome (section_of last.now things.now) SectionFits }
-    ensures { IsTrue result ↔ SectionFits (next_section (section_of last.now things.now) (item_of item.now)) }
+    ensures room { IsTrue result ↔ SectionFits (next_section (section_of last.now things.now) (item_of item.now)) }
+    ensures in_format { ItemIsInFormat (item_of item.now) }
 {
     let id = section_id(item);
     let size = item_size(item);

@@ -1,5 +1,5 @@
 -- What is told of the entries' types; private functions alone cite this.
-use Rattle.std.specs.Prelude.{ℕ, ◌≡◌, ◌==◌, ◌+◌, ◌≤◌, ◌<◌, ◌||◌, nat_lt, Bool, true, false, if◌then◌else◌, List, [], ◌∷◌, length, Option, Some, None, slice_get}
+use Rattle.std.specs.Prelude.{ℕ, ◌≡◌, ◌==◌, ◌+◌, ◌≤◌, ◌<◌, nat_lt, Bool, true, false, if◌then◌else◌, List, [], ◌∷◌, length, Option, Some, None, slice_get}
 use Rattle.wac_types_shapes.specs.primitives.Name.{Name, find_name, option_case}
 use Rattle.wac_types_shapes.specs.primitives.Tree.{imported, named, position, Place, Tree}
 use Rattle.wac_types_shapes.specs.shapes.Kinds.{kind_type}
@@ -32,14 +32,16 @@ use Rattle.wac_encode_scopes.specs.declared.state.State.{State}
 use Rattle.wac_encode_scopes.specs.Books.{opened}
 use Rattle.wac_encode_scopes.specs.Roots.{IsRoot}
 use Rattle.wac_encode_scopes.specs.private.Paid.{pending}
-use Rattle.wac_encode_scopes.specs.private.Closed.{AreClosedTypes, is_closed_in}
+use Rattle.wac_encode_scopes.specs.private.Closed.{AreClosedTypes}
 use Rattle.wac_encode_scopes.specs.private.Telling.{definition_in}
 use Rattle.wac_encode_scopes.specs.States.{stack, RecordsHere}
 use Rattle.wac_encode_interfaces.specs.private.Imports.{RefersToImport}
+use Rattle.wac_encode_imports.specs.declared.told.Others.{Others}
 use Rattle.wac_encode_imports.specs.declared.told.Teller.{Teller}
 use Rattle.wac_encode_imports.specs.private.Imports.{merged_bindings}
 use Rattle.wac_encode_imports.specs.private.ToldGraph.{entry_bindings, HasNoUnbound}
 use Rattle.wac_encode_imports.specs.private.Exports.{ExportNoNameTwice}
+use Rattle.wac_encode_imports.specs.private.Others.{HaveAll, IsLeftOut}
 
 -- The teller is one for a finished merge of the entries, and what it is given of them is true.
 pub record IsTeller (t : Teller) : Type 0 where
@@ -115,57 +117,65 @@ pub record IsImportOf (t : Teller) (e : Entry) (p : ℕ) : Type 0 where
 abbrev pub IsExport : Teller → ℕ → Name → ResourceId → Type 0
 IsExport t p n r = (is : IsTeller t) → end_bindings t is r ≡ Some (record { out = 0; side = imported; path = position p ∷ named n ∷ [] })
 
--- The item's own resource, if it has one, is bound to the import's export of that name.
-abbrev pub BindsItem : Teller → ℕ → List (Name × UsedType) → Name × ItemKind → Type 0
-BindsItem t p uses e = (r : ResourceId) → own_resource t.types.now uses e ≡ Some r → IsExport t p e.0 r
+-- The item's own resource, if it has one, is bound to the import's export of that name, or is among the others.
+abbrev pub BindsItem : Teller → ℕ → Others → List (Name × UsedType) → Name × ItemKind → Type 0
+BindsItem t p others uses e = (r : ResourceId) → own_resource t.types.now uses e ≡ Some r → IsLeftOut others r → IsExport t p e.0 r
 
--- Those of the first n exports are.
-abbrev pub BindsItems : Teller → ℕ → Interface → ℕ → Type 0
-BindsItems t p it n = (j : ℕ) (e : Name × ItemKind) → j < n → slice_get it.exports j ≡ Some e → BindsItem t p it.uses e
-
--- The own resources of the interface are bound to the import's exports of their names.
-abbrev pub BindsOwn : Teller → ℕ → Interface → Type 0
-BindsOwn t p it = (r : ResourceId) (n : Name) → own_name t.types.now it.uses it.exports r ≡ Some n → IsExport t p n r
+-- The own resources of the interface that are not among the others are bound to the import's exports of their names.
+abbrev pub BindsOwn : Teller → ℕ → Others → Interface → Type 0
+BindsOwn t p others it = (r : ResourceId) (n : Name) → own_name t.types.now it.uses it.exports r ≡ Some n → IsLeftOut others r → IsExport t p n r
 
 -- Those of an instance are.
-abbrev pub BindsKind : Teller → ℕ → ItemKind → Type 0
-BindsKind t p k = (id : InterfaceId) (it : Interface) → k ≡ kind.Instance id → item_at t.types.now.interfaces id.0 ≡ Some it → BindsOwn t p it
+abbrev pub BindsKind : Teller → ℕ → Others → ItemKind → Type 0
+BindsKind t p others k = (id : InterfaceId) (it : Interface) → k ≡ kind.Instance id → item_at t.types.now.interfaces id.0 ≡ Some it → BindsOwn t p others it
 
 -- The exports are of the collection.
 abbrev pub AreHeldExports : Teller → Interface → Type 0
 AreHeldExports t it = (j : ℕ) (e : Name × ItemKind) → slice_get it.exports j ≡ Some e → holds_type t.types.now (kind_type e.1) ≡ true
 
--- If the flag of the import of the entry's class is set, the import binds the own resources of the entry.
-abbrev pub IsNoted : Teller → Entry → List Bool → Type 0
-IsNoted t e whole = (p : ℕ) → IsImportOf t e p → slice_get whole p ≡ Some true → BindsKind t p e.kind
+-- An item's own resource is noted, if the import does not bind it.
+pub record NotesItem (t : Teller) (p : ℕ) (uses : List (Name × UsedType)) (e : Name × ItemKind) (old new : List Others) : Type 0 where
+  pub counted : length new ≡ length old
+  pub all : HaveAll old new
+  pub noted : (others : Others) → slice_get new p ≡ Some others → BindsItem t p others uses e
 
--- The step notes this of an entry. It sets no flag.
-pub record Notes (t : Teller) (e : Entry) (old new : List Bool) : Type 0 where
+-- Those of the first n exports are.
+pub record NotesItems (t : Teller) (p : ℕ) (it : Interface) (n : ℕ) (old new : List Others) : Type 0 where
+  pub counted : length new ≡ length old
+  pub all : HaveAll old new
+  pub noted : (j : ℕ) (e : Name × ItemKind) (others : Others) → j < n → slice_get it.exports j ≡ Some e → slice_get new p ≡ Some others → BindsItem t p others it.uses e
+
+-- The own resources of the entry that the import of its class does not bind are among that import's.
+abbrev pub IsNoted : Teller → Entry → List Others → Type 0
+IsNoted t e sets = (p : ℕ) (others : Others) → IsImportOf t e p → slice_get sets p ≡ Some others → BindsKind t p others e.kind
+
+-- The step notes this of an entry.
+pub record Notes (t : Teller) (e : Entry) (old new : List Others) : Type 0 where
   pub counted : length new ≡ length old
   pub noted : IsNoted t e new
-  pub kept : (p : ℕ) → slice_get new p ≡ Some true → slice_get old p ≡ Some true
+  pub all : HaveAll old new
 
--- Each import has a flag, and this is noted of the first n entries.
-pub record AreWholeFor (t : Teller) (n : ℕ) (whole : List Bool) : Type 0 where
-  pub counted : length whole ≡ length t.places.now
-  pub noted : (j : ℕ) (e : Entry) → j < n → slice_get t.merge.now.entries j ≡ Some e → IsNoted t e whole
+-- Each import has its others, and this is noted of the first n entries.
+pub record AreOthersFor (t : Teller) (n : ℕ) (sets : List Others) : Type 0 where
+  pub counted : length sets ≡ length t.places.now
+  pub noted : (j : ℕ) (e : Entry) → j < n → slice_get t.merge.now.entries j ≡ Some e → IsNoted t e sets
 
--- Each import has a flag, and this is noted of all entries.
-pub record AreWhole (t : Teller) (whole : List Bool) : Type 0 where
-  pub counted : length whole ≡ length t.places.now
-  pub noted : (j : ℕ) (e : Entry) → slice_get t.merge.now.entries j ≡ Some e → IsNoted t e whole
+-- Each import has its others, and this is noted of all entries.
+pub record AreOthers (t : Teller) (sets : List Others) : Type 0 where
+  pub counted : length sets ≡ length t.places.now
+  pub noted : (j : ℕ) (e : Entry) → slice_get t.merge.now.entries j ≡ Some e → IsNoted t e sets
 
 -- The definition's tree at the root is at this place.
 abbrev pub IsDefinitionAt : Teller → DefinedTypeId → Where → State → Type 0
 IsDefinitionAt t d w s = (is : IsTeller t) → (tree : Tree) × IsHeld t.types.now (end_bindings t is) (ty.Value (val.Defined d)) tree × IsValue tree × Stands (innermost (stack false s)) tree w
 
--- The definition of an item of an instance, if the instance is whole or the definition mentions no resource.
-abbrev pub told_in : Teller → Bool → Name × ItemKind → Option DefinedTypeId
-told_in t whole e = option_case (definition_in t.types.now e) None (λ d. if whole || is_closed_in t.closed.now d then Some d else None)
+-- The definition of an item of an instance, if it passes the test.
+abbrev pub told_in : Collection → (DefinedTypeId → Bool) → Name × ItemKind → Option DefinedTypeId
+told_in c test e = option_case (definition_in c e) None (λ d. if test d then Some d else None)
 
 -- An instance exports each such definition of the interface.
-abbrev pub HaveExports : Teller → Bool → Interface → ℕ → State → Type 0
-HaveExports t whole it i s = (n : Name) (k : ItemKind) (d : DefinedTypeId) → find_name it.exports n ≡ Some k → told_in t whole (n, k) ≡ Some d → IsDefinitionAt t d (at_export i n) s
+abbrev pub HaveExports : Teller → (DefinedTypeId → Bool) → Interface → ℕ → State → Type 0
+HaveExports t test it i s = (n : Name) (k : ItemKind) (d : DefinedTypeId) → find_name it.exports n ≡ Some k → told_in t.types.now test (n, k) ≡ Some d → IsDefinitionAt t d (at_export i n) s
 
 -- The type index refers to the definition of a type item.
 abbrev pub IsTypeImport : Teller → ItemKind → ℕ → State → Type 0

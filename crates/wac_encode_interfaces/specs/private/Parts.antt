@@ -62,11 +62,6 @@ abbrev pub owned_in : List (ResourceId × ℕ) → ℕ → ItemKind → Option R
 owned_in entries p (kind.TypeItem (ty.Resource q)) = if is_number p (owner_of entries q) then Some q else None
 owned_in entries p k = None
 
--- Whether there is a resource, and it is this one.
-abbrev pub is_that : Option ResourceId → ResourceId → Bool
-is_that None r = false
-is_that (Some q) r = r.0 == q.0
-
 -- The interface of an instance; then the resource of a type item.
 abbrev pub interface_of : ItemKind → Option InterfaceId
 interface_of (kind.Instance i) = Some i

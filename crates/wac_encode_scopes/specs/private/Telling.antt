@@ -1,6 +1,6 @@
 -- What an instance in the innermost scope exports, and what the scope records of it.
-use Rattle.std.specs.Prelude.{ℕ, ◌≡◌, ◌==◌, ◌&&◌, ◌||◌, Bool, true, false, List, [], ◌∷◌, Option, Some, None, is_none, if◌then◌else◌}
-use Rattle.std.specs.List.{list_all, list_any}
+use Rattle.std.specs.Prelude.{ℕ, ◌≡◌, ◌==◌, ◌&&◌, Bool, true, false, not, List, [], ◌∷◌, Option, Some, None, is_none, is_some, if◌then◌else◌}
+use Rattle.std.specs.List.{list_any}
 use Rattle.wac_types_shapes.specs.primitives.Name.{Name, option_case}
 use Rattle.wac_types_shapes.specs.declared.shapes.component.ResourceId.{ResourceId}
 use Rattle.wac_types_shapes.specs.declared.shapes.component.DefinedTypeId.{DefinedTypeId}
@@ -17,10 +17,14 @@ use Rattle.wac_types_collection.specs.collection.Bound.{Bindings, own_name}
 use Rattle.wac_binary.specs.Unfold.{Bound}
 use Rattle.wac_encode_scopes.specs.declared.state.State.{State}
 use Rattle.wac_encode_scopes.specs.States.{stack, named_in}
-use Rattle.wac_encode_scopes.specs.private.Interfaces.{own_in}
 use Rattle.wac_encode_stacks.specs.Scopes.{Where, at_export, Open}
 use Rattle.wac_encode_stacks.specs.Good.{At, Good, innermost, Onward}
 use Rattle.wac_encode_stacks.specs.Instances.{Shows, taken_leaf}
+
+-- Whether there is a resource, and it is this one.
+abbrev pub is_that : Option ResourceId → ResourceId → Bool
+is_that None r = false
+is_that (Some q) r = r.0 == q.0
 
 -- The resource is one of these.
 abbrev pub is_one_of : List ResourceId → ResourceId → Bool
@@ -30,9 +34,9 @@ is_one_of rs r = list_any (λ q. r.0 == q.0) rs
 abbrev pub with_own_names : {A : Type 0} → Collection → List (Name × UsedType) → List (Name × ItemKind) → (ResourceId → Bool) → (Name → A) → (ResourceId → Option A) → ResourceId → Option A
 with_own_names c uses es test f g r = if test r then option_case (own_name c uses es r) (g r) (λ n. Some (f n)) else g r
 
--- All own resources of the items pass the test.
-abbrev pub all_own : Collection → List (Name × UsedType) → List (Name × ItemKind) → (ResourceId → Bool) → Bool
-all_own c uses es test = list_all (λ e. option_case (own_in c uses e) true test) es
+-- An own resource of the interface that does not pass the test.
+abbrev pub is_other : Collection → Interface → (ResourceId → Bool) → ResourceId → Bool
+is_other c it own r = is_some (own_name c it.uses it.exports r) && not (own r)
 
 -- The definition at the end of a type item's value type.
 abbrev pub definition_of : ValueType → Option DefinedTypeId
@@ -61,10 +65,10 @@ binding_own c uses es test j o = record o { binds = with_own_names c uses es tes
 abbrev pub exporting_values : Collection → List (Name × ItemKind) → (DefinedTypeId → Bool) → ℕ → Open → Open
 exporting_values c es test j o = record o { exports = with_values c es test j o }
 
--- The scope after instance j is told, to which the own resources that pass the test belong. All its value types are
--- recorded if all own resources belong to it, and else the closed ones.
+-- The scope after instance j is told, to which the own resources that pass the first test belong. The value types that pass the
+-- second are recorded.
 abbrev pub telling : Collection → Interface → (ResourceId → Bool) → (DefinedTypeId → Bool) → ℕ → Open → Open
-telling c it own is_closed j o = exporting_values c it.exports (λ d. all_own c it.uses it.exports own || is_closed d) j (binding_own c it.uses it.exports own j o)
+telling c it own test j o = exporting_values c it.exports test j (binding_own c it.uses it.exports own j o)
 
 -- The own resources that pass the test are not bound yet. If there is one, the scope is the bottom scope.
 abbrev pub MayBind : Collection → Interface → (ResourceId → Bool) → Bindings → List Bindings → Type 0

@@ -12,6 +12,8 @@ pub mod Taking
 pub mod Wired
 pub mod Deciding
 pub mod Wirable
+pub mod Alike
+pub mod Placed
 pub mod Fitting
 pub mod Readied
 pub mod Plugged

@@ -67,23 +67,28 @@ abbrev pub Ends : NodeId → List Name → Graph → List PlugMatches → Answer
 Ends node exports old [] answer new = (answer ≡ Err NoPlugHappened) × (new ≡ old)
 Ends node exports old (p ∷ ps) answer new = InOrder (PassesOn node) old exports answer new
 
+-- Plugs each plug into the socket's node in order, and exports these exports of the node.
+abbrev pub PlugsAndExports : NodeId → List Name → Graph → List PlugMatches → Answer → Graph → Type 0
+PlugsAndExports node exports old ps answer new =
+    (IsErr answer × InOrder (PlugsIn node) old ps answer new)
+    ⊎ ((mid : Graph) × InOrder (PlugsIn node) old ps (Ok tt) mid × Ends node exports mid ps answer new)
+
 -- Instantiates the socket, plugs in each plug in order, and exports the socket's exports.
 abbrev pub Plugs : Graph → PackageId → List PlugMatches → Answer → Graph → Type 0
 Plugs old socket ps answer new =
     ((answer ≡ Err OutOfMemory) × (new ≡ old))
-    ⊎ ((node : NodeId) × (made : Graph) × Instantiates old socket (Ok node) made × After node made)
-  where
-    After : NodeId → Graph → Type 0
-    After node made =
-        (IsErr answer × InOrder (PlugsIn node) made ps answer new)
-        ⊎ ((mid : Graph) × InOrder (PlugsIn node) made ps (Ok tt) mid × Ends node (names_of (exports_of_package old socket)) mid ps answer new)
+    ⊎ ((node : NodeId) × (made : Graph) × Instantiates old socket (Ok node) made × PlugsAndExports node (names_of (exports_of_package old socket)) made ps answer new)
 
--- `plug`: finds the matches of all plugs, then wires those that win.
+-- Memory runs out before the matches are found: nothing changes, or only the socket is instantiated.
+abbrev pub RunsOutMatching : Graph → PackageId → Answer → Graph → Type 0
+RunsOutMatching old socket answer new = (answer ≡ Err OutOfMemory) × ((new ≡ old) ⊎ ((node : NodeId) × Instantiates old socket (Ok node) new))
+
+-- `plug`: instantiates the socket, finds the matches of all plugs, and wires those that win.
 --
 -- What the steps before an error added remains.
 abbrev pub PlugsAll : Graph → List PackageId → PackageId → Answer → Graph → Type 0
 PlugsAll old plugs socket answer new =
-    ((answer ≡ Err OutOfMemory) × (new ≡ old))
+    RunsOutMatching old socket answer new
     ⊎ ((all : List PlugMatches) × AreAllMatches old socket plugs all × Plugs old socket (wired [] all) answer new)
 
 -- Types and packages are unchanged, and each node remains with its item and package.

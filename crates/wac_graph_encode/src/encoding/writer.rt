@@ -2,6 +2,7 @@
 ghost use Rattle.std.specs.Prelude.{◌≡◌, ℕ, ◌<◌, ◌≤◌, ◌+◌, ◌*◌, ◌^◌, ◌⊎◌, [], Contains, IsSomeAnd, true, false, OnOk, IfOk, IfErr, IfSome, IfNone, Some, None, List, length, slice_get};
 ghost use Rattle.wac_binary.specs.Bytes.{bytes_of};
 ghost use Rattle.wac_binary.specs.Fits.{Fits};
+ghost use Rattle.wac_binary.specs.Format.{AreInFormat};
 ghost use Rattle.wac_binary.specs.Items.{Item as AnItem};
 ghost use Rattle.wac_binary.specs.Views.{arguments_of};
 ghost use Rattle.wac_binary.specs.declared.sorts.Sort.{Sort as ASort};
@@ -150,7 +151,7 @@ pub fn write(
     requires binds { BindsAsClasses by_names reader.now.types (outer_entries reader.now) imports.now.merge.merge }
     requires bound { (outer : List ℕ) → IsOuterOrder reader.now outer → HasNoUnbound reader.now.types (outer_entries reader.now) outer }
     requires faultless { (outer : List ℕ) → IsOuterOrder reader.now outer → (n : AnId) → Contains order.now n → IsFaultlessNode reader.now options.define_components (outer_bindings reader.now outer) n }
-    ensures means { IfOk result (λ bytes. (items : List AnItem) × (bytes.items ≡ bytes_of items) × Fits items × Means items reader.now options.entry) }
+    ensures means { IfOk result (λ bytes. (items : List AnItem) × (bytes.items ≡ bytes_of items) × Fits items × AreInFormat items × Means items reader.now options.entry) }
     ensures fault { IfErr result (λ e. cause_of e ≡ None) }
     ensures short { IfOk result (λ bytes. (c : ACollection) (b : _) → length bytes.items ≤ 8 + total c b state + 4 * entries_items reader.now.types (outer_entries reader.now) + order_cost reader.now options.entry order.now) }
     ensures too_large { IfErr result (λ e. e ≡ TooLarge → (c : ACollection) (b : _) → (2 ^ 32 ≤ 8 + total c b state + 4 * entries_items reader.now.types (outer_entries reader.now) + order_cost reader.now options.entry order.now) ⊎ (2 ^ 32 ≤ bound_of reader.now options.entry)) }
@@ -436,7 +437,7 @@ fn argument(
     requires asked { IsSomeAnd (node_at reader.now n) (λ node. (node.kind ≡ instantiation) × IsSomeAnd (slice_get (imports_of reader.now node) position) (λ e. e.0 ≡ name.now)) }
     requires set { IfSome source (IsArgumentOf reader.now n position) }
     requires unset { IfNone source (IsUnsatisfied reader.now n position) }
-    ensures { IsArgumentItem reader.now imports.now.places.items (index_in indexes.now) n position name.now (name.now, result.0, result.1) }
+    ensures { IfSome (node_at reader.now n) (λ node. IfSome (slice_get (imports_of reader.now node) position) (λ e. IsArgumentItem reader.now imports.now.places.items (index_in indexes.now) n position e (name.now, result.0, result.1))) }
 {
     class_laws(); // proof only
     order_law(); // proof only

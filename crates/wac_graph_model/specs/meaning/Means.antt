@@ -110,15 +110,18 @@ package_imports g o order = if o.define_components then [] else flat_map (packag
 abbrev pub package_thing : EncodeOptions → (imports place : ℕ) → Thing
 package_thing o imports place = if o.define_components then component_at place else import_at (imports + place)
 
--- An argument: the node that was set, or, if the import is unsatisfied, the import of its name's class.
-pub data IsArgument (g : Graph) (at : NodeId → Thing) (n : NodeId) (i : ℕ) (name : Name) : Thing → Type 0 where
-  given : (node : NodeId) → IsArgumentOf g n i node → IsArgument g at n i name (at node)
-  asked : (p : ℕ) → IsUnsatisfied g n i → IsImportPlace g name p → IsArgument g at n i name (import_at p)
+-- An argument for import e, with its sort and what its index refers to.
+--
+-- - A set argument: the node that was set, with the sort of its item.
+-- - An unsatisfied import: the import of its name's class, with the sort of the import.
+pub data IsArgument (g : Graph) (at : NodeId → Thing) (n : NodeId) (i : ℕ) (e : Name × ItemKind) : Sort → Thing → Type 0 where
+  given : (source : NodeId) (node : GraphNode) → IsArgumentOf g n i source → node_at g source ≡ Some node → IsArgument g at n i e (sort_of_kind node.item_kind) (at source)
+  asked : (p : ℕ) → IsUnsatisfied g n i → IsImportPlace g e.0 p → IsArgument g at n i e (sort_of_kind e.1) (import_at p)
 
 -- There is one argument for each import of the world, in world order and under the import's name.
-abbrev pub AreArguments : Graph → (NodeId → Thing) → NodeId → ℕ → List (Name × ItemKind) → List (Name × Thing) → Type 0
+abbrev pub AreArguments : Graph → (NodeId → Thing) → NodeId → ℕ → List (Name × ItemKind) → List (Name × Sort × Thing) → Type 0
 AreArguments g at n i [] [] = Unit {0}
-AreArguments g at n i (e ∷ imports) (a ∷ arguments) = (a.0 ≡ e.0) × IsArgument g at n i e.0 a.1 × AreArguments g at n (suc i) imports arguments
+AreArguments g at n i (e ∷ imports) (a ∷ arguments) = (a.0 ≡ e.0) × IsArgument g at n i e a.1 a.2 × AreArguments g at n (suc i) imports arguments
 AreArguments g at n i _ _ = ⊥
 
 -- The instantiation is node n: an instance of its package's component with its arguments.

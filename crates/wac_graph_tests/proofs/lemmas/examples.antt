@@ -13,5 +13,6 @@ pub mod DefinedRows
 pub mod PlugExample
 pub mod BeginningRows
 pub mod FitRows
+pub mod FormatRows
 pub mod ImportItemRows
 pub mod WeightRows

@@ -9,3 +9,4 @@ pub mod Ids
 pub mod Packages
 pub mod Rows
 pub mod Leaves
+pub mod Exports

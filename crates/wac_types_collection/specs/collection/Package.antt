@@ -1,6 +1,6 @@
 -- Packages: the bytes of a component, with its world.
 use Rattle.std.specs.Prelude.{ℕ, ◌≡◌, true, List, [], Option, None}
-use Rattle.wac_types_shapes.specs.primitives.Name.{Name}
+use Rattle.wac_types_shapes.specs.primitives.Name.{Name, find_name}
 use Rattle.wac_types_shapes.specs.keys.Key.{VersionParts}
 use Rattle.wac_types_collection.specs.collection.Collection.{Collection, holds_type, with_interface, world_exports, interface_exports}
 use Rattle.wac_types_collection.specs.collection.Uses.{named_right, unless}
@@ -32,9 +32,13 @@ with_instance_of c w = with_interface c (instance_with (world_exports c w))
 abbrev pub package_fault : Collection → WorldId → Option AddTypeError
 package_fault c w = unless (named_right c [] (world_exports c w)) ResourceMisnamed
 
--- The package's world and instance interface are of the collection and have the same exports in order.
+-- Under each name, the interface and the world export the same item, or neither exports one.
+abbrev pub HaveSameExports : Collection → InterfaceId → WorldId → Type 0
+HaveSameExports c i w = (n : Name) → find_name (interface_exports c i) n ≡ find_name (world_exports c w) n
+
+-- The package's world and instance interface are of the collection and have the same exports.
 abbrev pub HoldsPackage : Collection → PackageParts → Type 0
 HoldsPackage c p =
     (holds_type c (ty.World p.world) ≡ true)
     × (holds_type c (ty.Interface p.instance_type) ≡ true)
-    × (interface_exports c p.instance_type ≡ world_exports c p.world)
+    × HaveSameExports c p.instance_type p.world

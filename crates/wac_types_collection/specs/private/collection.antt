@@ -1,3 +1,4 @@
 pub mod Lawful
 pub mod Ends
 pub mod Items
+pub mod Exports

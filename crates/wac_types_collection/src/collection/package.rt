@@ -3,8 +3,9 @@ ghost use Rattle.std.specs.Prelude.{◌≡◌, ◌↔◌, true, length, IfOk, On
 ghost use Rattle.std.specs.Option.{option_map};
 ghost use Rattle.semver.specs.Identifiers.{parts_of};
 ghost use Rattle.wac_types_collection.specs.collection.Collection.{holds_type, world_exports};
-ghost use Rattle.wac_types_collection.specs.collection.Uses.{AnswersBy};
+ghost use Rattle.wac_types_collection.specs.collection.Uses.{AnswersBy, same_item};
 ghost use Rattle.wac_types_collection.specs.collection.Package.{PackageParts, instance_with, with_instance_of, package_fault, HoldsPackage};
+ghost use Rattle.wac_types_collection.specs.private.collection.Exports.{has_entry, are_among, have_same_items};
 ghost use Rattle.wac_types_shapes.specs.declared.shapes.component.«Type».TheVariants.{World as world_type};
 
 use crate::collection::collection::{AddTypeError, Types};
@@ -12,7 +13,7 @@ use semver::Version;
 use std::alloc::AllocError;
 use std::fmt;
 use std::marker::Model;
-use wac_types_shapes::{Interface, InterfaceId, Named, PackageKey, Type, WorldId};
+use wac_types_shapes::{Interface, InterfaceId, ItemKind, Named, PackageKey, Type, WorldId};
 
 /// A package: the bytes of a component, with its name, its version and its world.
 ///
@@ -189,9 +190,40 @@ fn instance_of(types: &Types, world: WorldId) -> Result<Interface, AddTypeError>
     })
 }
 
+// Whether two items have the same sort and the same id.
+#[tactic(auto, using(crate::proofs::lemmas::collection::Ids::kind_eq))]
+fn same_item(a: ItemKind, b: ItemKind) -> bool
+    ensures { result ≡ same_item a b }
+{
+    a == b
+}
+
+// Whether the items have this one under this name.
+fn has_entry(items: &Named<ItemKind>, name: &str, kind: ItemKind) -> bool
+    ensures { result ≡ has_entry items.now (name.now, kind) }
+{
+    items.get(name).is_some_and(|item| same_item(*item, kind))
+}
+
+// Whether each of the items is under its name among the others.
+fn are_among(items: &Named<ItemKind>, others: &Named<ItemKind>) -> bool
+    ensures { result ≡ are_among items.now others.now }
+{
+    items
+        .iter()
+        .all(|(name, kind)| has_entry(others, name, *kind))
+}
+
+// Whether both have the same items under the same names, in whatever order.
+fn have_same_items(items: &Named<ItemKind>, others: &Named<ItemKind>) -> bool
+    ensures { result ≡ have_same_items items.now others.now }
+{
+    are_among(items, others) && are_among(others, items)
+}
+
 impl Types {
-    /// Whether the package's world and instance interface are of the collection and have the same exports in order.
-    #[tactic(auto, using(crate::proofs::lemmas::collection::Ids::same_entries))]
+    /// Whether the package's world and instance interface are of the collection and export the same items by name.
+    #[tactic(auto, using(crate::proofs::lemmas::collection::Exports::same_exports))]
     pub fn holds_package(&self, package: &Package) -> bool
         ensures { IsTrue result ↔ HoldsPackage self.now «package».now }
     {
@@ -200,6 +232,10 @@ impl Types {
         if !self.contains(Type::World(world)) || !self.contains(Type::Interface(interface)) {
             return false;
         }
-        self[interface].exports == self[world].exports
+        let exports = &self[interface].exports;
+        let others = &self[world].exports;
+        exports.law(); // proof only
+        others.law(); // proof only
+        have_same_items(exports, others)
     }
 }

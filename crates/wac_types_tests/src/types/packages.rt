@@ -1,5 +1,5 @@
 // Packages of the first world of a collection, and the keys under which they are known.
-use crate::types::adding::{Adding, BOOL};
+use crate::types::adding::{Adding, BOOL, adds};
 use crate::types::asserts::{assert_displayed, assert_shown};
 use crate::types::rows::Row::Adds;
 use crate::types::rows::{Table, made};
@@ -82,6 +82,76 @@ fn a_package_shows_all_but_its_bytes(rt: HostRuntime) {
     let want =
         "Package { name: \"n:p\", version: None, bytes: \"...\", ty: WorldId(0), instance_type: InterfaceId(0) }";
     assert_shown(&rt, &package, want);
+}
+
+const F1: Type = Type::Func(FuncTypeId(1));
+
+const F_AND_G: &[(&str, ItemKind)] = &[
+    ("f", ItemKind::Func(FuncTypeId(0))),
+    ("g", ItemKind::Func(FuncTypeId(1))),
+];
+
+const G_AND_F: &[(&str, ItemKind)] = &[
+    ("g", ItemKind::Func(FuncTypeId(1))),
+    ("f", ItemKind::Func(FuncTypeId(0))),
+];
+
+const SWAPPED: &[(&str, ItemKind)] = &[
+    ("f", ItemKind::Func(FuncTypeId(1))),
+    ("g", ItemKind::Func(FuncTypeId(0))),
+];
+
+const F_ALONE: &[(&str, ItemKind)] = &[("f", ItemKind::Func(FuncTypeId(0)))];
+
+const F_G_AND_H: &[(&str, ItemKind)] = &[
+    ("f", ItemKind::Func(FuncTypeId(0))),
+    ("g", ItemKind::Func(FuncTypeId(1))),
+    ("h", ItemKind::Func(FuncTypeId(1))),
+];
+
+const PAIR: Table = (
+    "a world that exports `f` and `g`",
+    &[
+        Adds(Adding::Func(&[("x", BOOL)], None, false), F),
+        Adds(Adding::Func(&[], None, false), F1),
+        Adds(Adding::World(None, &[], F_AND_G), W),
+    ],
+);
+
+// The first interface and the first world of another collection, and whether they export the same under each name.
+const OTHERS: &[(&str, &[(&str, ItemKind)], &[(&str, ItemKind)], bool)] = &[
+    ("the same order", F_AND_G, F_AND_G, true),
+    ("another order", G_AND_F, F_AND_G, true),
+    ("the items swapped", SWAPPED, F_AND_G, false),
+    ("one export less", F_ALONE, F_AND_G, false),
+    ("one export more", F_G_AND_H, F_AND_G, false),
+];
+
+// The functions of `PAIR`, an interface and a world.
+fn other(
+    types: &mut Types,
+    exports: &'static [(&'static str, ItemKind)],
+    world: &'static [(&'static str, ItemKind)],
+) -> bool {
+    adds(types, Adding::Func(&[("x", BOOL)], None, false), F)
+        && adds(types, Adding::Func(&[], None, false), F1)
+        && adds(
+            types,
+            Adding::Interface(None, exports),
+            Type::Interface(InterfaceId(0)),
+        )
+        && adds(types, Adding::World(None, &[], world), W)
+}
+
+#[test]
+fn a_package_is_held_where_the_exports_are_the_same_in_whatever_order(rt: HostRuntime) {
+    let mut types = made(&rt, PAIR);
+    let package = package(&mut types, None).expect(&rt, "a package");
+    for (what, exports, world, held) in OTHERS {
+        let mut others = Types::new(rt.alloc());
+        assert!(rt; other(&mut others, *exports, *world), "{what}");
+        assert!(rt; others.holds_package(&package) == *held, "{what}");
+    }
 }
 
 fn key(rt: &(impl Abort + AllocGlobal), version: Option<&Version>) -> PackageKey {

@@ -1,4 +1,5 @@
 // Shapes keep what they are given, and show it.
+use crate::constants::primitive_constants;
 use crate::types::adding::{BOOL, Refusal, U32};
 use crate::types::asserts::{assert_shown, assert_told};
 use std::alloc::Global;
@@ -105,6 +106,34 @@ fn copies_are_alike(alloc: Global) -> Result<bool, Refusal> {
     Ok(copy == named && named.clone()? == copy)
 }
 
+// The primitive types.
+const PRIMITIVES: [PrimitiveType; 14] = [
+    PrimitiveType::Bool,
+    PrimitiveType::S8,
+    PrimitiveType::U8,
+    PrimitiveType::S16,
+    PrimitiveType::U16,
+    PrimitiveType::S32,
+    PrimitiveType::U32,
+    PrimitiveType::S64,
+    PrimitiveType::U64,
+    PrimitiveType::F32,
+    PrimitiveType::F64,
+    PrimitiveType::Char,
+    PrimitiveType::String,
+    PrimitiveType::ErrorContext,
+];
+
+fn constants_are_primitive_types() -> bool {
+    let constants = primitive_constants();
+    for i in 0..14 {
+        if constants[i] != ValueType::from(PRIMITIVES[i]) {
+            return false;
+        }
+    }
+    true
+}
+
 // What is told of a shape.
 #[derive(Clone, Copy)]
 enum Told {
@@ -118,6 +147,7 @@ enum Told {
     Flags,
     Texts,
     Copies,
+    Constants,
 }
 
 const TOLD: &[(Told, &str)] = &[
@@ -131,6 +161,7 @@ const TOLD: &[(Told, &str)] = &[
     (Told::Flags, "flags"),
     (Told::Texts, "texts"),
     (Told::Copies, "copies"),
+    (Told::Constants, "constants"),
 ];
 
 fn is_told(alloc: Global, told: Told) -> Result<bool, Refusal> {
@@ -145,6 +176,7 @@ fn is_told(alloc: Global, told: Told) -> Result<bool, Refusal> {
         Told::Flags => flags_keep_their_order(alloc),
         Told::Texts => texts_are_kept(alloc),
         Told::Copies => copies_are_alike(alloc),
+        Told::Constants => Ok(constants_are_primitive_types()),
     }
 }
 

@@ -7,12 +7,14 @@ use Rattle.wac_binary.specs.Items.{Item}
 use Rattle.wac_binary.specs.Bytes.{Section, alone, section_bytes, section_id, preamble, bytes_of, is_shared}
 use Rattle.wac_binary.specs.Indexes.{adds, indexes, is_in}
 use Rattle.wac_binary.specs.Fits.{SectionFits, Fits}
+use Rattle.wac_binary.specs.Format.{ItemIsInFormat, AreInFormat}
 use Rattle.wac_binary.specs.private.LastSection.{one, before, next_section, closed, open_section}
 use Rattle.wac_binary.specs.private.sections.OpenSection.{section, section_of, begun}
 use Rattle.wac_binary.specs.private.builder.Written.{whole, Written, items, items_are, State}
 use Rattle.wac_binary.specs.declared.sections.section.Open.{Open}
 use Rattle.wac_binary.proofs.SectionLaws.{indexes_snoc, open_fits, sections_are, closed_shared, open_shared, closed_alone, open_alone, fits_more, fits_next, next_is_alone}
 use Rattle.wac_binary.proofs.Counts.{grown, bounded, here}
+use Rattle.wac_binary.proofs.lemmas.declarations.FormatLaws.{all-snoc}
 
 -- the preamble stands once
 pub begun_once : (b : List ℕ) → begun (begun b) ≡ begun b
@@ -54,7 +56,7 @@ module _ {xs : List Item} {bytes things counts : List ℕ} {o : Option Open} (s 
 
   -- the preamble is written first
   pub state_begun : State xs (begun bytes) things counts o
-  state_begun = record { bytes_are = begun_once bytes ∙ s.bytes_are; open_is = s.open_is; counted = s.counted; fits = s.fits }
+  state_begun = record { bytes_are = begun_once bytes ∙ s.bytes_are; open_is = s.open_is; counted = s.counted; fits = s.fits; in_format = s.in_format }
 
   -- the same bytes in other buffers
   pub state_same : (more others : List ℕ) → more ≡ bytes → others ≡ things → State xs more others counts o
@@ -74,20 +76,27 @@ module _ {xs : List Item} {bytes things counts : List ℕ} {o : Option Open} (s 
         (ap (λ t. flat_map section_bytes (one t) ++ section_bytes (alone x)) s.open_is ∙ ap (λ t. flat_map section_bytes (one (open_section xs)) ++ t) (sym (append-nil (section_bytes (alone x)))) ∙ sym (texts (one (open_section xs)) (alone x ∷ [])))
         ∙ ap (λ ss. preamble ++ flat_map section_bytes ss) (sym (closed_alone xs x h))
 
+    more_in_format : ItemIsInFormat x → AreInFormat (xs ++ x ∷ [])
+    more_in_format valid = all-snoc ItemIsInFormat xs x s.in_format valid
+
+    none_added : adds x ≡ None → (j : ℕ) → indexes j (xs ++ x ∷ []) ≡ indexes j xs
+    none_added p j = rw (indexes_snoc j xs x, p) (omega arith)
+
+    pub more_custom_fits : adds x ≡ None → is_shared (section_id x) ≡ false → SectionFits (alone x) → Fits (xs ++ x ∷ [])
+    more_custom_fits p h r = record {
+      sections_fit = fits_more xs x s.fits.sections_fit (rw (next_is_alone (open_section xs) x h) r);
+      indexes_fit = λ j. rw (none_added p j) (s.fits.indexes_fit j);
+    }
+
     -- with an item in a section of its own that adds no index
-    pub state_custom : adds x ≡ None → is_shared (section_id x) ≡ false → SectionFits (alone x) → State (xs ++ x ∷ []) (begun bytes ++ (flat_map section_bytes (one (section_of o things)) ++ section_bytes (alone x))) things counts None
-    state_custom p h r = record {
+    pub state_custom : adds x ≡ None → is_shared (section_id x) ≡ false → SectionFits (alone x) → ItemIsInFormat x → State (xs ++ x ∷ []) (begun bytes ++ (flat_map section_bytes (one (section_of o things)) ++ section_bytes (alone x))) things counts None
+    state_custom p h r valid = record {
       bytes_are = alone_bytes h;
       open_is = sym (open_alone xs x h);
-      counted = λ j l. s.counted j l ∙ sym (none_added j);
-      fits = record {
-        sections_fit = fits_more xs x s.fits.sections_fit (rw (next_is_alone (open_section xs) x h) r);
-        indexes_fit = λ j. rw (none_added j) (s.fits.indexes_fit j);
-      };
+      counted = λ j l. s.counted j l ∙ sym (none_added p j);
+      fits = more_custom_fits p h r;
+      in_format = more_in_format valid;
     }
-      where
-        none_added : (j : ℕ) → indexes j (xs ++ x ∷ []) ≡ indexes j xs
-        none_added j = rw (indexes_snoc j xs x, p) (omega arith)
 
     module _ (k : ℕ) (p : adds x ≡ Some k) (q : k < 7) where
       added : (j : ℕ) → indexes j (xs ++ x ∷ []) ≡ indexes j xs + is_in j (Some k)
@@ -111,45 +120,47 @@ module _ {xs : List Item} {bytes things counts : List ℕ} {o : Option Open} (s 
 
       -- with an item in the open section
       pub state_shared : length counts ≡ 7 → slice_index counts k < 2 ^ 32 → is_shared (section_id x) ≡ true → (n : Open) (new : List ℕ) → section n new ≡ next_section (section_of o things) x
-          → SectionFits (next_section (section_of o things) x)
+          → SectionFits (next_section (section_of o things) x) → ItemIsInFormat x
           → State (xs ++ x ∷ []) (begun bytes ++ flat_map section_bytes (before (section_of o things) x)) new (slice_set counts k (slice_index counts k + 1)) (Some n)
-      state_shared l g h n new e r = record {
+      state_shared l g h n new e r valid = record {
         bytes_are = more_closed xs bytes (before (open_section xs) x) _ s.bytes_are (ap (λ t. flat_map section_bytes (before t x)) s.open_is) ∙ ap (λ ss. preamble ++ flat_map section_bytes ss) (sym (closed_shared xs x h));
         open_is = ap Some (e ∙ ap (λ t. next_section t x) s.open_is) ∙ sym (open_shared xs x h);
         counted = more_counted l;
         fits = more_fits g r;
+        in_format = more_in_format valid;
       }
 
       -- with an item in a section of its own
-      pub state_alone : length counts ≡ 7 → slice_index counts k < 2 ^ 32 → is_shared (section_id x) ≡ false → SectionFits (alone x)
+      pub state_alone : length counts ≡ 7 → slice_index counts k < 2 ^ 32 → is_shared (section_id x) ≡ false → SectionFits (alone x) → ItemIsInFormat x
           → State (xs ++ x ∷ []) (begun bytes ++ (flat_map section_bytes (one (section_of o things)) ++ section_bytes (alone x))) things (slice_set counts k (slice_index counts k + 1)) None
-      state_alone l g h r = record {
+      state_alone l g h r valid = record {
         bytes_are = alone_bytes h;
         open_is = sym (open_alone xs x h);
         counted = more_counted l;
         fits = more_fits g (rw (next_is_alone (section_of o things) x h) r);
+        in_format = more_in_format valid;
       }
 
 -- the state with one more item in a section of its own, from what was written
 module _ {xs : List Item} {bytes things counts : List ℕ} {o : Option Open} (s : State xs bytes things counts o) (x : Item) (old : List Item) (start new open_things : List ℕ)
     (old_is : xs ≡ old) (start_is : start ≡ begun bytes) (things_are : open_things ≡ things)
-    (new_is : new ≡ start ++ (flat_map section_bytes (one (section_of o open_things)) ++ section_bytes (alone x))) (fits : SectionFits (alone x)) where
+    (new_is : new ≡ start ++ (flat_map section_bytes (one (section_of o open_things)) ++ section_bytes (alone x))) (fits : SectionFits (alone x)) (valid : ItemIsInFormat x) where
   pub with_component : (k : ℕ) → adds x ≡ Some k → k < 7 → is_shared (section_id x) ≡ false → length counts ≡ 7 → slice_index counts k < 2 ^ 32 → State (old ++ x ∷ []) new things (slice_set counts k (slice_index counts k + 1)) None
-  with_component k p q h l g = rw (new_is, start_is, things_are, ← old_is) (state_alone s x k p q l g h fits)
+  with_component k p q h l g = rw (new_is, start_is, things_are, ← old_is) (state_alone s x k p q l g h fits valid)
 
   pub with_custom : adds x ≡ None → is_shared (section_id x) ≡ false → State (old ++ x ∷ []) new things counts None
-  with_custom p h = rw (new_is, start_is, things_are, ← old_is) (state_custom s x p h fits)
+  with_custom p h = rw (new_is, start_is, things_are, ← old_is) (state_custom s x p h fits valid)
 
 -- items that fit, with one more item in a section of its own
 module _ {xs : List Item} {bytes things counts : List ℕ} {o : Option Open} (s : State xs bytes things counts o) (x : Item) where
-  pub component_fits : (k : ℕ) → adds x ≡ Some k → k < 7 → is_shared (section_id x) ≡ false → length counts ≡ 7 → slice_index counts k < 2 ^ 32 → SectionFits (alone x) → Fits (xs ++ x ∷ [])
-  component_fits k p q h l g r = (state_alone s x k p q l g h r).fits
+  pub component_fits : (k : ℕ) → adds x ≡ Some k → k < 7 → is_shared (section_id x) ≡ false → slice_index counts k < 2 ^ 32 → SectionFits (alone x) → Fits (xs ++ x ∷ [])
+  component_fits k p q h g r = more_fits s x k p q g (rw (next_is_alone (section_of o things) x h) r)
 
   pub custom_fits : adds x ≡ None → is_shared (section_id x) ≡ false → SectionFits (alone x) → Fits (xs ++ x ∷ [])
-  custom_fits p h r = (state_custom s x p h r).fits
+  custom_fits p h r = more_custom_fits s x p h r
 
 no_counts : (k : ℕ) → k < 7 → slice_index (0 ∷ 0 ∷ 0 ∷ 0 ∷ 0 ∷ 0 ∷ 0 ∷ []) k ≡ 0
 no_counts k p = grind (arith, common_steps)
 
 pub state_none : State [] [] [] (0 ∷ 0 ∷ 0 ∷ 0 ∷ 0 ∷ 0 ∷ 0 ∷ []) None
-state_none = record { bytes_are = refl; open_is = refl; counted = no_counts; fits = record { sections_fit = tt; indexes_fit = λ k. omega arith } }
+state_none = record { bytes_are = refl; open_is = refl; counted = no_counts; fits = record { sections_fit = tt; indexes_fit = λ k. omega arith }; in_format = tt }

@@ -12,10 +12,12 @@ use Rattle.wac_binary.specs.declared.declarations.decl.Scope.TheVariants as o
 use Rattle.wac_binary.specs.Bytes.{type_bytes, decl_bytes, decls_bytes, count as count_of}
 use Rattle.wac_binary.specs.Indexes.{decl_adds, declared, is_in}
 use Rattle.wac_binary.specs.Fits.{DeclarationsFit}
+use Rattle.wac_binary.specs.Format.{DeclIsInFormat}
 use Rattle.wac_binary.specs.private.declarations.WrittenDecls.{WrittenDecls, declarations, declarations_are, type_is, DeclState}
 use Rattle.wac_binary.specs.private.OneReading.{heads}
 use Rattle.wac_binary.proofs.DeclBytes.{bytes_all}
 use Rattle.wac_binary.proofs.Counts.{grown, bounded, here}
+use Rattle.wac_binary.proofs.lemmas.declarations.FormatLaws.{decls-snoc}
 
 counts_all : (ds : List Decl) → count_of (decls ds) ≡ length ds
 counts_all [] = refl
@@ -67,12 +69,13 @@ module _ {ds : List Decl} {bytes counts : List ℕ} {count : ℕ} (s : DeclState
       indexes_fit = λ j. rw (added j) (bounded k j (declared j ds) (2 ^ 32) (s.fits.indexes_fit j) (λ e. rw (← e, ← s.counted k q) r.0));
     }
 
-    pub type_more : length counts ≡ 7 → DeclarationsFit (ds ++ d ∷ []) → DeclState (ds ++ d ∷ []) (bytes ++ decl_bytes d) (count + 1) (slice_set counts k (slice_index counts k + 1))
-    type_more l f = record {
+    pub type_more : length counts ≡ 7 → DeclarationsFit (ds ++ d ∷ []) → DeclIsInFormat d → DeclState (ds ++ d ∷ []) (bytes ++ decl_bytes d) (count + 1) (slice_set counts k (slice_index counts k + 1))
+    type_more l f one = record {
       count_is = sym longer;
       bytes_are = rw (s.bytes_are) (sym (texts ds d));
       counted = λ j r. grown k j (declared j ds) (declared j (ds ++ d ∷ [])) counts (s.counted j r) (omega arith) (added j);
       fits = f;
+      in_format = decls-snoc ds d s.in_format one;
     }
 
 pub type_none : DeclState [] [] 0 (0 ∷ 0 ∷ 0 ∷ 0 ∷ 0 ∷ 0 ∷ 0 ∷ [])
@@ -81,6 +84,7 @@ type_none = record {
   bytes_are = refl;
   counted = λ k p. grind (arith, common_steps);
   fits = record { count = omega arith; size = omega arith; indexes_fit = λ k. omega arith };
+  in_format = tt;
 }
 
 -- the same bytes in another buffer

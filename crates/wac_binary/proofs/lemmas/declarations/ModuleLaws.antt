@@ -6,7 +6,9 @@ use Rattle.wac_binary.specs.Items.{ModuleDecl, module_import, module_func, modul
 use Rattle.wac_binary.specs.Bytes.{module_bytes, module_decl_bytes}
 use Rattle.wac_binary.specs.Indexes.{function_types}
 use Rattle.wac_binary.specs.Fits.{ModuleFits}
+use Rattle.wac_binary.specs.Format.{ModuleDeclIsInFormat}
 use Rattle.wac_binary.specs.private.declarations.WrittenModule.{WrittenModule, declarations, declarations_are, ModuleState}
+use Rattle.wac_binary.proofs.lemmas.declarations.FormatLaws.{all-snoc}
 
 texts : (ds : List ModuleDecl) (d : ModuleDecl) → flat_map module_decl_bytes (ds ++ d ∷ []) ≡ flat_map module_decl_bytes ds ++ module_decl_bytes d
 texts [] d = append-nil (module_decl_bytes d)
@@ -59,21 +61,22 @@ module _ {ds : List ModuleDecl} {bytes : List ℕ} {count types : ℕ} (s : Modu
     pub module_room : (n len : ℕ) → n ≡ length (module_decl_bytes d) → len ≡ length bytes → ModuleFits (ds ++ d ∷ []) → (count + 1 < 2 ^ 32) × (len + n < 2 ^ 32)
     module_room n len e l f = let h = count_before f in let z = module_size f in (omega arith, omega (arith, length-append bytes (module_decl_bytes d)))
 
-    pub module_snoc : count < 2 ^ 32 - 1 → length (bytes ++ module_decl_bytes d) < 2 ^ 32 → ModuleState (ds ++ d ∷ []) (bytes ++ module_decl_bytes d) (count + 1) (types + function_types (d ∷ []))
-    module_snoc c z = record {
+    pub module_snoc : count < 2 ^ 32 - 1 → length (bytes ++ module_decl_bytes d) < 2 ^ 32 → ModuleDeclIsInFormat d → ModuleState (ds ++ d ∷ []) (bytes ++ module_decl_bytes d) (count + 1) (types + function_types (d ∷ []))
+    module_snoc c z one = record {
       count_is = sym longer;
       bytes_are = rw (s.bytes_are) (sym (texts ds d));
       types_are = rw (s.types_are) (sym (types_snoc ds d));
       fits = record { count = omega (arith, longer); size = rw (texts ds d, ← s.bytes_are) z };
+      in_format = all-snoc ModuleDeclIsInFormat ds d s.in_format one;
     }
 
     -- where there is room
-    pub module_more : (n len : ℕ) → n ≡ length (module_decl_bytes d) → len ≡ length bytes → (count + 1 < 2 ^ 32) × (len + n < 2 ^ 32)
+    pub module_more : (n len : ℕ) → n ≡ length (module_decl_bytes d) → len ≡ length bytes → (count + 1 < 2 ^ 32) × (len + n < 2 ^ 32) → ModuleDeclIsInFormat d
         → ModuleState (ds ++ d ∷ []) (bytes ++ module_decl_bytes d) (count + 1) (types + function_types (d ∷ []))
-    module_more n len e m r = module_snoc (let h = r.0 in omega arith) (let h = r.1 in omega (arith, length-append bytes (module_decl_bytes d)))
+    module_more n len e m r one = module_snoc (let h = r.0 in omega arith) (let h = r.1 in omega (arith, length-append bytes (module_decl_bytes d))) one
 
 pub module_none : ModuleState [] [] 0 0
-module_none = record { count_is = refl; bytes_are = refl; types_are = refl; fits = record { count = omega arith; size = omega arith } }
+module_none = record { count_is = refl; bytes_are = refl; types_are = refl; fits = record { count = omega arith; size = omega arith }; in_format = tt }
 
 -- the same bytes in another buffer
 pub module_same : {ds : List ModuleDecl} {bytes more : List ℕ} {count types : ℕ} → ModuleState ds bytes count types → more ≡ bytes → ModuleState ds more count types

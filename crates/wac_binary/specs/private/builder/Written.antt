@@ -8,6 +8,7 @@ use Rattle.wac_binary.specs.Items.{Item}
 use Rattle.wac_binary.specs.Bytes.{section_bytes, preamble, bytes_of}
 use Rattle.wac_binary.specs.Indexes.{indexes}
 use Rattle.wac_binary.specs.Fits.{Fits}
+use Rattle.wac_binary.specs.Format.{AreInFormat}
 use Rattle.wac_binary.specs.private.LastSection.{one, closed, open_section}
 use Rattle.wac_binary.specs.private.sections.OpenSection.{section_of, begun}
 use Rattle.wac_binary.specs.private.OneText.{one_reading}
@@ -39,9 +40,10 @@ pub text_is : {bytes : List ℕ} {open_one : Option Open} {things : List ℕ} (w
 unfolding items
 text_is w = w.text
 
--- The finished sections, the open section and the indexes of these items, which fit 32-bit sizes.
+-- The finished sections, the open section and the indexes of these items, which fit 32-bit sizes and are in the format.
 pub record State (xs : List Item) (bytes things counts : List ℕ) (open_one : Option Open) : Type 0 where
   pub bytes_are : begun bytes ≡ preamble ++ flat_map section_bytes (closed xs)
   pub open_is : section_of open_one things ≡ open_section xs
   pub counted : (k : ℕ) → k < 7 → slice_index counts k ≡ indexes k xs
   pub fits : Fits xs
+  pub in_format : AreInFormat xs

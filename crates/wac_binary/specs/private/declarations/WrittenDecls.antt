@@ -9,6 +9,7 @@ use Rattle.wac_binary.specs.Items.{TypeDef, instance_def, Decl, Decls, end, next
 use Rattle.wac_binary.specs.Bytes.{type_bytes, decl_bytes}
 use Rattle.wac_binary.specs.Indexes.{declared}
 use Rattle.wac_binary.specs.Fits.{DeclarationsFit}
+use Rattle.wac_binary.specs.Format.{DeclsAreInFormat}
 use Rattle.wac_binary.specs.private.OneItem.{one_type}
 
 pub record WrittenDecls (bytes : List ℕ) (count : ℕ) : Type 0 where
@@ -50,9 +51,10 @@ pub type_is : {bytes : List ℕ} {count : ℕ} (w : WrittenDecls bytes count) �
 unfolding declarations
 type_is w = w.text
 
--- The bytes, the number and the indexes of these declarations, which fit 32-bit sizes.
+-- The bytes, the number and the indexes of these declarations, which fit 32-bit sizes and are in the format.
 pub record DeclState (ds : List Decl) (bytes : List ℕ) (count : ℕ) (counts : List ℕ) : Type 0 where
   pub count_is : count ≡ length ds
   pub bytes_are : bytes ≡ flat_map decl_bytes ds
   pub counted : (k : ℕ) → k < 7 → slice_index counts k ≡ declared k ds
   pub fits : DeclarationsFit ds
+  pub in_format : DeclsAreInFormat (decls ds)

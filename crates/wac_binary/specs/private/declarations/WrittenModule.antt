@@ -9,6 +9,7 @@ use Rattle.wac_binary.specs.Items.{ModuleDecl}
 use Rattle.wac_binary.specs.Bytes.{module_bytes, module_decl_bytes}
 use Rattle.wac_binary.specs.Indexes.{function_types}
 use Rattle.wac_binary.specs.Fits.{ModuleFits}
+use Rattle.wac_binary.specs.Format.{ModuleIsInFormat}
 use Rattle.wac_binary.specs.private.OneModule.{one_module}
 
 pub record WrittenModule (bytes : List ℕ) (count : ℕ) : Type 0 where
@@ -36,9 +37,10 @@ pub module_is : {bytes : List ℕ} {count : ℕ} (w : WrittenModule bytes count)
 unfolding declarations
 module_is w = w.text
 
--- The bytes, the number and the function types of these declarations, which fit 32-bit sizes.
+-- The bytes, the number and the function types of these declarations, which fit 32-bit sizes and are in the format.
 pub record ModuleState (ds : List ModuleDecl) (bytes : List ℕ) (count types : ℕ) : Type 0 where
   pub count_is : count ≡ length ds
   pub bytes_are : bytes ≡ flat_map module_decl_bytes ds
   pub types_are : types ≡ function_types ds
   pub fits : ModuleFits ds
+  pub in_format : ModuleIsInFormat ds

@@ -23,7 +23,7 @@ returns c =
       c.set_node_name.new.self,
       means.1,
       c.default.ensures,
-      means.3,
+      means.4,
       passes-it c.function.new.graph c.import.new.self c.in_ok-function.function c.in_ok-node.node (codes "x")
           c.in_ok-function.ensures.plain c.in_ok-node.ensures.step c.export.new.self (codes "y") c.in_ok-export.ensures.step c.set_node_name.new.self (codes "n") c.in_ok-set_node_name.ensures.step,
     )

@@ -20,7 +20,7 @@ returns c =
       c.plug.new.graph,
       means.1,
       c.default.ensures,
-      means.3,
+      means.4,
       plugs-it c.register.new.graph c.register-2.new.graph c.in_ok-giver.giver c.in_ok-socket.socket c.in_ok-plugs.plugs.items (codes "my:plug") (codes "a") (codes "my:socket") (codes "run") c.in_ok-function.function
           c.in_ok-giver.ensures.registered c.register-2.ensures.stays c.in_ok-socket.ensures.registered c.in_ok-plugs.ensures.items c.plug.new.graph c.law.ensures c.law-2.ensures c.in_ok-plug.ensures.step,
     )

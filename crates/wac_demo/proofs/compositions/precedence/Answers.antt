@@ -29,7 +29,7 @@ returns-clause-composed c =
       c.plug.new.graph,
       means.1,
       c.default.ensures,
-      means.3,
+      means.4,
       plugs-first c.register.new.graph c.register-2.new.graph c.register-3.new.graph c.in_ok-first.first c.in_ok-second.second c.in_ok-socket.socket c.in_ok-plugs.plugs.items (codes "my:first") (codes "my:second") (codes "my:socket") (codes "run") (codes "a") c.in_ok-function.function
           c.in_ok-first.ensures.registered c.register-2.ensures.stays c.in_ok-second.ensures.registered c.register-3.ensures.stays c.in_ok-socket.ensures.registered c.in_ok-plugs.ensures.items c.plug.new.graph c.in_ok-passed.ensures.step c.law.ensures c.law-2.ensures,
     )

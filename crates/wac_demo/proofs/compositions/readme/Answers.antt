@@ -26,7 +26,7 @@ returns c =
       c.set_instantiation_argument.new.self,
       means.1,
       c.default.ensures,
-      means.3,
+      means.4,
       gives-export c.register.new.graph c.instantiate.new.self c.alias_instance_export.new.self c.register-2.new.graph c.instantiate-2.new.self c.set_instantiation_argument.new.self c.in_ok-first.first c.in_ok-second.second
           (codes "my:package1") (codes "a") (codes "my:package2") (codes "b") [] ((codes "a", c.in_ok-function.function) ∷ []) ((codes "b", c.in_ok-function.function) ∷ []) [] c.in_ok-giver.giver c.in_ok-a.a c.in_ok-taker.taker
           c.in_ok-first.ensures.registered c.in_ok-giver.ensures.step c.in_ok-a.ensures.step c.in_ok-a.ensures.there c.register-2.ensures.stays c.in_ok-second.ensures.registered c.in_ok-taker.ensures.step c.in_ok-set_instantiation_argument.ensures.step,

@@ -1,4 +1,4 @@
-use Rattle.std.proofs.Common.{None, ap, ◌∙◌}
+use Rattle.std.proofs.Common.{ap, ◌∙◌}
 use Rattle.wac_types_collection.specs.collection.Package.{PackageParts}
 use Rattle.wac_graph_model.proofs.lemmas.nodes.StaysLemmas.{stays-trans, world-stays, made-stays, registered-stays}
 use Rattle.wac_demo.proofs.Following.{registered-is}
@@ -17,7 +17,7 @@ returns-in_err-register_package-clause-stays c =
 
 pub returns-clause-registered : goal.returns-clause-registered
 returns-clause-registered c =
-    registered-is c.args.graph.now c.add_world.new.self c.new_package.new.self c.register_package.new.self c.in_ok-new.field-0 c.in_ok-world.world c.in_ok-package.package c.in_ok-register_package.field-0 _ None _ _
+    registered-is c.args.graph.now c.add_world.new.self c.new_package.new.self c.register_package.new.self c.in_ok-new.field-0 c.in_ok-world.world c.in_ok-package.package c.in_ok-register_package.field-0 _ _ _
     c.in_ok-world.ensures.added c.in_ok-new.ensures.built.2 c.in_ok-new.ensures.built.3
     (ap (λ (p : PackageParts). p.name) c.in_ok-package.ensures.built) (ap (λ (p : PackageParts). p.version) c.in_ok-package.ensures.built)
     (ap (λ (p : PackageParts). p.bytes) c.in_ok-package.ensures.built ∙ c.in_ok-bytes.ensures.items) (ap (λ (p : PackageParts). p.world) c.in_ok-package.ensures.built)

@@ -1,6 +1,6 @@
 use Rattle.std.proofs.Common.{List, ℕ, codes, string_bytes, inl, inr}
 use Rattle.wac_graph_model.specs.nodes.Steps.{IsEmpty}
-use Rattle.wac_demo.specs.Composed.{AreDefault, Compose, IsFunction, IsReadme, IsPlugged, IsImportedPackage, ImportPackages, IsResourceImport, NameProcessor, of_empty, of_processor, of_function, of_readme, of_plug, of_resource, of_dependency}
+use Rattle.wac_demo.specs.Composed.{AreDefault, Compose, IsFunction, IsReadme, IsPlugged, IsResourceImport, IsUserDefinition, NameProcessor, of_empty, of_processor, of_function, of_readme, of_plug, of_resource, of_dependency}
 use Rattle.wac_demo.proofs.Weakening.{one-line, no-line, two-lines}
 use Rattle.wac_demo.proofs.run.compose.Goals as goal
 
@@ -49,7 +49,7 @@ returns-in-resource c = (
 pub returns-in-dependency : goal.returns-in-dependency
 returns-in-dependency c = (
   inr (inr (inr (inr (inr (inr (inr (inl c.in-dependency.is))))))),
-  one-line (λ v. v.items) string_bytes c.args.word.now (λ (bs : List ℕ). Compose bs ImportPackages IsImportedPackage) (λ bs h. of_dependency c.in-dependency.is h) c.dependency.result c.dependency.ensures c.line-in-dependency.result c.line-in-dependency.ensures,
+  one-line (λ v. v.items) string_bytes c.args.word.now (λ (bs : List ℕ). Compose bs AreDefault IsUserDefinition) (λ bs h. of_dependency c.in-dependency.is h) c.dependency.result c.dependency.ensures c.line-in-dependency.result c.line-in-dependency.ensures,
 )
 
 pub returns-in-precedence : goal.returns-in-precedence

@@ -2,8 +2,8 @@ use Rattle.std.proofs.Common.{◌≡◌, ◌||◌, Option, ap, ◌∙◌, arith}
 use Rattle.std.specs.List.{list_any}
 use Rattle.std.proofs.lemmas.List.{take_all}
 use Rattle.wac_types_shapes.specs.declared.shapes.component.ResourceId.{ResourceId}
-use Rattle.wac_encode_scopes.specs.private.Telling.{is_one_of}
-use Rattle.wac_encode_interfaces.specs.private.Parts.{is_owned, is_that}
+use Rattle.wac_encode_scopes.specs.private.Telling.{is_one_of, is_that}
+use Rattle.wac_encode_interfaces.specs.private.Parts.{is_owned}
 use Rattle.wac_encode_interfaces.proofs.OwnTests.{owned-next}
 use Rattle.wac_encode_interfaces.proofs.instance.owned_among.Goals as goal
 

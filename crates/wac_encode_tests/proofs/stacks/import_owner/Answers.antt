@@ -40,8 +40,11 @@ import-imported-requires g c =
     let adds = closed-again s t t t b.around (all-none t) refl u (on-ok-is c.close.result c.expect-index.result c.expect-index.ensures c.close.ensures.written) in
     root-types s.here.content u.here.content adds.0 c.requires.right.root
 
-pub tell_instance-requires : goal.tell_instance-requires
-tell_instance-requires g c = interface-there c.args.types.now c.args.id (sym c.contains.ensures ∙ search rules)
+pub tell_instance-requires-clause-closed : goal.tell_instance-requires-clause-closed
+tell_instance-requires-clause-closed g c = c.requires.closed
+
+pub tell_instance-requires-clause-held : goal.tell_instance-requires-clause-held
+tell_instance-requires-clause-held g c = interface-there c.args.types.now c.args.id (sym c.contains.ensures ∙ search rules)
 
 pub returns : goal.returns
 returns g c =
@@ -59,7 +62,7 @@ returns g c =
     let closes = if-ok-is (Closes t u) c.close.result k c.expect-index.ensures c.close.ensures.closes in
     let adds = closed-again s t t t b.around (all-none t) refl u (on-ok-is c.close.result k c.expect-index.ensures c.close.ensures.written) in
     let imports = if-ok-is (ImportsItem (desc.Instance k) u v) c.import-imported.result j c.expect-imported.ensures c.import-imported.ensures.imports in
-    let tells = on-ok-is c.tell_instance.result c.expect-3.result c.expect-3.ensures c.tell_instance.ensures.tells c.requires.closed it c.index.ensures in
+    let tells = on-ok-is c.tell_instance.result c.expect-3.result c.expect-3.ensures c.tell_instance.ensures.tells it c.index.ensures in
     let unbound : c.is_bound.result ≡ false = search rules in
     let good = owner-good a it c.expect-resource.result (is_one_of c.insert.new.self.keys) s t u v w k j c.requires.right.good.0 only c.requires.right.bottom (c.is_bound.ensures.unbound unbound) b closes imports tells c.requires.right.good.1 in
     right-import a s u v w c.args.name.now (desc.Instance k) c.requires.right.bottom adds (on-ok-is c.import-imported.result j c.expect-imported.ensures c.import-imported.ensures.content) (on-ok-is c.import-imported.result j c.expect-imported.ensures c.import-imported.ensures.records).0 c.tell_instance.ensures.types good

@@ -29,7 +29,7 @@ use Rattle.wac_graph.specs.plugs.Matching.{PlugMatches, exports_of_package}
 use Rattle.wac_graph.specs.plugs.Outcome.{IsRefusedExport, IsFirstRefused, IsFirstFault, IsExportRefused}
 use Rattle.wac_graph.specs.plugs.Plugging.{Answer, answered, InOrder, PassesOn, PlugsIn, Plugs, Ends}
 use Rattle.wac_graph.specs.plugs.Refusals.{of_alias, of_export}
-use Rattle.wac_graph.proofs.lemmas.plugs.Each.{exports-of}
+use Rattle.wac_graph.proofs.lemmas.plugs.Alike.{exports-alike, names-alike}
 use Rattle.wac_graph.proofs.lemmas.plugs.Passing.{IsInstanceAt, answer-of, one-error, not-ok, passes-keep, never-alias, are-exports}
 use Rattle.wac_graph.proofs.lemmas.plugs.Steps.{some-of, instance-keeps}
 use Rattle.wac_graph.proofs.lemmas.plugs.Nothing.{nothing-said}
@@ -211,9 +211,9 @@ module _ (old : Graph) (socket : PackageId) (q : PackageParts) (sound : IsSound 
   faults (Export e) s mid new at exports types end = first-refused s q.instance_type old e (exports_of_package old socket) mid new at once (all-alike old mid exports (names_of (exports_of_package old socket))) end
   faults (Argument f) s mid new at exports types end = absurd (all-passed-on s (names_of (exports_of_package old socket)) mid new f end)
   faults (Alias f) s mid new at exports types end =
-      let listed : interface_exports mid.types q.instance_type ≡ exports_of_package old socket = ap (λ (c : Collection). interface_exports c q.instance_type) types ∙ ((sound.packages socket q registered).2 ∙ sym (exports-of old socket q registered)) in
-      absurd (never-alias s q.instance_type f (names_of (exports_of_package old socket)) mid new at
-      (subst (λ es. AllByRecursion (λ name. named_at 0 name es ≡ None → ⊥) (names_of (exports_of_package old socket))) (sym listed) (are-exports (exports_of_package old socket))) end)
+      let names = names_of (exports_of_package old socket) in
+      let listed = names-alike (exports_of_package old socket) (interface_exports old.types q.instance_type) names (exports-alike old socket q sound registered) (are-exports (exports_of_package old socket)) in
+      absurd (never-alias s q.instance_type f names mid new at (subst (λ (c : Collection). AllByRecursion (λ name. named_at 0 name (interface_exports c q.instance_type) ≡ None → ⊥) names) (sym types) listed) end)
 
   pub fault-said : (new : Graph) (ps : List PlugMatches) (f : PlugFault) → ArePluggable old q [] ps → Plugs old socket ps (fault-of f) new → IsFirstFault old (names_of (exports_of_package old socket)) f × (ps ≡ [] → ⊥)
   fault-said new ps f can (inl h) = absurd (fault-is-no-memory f h.0)

@@ -18,18 +18,19 @@ use Rattle.wac_graph_model.specs.nodes.Graph.{Graph, GraphNode, node_at, package
 use Rattle.wac_graph_model.specs.nodes.Sound.{IsSound, Joins}
 use Rattle.wac_graph_model.specs.nodes.Steps.{AddsNode, Instantiates, instance_node, Aliases, AliasesOf, GivesAlias, export_named, import_named}
 use Rattle.wac_graph_model.proofs.lemmas.nodes.JoinLemmas.{imports_of_package as listed-imports}
-use Rattle.wac_graph.specs.private.plugs.Positions.{FitsImport, HasNamed}
+use Rattle.wac_graph.specs.private.plugs.Positions.{FitsImport, HasNamed, IsInstancePosition, instance_exports}
 use Rattle.wac_graph.specs.plugs.Matching.{Match, imports_of_package, exports_of_package}
 use Rattle.wac_graph.specs.plugs.Plugging.{Keeps}
 use Rattle.wac_graph.specs.private.plugs.Fitting.{Fits, FitsNodes, AllFit, IsNodeOf, IsPair, node_imports}
 use Rattle.wac_graph.specs.private.plugs.Ready.{FitAll}
 use Rattle.wac_graph.specs.private.plugs.Pairs.{match_at, matches_at, AreWithin}
 use Rattle.wac_graph.specs.declared.plugs.matching.Pair.{Pair}
-use Rattle.wac_graph.proofs.lemmas.plugs.Pairs.{entry-there, named-there, match-there}
+use Rattle.wac_graph.proofs.lemmas.plugs.Pairs.{entry-there, name-there, named-there, match-there}
 use Rattle.wac_graph.proofs.lemmas.plugs.Steps.{some-of, instance-keeps, keeps-trans}
-use Rattle.wac_graph.proofs.lemmas.plugs.Each.{imports-of, exports-of, imports-kept, exports-kept}
+use Rattle.wac_graph.proofs.lemmas.plugs.Each.{imports-of, imports-kept, exports-kept}
 use Rattle.wac_graph.proofs.lemmas.plugs.Wired.{insert-same, new-edge}
 use Rattle.wac_graph.proofs.lemmas.plugs.Deciding.{IsWirable, AreWirable, named-entry}
+use Rattle.wac_graph.proofs.lemmas.plugs.Alike.{AreAlike, fits-alike, exports-alike, instance-exports}
 
 -- what nodes list is that of nodes with the same item and package, in graphs with the same types and packages
 imports-none : (g : Graph) (n : GraphNode) → package_of g n ≡ None → imports_of g n ≡ []
@@ -111,10 +112,11 @@ module _ (old mid : Graph) (plug : PackageId) (node : NodeId) (sound : IsSound o
       let step : AddsNode old node (instance_node plug p.0) mid = subst (λ o. IfSome o (λ p. AddsNode old node (instance_node plug p) mid)) p.1 made in
       ap (λ (k : Graph). node_at k node) step.2 ∙ insert-same old.nodes node.0 (instance_node plug p.0)
 
-  exports-now : (now : Graph) (n : GraphNode) → now.types ≡ old.types → n.item_kind ≡ (instance_node plug p.0).item_kind → exports_of now n ≡ exports_of_package old plug
-  exports-now now n types item =
-      exports-some now n (p.0).instance_type (ap interface_of item) ∙ ap (λ (c : Collection). interface_exports c (p.0).instance_type) types
-      ∙ (sound.packages plug p.0 p.1).2 ∙ sym (exports-of old plug p.0 p.1)
+  exports-now : (now : Graph) (n : GraphNode) → now.types ≡ old.types → n.item_kind ≡ (instance_node plug p.0).item_kind → exports_of now n ≡ interface_exports old.types (p.0).instance_type
+  exports-now now n types item = exports-some now n (p.0).instance_type (ap interface_of item) ∙ ap (λ (c : Collection). interface_exports c (p.0).instance_type) types
+
+  alike-now : (now : Graph) (n : GraphNode) → now.types ≡ old.types → n.item_kind ≡ (instance_node plug p.0).item_kind → AreAlike (exports_of_package old plug) (exports_of now n)
+  alike-now now n types item = subst (AreAlike (exports_of_package old plug)) (sym (exports-now now n types item)) (exports-alike old plug p.0 sound p.1)
 
   pub fits-nodes : (now : Graph) (socket : NodeId) (ms : List Match) (i : ℕ) (m : Match) → IsSome (node_at old socket) → Keeps mid now → AllFit old plug socket ms → slice_get ms i ≡ Some m → FitsNodes now node socket m
   fits-nodes now socket ms i m socket_there kept fit at =
@@ -126,17 +128,23 @@ module _ (old mid : Graph) (plug : PackageId) (node : NodeId) (sound : IsSound o
       let old_fit : Fits old.types (exports_of_package old plug) (imports_of old s.0) m = subst (λ o. IfSome o (λ s. Fits old.types (exports_of_package old plug) (imports_of old s) m)) s.1 (fit i m at) in
       let typed : Fits now.types (exports_of_package old plug) (imports_of old s.0) m = subst (λ c. Fits c (exports_of_package old plug) (imports_of old s.0) m) (sym all.types) old_fit in
       let given : Fits now.types (exports_of now n.0) (imports_of old s.0) m =
-      subst (λ l. Fits now.types l (imports_of old s.0) m) (sym (exports-now now n.0 all.types (kept.same node (instance_node plug p.0) n.0 node-is n.1).0)) typed in
+      fits-alike now.types (exports_of_package old plug) (exports_of now n.0) (imports_of old s.0) m (alike-now now n.0 all.types (kept.same node (instance_node plug p.0) n.0 node-is n.1).0) typed in
       let taken : Fits now.types (exports_of now n.0) (imports_of now t.0) m =
       subst (λ l. Fits now.types (exports_of now n.0) l m) (sym (imports-same old now s.0 t.0 all.types all.slots (all.same socket s.0 t.0 s.1 t.1).1)) given in
       subst (λ o. IfSome o (λ q. IfSome (node_at now socket) (λ s. Fits now.types (exports_of now q) (imports_of now s) m))) (sym n.1)
       (subst (λ o. IfSome o (λ s. Fits now.types (exports_of now n.0) (imports_of now s) m)) (sym t.1) taken)
 
-  -- the match at a pair of positions stands there at the nodes
-  pub pair-at : (now : Graph) (socket : NodeId) (ps : List Pair) (i : ℕ) (p : Pair) → IsSome (node_at old socket) → Keeps mid now → NoNameTwice (exports_of_package old plug) → NoNameTwice (node_imports old socket)
+  -- a package is one of the graph with as many nodes more
+  plug-now : (now : Graph) → Keeps mid now → package_at now plug ≡ Some p.0
+  plug-now now kept =
+      let all = keeps-trans old mid now (instance-keeps old mid plug node there made).0 kept in
+      ap (λ l. package_at (record now { slots = l }) plug) all.slots ∙ p.1
+
+  -- the match at a pair of positions stands there at the nodes, where the plug's node exports it at its own position
+  pub pair-at : (now : Graph) (socket : NodeId) (ps : List Pair) (i : ℕ) (p : Pair) (position : ℕ) → IsInstancePosition now plug p.export position → IsSome (node_at old socket) → Keeps mid now → NoNameTwice (node_imports old socket)
       → AreWithin (exports_of_package old plug) (node_imports old socket) ps → AllFit old plug socket (matches_at (exports_of_package old plug) (node_imports old socket) ps) → slice_get ps i ≡ Some p
-      → IsPair now node socket p (match_at (exports_of_package old plug) (node_imports old socket) p)
-  pair-at now socket ps i q socket_there kept named asked within fit at =
+      → IsPair now node socket (record { export = position; import = p.import }) (match_at (exports_of_package old plug) (node_imports old socket) p)
+  pair-at now socket ps i q position placed socket_there kept asked within fit at =
       let exports = exports_of_package old plug in
       let imports = node_imports old socket in
       let m = match_at exports imports q in
@@ -149,12 +157,14 @@ module _ (old mid : Graph) (plug : PackageId) (node : NodeId) (sound : IsSound o
       let e = entry-there exports q.export (within i q at).0 in
       let f = entry-there imports q.import (within i q at).1 in
       let listed : imports_of now t.0 ≡ imports = imports-same old now s.0 t.0 all.types all.slots (all.same socket s.0 t.0 s.1 t.1).1 ∙ ap (λ o. option_case o [] (λ k. imports_of old k)) (sym s.1) in
-      let exported : export_named now n.0 m.export ≡ Some (q.export, e.0.1) = ap (named_at 0 m.export) (exports-now now n.0 all.types item) ∙ named-there exports q.export e.0 named e.1 in
+      let here : slice_get (exports_of_package now plug) q.export ≡ Some e.0 = ap (λ l. slice_get l q.export) (exports-kept old now plug all) ∙ e.1 in
+      let instance : exports_of now n.0 ≡ instance_exports now plug = exports-now now n.0 all.types item ∙ ap (λ (c : Collection). interface_exports c (p.0).instance_type) (sym all.types) ∙ sym (instance-exports now plug p.0 (plug-now now kept)) in
+      let exported : export_named now n.0 m.export ≡ Some (position, e.0.1) = ap (named_at 0 m.export) instance ∙ ap (λ (k : Name). named_at 0 k (instance_exports now plug)) (name-there exports q.export e.0 e.1) ∙ placed e.0 here in
       let imported : import_named now t.0 m.import ≡ Some (q.import, f.0.1) = ap (named_at 0 m.import) listed ∙ named-there imports q.import f.0 asked f.1 in
       record {
         given = e.0.1;
         taken = f.0.1;
-        exported = subst (λ o. IfSome o (λ k. IsSome (interface_of k.item_kind) × (export_named now k m.export ≡ Some (q.export, e.0.1)))) (sym n.1) (ap (λ k. is_some (interface_of k)) item, exported);
+        exported = subst (λ o. IfSome o (λ k. IsSome (interface_of k.item_kind) × (export_named now k m.export ≡ Some (position, e.0.1)))) (sym n.1) (ap (λ k. is_some (interface_of k)) item, exported);
         imported = subst (λ o. IfSome o (λ k. import_named now k m.import ≡ Some (q.import, f.0.1))) (sym t.1) imported;
         fits = fits-nodes now socket (matches_at exports imports ps) i m socket_there kept fit (match-there exports imports ps i q at);
       }

@@ -22,9 +22,10 @@ use Rattle.wac_graph.specs.plugs.Precedence.{taken_after, winning, with_any, wir
 use Rattle.wac_graph.specs.private.plugs.Ready.{AreNamed}
 use Rattle.wac_graph.proofs.lemmas.plugs.Targets.{one-target}
 use Rattle.wac_graph.proofs.lemmas.plugs.Steps.{some-of}
-use Rattle.wac_graph.proofs.lemmas.plugs.Each.{imports-of, exports-of}
+use Rattle.wac_graph.proofs.lemmas.plugs.Each.{imports-of}
 use Rattle.wac_graph.proofs.lemmas.plugs.Wired.{SourcesThere, fresh, insert-same, vacant-keeps, insert-there}
 use Rattle.wac_graph.proofs.lemmas.plugs.Deciding.{IsWiring, AreWirable, AreUnaliased, wires-decide}
+use Rattle.wac_graph.proofs.lemmas.plugs.Alike.{exports-alike, wirable-alike}
 use Rattle.wac_graph.proofs.lemmas.plugs.Winning.{AreFresh, given_then, are-fresh, given-after}
 use Rattle.wac_graph.proofs.lemmas.plugs.Wirable.{wirable, wirable-winning}
 
@@ -121,14 +122,11 @@ module _ (g : Graph) (socket : PackageId) (q : PackageParts) (sound : IsSound g)
       p : (p : PackageParts) × (package_at g plug ≡ Some p)
       p = some-of (package_at g plug) (there 0 plug refl)
 
-      listed : exports_of_package g plug ≡ interface_exports g.types (p.0).instance_type
-      listed = exports-of g plug p.0 p.1 ∙ sym (sound.packages plug p.0 p.1).2
-
       asked : imports_of_package g socket ≡ world_imports g.types q.world
       asked = imports-of g socket q registered
 
       can : AreWirable g.types (interface_exports g.types (p.0).instance_type) (world_imports g.types q.world) (winning taken h.0)
-      can = subst (λ es. AreWirable g.types es (world_imports g.types q.world) (winning taken h.0)) listed
+      can = wirable-alike g.types (exports_of_package g plug) (interface_exports g.types (p.0).instance_type) (world_imports g.types q.world) (winning taken h.0) (exports-alike g plug p.0 sound p.1)
           (subst (λ is. AreWirable g.types (exports_of_package g plug) is (winning taken h.0)) asked
           (wirable-winning g.types (imports_of_package g socket) (exports_of_package g plug) taken h.0 (wirable g.types (imports_of_package g socket) (exports_of_package g plug) once (named 0 plug (omega arith) refl) h.0 h.3)))
 

@@ -1,19 +1,20 @@
 -- Plugs that are ready stay so in graphs with the same types and packages.
-use Rattle.std.proofs.Common.{◌≡◌, ◌≤◌, ℕ, List, length, slice_get, refl, ap, ◌∙◌, sym, subst, Some, IsSome, is_some, map}
+use Rattle.std.proofs.Common.{◌≡◌, ◌≤◌, ℕ, List, [], ◌∷◌, length, slice_get, refl, ap, ◌∙◌, sym, subst, Some, IsSome, is_some, map, Ok, inr}
 use Rattle.std.specs.Option.{option_map}
 use Rattle.std.proofs.lemmas.List.{length-map}
 use Rattle.std.proofs.lemmas.Option.{slice_get-map}
-use Rattle.wac_types_shapes.specs.shapes.Named.{NoNameTwice}
+use Rattle.wac_types_shapes.specs.shapes.Named.{NoNameTwice, names_of}
 use Rattle.wac_edges.specs.declared.node.NodeId.{NodeId}
 use Rattle.wac_graph_model.specs.declared.nodes.packages.PackageId.{PackageId}
 use Rattle.wac_graph_model.specs.nodes.Graph.{Graph, node_at, package_at}
 use Rattle.wac_graph.specs.declared.plugs.matching.Pair.{Pair}
 use Rattle.wac_graph.specs.declared.plugs.precedence.PlugPairs.{PlugPairs}
-use Rattle.wac_graph.specs.plugs.Matching.{imports_of_package, exports_of_package}
-use Rattle.wac_graph.specs.plugs.Plugging.{Answer, PlugsIn, Keeps}
+use Rattle.wac_graph_model.specs.nodes.Steps.{Instantiates}
+use Rattle.wac_graph.specs.plugs.Matching.{Match, PlugMatches, AreMatches, AreMatchesOf, AreAllMatches, imports_of_package, exports_of_package}
+use Rattle.wac_graph.specs.plugs.Plugging.{Answer, PlugsIn, PlugsAndExports, Plugs, Keeps}
 use Rattle.wac_graph.specs.private.plugs.Fitting.{AllFit, IsNodeOf, node_imports}
 use Rattle.wac_graph.specs.private.plugs.Pairs.{matches_at, AreWithin}
-use Rattle.wac_graph.specs.private.plugs.Ready.{matches_of, plug_at, plugs_at, FitAll, IsReady, AreReady}
+use Rattle.wac_graph.specs.private.plugs.Ready.{matches_of, plug_at, plugs_at, FitAll, IsReady, AreReady, AreNamed}
 use Rattle.wac_graph.proofs.lemmas.plugs.Each.{imports-kept, exports-kept}
 use Rattle.wac_graph.proofs.lemmas.plugs.Fitting.{node-kept, node-there, node-imports, fit-node}
 
@@ -45,6 +46,30 @@ module _ (old now : Graph) (socket : PackageId) (kept : Keeps old now) where
   pub all-ready : (ws : List PlugPairs) → AreReady old socket ws → AreReady now socket ws
   all-ready ws ready i w at = ready-kept w (ready i w at)
 
+  matches-kept : (plug : PackageId) (ms : List Match) → AreMatchesOf now socket plug ms → AreMatchesOf old socket plug ms
+  matches-kept plug ms h = subst (λ c. AreMatches c (imports_of_package old socket) (exports_of_package old plug) ms) kept.types
+      (subst (λ l. AreMatches now.types l (exports_of_package old plug) ms) (imports-kept old now socket kept)
+      (subst (λ l. AreMatches now.types (imports_of_package now socket) l ms) (exports-kept old now plug kept) h))
+
+  pub all-matches-kept : (plugs : List PackageId) (all : List PlugMatches) → AreAllMatches now socket plugs all → AreAllMatches old socket plugs all
+  all-matches-kept [] all h = h
+  all-matches-kept (plug ∷ plugs) all h = (h.0, h.1, h.2, matches-kept plug h.0 h.3, all-matches-kept plugs h.1 h.4)
+
+  pub names-kept : (plugs : List PackageId) (count : ℕ) → AreNamed now plugs count → AreNamed old plugs count
+  names-kept plugs count named i id below at = subst NoNameTwice (exports-kept old now id kept) (named i id below at)
+
+  -- what is done with the socket's node is done from the graph before it
+  pub plugs-from : (ws : List PlugPairs) (node : NodeId) → Instantiates old socket (Ok node) now → (r : Answer) (new : Graph) → PlugsAndExports node (names_of (exports_of_package now socket)) now (plugs_at now socket ws) r new
+      → Plugs old socket (plugs_at old socket ws) r new
+  plugs-from ws node made r new h =
+      inr (
+        node,
+        now,
+        made,
+        subst (λ l. PlugsAndExports node (names_of l) now (plugs_at old socket ws) r new) (exports-kept old now socket kept)
+            (subst (λ ps. PlugsAndExports node (names_of (exports_of_package now socket)) now ps r new) (plugs-kept ws) h),
+      )
+
 -- a plug that is ready can be plugged in
 module _ (old now : Graph) (socket : PackageId) (node : NodeId) (w : PlugPairs) (kept : Keeps old now) (there : IsSome (package_at old socket)) (of : IsNodeOf old node socket) (ready : IsReady old socket w)
     (asked : NoNameTwice (imports_of_package old socket)) where
@@ -65,9 +90,6 @@ module _ (old now : Graph) (socket : PackageId) (node : NodeId) (w : PlugPairs) 
 
   pub node-now : IsSome (node_at now node)
   node-now = node-there now node socket of_now
-
-  pub named-now : NoNameTwice (exports_of_package now w.plug)
-  named-now = subst NoNameTwice (sym exports) ready.named
 
   pub asked-now : NoNameTwice (node_imports now node)
   asked-now = subst NoNameTwice (sym imports) asked

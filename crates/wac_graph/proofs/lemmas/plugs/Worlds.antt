@@ -9,6 +9,7 @@ use Rattle.wac_types_shapes.specs.declared.shapes.component.World.{World}
 use Rattle.wac_types_collection.specs.collection.Collection.{Collection, IsWellFormed, holds_type, holds_all, kind_types, used_types, world_mentions, item_of, item_at}
 use Rattle.wac_types_collection.specs.declared.collection.collection.Held.{Held}
 use Rattle.wac_types_shapes.specs.declared.shapes.component.WorldId.{WorldId}
+use Rattle.wac_types_shapes.specs.declared.shapes.component.InterfaceId.{InterfaceId}
 use Rattle.wac_types_collection.specs.collection.Package.{PackageParts}
 use Rattle.wac_graph_model.specs.declared.nodes.packages.PackageId.{PackageId}
 use Rattle.wac_graph_model.specs.nodes.Graph.{Graph, package_at}
@@ -48,3 +49,8 @@ within m n h = grind (arith, nat_tests)
 pub world-within : (g : Graph) (id : PackageId) (p : PackageParts) (w : WorldId) (t : Collection) → IsSound g → package_at g id ≡ Some p → w ≡ p.world → t ≡ g.types → w.0 < length t.worlds
 world-within g id p w t sound at is same =
     within w.0 (length t.worlds) (ap (λ (x : WorldId). nat_lt x.0 (length t.worlds)) is ∙ ap (λ (k : Collection). nat_lt p.world.0 (length k.worlds)) same ∙ (sound.packages id p at).0)
+
+-- and so is the interface of its instances
+pub interface-within : (g : Graph) (id : PackageId) (p : PackageParts) (i : InterfaceId) (t : Collection) → IsSound g → package_at g id ≡ Some p → i ≡ p.instance_type → t ≡ g.types → i.0 < length t.interfaces
+interface-within g id p i t sound at is same =
+    within i.0 (length t.interfaces) (ap (λ (x : InterfaceId). nat_lt x.0 (length t.interfaces)) is ∙ ap (λ (k : Collection). nat_lt p.instance_type.0 (length k.interfaces)) same ∙ (sound.packages id p at).1)

@@ -4,7 +4,7 @@ use Rattle.wac_graph.specs.plugs.Plugging.{Answer, InOrder, PlugsIn}
 use Rattle.wac_graph.specs.private.plugs.Ready.{plug_at, plugs_at}
 use Rattle.wac_graph.proofs.lemmas.plugs.Order.{one-more, refused-at, all-made, exit-is}
 use Rattle.wac_graph.proofs.lemmas.plugs.Steps.{keeps-trans}
-use Rattle.wac_graph.proofs.lemmas.plugs.Readied.{plug-item, plugs-past, plug-there, node-now, named-now, asked-now, within-now, fit-now, plugged-now}
+use Rattle.wac_graph.proofs.lemmas.plugs.Readied.{plug-item, plugs-past, plug-there, node-now, asked-now, within-now, fit-now, plugged-now}
 use Rattle.wac_graph.proofs.plugging.plug_each.Goals as goal
 
 pub plug_in-requires-clause-plug : goal.plug_in-requires-clause-plug
@@ -34,13 +34,6 @@ plug_in-requires-clause-fit c =
     let w = c.index-wired-i.result in
     let at : slice_get ws c.loop-i.i ≡ Some w = slice_get_read ws (length ws) c.loop-i.i w refl c.loop-i-test.true c.index-wired-i.is in
     fit-now c.args.graph.now c.loop-i.graph c.args.socket c.args.node w c.loop-i.invariant.kept c.requires.socket c.requires.node (c.requires.ready c.loop-i.i w at) c.requires.asked c.deref.result.now c.deref.ensures.value
-
-pub plug_in-requires-clause-named : goal.plug_in-requires-clause-named
-plug_in-requires-clause-named c =
-    let ws = c.args.wired.now in
-    let w = c.index-wired-i.result in
-    let at : slice_get ws c.loop-i.i ≡ Some w = slice_get_read ws (length ws) c.loop-i.i w refl c.loop-i-test.true c.index-wired-i.is in
-    named-now c.args.graph.now c.loop-i.graph c.args.socket c.args.node w c.loop-i.invariant.kept c.requires.socket c.requires.node (c.requires.ready c.loop-i.i w at) c.requires.asked
 
 pub plug_in-requires-clause-asked : goal.plug_in-requires-clause-asked
 plug_in-requires-clause-asked c =

@@ -28,7 +28,7 @@ wire-requires-clause-pair c =
     let i = c.loop-i.i in
     let p : Pair = get_or ps i (record { export = 0; import = 0 }) in
     let pair : slice_get ps i ≡ Some p = slice_get-get_or ps i (record { export = 0; import = 0 }) c.loop-i-test.true in
-    let stands = pair-at g c.instantiate_plug.new.graph c.args.plug c.in_ok-node.node c.law.ensures c.requires.plug c.in_ok-node.ensures c.loop-i.graph c.args.socket ps i p c.requires.socket c.loop-i.invariant.kept c.requires.named c.requires.asked c.requires.within c.requires.fit pair in
+    let stands = pair-at g c.instantiate_plug.new.graph c.args.plug c.in_ok-node.node c.law.ensures c.requires.plug c.in_ok-node.ensures c.loop-i.graph c.args.socket ps i p c.instance_position-export.result c.instance_position-export.ensures c.requires.socket c.loop-i.invariant.kept c.requires.asked c.requires.within c.requires.fit pair in
     (match_at exports imports p, stands)
 
 pub returns-in_err-wire-clause-step : goal.returns-in_err-wire-clause-step
@@ -41,7 +41,7 @@ returns-in_err-wire-clause-step c =
     let i = c.loop-i.i in
     let p : Pair = get_or ps i (record { export = 0; import = 0 }) in
     let pair : slice_get ps i ≡ Some p = slice_get-get_or ps i (record { export = 0; import = 0 }) c.loop-i-test.true in
-    let stands = pair-at g c.instantiate_plug.new.graph c.args.plug c.in_ok-node.node c.law.ensures c.requires.plug c.in_ok-node.ensures c.loop-i.graph c.args.socket ps i p c.requires.socket c.loop-i.invariant.kept c.requires.named c.requires.asked c.requires.within c.requires.fit pair in
+    let stands = pair-at g c.instantiate_plug.new.graph c.args.plug c.in_ok-node.node c.law.ensures c.requires.plug c.in_ok-node.ensures c.loop-i.graph c.args.socket ps i p c.instance_position-export.result c.instance_position-export.ensures c.requires.socket c.loop-i.invariant.kept c.requires.asked c.requires.within c.requires.fit pair in
     let m = match_at exports imports p in
     let e = (c.in_err-wire.field-0).0 in
     subst (λ (r : Answer). PlugsIn c.args.socket g (record { plug = c.args.plug; matches = ms }) r c.wire.new.graph) (sym (exit-is c.from_residual-in_err-wire.result e c.from_residual-in_err-wire.ensures.1))
@@ -62,7 +62,7 @@ loop-i-preserved c =
     let i = c.loop-i.i in
     let p : Pair = get_or ps i (record { export = 0; import = 0 }) in
     let pair : slice_get ps i ≡ Some p = slice_get-get_or ps i (record { export = 0; import = 0 }) c.loop-i-test.true in
-    let stands = pair-at g c.instantiate_plug.new.graph c.args.plug c.in_ok-node.node c.law.ensures c.requires.plug c.in_ok-node.ensures c.loop-i.graph c.args.socket ps i p c.requires.socket c.loop-i.invariant.kept c.requires.named c.requires.asked c.requires.within c.requires.fit pair in
+    let stands = pair-at g c.instantiate_plug.new.graph c.args.plug c.in_ok-node.node c.law.ensures c.requires.plug c.in_ok-node.ensures c.loop-i.graph c.args.socket ps i p c.instance_position-export.result c.instance_position-export.ensures c.requires.socket c.loop-i.invariant.kept c.requires.asked c.requires.within c.requires.fit pair in
     let m = match_at exports imports p in
     record {
       kept = keeps-trans c.instantiate_plug.new.graph c.loop-i.graph c.wire.new.graph c.loop-i.invariant.kept c.in_ok-wire.ensures.kept;

@@ -270,9 +270,9 @@ arguments-sum g places index n i (e ∷ es) (a ∷ given) are =
     let name = ap length (name-of are.0) in
     omega (arith, rest, name, sum_by-cons (λ (x : Name × Sort × ℕ). 9 + 2 * length x.0) a given, sum_by-cons (λ (x : Name × ItemKind). 9 + 2 * length x.0) e es)
   where
-    name-of : IsArgumentItem g places index n i e.0 a → a.0 ≡ e.0
+    name-of : IsArgumentItem g places index n i e a → a.0 ≡ e.0
     name-of (of_node source node named given there sorted placed) = named
-    name-of (of_import named none placed) = named
+    name-of (of_import named none sorted placed) = named
 arguments-sum g places index n i [] (a ∷ given) are = absurd are
 arguments-sum g places index n i (e ∷ es) [] are = absurd are
 

@@ -23,6 +23,7 @@ use Rattle.wac_graph_model.proofs.lemmas.meaning.MergeLemmas.{OrderHasClasses, p
 use Rattle.wac_graph_encode.specs.declared.places.places.ImportPlaces.{ImportPlaces}
 use Rattle.wac_graph_encode.specs.private.places.Places.{IsImportedName, IsPlaceOf, ArePlaced, AreFound}
 use Rattle.wac_graph_encode.proofs.lemmas.places.OuterLemmas.{asked_imported, asked_sort, found_at}
+use Rattle.wac_graph_encode.proofs.lemmas.encoding.NodeLemmas.{at_asked}
 use Rattle.wac_graph_reader.proofs.lemmas.writing.ImportRows.{unsatisfied_false, row_node}
 use Rattle.wac_graph_model.proofs.lemmas.nodes.NodeLemmas.{there}
 use Rattle.wac_graph_reader.proofs.lemmas.writing.EncodingLemmas as nodes
@@ -46,10 +47,16 @@ module _ (laws : ClassLaws) (has_classes : OrderHasClasses) (g : Graph) (p : Imp
   pub unset_imported : IsImportedName p.merge name
   unset_imported = let (k, within) = asked_entry in asked_imported laws has_classes g p.merge placed.merged (record { name = name; kind = k }) within
 
-  pub unset_argument : (index : NodeId → ℕ) (place : Sort × ℕ) → IsPlaceOf p.merge p.places.items name place → IsArgumentItem g p.places.items index n i name (name, place.0, place.1)
+  pub unset_argument : (index : NodeId → ℕ) (place : Sort × ℕ) → IsPlaceOf p.merge p.places.items name place
+      → IfSome (node_at g n) (λ node. IfSome (slice_get (imports_of g node) i) (λ e. IsArgumentItem g p.places.items index n i e (name, place.0, place.1)))
   unset_argument index place at =
-      let (k, within) = asked_entry in
-      of_import refl unset (placed_argument laws has_classes g (p.merge).merge ((placed.merged).whole).merge p.places.items name place.0 place.1 (found_at laws has_classes g p.merge placed.merged (record { name = name; kind = k }) within p.places.items place at))
+      at_asked g n i name (λ e. IsArgumentItem g p.places.items index n i e (name, place.0, place.1)) asked
+      (λ node k node_there is here.
+      let x : Entry = record { name = name; kind = k } in
+      let within = unset_asked g n node node_there is i name k here (unsatisfied_false g n i unset) in
+      let found = found_at laws has_classes g p.merge placed.merged x within p.places.items place at in
+      let sorted : place.0 ≡ sort_of_kind k = placed.sorts found.p found.entry (place.0, place.1) found.there found.placed ∙ asked_sort laws has_classes g p.merge placed.merged x within found.p found.entry found.there found.named in
+      of_import refl unset sorted (placed_argument laws has_classes g (p.merge).merge ((placed.merged).whole).merge p.places.items name place.0 place.1 found))
 
 -- ---- import nodes
 module _ (laws : ClassLaws) (has_classes : OrderHasClasses) (g : Graph) (p : ImportPlaces) (placed : ArePlaced g p) where

@@ -138,7 +138,7 @@ nested_stands items bytes i is =
 
 -- what an instantiation of these items is
 abbrev pub made_of : Root → ℕ → List (Name × Sort × ℕ) → Instantiation
-made_of r c arguments = record { component = stands_for r sort.Component c; arguments = map (λ a. (a.0, stands_for r a.1 a.2)) arguments }
+made_of r c arguments = record { component = stands_for r sort.Component c; arguments = map (λ a. (a.0, a.1, stands_for r a.1 a.2)) arguments }
 
 pub instantiations_more : (items : List Item) (c : ℕ) (arguments : List (Name × Sort × ℕ))
     → rest (meaning (items ++ instantiate c arguments ∷ [])) ≡ record (rest (meaning items)) { instantiations = (meaning items).instantiations ++ made_of (meaning items) c arguments ∷ [] }

@@ -585,30 +585,34 @@ module _ (laws : Laws) (g : Graph) (sound : IsSound g) (o : EncodeOptions) (orde
               let s = w.stand source other (source_done (argument_edge source n j) set_ refl other other_there) other_there in
               ap (λ t. stands_for (meaning items) t a.2) of_sort ∙ ap (stands_for (meaning items) (sort_of_kind other.item_kind)) at_index ∙ s.1
 
-          argument_named : (j : ℕ) (name : Name) (a : Name × Sort × ℕ) → IsArgumentItem g places index n j name a → a.0 ≡ name
-          argument_named j name a (of_node source other is set_ other_there of_sort at_index) = is
-          argument_named j name a (of_import is unset_ there_) = is
+          argument_named : (j : ℕ) (e : Name × ItemKind) (a : Name × Sort × ℕ) → IsArgumentItem g places index n j e a → a.0 ≡ e.0
+          argument_named j e a (of_node source other is set_ other_there of_sort at_index) = is
+          argument_named j e a (of_import is unset_ of_sort there_) = is
 
-          argument_thing : (j : ℕ) (name : Name) (a : Name × Sort × ℕ) → IsArgumentItem g places index n j name a → IsArgument g at n j name (stands_for (meaning items) a.1 a.2)
-          argument_thing j name a (of_node source other is set_ other_there of_sort at_index) = subst (λ t. IsArgument g at n j name t) (sym (node_stands j source other a set_ other_there of_sort at_index)) (given source set_)
-          argument_thing j name a (of_import is unset_ there_) = subst (λ t. IsArgument g at n j name t) (sym (w.asked_for there_.p a.1 a.2 there_.placed).1) (asked there_.p unset_ there_.fell)
+          argument_thing : (j : ℕ) (e : Name × ItemKind) (a : Name × Sort × ℕ) → IsArgumentItem g places index n j e a → IsArgument g at n j e a.1 (stands_for (meaning items) a.1 a.2)
+          argument_thing j e a (of_node source other is set_ other_there of_sort at_index) =
+              subst (λ t. IsArgument g at n j e a.1 t) (sym (node_stands j source other a set_ other_there of_sort at_index))
+              (subst (λ s. IsArgument g at n j e s (at source)) (sym of_sort) (given source other set_ other_there))
+          argument_thing j e a (of_import is unset_ of_sort there_) =
+              subst (λ t. IsArgument g at n j e a.1 t) (sym (w.asked_for there_.p a.1 a.2 there_.placed).1)
+              (subst (λ s. IsArgument g at n j e s (import_at there_.p)) (sym of_sort) (asked there_.p unset_ there_.fell))
 
-          argument_meant : (j : ℕ) (name : Name) (a : Name × Sort × ℕ) → IsArgumentItem g places index n j name a → IsSomething (stands_for (meaning items) a.1 a.2)
-          argument_meant j name a (of_node source other is set_ other_there of_sort at_index) = subst IsSomething (sym (node_stands j source other a set_ other_there of_sort at_index))
+          argument_meant : (j : ℕ) (e : Name × ItemKind) (a : Name × Sort × ℕ) → IsArgumentItem g places index n j e a → IsSomething (stands_for (meaning items) a.1 a.2)
+          argument_meant j e a (of_node source other is set_ other_there of_sort at_index) = subst IsSomething (sym (node_stands j source other a set_ other_there of_sort at_index))
               (something g classes bindings at order source other (w.things source other (source_done (argument_edge source n j) set_ refl other other_there) other_there))
-          argument_meant j name a (of_import is unset_ there_) = subst IsSomething (sym (w.asked_for there_.p a.1 a.2 there_.placed).1) tt
+          argument_meant j e a (of_import is unset_ of_sort there_) = subst IsSomething (sym (w.asked_for there_.p a.1 a.2 there_.placed).1) tt
 
           arguments_meant : (j : ℕ) (imports : List (Name × ItemKind)) (as_ : List (Name × Sort × ℕ)) → AreArgumentItems g places index n j imports as_ → AllByRecursion (λ a. IsSomething (stands_for (meaning items) a.1 a.2)) as_
           arguments_meant j [] [] h = tt
           arguments_meant j [] (a ∷ as_) h = absurd h
           arguments_meant j (e ∷ imports) [] h = absurd h
-          arguments_meant j (e ∷ imports) (a ∷ as_) h = (argument_meant j e.0 a h.0, arguments_meant (suc j) imports as_ h.1)
+          arguments_meant j (e ∷ imports) (a ∷ as_) h = (argument_meant j e a h.0, arguments_meant (suc j) imports as_ h.1)
 
-          are_arguments : (j : ℕ) (imports : List (Name × ItemKind)) (as_ : List (Name × Sort × ℕ)) → AreArgumentItems g places index n j imports as_ → AreArguments g at n j imports (map (λ a. (a.0, stands_for (meaning items) a.1 a.2)) as_)
+          are_arguments : (j : ℕ) (imports : List (Name × ItemKind)) (as_ : List (Name × Sort × ℕ)) → AreArgumentItems g places index n j imports as_ → AreArguments g at n j imports (map (λ a. (a.0, a.1, stands_for (meaning items) a.1 a.2)) as_)
           are_arguments j [] [] h = tt
           are_arguments j [] (a ∷ as_) h = absurd h
           are_arguments j (e ∷ imports) [] h = absurd h
-          are_arguments j (e ∷ imports) (a ∷ as_) h = (argument_named j e.0 a h.0, argument_thing j e.0 a h.0, are_arguments (suc j) imports as_ h.1)
+          are_arguments j (e ∷ imports) (a ∷ as_) h = (argument_named j e a h.0, argument_thing j e a h.0, are_arguments (suc j) imports as_ h.1)
 
           this : IsInstantiationOf g o (length classes) at order n (made_of (meaning items) c arguments)
           this = record { node = node; there = there; owner = id; owned = owned; place = k; used = first; component = stands; arguments = are_arguments 0 (imports_of g node) arguments given_items }

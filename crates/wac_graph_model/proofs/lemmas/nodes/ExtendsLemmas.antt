@@ -3,7 +3,7 @@ use Rattle.std.proofs.Common.{◌≡◌, ℕ, zero, suc, ◌+◌, ◌<◌, true,
 use Rattle.std.specs.Prelude.{slice_get, nat_lt}
 use Rattle.std.proofs.lemmas.List.{append-nil, length-append}
 use Rattle.std.proofs.lemmas.Bool.Decides.{nat_tests}
-use Rattle.wac_types_shapes.specs.primitives.Name.{Name, option_case}
+use Rattle.wac_types_shapes.specs.primitives.Name.{Name, find_name, option_case}
 use Rattle.wac_types_collection.specs.collection.Collection.{Collection, holds_type, item_of, with_resource, with_func, with_defined, with_interface, with_world, with_module}
 use Rattle.wac_types_collection.specs.collection.Package.{with_instance_of, PackageParts, HoldsPackage}
 use Rattle.wac_types_shapes.specs.keys.Key.{VersionParts}
@@ -132,7 +132,7 @@ pub holds_made : {E : Type 0} (result : Result PackageParts E) (c d : Collection
 holds_made (Err e) c d name version bytes world held built added = tt
 holds_made (Ok p) c d name version bytes world held built added =
     subst (λ q. HoldsPackage d q) (sym built) (subst (λ e. HoldsPackage e (record { name = name; version = version; bytes = bytes; world = world; instance_type = record { 0 = length c.interfaces } })) (sym added)
-    (held, lt_last c.interfaces _, ap (λ o. option_case (item_of o) [] (λ x. x.exports)) (slice_get-middle c.interfaces _ []))) where
+    (held, lt_last c.interfaces _, λ n. ap (λ (o : Option (Held Interface)). find_name (option_case (item_of o) [] (λ x. x.exports)) n) (slice_get-middle c.interfaces _ []))) where
       lt_last : {A : Type 0} (xs : List A) (x : A) → nat_lt (length xs) (length (xs ++ x ∷ [])) ≡ true
       lt_last xs x = rw (length-append xs (x ∷ [])) (one (length xs)) where
         one : (n : ℕ) → nat_lt n (n + 1) ≡ true

@@ -111,7 +111,7 @@ module _ (g : Graph) (s : IsSound g) where
     held = λ n node there. more.held (kind_type node.item_kind) (s.held n node there);
     packages = λ id p there.
         let h = s.packages id p there in
-        (more.held (ty.World p.world) h.0, more.held (ty.Interface p.instance_type) h.1, more.interfaces p.instance_type h.1 ∙ h.2 ∙ sym (more.exports p.world h.0));
+        (more.held (ty.World p.world) h.0, more.held (ty.Interface p.instance_type) h.1, λ n. ap (λ es. find_name es n) (more.interfaces p.instance_type h.1) ∙ h.2 n ∙ ap (λ es. find_name es n) (sym (more.exports p.world h.0)));
     instances = λ n node there is. let i = s.instances n node there is in record { id = i.id; parts = i.parts; owned = i.owned; registered = i.registered; typed = i.typed };
     aliases = λ n node there is.
         let a = s.aliases n node there is in

@@ -8,7 +8,7 @@ use Rattle.std.specs.declared.alloc.AllocError.{AllocError}
 use Rattle.std.proofs.lemmas.List.{length-append}
 use Rattle.std.proofs.lemmas.Bool.{false≢true}
 use Rattle.std.proofs.lemmas.Bool.Decides.{nat_tests}
-use Rattle.wac_types_shapes.specs.primitives.Name.{Name}
+use Rattle.wac_types_shapes.specs.primitives.Name.{Name, find_name}
 use Rattle.wac_types_shapes.specs.declared.shapes.component.«Type».{«Type» as AnyType}
 use Rattle.wac_types_shapes.specs.declared.shapes.component.«Type».TheVariants as ty
 use Rattle.wac_types_shapes.specs.declared.shapes.component.ValueType.TheVariants as val
@@ -56,7 +56,7 @@ valid_types g d e = record {
   nodes = λ n h. h;
   packages = λ id h. h;
   types = e.held;
-  made = λ p h. (e.held (ty.World p.world) h.0, e.held (ty.Interface p.instance_type) h.1, e.interfaces p.instance_type h.1 ∙ h.2 ∙ sym (e.exports p.world h.0));
+  made = λ p h. (e.held (ty.World p.world) h.0, e.held (ty.Interface p.instance_type) h.1, λ n. ap (λ es. find_name es n) (e.interfaces p.instance_type h.1) ∙ h.2 n ∙ ap (λ es. find_name es n) (sym (e.exports p.world h.0)));
   resources = λ i h. e.held (ty.Resource (record { 0 = i })) h;
   funcs = λ i h. e.held (ty.Func (record { 0 = i })) h;
   defined = λ i h. e.held (ty.Value (val.Defined (record { 0 = i }))) h;

@@ -24,16 +24,16 @@ use Rattle.wac_graph_model.specs.meaning.Means.{sort_of_kind}
 use Rattle.wac_graph_model.specs.private.meaning.Beginning.{Places, IsPlacedAt}
 use Rattle.wac_graph_model.specs.private.meaning.Encoding.{IsTypeAlone, HasComponent, Progress, index_in}
 
--- An argument item: the index of the node that was set, or, if there is none, of the import of its name's class.
-pub data IsArgumentItem (g : Graph) (places : Places) (index : NodeId → ℕ) (n : NodeId) (i : ℕ) (name : Name) (a : Name × Sort × ℕ) : Type 0 where
-  of_node : (source : NodeId) (node : GraphNode) → a.0 ≡ name → IsArgumentOf g n i source → node_at g source ≡ Some node → a.1 ≡ sort_of_kind node.item_kind → a.2 ≡ index source
-      → IsArgumentItem g places index n i name a
-  of_import : a.0 ≡ name → IsUnsatisfied g n i → IsPlacedAt g places name a.1 a.2 → IsArgumentItem g places index n i name a
+-- An argument item for import e: the index of the node that was set, or, if there is none, of the import of its name's class.
+pub data IsArgumentItem (g : Graph) (places : Places) (index : NodeId → ℕ) (n : NodeId) (i : ℕ) (e : Name × ItemKind) (a : Name × Sort × ℕ) : Type 0 where
+  of_node : (source : NodeId) (node : GraphNode) → a.0 ≡ e.0 → IsArgumentOf g n i source → node_at g source ≡ Some node → a.1 ≡ sort_of_kind node.item_kind → a.2 ≡ index source
+      → IsArgumentItem g places index n i e a
+  of_import : a.0 ≡ e.0 → IsUnsatisfied g n i → a.1 ≡ sort_of_kind e.1 → IsPlacedAt g places e.0 a.1 a.2 → IsArgumentItem g places index n i e a
 
 -- There is one argument item for each import of the world, in world order.
 abbrev pub AreArgumentItems : Graph → Places → (NodeId → ℕ) → NodeId → ℕ → List (Name × ItemKind) → List (Name × Sort × ℕ) → Type 0
 AreArgumentItems g places index n i [] [] = Unit {0}
-AreArgumentItems g places index n i (e ∷ imports) (a ∷ arguments) = IsArgumentItem g places index n i e.0 a × AreArgumentItems g places index n (suc i) imports arguments
+AreArgumentItems g places index n i (e ∷ imports) (a ∷ arguments) = IsArgumentItem g places index n i e a × AreArgumentItems g places index n (suc i) imports arguments
 AreArgumentItems g places index n i _ _ = ⊥
 
 -- Only types and aliases of types are appended. Type index k then refers to a type with this tree, which is no resource.

@@ -8,8 +8,7 @@ use Rattle.std.specs.Option.{option_map}
 use Rattle.std.specs.FinSet as set
 use Rattle.std.proofs.Math.Seq.{take-length}
 use Rattle.slab.specs.Slab.{get, ContainsKey}
-use Rattle.wac_types_shapes.specs.primitives.Name.{Name, option_case}
-use Rattle.wac_types_collection.specs.collection.Package.{PackageParts}
+use Rattle.wac_types_shapes.specs.primitives.Name.{Name}
 use Rattle.wac_types_shapes.specs.declared.shapes.component.ItemKind.{ItemKind}
 use Rattle.wac_binary.specs.declared.sorts.Sort.{Sort}
 use Rattle.wac_binary.specs.declared.sorts.Sort.TheVariants as sort
@@ -26,31 +25,30 @@ use Rattle.wac_edges.specs.declared.edges.Edge.{Edge}
 use Rattle.wac_edges.specs.Edge.{argument_edge}
 use Rattle.wac_graph_model.specs.nodes.Graph as graph
 use Rattle.wac_edges.specs.Edge.{node_number}
-use Rattle.wac_graph_model.specs.nodes.Graph.{Graph, GraphNode, node_at, imports_of, package_at, IsArgumentOf, IsUnsatisfied}
-use Rattle.wac_graph_model.specs.nodes.Nodes.{node_of, kind_of}
+use Rattle.wac_graph_model.specs.nodes.Graph.{Graph, GraphNode, node_at, imports_of, IsArgumentOf, IsUnsatisfied}
+use Rattle.wac_graph_model.specs.nodes.Nodes.{kind_of}
 use Rattle.wac_graph_fields.specs.private.Fields.{Fields, graph_of, Invariant}
-use Rattle.wac_graph_model.specs.meaning.Means.{is_import, sort_of_kind, package_bytes}
+use Rattle.wac_graph_model.specs.meaning.Means.{is_import}
 use Rattle.wac_graph_model.specs.private.meaning.Encoding.{index_in, HasComponent, HasRoom, Progress}
 use Rattle.wac_graph_model.specs.private.meaning.Beginning.{Places}
-use Rattle.wac_graph_model.specs.private.meaning.Writing.{IsArgumentItem, of_node, AreArgumentItems, WritesNode, writes_instantiation, Wrote}
+use Rattle.wac_graph_model.specs.private.meaning.Writing.{IsArgumentItem, AreArgumentItems, WritesNode, writes_instantiation, Wrote}
 use Rattle.wac_graph_reader.proofs.lemmas.writing.SourceLemmas.{source_at}
 use Rattle.wac_graph_model.proofs.lemmas.nodes.NodeLemmas.{there}
 use Rattle.wac_graph_reader.proofs.lemmas.writing.EncodingLemmas as nodes
-use Rattle.wac_graph_reader.proofs.lemmas.writing.EncodingLemmas.{node_is}
 
 -- one argument more
 push_argument : (g : Graph) (places : Places) (index : NodeId → ℕ) (n : NodeId) (k j : ℕ) (xs : List (Name × ItemKind)) (args : List (Name × Sort × ℕ)) (x : Name × ItemKind) (a : Name × Sort × ℕ) → slice_get xs j ≡ Some x → AreArgumentItems g places index n k (take j xs) args
-    → IsArgumentItem g places index n (k + j) x.0 a → AreArgumentItems g places index n k (take (suc j) xs) (args ++ a ∷ [])
+    → IsArgumentItem g places index n (k + j) x a → AreArgumentItems g places index n k (take (suc j) xs) (args ++ a ∷ [])
 push_argument g places index n k j [] args x a at had it = cc
 push_argument g places index n k zero (y ∷ ys) [] x a at had it =
     let same : y ≡ x = cc in
     let here : k + 0 ≡ k = omega arith in
-    (subst (λ z. IsArgumentItem g places index n z y.0 a) here (subst (λ (z : Name × ItemKind). IsArgumentItem g places index n (k + 0) z.0 a) (sym same) it), tt)
+    (subst (λ z. IsArgumentItem g places index n z y a) here (subst (λ (z : Name × ItemKind). IsArgumentItem g places index n (k + 0) z a) (sym same) it), tt)
 push_argument g places index n k zero (y ∷ ys) (b ∷ args) x a at had it = absurd had
 push_argument g places index n k (suc j) (y ∷ ys) [] x a at had it = absurd had
 push_argument g places index n k (suc j) (y ∷ ys) (b ∷ args) x a at had it =
     let here : k + suc j ≡ suc k + j = omega arith in
-    (had.0, push_argument g places index n (suc k) j ys args x a at had.1 (subst (λ z. IsArgumentItem g places index n z x.0 a) here it))
+    (had.0, push_argument g places index n (suc k) j ys args x a at had.1 (subst (λ z. IsArgumentItem g places index n z x a) here it))
 
 arguments_last : (args : List (Bor (List ℕ) × Sort × ℕ)) (a : Bor (List ℕ) × Sort × ℕ) → arguments_of (args ++ a ∷ []) ≡ arguments_of args ++ (a.0.now, a.1, a.2) ∷ []
 arguments_last [] a = refl
@@ -60,28 +58,29 @@ arguments_last (b ∷ args) a = ap (λ xs. (b.0.now, b.1, b.2) ∷ xs) (argument
 pub argument_there : (a : Fields) → Invariant a → (source n i : ℕ) → set.contains a.edges (argument_edge (node_number source) (node_number n) i) ≡ true → ContainsKey a.nodes source
 argument_there a v source n i stands = there a.nodes.slots source ((v.sound).ends (argument_edge (node_number source) (node_number n) i) stands).0
 
-named_entry : (o : Option (Name × ItemKind)) (name : Name) → option_map (λ e. e.0) o ≡ Some name → (x : Name × ItemKind) × (o ≡ Some x) × (name ≡ x.0)
-named_entry None name h = cc
-named_entry (Some x) name h = let e : name ≡ x.0 = cc in (x, refl, e)
+named_entry : (P : Name × ItemKind → Type 0) (o : Option (Name × ItemKind)) (name : Name) → option_map (λ e. e.0) o ≡ Some name → IfSome o P → (x : Name × ItemKind) × (o ≡ Some x) × P x
+named_entry P None name h p = cc
+named_entry P (Some x) name h p = (x, refl, p)
 
 pub pushed : (g : Graph) (places : Places) (index : NodeId → ℕ) (n i : ℕ) (imports : List (Name × ItemKind)) (args new : List (Bor (List ℕ) × Sort × ℕ)) (name : Bor (List ℕ)) (s : Sort) (k : ℕ)
-    → option_map (λ e. e.0) (slice_get imports i) ≡ Some name.now → new ≡ args ++ (name, s, k) ∷ [] → IsArgumentItem g places index (node_number n) i name.now (name.now, s, k)
+    → option_map (λ e. e.0) (slice_get imports i) ≡ Some name.now → new ≡ args ++ (name, s, k) ∷ [] → IfSome (slice_get imports i) (λ e. IsArgumentItem g places index (node_number n) i e (name.now, s, k))
     → AreArgumentItems g places index (node_number n) 0 (take i imports) (arguments_of args) → AreArgumentItems g places index (node_number n) 0 (take (i + 1) imports) (arguments_of new)
 pushed g places index n i imports args new name s k named grown it before =
-    let (x, at, same) = named_entry (slice_get imports i) name.now named in
+    let (x, at, asked) = named_entry (λ e. IsArgumentItem g places index (node_number n) i e (name.now, s, k)) (slice_get imports i) name.now named it in
     let here : i ≡ 0 + i = omega arith in
     let next : suc i ≡ i + 1 = omega arith in
-    let one : IsArgumentItem g places index (node_number n) (0 + i) x.0 (name.now, s, k) =
-    subst (λ z. IsArgumentItem g places index (node_number n) z x.0 (name.now, s, k)) here (subst (λ (z : Name). IsArgumentItem g places index (node_number n) i z (name.now, s, k)) same it) in
+    let one : IsArgumentItem g places index (node_number n) (0 + i) x (name.now, s, k) = subst (λ z. IsArgumentItem g places index (node_number n) z x (name.now, s, k)) here asked in
     subst (λ z. AreArgumentItems g places index (node_number n) 0 (take z imports) (arguments_of new)) next
     (subst (λ z. AreArgumentItems g places index (node_number n) 0 (take (suc i) imports) z) (sym (ap arguments_of grown ∙ arguments_last args (name, s, k)))
     (push_argument g places index (node_number n) 0 i imports (arguments_of args) x (name.now, s, k) at before one))
 
--- an argument that was set
-pub set_argument : (a : Fields) (g : Graph) → graph_of a ≡ g → (places : Places) (indexes : List ℕ) (n i source : ℕ) (node : Node) (name : Name) (s : Sort)
-    → get a.nodes source ≡ Some node → IsArgumentOf g (node_number n) i (node_number source) → s ≡ sort_of_kind node.item_kind → IsArgumentItem g places (index_in indexes) (node_number n) i name (name, s, index_in indexes (node_number source))
-set_argument a g e places indexes n i source node name s had given sorted =
-    of_node (node_number source) (node_of node) refl given (subst (λ h. node_at h (node_number source) ≡ Some (node_of node)) e (node_is a source (Some node) had)) sorted refl
+-- the import at a position of the list that is read
+pub at_import : (g : Graph) (n i : ℕ) (imports : List (Name × ItemKind)) (P : Name × ItemKind → Type 0) → IsSomeAnd (node_at g (node_number n)) (λ x. x.kind ≡ graph.instantiation) → IfSome (node_at g (node_number n)) (λ x. imports ≡ imports_of g x)
+    → IfSome (node_at g (node_number n)) (λ x. IfSome (slice_get (imports_of g x) i) P) → IfSome (slice_get imports i) P
+at_import g n i imports P one are given = by_node (node_at g (node_number n)) one are given where
+  by_node : (o : Option GraphNode) → IsSomeAnd o (λ x. x.kind ≡ graph.instantiation) → IfSome o (λ x. imports ≡ imports_of g x) → IfSome o (λ x. IfSome (slice_get (imports_of g x) i) P) → IfSome (slice_get imports i) P
+  by_node None h e p = absurd h
+  by_node (Some x) h e p = subst (λ es. IfSome (slice_get es i) P) (sym e) p
 
 -- all arguments
 pub all_arguments : (g : Graph) (at : Places) (index : NodeId → ℕ) (n i : ℕ) (imports : List (Name × ItemKind)) (args : List (Bor (List ℕ) × Sort × ℕ)) → i ≡ length imports → IfSome (node_at g (node_number n)) (λ x. imports ≡ imports_of g x) → AreArgumentItems g at index (node_number n) 0 (take i imports) (arguments_of args)

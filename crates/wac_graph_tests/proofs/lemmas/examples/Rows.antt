@@ -98,10 +98,10 @@ nodes_are n = finite.get-from_entries nat_cmp_total entries n
 node_0 : node_at readme_graph (node_number 0) ≡ Some instance_of_first
 node_0 = nodes_are 0
 
-node_1 : node_at readme_graph (node_number 1) ≡ Some alias_of_first
+pub node_1 : node_at readme_graph (node_number 1) ≡ Some alias_of_first
 node_1 = nodes_are 1
 
-node_2 : node_at readme_graph (node_number 2) ≡ Some instance_of_second
+pub node_2 : node_at readme_graph (node_number 2) ≡ Some instance_of_second
 node_2 = nodes_are 2
 
 -- there are no others
@@ -133,7 +133,7 @@ either false true h = inr refl
 either false false h = inl h
 
 -- an edge of the graph is one of the two
-edges_are : (e : Edge) → set.contains readme_graph.edges e ≡ true → (e ≡ alias_edge (node_number 0) (node_number 1) 0) ⊎ (e ≡ argument_edge (node_number 1) (node_number 2) 0)
+pub edges_are : (e : Edge) → set.contains readme_graph.edges e ≡ true → (e ≡ alias_edge (node_number 0) (node_number 1) 0) ⊎ (e ≡ argument_edge (node_number 1) (node_number 2) 0)
 edges_are e stands = split (either (eq_by_cmp edge_cmp e (alias_edge (node_number 0) (node_number 1) 0)) (eq_by_cmp edge_cmp e (argument_edge (node_number 1) (node_number 2) 0)) (sym (set.contains-from_list edge_cmp_total edge_list e) ∙ stands)) where
   split : (eq_by_cmp edge_cmp e (alias_edge (node_number 0) (node_number 1) 0) ≡ true) ⊎ (eq_by_cmp edge_cmp e (argument_edge (node_number 1) (node_number 2) 0) ≡ true) → (e ≡ alias_edge (node_number 0) (node_number 1) 0) ⊎ (e ≡ argument_edge (node_number 1) (node_number 2) 0)
   split (inl h) = inl (exact_edges e (alias_edge (node_number 0) (node_number 1) 0) h)
@@ -147,11 +147,11 @@ stands_argument : set.contains readme_graph.edges (argument_edge (node_number 1)
 stands_argument = set.contains-from_list edge_cmp_total edge_list (argument_edge (node_number 1) (node_number 2) 0)
 
 -- the three nodes in the order of their numbers
-abbrev three_nodes : List NodeId
+abbrev pub three_nodes : List NodeId
 three_nodes = node_number 0 ∷ node_number 1 ∷ node_number 2 ∷ []
 
 -- the instances are the first node and the third
-readme_instantiations : instantiations readme_graph three_nodes ≡ node_number 0 ∷ node_number 2 ∷ []
+pub readme_instantiations : instantiations readme_graph three_nodes ≡ node_number 0 ∷ node_number 2 ∷ []
 readme_instantiations = rw (node_0, node_1, node_2) refl
 
 -- both packages are used, in this order
@@ -307,7 +307,7 @@ readme_imports = no_imports readme_graph (asked_none readme_graph readme_plain a
 readme_instances : AreInstantiations readme_graph defining 0 readme_at three_nodes (instantiations readme_graph three_nodes) (meaning readme).instantiations
 readme_instances = subst (λ ns. AreInstantiations readme_graph defining 0 readme_at three_nodes ns (meaning readme).instantiations) (sym readme_instantiations) (
   record { node = instance_of_first; there = node_0; owner = first; owned = refl; place = 0; used = ap (λ ps. slice_get ps 0) readme_packages; component = refl; arguments = tt },
-  (record { node = instance_of_second; there = node_2; owner = second; owned = refl; place = 1; used = ap (λ ps. slice_get ps 1) readme_packages; component = refl; arguments = (refl, given (node_number 1) stands_argument, tt) }, tt),
+  (record { node = instance_of_second; there = node_2; owner = second; owned = refl; place = 1; used = ap (λ ps. slice_get ps 1) readme_packages; component = refl; arguments = (refl, given (node_number 1) alias_of_first stands_argument node_1, tt) }, tt),
 )
 
 -- what each node is

@@ -5,6 +5,7 @@ use Rattle.std.specs.List.{flat_map}
 use Rattle.std.specs.Prelude.{slice_get}
 use Rattle.wac_types_shapes.specs.primitives.Name.{Name}
 use Rattle.wac_types_shapes.specs.declared.shapes.component.ItemKind.{ItemKind}
+use Rattle.wac_binary.specs.declared.sorts.Sort.{Sort}
 use Rattle.wac_binary.specs.declared.sorts.Sort.TheVariants as s
 use Rattle.wac_binary.specs.Items.{Item}
 use Rattle.wac_binary.specs.Meaning.{meaning, projection, instance_at, component_at, Instantiation, Thing}
@@ -16,7 +17,7 @@ use Rattle.wac_edges.specs.Edge.{alias_edge, argument_edge, node_number}
 use Rattle.wac_graph_model.specs.nodes.Graph as graph
 use Rattle.wac_graph_model.specs.nodes.Graph.{GraphNode, node_at, imports_of, exports_of}
 use Rattle.wac_graph_model.specs.nodes.OuterImports.{outer_bindings}
-use Rattle.wac_graph_model.specs.meaning.Means.{Means, is_written, instantiations, used_packages, package_bytes, IsArgument, given, asked, AreArguments, IsInstantiationOf, AreInstantiations, IsThing, as_import, as_instantiation, as_alias, shown, as_definition, export_of, first_export, further_exports}
+use Rattle.wac_graph_model.specs.meaning.Means.{Means, sort_of_kind, is_written, instantiations, used_packages, package_bytes, IsArgument, given, asked, AreArguments, IsInstantiationOf, AreInstantiations, IsThing, as_import, as_instantiation, as_alias, shown, as_definition, export_of, first_export, further_exports}
 use Rattle.wac_graph_tests.proofs.lemmas.examples.Ordered.{by_edge}
 use Rattle.wac_graph_model.proofs.lemmas.meaning.OrderLemmas.{one_order}
 use Rattle.wac_graph_tests.proofs.lemmas.examples.Rows.{defining, of_function, first, second, instance_of_first, alias_of_first, instance_of_second}
@@ -29,7 +30,7 @@ function_of instance = projection (instance_at instance) (codes "a")
 -- Both instances are of the first component; the third takes the function of each, and each is exported under its name.
 pub record Says (items : List Item) : Type 0 where
   pub components : (meaning items).nested_bytes ≡ first_bytes ∷ second_bytes ∷ []
-  pub instances : (meaning items).instantiations ≡ record { component = component_at 0; arguments = [] } ∷ record { component = component_at 0; arguments = [] } ∷ record { component = component_at 1; arguments = (codes "x", function_of 0) ∷ (codes "y", function_of 1) ∷ [] } ∷ []
+  pub instances : (meaning items).instantiations ≡ record { component = component_at 0; arguments = [] } ∷ record { component = component_at 0; arguments = [] } ∷ record { component = component_at 1; arguments = (codes "x", s.Func, function_of 0) ∷ (codes "y", s.Func, function_of 1) ∷ [] } ∷ []
   pub exports : map shown (meaning items).exports ≡ (codes "p", s.Func, function_of 0) ∷ (codes "q", s.Func, function_of 1) ∷ []
 
 -- ---- which edges stand
@@ -187,7 +188,7 @@ module _ (items : List Item) (means : Means items twins defining) where
       let placed : slice_get (first ∷ second ∷ []) is.place ≡ Some owner = ap (λ ps. slice_get ps is.place) (sym packages_are) ∙ is.used ∙ owner_is in
       (is.component ∙ ap component_at (only is.place placed), subst (λ x. AreArguments twins means.at n 0 (imports_of twins x) it.arguments) same is.arguments)
 
-  none : (n : NodeId) (arguments : List (Name × Thing)) → AreArguments twins means.at n 0 [] arguments → arguments ≡ []
+  none : (n : NodeId) (arguments : List (Name × Sort × Thing)) → AreArguments twins means.at n 0 [] arguments → arguments ≡ []
   none n [] _ = refl
   none n (a ∷ more) wrong = absurd wrong
 
@@ -197,27 +198,32 @@ module _ (items : List Item) (means : Means items twins defining) where
       let nothing : it.arguments ≡ [] = none n it.arguments arguments in
       λ i. record { component = component i; arguments = nothing i }
 
-  argument : (p : ℕ) (j : NodeId) (name : Name) (x : Thing) → ((k : NodeId) → set.contains twins.edges (argument_edge k (node_number 4) p) ≡ true → k ≡ j) → set.contains twins.edges (argument_edge j (node_number 4) p) ≡ true → IsArgument twins means.at (node_number 4) p name x → x ≡ means.at j
-  argument p j name _ only stands (given node is) = ap means.at (only node is)
-  argument p j name _ only stands (asked place unsatisfied _) = absurd (unsatisfied j stands)
+  argument : (p : ℕ) (j : NodeId) (node : GraphNode) (e : Name × ItemKind) (t : Sort) (x : Thing) → node_at twins j ≡ Some node → ((k : NodeId) → set.contains twins.edges (argument_edge k (node_number 4) p) ≡ true → k ≡ j) → set.contains twins.edges (argument_edge j (node_number 4) p) ≡ true
+      → IsArgument twins means.at (node_number 4) p e t x → (t ≡ sort_of_kind node.item_kind) × (x ≡ means.at j)
+  argument p j node e _ _ there only stands (given source other is source_there) =
+      let same : source ≡ j = only source is in
+      (ap (λ (y : GraphNode). sort_of_kind y.item_kind) (some_same (sym source_there ∙ ap (λ k. node_at twins k) same ∙ there)), ap means.at same)
+  argument p j node e _ _ there only stands (asked place unsatisfied _) = absurd (unsatisfied j stands)
 
-  two : (arguments : List (Name × Thing)) → AreArguments twins means.at (node_number 4) 0 ((codes "x", of_function) ∷ (codes "y", of_function) ∷ []) arguments → arguments ≡ (codes "x", function_of 0) ∷ (codes "y", function_of 1) ∷ []
+  two : (arguments : List (Name × Sort × Thing)) → AreArguments twins means.at (node_number 4) 0 ((codes "x", of_function) ∷ (codes "y", of_function) ∷ []) arguments → arguments ≡ (codes "x", s.Func, function_of 0) ∷ (codes "y", s.Func, function_of 1) ∷ []
   two [] wrong = absurd wrong
   two (x ∷ []) (_, _, wrong) = absurd wrong
   two (x ∷ y ∷ z ∷ more) (_, _, (_, _, wrong)) = absurd wrong
   two (x ∷ y ∷ []) (x_name, x_is, (y_name, y_is, _)) =
-      let x_thing : x.1 ≡ function_of 0 = argument 0 (node_number 2) (codes "x") x.1 argument_x (stands (argument_edge (node_number 2) (node_number 4) 0) refl) x_is ∙ at_2 in
-      let y_thing : y.1 ≡ function_of 1 = argument 1 (node_number 3) (codes "y") y.1 argument_y (stands (argument_edge (node_number 3) (node_number 4) 1) refl) y_is ∙ at_3 in
-      λ i. (x_name i, x_thing i) ∷ (y_name i, y_thing i) ∷ []
+      let (x_sort, x_at) = argument 0 (node_number 2) alias_of_first (codes "x", of_function) x.1 x.2 node_2 argument_x (stands (argument_edge (node_number 2) (node_number 4) 0) refl) x_is in
+      let (y_sort, y_at) = argument 1 (node_number 3) alias_of_first (codes "y", of_function) y.1 y.2 node_3 argument_y (stands (argument_edge (node_number 3) (node_number 4) 1) refl) y_is in
+      let x_thing : x.2 ≡ function_of 0 = x_at ∙ at_2 in
+      let y_thing : y.2 ≡ function_of 1 = y_at ∙ at_3 in
+      λ i. (x_name i, x_sort i, x_thing i) ∷ (y_name i, y_sort i, y_thing i) ∷ []
 
-  of_second : (it : Instantiation) → IsInstantiationOf twins defining (length means.classes) means.at means.order (node_number 4) it → it ≡ record { component = component_at 1; arguments = (codes "x", function_of 0) ∷ (codes "y", function_of 1) ∷ [] }
+  of_second : (it : Instantiation) → IsInstantiationOf twins defining (length means.classes) means.at means.order (node_number 4) it → it ≡ record { component = component_at 1; arguments = (codes "x", s.Func, function_of 0) ∷ (codes "y", s.Func, function_of 1) ∷ [] }
   of_second it is =
       let (component, arguments) = of_package (node_number 4) 1 instance_of_second second node_4 refl second_placed it is in
-      let both : it.arguments ≡ (codes "x", function_of 0) ∷ (codes "y", function_of 1) ∷ [] = two it.arguments arguments in
+      let both : it.arguments ≡ (codes "x", s.Func, function_of 0) ∷ (codes "y", s.Func, function_of 1) ∷ [] = two it.arguments arguments in
       λ i. record { component = component i; arguments = both i }
 
   three : (its : List Instantiation) → AreInstantiations twins defining (length means.classes) means.at means.order (node_number 0 ∷ node_number 1 ∷ node_number 4 ∷ []) its
-      → its ≡ record { component = component_at 0; arguments = [] } ∷ record { component = component_at 0; arguments = [] } ∷ record { component = component_at 1; arguments = (codes "x", function_of 0) ∷ (codes "y", function_of 1) ∷ [] } ∷ []
+      → its ≡ record { component = component_at 0; arguments = [] } ∷ record { component = component_at 0; arguments = [] } ∷ record { component = component_at 1; arguments = (codes "x", s.Func, function_of 0) ∷ (codes "y", s.Func, function_of 1) ∷ [] } ∷ []
   three [] wrong = absurd wrong
   three (a ∷ []) (_, wrong) = absurd wrong
   three (a ∷ b ∷ []) (_, (_, wrong)) = absurd wrong

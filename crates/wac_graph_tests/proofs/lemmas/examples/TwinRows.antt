@@ -242,7 +242,7 @@ twins_instances = subst (λ ns. AreInstantiations twins defining 0 twins_at by_t
   record { node = instance_of_first; there = node_0; owner = first; owned = refl; place = 0; used = ap (λ ps. slice_get ps 0) twins_packages; component = refl; arguments = tt },
   (
     record { node = instance_of_first; there = node_1; owner = first; owned = refl; place = 0; used = ap (λ ps. slice_get ps 0) twins_packages; component = refl; arguments = tt },
-    (record { node = instance_of_second; there = node_4; owner = second; owned = refl; place = 1; used = ap (λ ps. slice_get ps 1) twins_packages; component = refl; arguments = (refl, given (node_number 2) (stands (argument_edge (node_number 2) (node_number 4) 0) refl), (refl, given (node_number 3) (stands (argument_edge (node_number 3) (node_number 4) 1) refl), tt)) }, tt),
+    (record { node = instance_of_second; there = node_4; owner = second; owned = refl; place = 1; used = ap (λ ps. slice_get ps 1) twins_packages; component = refl; arguments = (refl, given (node_number 2) alias_of_first (stands (argument_edge (node_number 2) (node_number 4) 0) refl) node_2, (refl, given (node_number 3) alias_of_first (stands (argument_edge (node_number 3) (node_number 4) 1) refl) node_3, tt)) }, tt),
   ),
 )
 

@@ -1,11 +1,7 @@
 -- Items of the same sort and id are equal.
-use Rattle.std.proofs.Common.{Bool, true, ◌&&◌, rules, List, [], ◌∷◌, ◌≡◌, refl, ap, sym, ◌∙◌, subst, Some, slice_get, Decides}
-use Rattle.std.specs.Cmp.Lexicographic.{bytes_decides}
+use Rattle.std.proofs.Common.{true, rules, List, [], ◌∷◌, ◌≡◌, refl, ap, sym, ◌∙◌, Some, slice_get}
 use Rattle.std.proofs.lemmas.Bool.{eqb-true, eq-eqb}
-use Rattle.std.proofs.lemmas.Bool.Decides.{Decides-and, Decides-at, Decides-like}
-use Rattle.std.proofs.lemmas.Slice.Eq.{slice_eq-Decides}
 use Rattle.std.proofs.lemmas.Option.{same_Some}
-use Rattle.wac_types_shapes.specs.primitives.Name.{Name}
 use Rattle.wac_types_shapes.specs.declared.primitives.component.PrimitiveType.{PrimitiveType}
 use Rattle.wac_types_shapes.specs.declared.primitives.component.PrimitiveType.TheVariants as prim
 use Rattle.wac_types_shapes.specs.declared.shapes.component.ValueType.{ValueType}
@@ -15,7 +11,6 @@ use Rattle.wac_types_shapes.specs.declared.shapes.component.«Type».TheVariants
 use Rattle.wac_types_shapes.specs.declared.shapes.component.ItemKind.{ItemKind}
 use Rattle.wac_types_shapes.specs.declared.shapes.component.ItemKind.TheVariants as kind
 use Rattle.wac_types_shapes.specs.contracts.shapes.component.ItemKindPartialEq.TheImpl as KindEq
-use Rattle.wac_types_shapes.specs.private.shapes.Equal.{same_text, same_named}
 use Rattle.wac_types_shapes.proofs.lemmas.shapes.Names.{same_name-bytes_eq}
 use Rattle.wac_types_collection.specs.collection.Uses.{primitive_number, same_value, same_type, same_item}
 
@@ -65,20 +60,9 @@ same_item-refl (kind.TypeItem s) = same_type-refl s
 same_item-refl (kind.Value v) = same_value-refl v
 same_item-refl _ = eq-eqb _ _ refl
 
--- the test tells which items are equal
-pub item_decides : (a b : ItemKind) → Decides (same_item a b) (a ≡ b)
-item_decides a b = (same_item-true a b, λ e. subst (λ x. same_item a x ≡ true) e (same_item-refl a))
-
 -- the derived `==` is that of sorts and ids
-kind_eq : (a b : ItemKind) → (KindEq.ghosts).eq a b ≡ same_item a b
+pub kind_eq : (a b : ItemKind) → (KindEq.ghosts).eq a b ≡ same_item a b
 kind_eq a b = search rules
-
-entries_decide : (a b : Name × ItemKind) → Decides (same_text a.0 b.0 && (KindEq.ghosts).eq a.1 b.1) (a ≡ b)
-entries_decide a b = Decides-like _ (λ e i. (e.0 i, e.1 i)) (λ e. (ap (λ x. x.0) e, ap (λ x. x.1) e)) (Decides-and _ _ (bytes_decides a.0 b.0) (Decides-at _ _ (kind_eq a.1 b.1) (item_decides a.1 b.1)))
-
--- so lists of items are equal where `==` says so
-pub same_entries : (xs ys : List (Name × ItemKind)) (r : Bool) → r ≡ same_named ((KindEq.ghosts).eq) xs ys → Decides r (xs ≡ ys)
-same_entries xs ys r is = slice_eq-Decides entries_decide xs ys r is
 
 -- names are the same where their bytes are
 pub ruleset same_bytes = (same_name-bytes_eq)

@@ -56,7 +56,7 @@ readme_meant : HasMeaning readme
 readme_meant = search rules
 
 readme_instances : (meaning readme).instantiations
-    ≡ record { component = component_at 0; arguments = [] } ∷ record { component = component_at 1; arguments = (98 ∷ [], projection (instance_at 0) (97 ∷ [])) ∷ [] } ∷ []
+    ≡ record { component = component_at 0; arguments = [] } ∷ record { component = component_at 1; arguments = (98 ∷ [], s.Func, projection (instance_at 0) (97 ∷ [])) ∷ [] } ∷ []
 readme_instances = refl
 
 readme_components : (meaning readme).nested_bytes ≡ preamble ∷ preamble ∷ []

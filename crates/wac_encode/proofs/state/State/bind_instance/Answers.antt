@@ -14,5 +14,5 @@ pub returns-clause-tells : goal.returns-clause-tells
 returns-clause-tells c =
     let old = c.args.self.now in
     let new : State = record { scopes = c.tell_instance.new.self } in
-    on-both c.tell_instance.result (λ tells records. tells-instance c.bringing_law.ensures.good_once c.args.types.now c.law.ensures c.args.merged c.args.interface c.args.index c.in_ok-closed.closed c.in_ok-unbound.unbound.keys
-    old new c.requires.held c.in_ok-closed.ensures c.in_ok-unbound.ensures c.requires.stands tells records) c.tell_instance.ensures.tells c.tell_instance.ensures.recorded
+    on-both c.tell_instance.result (λ tells records. tells-instance c.bringing_law.ensures.good_once c.args.types.now c.law.ensures c.args.merged c.args.interface c.args.index c.in_ok-unbound.unbound.keys
+    old new c.requires.held c.in_ok-unbound.ensures c.requires.stands tells records) c.tell_instance.ensures.tells c.tell_instance.ensures.recorded

@@ -1,6 +1,5 @@
-use Rattle.wac_encode_scopes.specs.private.Closed.{is_closed_in}
-use Rattle.wac_encode_scopes.specs.private.Telling.{is_one_of, telling}
-use Rattle.wac_encode_imports.proofs.Writing.{instance-held, ready-instance, writes-instance}
+use Rattle.wac_encode_scopes.specs.private.Telling.{is_one_of}
+use Rattle.wac_encode_imports.proofs.Writing.{instance-closed, instance-held, ready-instance, writes-instance}
 use Rattle.std.proofs.Common.{true, []}
 use Rattle.std.specs.Prelude.{Ok}
 use Rattle.wac_encode_scopes.specs.private.Paid.{telling_cost}
@@ -21,12 +20,15 @@ import_item-requires-clause-ready c = ready-instance c.args.self.now c.args.posi
 pub first_resources-requires : goal.first_resources-requires
 first_resources-requires c = instance-held c.args.self.now c.args.position c.args.name.now c.args.interface c.args.state.now c.requires
 
-pub tell_instance-requires : goal.tell_instance-requires
-tell_instance-requires c = instance-held c.args.self.now c.args.position c.args.name.now c.args.interface c.args.state.now c.requires
+pub tell_instance-requires-clause-closed : goal.tell_instance-requires-clause-closed
+tell_instance-requires-clause-closed c = instance-closed c.args.self.now c.args.position c.args.name.now c.args.interface c.args.state.now c.requires
+
+pub tell_instance-requires-clause-held : goal.tell_instance-requires-clause-held
+tell_instance-requires-clause-held c = instance-held c.args.self.now c.args.position c.args.name.now c.args.interface c.args.state.now c.requires
 
 pub returns-clause-written : goal.returns-clause-written
 returns-clause-written c =
-    writes-instance c.args.self.now c.args.position c.args.name.now c.args.interface (is_one_of c.in_ok-own.own.keys) (λ it. telling c.args.self.now.types.now it (is_one_of c.in_ok-own.own.keys) (is_closed_in c.args.self.now.closed.now) c.in_ok-index.index)
+    writes-instance c.args.self.now c.args.position c.args.name.now c.args.interface (is_one_of c.in_ok-own.own.keys)
     c.args.state.now c.import_item.new.state c.tell_instance.new.self c.in_ok-index.index c.free_law.ensures c.instance_law.ensures.shows_whole
     c.in_ok-tell_instance.ensures.tells c.in_ok-tell_instance.ensures.recorded c.in_ok-own.ensures c.in_ok-index.ensures.imports c.in_ok-index.ensures.beside
 

@@ -1,7 +1,7 @@
 use Rattle.std.proofs.Common.{◌≡◌, sym, ◌∙◌, arith}
 use Rattle.wac_types_collection.specs.subtyping.CalledViews.{path_view}
 use Rattle.wac_encode_imports.proofs.Telling.{found-place}
-use Rattle.wac_encode_imports.proofs.Whole.{is-export}
+use Rattle.wac_encode_imports.proofs.Noted.{is-export}
 use Rattle.wac_encode_imports.proofs.told.Teller.is_export.Goals as goal
 
 pub returns : goal.returns

@@ -1,11 +1,12 @@
-use Rattle.std.proofs.Common.{◌≡◌, ◌+◌, ◌*◌, List, Bool, Some, length, slice_get, take, refl, ap, sym, ◌∙◌, subst, arith}
+use Rattle.std.proofs.Common.{◌≡◌, ◌+◌, ◌*◌, List, Some, length, slice_get, take, refl, ap, sym, ◌∙◌, subst, arith}
 use Rattle.std.proofs.lemmas.Option.{slice_get_read}
 use Rattle.std.specs.List.{sum_by}
 use Rattle.std.proofs.lemmas.List.Sums.{sum_by-take-le}
 use Rattle.wac_types_shapes.specs.shapes.Kinds.{kind_type}
 use Rattle.wac_types_weight.specs.Text.{entry_weight}
 use Rattle.wac_merge_classes.specs.entries.Classes.{Entry}
-use Rattle.wac_encode_imports.specs.private.Told.{AreWhole}
+use Rattle.wac_encode_imports.specs.declared.told.Others.{Others}
+use Rattle.wac_encode_imports.specs.private.Told.{AreOthers}
 use Rattle.wac_encode_imports.proofs.Telling.{keeps-then, still-imports, tells-nothing}
 use Rattle.wac_encode_imports.proofs.ToldCosts.{tells-same, tells-more, tells-then, taken-more}
 use Rattle.wac_encode_imports.proofs.told.Teller.tell_entries.Goals as goal
@@ -16,8 +17,8 @@ loop-i-init c = (tells-nothing c.args.self.now c.args.state.now, tells-same c.ar
 pub tell_entry-requires-clause-imports : goal.tell_entry-requires-clause-imports
 tell_entry-requires-clause-imports c = still-imports c.args.self.now c.args.state.now c.loop-i.state c.loop-i.invariant.0.changes c.requires.imports
 
-pub tell_entry-requires-clause-whole : goal.tell_entry-requires-clause-whole
-tell_entry-requires-clause-whole c = subst (λ (whole : List Bool). AreWhole c.args.self.now whole) (sym c.as_slice-whole.ensures.value) c.in_ok-flags.ensures
+pub tell_entry-requires-clause-others : goal.tell_entry-requires-clause-others
+tell_entry-requires-clause-others c = subst (λ (sets : List Others). AreOthers c.args.self.now sets) (sym c.as_slice-others.ensures.value) c.in_ok-found.ensures
 
 pub loop-i-preserved : goal.loop-i-preserved
 loop-i-preserved c =

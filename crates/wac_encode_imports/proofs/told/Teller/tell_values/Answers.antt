@@ -4,6 +4,7 @@ use Rattle.wac_types_shapes.specs.primitives.Name.{Name}
 use Rattle.wac_types_shapes.specs.declared.shapes.component.ItemKind.{ItemKind}
 use Rattle.wac_types_weight.specs.Weight.{named_part, named_parts}
 use Rattle.wac_types_shapes.proofs.lemmas.shapes.Names.{find_name-at}
+use Rattle.wac_encode_scopes.specs.private.Closed.{is_closed_in}
 use Rattle.wac_encode_imports.proofs.Telling.{keeps-then, still-exports, tells-nothing}
 use Rattle.wac_encode_imports.proofs.ToldCosts.{tells-same, tells-more, tells-then, taken-more}
 use Rattle.wac_encode_imports.proofs.told.Teller.tell_values.Goals as goal
@@ -16,7 +17,7 @@ tell_value-requires c = λ d is.
     let it = c.args.interface.now in
     let n = c.entry_at.result.0.now in
     let k = c.entry_at.result.1.now in
-    still-exports c.args.self.now c.args.whole it c.args.index c.args.state.now c.loop-i.state c.loop-i.invariant.0.changes c.requires n k d (find_name-at it.exports c.loop-i.i n k c.law.ensures c.entry_at.ensures) (sym (c.told_in-definition.ensures n) ∙ is)
+    still-exports c.args.self.now (is_closed_in c.args.apart.now) it c.args.index c.args.state.now c.loop-i.state c.loop-i.invariant.0.changes c.requires n k d (find_name-at it.exports c.loop-i.i n k c.law.ensures c.entry_at.ensures) (sym (c.told_in-definition.ensures n) ∙ is)
 
 pub loop-i-preserved : goal.loop-i-preserved
 loop-i-preserved c =

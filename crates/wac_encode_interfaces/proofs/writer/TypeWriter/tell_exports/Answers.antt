@@ -1,15 +1,15 @@
-use Rattle.wac_types_shapes.specs.declared.shapes.component.Interface.{Interface}
-use Rattle.wac_encode_scopes.specs.private.Closed.{is_closed_in}
-use Rattle.wac_encode_scopes.specs.private.Telling.{is_one_of, telling}
-use Rattle.wac_encode_scopes.proofs.Stepped.{all-none, goes-none, on-ok}
+use Rattle.wac_encode_scopes.proofs.Stepped.{all-none, goes-none}
 use Rattle.wac_encode_interfaces.proofs.Told.{told-ok, instance-held, empty-keys}
 use Rattle.wac_encode_interfaces.proofs.Answered.{interface-there, none-unrecorded, pays-any, told-answer}
 use Rattle.std.specs.Prelude.{[]}
 use Rattle.wac_encode_interfaces.specs.private.Paid.{told_cost}
 use Rattle.wac_encode_interfaces.proofs.writer.TypeWriter.tell_exports.Goals as goal
 
-pub tell_instance-requires : goal.tell_instance-requires
-tell_instance-requires c = instance-held c.args.self.now.types.now c.args.item c.in-Instance.id c.in-Instance.is c.requires.held
+pub tell_instance-requires-clause-held : goal.tell_instance-requires-clause-held
+tell_instance-requires-clause-held c = instance-held c.args.self.now.types.now c.args.item c.in-Instance.id c.in-Instance.is c.requires.held
+
+pub tell_instance-requires-clause-closed : goal.tell_instance-requires-clause-closed
+tell_instance-requires-clause-closed c = c.requires.writer.closed
 
 pub returns-in_default : goal.returns-in_default
 returns-in_default c = record {
@@ -23,9 +23,9 @@ returns c =
     let t = c.args.self.now.types.now in
     record {
       goes = told-ok c.instance_law.ensures.shows_whole t c.law.ensures c.args.self.now.merged c.args.state.now c.tell_instance.new.self c.args.item c.in-Instance.id c.args.index c.new-own.result.keys
-          (λ (it : Interface). telling t it (is_one_of c.new-own.result.keys) (is_closed_in c.args.self.now.closed.now) c.args.index) (empty-keys c.new-own.result.keys c.new-own.ensures.len) c.in-Instance.is
+          (empty-keys c.new-own.result.keys c.new-own.ensures.len) c.in-Instance.is
           (instance-held t c.args.item c.in-Instance.id c.in-Instance.is c.requires.held) c.requires.there c.tell_instance.result c.tell_instance.ensures.recorded
-          (on-ok c.tell_instance.result (λ h. h c.requires.writer.closed) c.tell_instance.ensures.tells) c.tell_instance.ensures.types;
+          c.tell_instance.ensures.tells c.tell_instance.ensures.types;
       types = c.tell_instance.ensures.types;
       paid = λ is_open priced.
           (let it = interface-there t c.in-Instance.id (instance-held t c.args.item c.in-Instance.id c.in-Instance.is c.requires.held) in

@@ -33,8 +33,11 @@ owned_resources-requires c =
     let t = c.args.self.now.types.now in
     within c.args.interface.0 (length t.interfaces) (instance-held t c.law.ensures c.args.self.now.merged (written_in c.args.self.now.worlds.now) c.args.parts.now c.requires.planned (side_of c.args.side) c.args.name.now c.args.interface c.args.types_only c.requires.item)
 
-pub tell_instance-requires : goal.tell_instance-requires
-tell_instance-requires c =
+pub tell_instance-requires-clause-closed : goal.tell_instance-requires-clause-closed
+tell_instance-requires-clause-closed c = c.requires.writer.closed
+
+pub tell_instance-requires-clause-held : goal.tell_instance-requires-clause-held
+tell_instance-requires-clause-held c =
     let t = c.args.self.now.types.now in
     within c.args.interface.0 (length t.interfaces) (instance-held t c.law.ensures c.args.self.now.merged (written_in c.args.self.now.worlds.now) c.args.parts.now c.requires.planned (side_of c.args.side) c.args.name.now c.args.interface c.args.types_only c.requires.item)
 
@@ -42,7 +45,7 @@ pub returns-clause-writes : goal.returns-clause-writes
 returns-clause-writes c =
     on-ok c.tell_instance.result
     (λ tells. instance-writes c.args.self.now.types.now c.law.ensures c.args.self.now.merged (written_in c.args.self.now.worlds.now) c.args.parts.now c.requires.planned (side_of c.args.side) c.args.name.now c.instance_law.ensures.shows_whole c.args.interface c.args.types_only c.args.number
-    c.in_ok-own.own.keys c.args.state.now c.list_instance.new.state c.tell_instance.new.self c.in_ok-instance.instance c.requires.item c.requires.number c.in_ok-instance.ensures.lists c.in_ok-own.ensures (tells c.requires.writer.closed) c.tell_instance.ensures.types)
+    c.in_ok-own.own.keys c.args.state.now c.list_instance.new.state c.tell_instance.new.self c.in_ok-instance.instance c.requires.item c.requires.number c.in_ok-instance.ensures.lists c.in_ok-own.ensures tells c.tell_instance.ensures.types)
     c.tell_instance.ensures.tells
 
 pub returns-in_err-instance-clause-paid : goal.returns-in_err-instance-clause-paid

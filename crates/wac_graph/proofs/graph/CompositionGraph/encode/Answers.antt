@@ -1,6 +1,7 @@
 use Rattle.std.proofs.Common.{◌≡◌, ◌∙◌, ◌+◌, ◌*◌, ◌^◌, ◌≤◌, ◌⊎◌, inl, inr, true, List, IfSome, ap, arith, length, refl, sym, subst}
 use Rattle.wac_binary.specs.Bytes.{bytes_of}
 use Rattle.wac_binary.specs.Fits.{Fits}
+use Rattle.wac_binary.specs.Format.{AreInFormat}
 use Rattle.wac_binary.specs.Items.{Item}
 use Rattle.wac_graph_model.specs.causes.Cause.{AnswersFor, CauseKind, Occurs, Stands, cause_of, kind_of_cause}
 use Rattle.wac_graph_model.specs.private.causes.Search.{IsRefused}
@@ -101,11 +102,11 @@ pub write-requires-clause-whole : goal.write-requires-clause-whole
 write-requires-clause-whole c = subst (λ ns. Writes c.reader-reader.result.edges (is_written c.reader-reader.result) ns) (sym c.deref.ensures.value) c.in_ok-ordered.ensures.whole
 
 pub returns-clause-means : goal.returns-clause-means
-returns-clause-means c = subst (λ g. (items : List Item) × (c.in_ok-bytes.bytes.items ≡ bytes_of items) × Fits items × Means items g c.args.options) c.reader-reader.ensures c.in_ok-bytes.ensures.means
+returns-clause-means c = subst (λ g. (items : List Item) × (c.in_ok-bytes.bytes.items ≡ bytes_of items) × Fits items × AreInFormat items × Means items g c.args.options) c.reader-reader.ensures c.in_ok-bytes.ensures.means
 
 pub returns-clause-valid : goal.returns-clause-valid
 returns-clause-valid c = λ asked.
-    let (items, written, _, means) = returns-clause-means c in
+    let (items, written, _, _, means) = returns-clause-means c in
     (items, written, items_valid c.args.self.now c.law.ensures c.args.options c.class_laws.ensures (λ t es order w. (c.order_law.ensures t es order w).each) c.in_ok-state.imports.merge c.in_ok-state.ensures.placed.merged c.deref-2.result.now (subst (λ ns. Writes c.args.self.now.edges (is_written c.args.self.now) ns) (sym c.deref-2.ensures.value) (subst (λ g. Writes g.edges (is_written g) c.in_ok-ordered.ordered.order.items) c.reader-reader.ensures c.in_ok-ordered.ensures.whole)) asked c.in_ok-check_names.ensures.valid items means)
 
 pub returns-in_err-state-clause-refused : goal.returns-in_err-state-clause-refused

@@ -14,7 +14,7 @@ pub plug-requires-clause-plugs : goal.plug-requires-clause-plugs
 plug-requires-clause-plugs c = λ i id at. c.requires.plugs i id (ap (λ (l : List PackageId). slice_get l i) (sym c.in_ok-all.ensures.items) ∙ at)
 
 pub returns-in_err-all-clause-step : goal.returns-in_err-all-clause-step
-returns-in_err-all-clause-step c = inl (ap answer_of (exit-is c.from_residual.result OutOfMemory c.from_residual.ensures.1), refl)
+returns-in_err-all-clause-step c = inl (ap answer_of (exit-is c.from_residual.result OutOfMemory c.from_residual.ensures.1), inl refl)
 
 pub returns-in_err-all-clause-refused : goal.returns-in_err-all-clause-refused
 returns-in_err-all-clause-refused c = λ e first some. inr (exit-is c.from_residual.result OutOfMemory c.from_residual.ensures.1)

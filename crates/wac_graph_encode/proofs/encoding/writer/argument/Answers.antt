@@ -12,7 +12,7 @@ pub returns-in-Some : goal.returns-in-Some
 returns-in-Some c =
     let given = when_some c.args.source c.in-Some.source (IsArgumentOf c.args.reader.now c.args.n c.args.position) c.in-Some.is c.requires.set in
     set_argument c.args.reader.now c.args.imports.now.places.items c.args.indexes.now c.args.n c.in-Some.source c.args.position c.args.name.now c.sort_of.result c.item_kind.result
-    ((c.law.ensures).ends (argument_edge c.in-Some.source c.args.n c.args.position) given).0 c.item_kind.ensures given c.sort_of.ensures
+    ((c.law.ensures).ends (argument_edge c.in-Some.source c.args.n c.args.position) given).0 c.item_kind.ensures given c.sort_of.ensures c.requires.asked
 
 pub place_of-requires-clause-imported : goal.place_of-requires-clause-imported
 place_of-requires-clause-imported c = unset_imported c.class_laws.ensures (λ t es order w. (c.order_law.ensures t es order w).each) c.args.reader.now c.args.imports.now c.requires.placed c.args.n c.args.position c.args.name.now c.requires.asked

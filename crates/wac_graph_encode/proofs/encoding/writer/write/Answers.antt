@@ -27,6 +27,7 @@ returns-clause-means c =
       c.write_processor.new.component,
       c.in_ok-into_bytes.ensures.bytes,
       c.in_ok-into_bytes.ensures.fits,
+      c.in_ok-into_bytes.ensures.in_format,
       merged_means (record { counted = c.law.ensures.counted; earlier = c.law.ensures.earlier; bounds_counted = c.law.ensures.instances_counted; bounds_earlier = c.law.ensures.instances_earlier; types_counted = c.law.ensures.types_counted; types_earlier = c.law.ensures.types_earlier }) c.args.reader.now c.law-2.ensures
           c.args.imports.now.merge.merge whole c.args.options c.args.imports.now.places.items c.args.order.now (progress c.in_ok-encoder.encoder)
           (c.in_ok-encoder.ensures.written c.args.options refl (whole.merge).order (whole.merge).written)

@@ -24,7 +24,7 @@ has_room-requires c = rw c.deref.ensures.value (room c.self.invariant)
 
 pub returns-then-not-has_room-clause-too_large : goal.returns-then-not-has_room-clause-too_large
 returns-then-not-has_room-clause-too_large c =
-    refuted c.has_room.result c.has_room.ensures c.if-not-has_room.true
+    refuted c.has_room.result c.has_room.ensures.room c.if-not-has_room.true
     (λ f. rw c.deref.ensures.value (room_after c.self.invariant (item_of c.args.item.now) c.number-at.result (c.requires ∙ ap Some (sym c.number-at.ensures.is)) c.number-at.ensures.small (rw c.self.view_is f)))
 
 pub invariant_of-self : goal.invariant_of-self
@@ -46,22 +46,22 @@ returns-in_err-count-clause-refused c =
 
 pub returns-in_err-begin-clause-too_large : goal.returns-in_err-begin-clause-too_large
 returns-in_err-begin-clause-too_large c =
-    let r = c.has_room.ensures.0 c.if-not-has_room.false in
+    let r = c.has_room.ensures.room.0 c.if-not-has_room.false in
     out_of_memory c.from_residual.result _ c.from_residual.ensures.1
     (rw (← c.self.view_is) (more_fits c.self.invariant (item_of c.args.item.now) c.number-at.result (c.requires ∙ ap Some (sym c.number-at.ensures.is)) c.number-at.ensures.small r.0 (rw c.deref.ensures.value at r.1)))
 
 pub returns-in_err-count-clause-too_large : goal.returns-in_err-count-clause-too_large
 returns-in_err-count-clause-too_large c =
-    let r = c.has_room.ensures.0 c.if-not-has_room.false in
+    let r = c.has_room.ensures.room.0 c.if-not-has_room.false in
     out_of_memory c.from_residual-in_err-count.result _ c.from_residual-in_err-count.ensures.1
     (rw (← c.self.view_is) (more_fits c.self.invariant (item_of c.args.item.now) c.number-at.result (c.requires ∙ ap Some (sym c.number-at.ensures.is)) c.number-at.ensures.small r.0 (rw c.deref.ensures.value at r.1)))
 
 -- the state with one more item
 snoc : (c : goal.In_ok-count) → State (c.args.self.now ++ item_of c.args.item.now ∷ []) c.put_shared.new.bytes.items c.put_shared.new.things.items (slice_set c.self.inside.counts c.number-at.result (slice_index c.self.inside.counts c.number-at.result + 1)) (Some (record { id = c.section_id-id.result; count = c.in_ok-count.count }))
 snoc c =
-    let r = c.has_room.ensures.0 c.if-not-has_room.false in
+    let r = c.has_room.ensures.room.0 c.if-not-has_room.false in
     rw (← c.self.view_is, c.in_ok-count.ensures.bytes, c.in_ok-begin.ensures.begun, c.section_id-id.ensures)
-    (state_shared c.self.invariant (item_of c.args.item.now) c.number-at.result (c.requires ∙ ap Some (sym c.number-at.ensures.is)) c.number-at.ensures.small c.self.told r.0 (item_shared c.args.item.now) (record { id = section_id (item_of c.args.item.now); count = c.in_ok-count.count }) c.put_shared.new.things.items c.in_ok-count.ensures.opened (rw c.deref.ensures.value at r.1))
+    (state_shared c.self.invariant (item_of c.args.item.now) c.number-at.result (c.requires ∙ ap Some (sym c.number-at.ensures.is)) c.number-at.ensures.small c.self.told r.0 (item_shared c.args.item.now) (record { id = section_id (item_of c.args.item.now); count = c.in_ok-count.count }) c.put_shared.new.things.items c.in_ok-count.ensures.opened (rw c.deref.ensures.value at r.1) c.has_room.ensures.in_format)
 
 pub invariant_of-self-inside-2 : goal.invariant_of-self-inside-2
 invariant_of-self-inside-2 c = (written_of (snoc c), tt)

@@ -16,7 +16,7 @@ pub returns-in_err-begin-clause-refused : goal.returns-in_err-begin-clause-refus
 returns-in_err-begin-clause-refused c = on_err _ (items_kept (state_same c.self.invariant _ _ c.in_err-begin.ensures.refused refl) _ ∙ c.self.view_is)
 
 pub returns-in_err-begin-clause-too_large : goal.returns-in_err-begin-clause-too_large
-returns-in_err-begin-clause-too_large c = out_of_memory c.from_residual-in_err-begin.result _ c.from_residual-in_err-begin.ensures.1 (rw (← c.self.view_is) (component_fits c.self.invariant (nested c.args.bytes.now) c.number-at.result (ap Some (sym c.number-at.ensures.is)) c.number-at.ensures.small refl c.self.told c.in_ok-size.ensures.room.0 c.in_ok-size.ensures.room.1))
+returns-in_err-begin-clause-too_large c = out_of_memory c.from_residual-in_err-begin.result _ c.from_residual-in_err-begin.ensures.1 (rw (← c.self.view_is) (component_fits c.self.invariant (nested c.args.bytes.now) c.number-at.result (ap Some (sym c.number-at.ensures.is)) c.number-at.ensures.small refl c.in_ok-size.ensures.room.0 c.in_ok-size.ensures.room.1))
 
 pub put_alone-requires-clause-last : goal.put_alone-requires-clause-last
 put_alone-requires-clause-last c = rw c.deref.ensures.value (room c.self.invariant)
@@ -28,21 +28,21 @@ pub returns-in_err-put_alone-clause-refused : goal.returns-in_err-put_alone-clau
 returns-in_err-put_alone-clause-refused c = on_err _ (items_kept (state_same (state_begun c.self.invariant) _ _ (c.in_err-put_alone.ensures.refused ∙ c.in_ok-begin.ensures.begun) refl) _ ∙ c.self.view_is)
 
 pub returns-in_err-put_alone-clause-too_large : goal.returns-in_err-put_alone-clause-too_large
-returns-in_err-put_alone-clause-too_large c = out_of_memory c.from_residual-in_err-put_alone.result _ c.from_residual-in_err-put_alone.ensures.1 (rw (← c.self.view_is) (component_fits c.self.invariant (nested c.args.bytes.now) c.number-at.result (ap Some (sym c.number-at.ensures.is)) c.number-at.ensures.small refl c.self.told c.in_ok-size.ensures.room.0 c.in_ok-size.ensures.room.1))
+returns-in_err-put_alone-clause-too_large c = out_of_memory c.from_residual-in_err-put_alone.result _ c.from_residual-in_err-put_alone.ensures.1 (rw (← c.self.view_is) (component_fits c.self.invariant (nested c.args.bytes.now) c.number-at.result (ap Some (sym c.number-at.ensures.is)) c.number-at.ensures.small refl c.in_ok-size.ensures.room.0 c.in_ok-size.ensures.room.1))
 
 pub invariant_of-self-inside-2 : goal.invariant_of-self-inside-2
-invariant_of-self-inside-2 c = (written_of (with_component c.self.invariant (nested c.args.bytes.now) c.args.self.now c.begin.new.bytes.items c.put_alone.new.bytes.items c.deref.result.now c.self.view_is c.in_ok-begin.ensures.begun c.deref.ensures.value c.in_ok-put_alone.ensures.bytes c.in_ok-size.ensures.room.1 c.number-at.result (ap Some (sym c.number-at.ensures.is)) c.number-at.ensures.small refl c.self.told c.in_ok-size.ensures.room.0), tt)
+invariant_of-self-inside-2 c = (written_of (with_component c.self.invariant (nested c.args.bytes.now) c.args.self.now c.begin.new.bytes.items c.put_alone.new.bytes.items c.deref.result.now c.self.view_is c.in_ok-begin.ensures.begun c.deref.ensures.value c.in_ok-put_alone.ensures.bytes c.in_ok-size.ensures.room.1 c.in_ok-size.ensures.in_format c.number-at.result (ap Some (sym c.number-at.ensures.is)) c.number-at.ensures.small refl c.self.told c.in_ok-size.ensures.room.0), tt)
 
 pub invariant_of-self-2 : goal.invariant_of-self-2
-invariant_of-self-2 c = state_kept (with_component c.self.invariant (nested c.args.bytes.now) c.args.self.now c.begin.new.bytes.items c.put_alone.new.bytes.items c.deref.result.now c.self.view_is c.in_ok-begin.ensures.begun c.deref.ensures.value c.in_ok-put_alone.ensures.bytes c.in_ok-size.ensures.room.1 c.number-at.result (ap Some (sym c.number-at.ensures.is)) c.number-at.ensures.small refl c.self.told c.in_ok-size.ensures.room.0) _
+invariant_of-self-2 c = state_kept (with_component c.self.invariant (nested c.args.bytes.now) c.args.self.now c.begin.new.bytes.items c.put_alone.new.bytes.items c.deref.result.now c.self.view_is c.in_ok-begin.ensures.begun c.deref.ensures.value c.in_ok-put_alone.ensures.bytes c.in_ok-size.ensures.room.1 c.in_ok-size.ensures.in_format c.number-at.result (ap Some (sym c.number-at.ensures.is)) c.number-at.ensures.small refl c.self.told c.in_ok-size.ensures.room.0) _
 
 pub returns-clause-appended : goal.returns-clause-appended
-returns-clause-appended c = items_kept (with_component c.self.invariant (nested c.args.bytes.now) c.args.self.now c.begin.new.bytes.items c.put_alone.new.bytes.items c.deref.result.now c.self.view_is c.in_ok-begin.ensures.begun c.deref.ensures.value c.in_ok-put_alone.ensures.bytes c.in_ok-size.ensures.room.1 c.number-at.result (ap Some (sym c.number-at.ensures.is)) c.number-at.ensures.small refl c.self.told c.in_ok-size.ensures.room.0) _
+returns-clause-appended c = items_kept (with_component c.self.invariant (nested c.args.bytes.now) c.args.self.now c.begin.new.bytes.items c.put_alone.new.bytes.items c.deref.result.now c.self.view_is c.in_ok-begin.ensures.begun c.deref.ensures.value c.in_ok-put_alone.ensures.bytes c.in_ok-size.ensures.room.1 c.in_ok-size.ensures.in_format c.number-at.result (ap Some (sym c.number-at.ensures.is)) c.number-at.ensures.small refl c.self.told c.in_ok-size.ensures.room.0) _
 
 pub returns-clause-fits : goal.returns-clause-fits
 returns-clause-fits c =
-    let s = (with_component c.self.invariant (nested c.args.bytes.now) c.args.self.now c.begin.new.bytes.items c.put_alone.new.bytes.items c.deref.result.now c.self.view_is c.in_ok-begin.ensures.begun c.deref.ensures.value c.in_ok-put_alone.ensures.bytes c.in_ok-size.ensures.room.1 c.number-at.result (ap Some (sym c.number-at.ensures.is)) c.number-at.ensures.small refl c.self.told c.in_ok-size.ensures.room.0) in
+    let s = (with_component c.self.invariant (nested c.args.bytes.now) c.args.self.now c.begin.new.bytes.items c.put_alone.new.bytes.items c.deref.result.now c.self.view_is c.in_ok-begin.ensures.begun c.deref.ensures.value c.in_ok-put_alone.ensures.bytes c.in_ok-size.ensures.room.1 c.in_ok-size.ensures.in_format c.number-at.result (ap Some (sym c.number-at.ensures.is)) c.number-at.ensures.small refl c.self.told c.in_ok-size.ensures.room.0) in
     rw (items_kept s _) s.fits
 
 pub returns-clause-too_large : goal.returns-clause-too_large
-returns-clause-too_large c = (with_component c.self.invariant (nested c.args.bytes.now) c.args.self.now c.begin.new.bytes.items c.put_alone.new.bytes.items c.deref.result.now c.self.view_is c.in_ok-begin.ensures.begun c.deref.ensures.value c.in_ok-put_alone.ensures.bytes c.in_ok-size.ensures.room.1 c.number-at.result (ap Some (sym c.number-at.ensures.is)) c.number-at.ensures.small refl c.self.told c.in_ok-size.ensures.room.0).fits
+returns-clause-too_large c = (with_component c.self.invariant (nested c.args.bytes.now) c.args.self.now c.begin.new.bytes.items c.put_alone.new.bytes.items c.deref.result.now c.self.view_is c.in_ok-begin.ensures.begun c.deref.ensures.value c.in_ok-put_alone.ensures.bytes c.in_ok-size.ensures.room.1 c.in_ok-size.ensures.in_format c.number-at.result (ap Some (sym c.number-at.ensures.is)) c.number-at.ensures.small refl c.self.told c.in_ok-size.ensures.room.0).fits

@@ -31,18 +31,18 @@ pub returns-in_err-put_alone-clause-too_large : goal.returns-in_err-put_alone-cl
 returns-in_err-put_alone-clause-too_large c = out_of_memory c.from_residual-in_err-put_alone.result _ c.from_residual-in_err-put_alone.ensures.1 (rw (← c.self.view_is) (custom_fits c.self.invariant (custom c.args.name.now c.args.bytes.now) refl refl c.in_ok-size.ensures.room.1))
 
 pub invariant_of-self-inside-2 : goal.invariant_of-self-inside-2
-invariant_of-self-inside-2 c = (written_of (with_custom c.self.invariant (custom c.args.name.now c.args.bytes.now) c.args.self.now c.begin.new.bytes.items c.put_alone.new.bytes.items c.deref.result.now c.self.view_is c.in_ok-begin.ensures.begun c.deref.ensures.value c.in_ok-put_alone.ensures.bytes c.in_ok-size.ensures.room.1 refl refl), tt)
+invariant_of-self-inside-2 c = (written_of (with_custom c.self.invariant (custom c.args.name.now c.args.bytes.now) c.args.self.now c.begin.new.bytes.items c.put_alone.new.bytes.items c.deref.result.now c.self.view_is c.in_ok-begin.ensures.begun c.deref.ensures.value c.in_ok-put_alone.ensures.bytes c.in_ok-size.ensures.room.1 c.in_ok-size.ensures.in_format refl refl), tt)
 
 pub invariant_of-self-2 : goal.invariant_of-self-2
-invariant_of-self-2 c = state_kept (with_custom c.self.invariant (custom c.args.name.now c.args.bytes.now) c.args.self.now c.begin.new.bytes.items c.put_alone.new.bytes.items c.deref.result.now c.self.view_is c.in_ok-begin.ensures.begun c.deref.ensures.value c.in_ok-put_alone.ensures.bytes c.in_ok-size.ensures.room.1 refl refl) _
+invariant_of-self-2 c = state_kept (with_custom c.self.invariant (custom c.args.name.now c.args.bytes.now) c.args.self.now c.begin.new.bytes.items c.put_alone.new.bytes.items c.deref.result.now c.self.view_is c.in_ok-begin.ensures.begun c.deref.ensures.value c.in_ok-put_alone.ensures.bytes c.in_ok-size.ensures.room.1 c.in_ok-size.ensures.in_format refl refl) _
 
 pub returns-clause-appended : goal.returns-clause-appended
-returns-clause-appended c = items_kept (with_custom c.self.invariant (custom c.args.name.now c.args.bytes.now) c.args.self.now c.begin.new.bytes.items c.put_alone.new.bytes.items c.deref.result.now c.self.view_is c.in_ok-begin.ensures.begun c.deref.ensures.value c.in_ok-put_alone.ensures.bytes c.in_ok-size.ensures.room.1 refl refl) _
+returns-clause-appended c = items_kept (with_custom c.self.invariant (custom c.args.name.now c.args.bytes.now) c.args.self.now c.begin.new.bytes.items c.put_alone.new.bytes.items c.deref.result.now c.self.view_is c.in_ok-begin.ensures.begun c.deref.ensures.value c.in_ok-put_alone.ensures.bytes c.in_ok-size.ensures.room.1 c.in_ok-size.ensures.in_format refl refl) _
 
 pub returns-clause-fits : goal.returns-clause-fits
 returns-clause-fits c =
-    let s = (with_custom c.self.invariant (custom c.args.name.now c.args.bytes.now) c.args.self.now c.begin.new.bytes.items c.put_alone.new.bytes.items c.deref.result.now c.self.view_is c.in_ok-begin.ensures.begun c.deref.ensures.value c.in_ok-put_alone.ensures.bytes c.in_ok-size.ensures.room.1 refl refl) in
+    let s = (with_custom c.self.invariant (custom c.args.name.now c.args.bytes.now) c.args.self.now c.begin.new.bytes.items c.put_alone.new.bytes.items c.deref.result.now c.self.view_is c.in_ok-begin.ensures.begun c.deref.ensures.value c.in_ok-put_alone.ensures.bytes c.in_ok-size.ensures.room.1 c.in_ok-size.ensures.in_format refl refl) in
     rw (items_kept s _) s.fits
 
 pub returns-clause-too_large : goal.returns-clause-too_large
-returns-clause-too_large c = (with_custom c.self.invariant (custom c.args.name.now c.args.bytes.now) c.args.self.now c.begin.new.bytes.items c.put_alone.new.bytes.items c.deref.result.now c.self.view_is c.in_ok-begin.ensures.begun c.deref.ensures.value c.in_ok-put_alone.ensures.bytes c.in_ok-size.ensures.room.1 refl refl).fits
+returns-clause-too_large c = (with_custom c.self.invariant (custom c.args.name.now c.args.bytes.now) c.args.self.now c.begin.new.bytes.items c.put_alone.new.bytes.items c.deref.result.now c.self.view_is c.in_ok-begin.ensures.begun c.deref.ensures.value c.in_ok-put_alone.ensures.bytes c.in_ok-size.ensures.room.1 c.in_ok-size.ensures.in_format refl refl).fits

@@ -22,7 +22,7 @@ returns-in_err-append_module_decl-clause-refused c = on_err _ (module_listed (mo
 pub returns-in_err-append_module_decl-clause-too_large : goal.returns-in_err-append_module_decl-clause-too_large
 returns-in_err-append_module_decl-clause-too_large c =
     out_of_memory c.from_residual.result _ c.from_residual.ensures.1
-    (rw (← c.self.view_is) (module_more c.self.invariant (module_decl_of c.args.d.now) c.module_decl_size.result c.len.result c.module_decl_size.ensures.is (omega arith) (c.fits.ensures.0 c.if-not-fits.false)).fits)
+    (rw (← c.self.view_is) (module_more c.self.invariant (module_decl_of c.args.d.now) c.module_decl_size.result c.len.result c.module_decl_size.ensures.is (omega arith) (c.fits.ensures.0 c.if-not-fits.false) c.module_decl_size.ensures.in_format).fits)
 
 pub overflow_cast-result : goal.overflow_cast-result
 overflow_cast-result c = let t = types_below c.self.invariant in omega arith
@@ -34,7 +34,7 @@ overflow_add-self-2 c = let t = types_below c.self.invariant in omega (arith, c.
 snoc : (c : In_ok-append_module_decl) → ModuleState (c.args.self.now ++ module_decl_of c.args.d.now ∷ []) c.append_module_decl.new.out.items (c.self.inside.count + 1) (c.self.inside.types + function_types (module_decl_of c.args.d.now ∷ []))
 snoc c =
     rw (← c.self.view_is, c.in_ok-append_module_decl.ensures.written)
-    (module_more c.self.invariant (module_decl_of c.args.d.now) c.module_decl_size.result c.len.result c.module_decl_size.ensures.is (omega arith) (c.fits.ensures.0 c.if-not-fits.false))
+    (module_more c.self.invariant (module_decl_of c.args.d.now) c.module_decl_size.result c.len.result c.module_decl_size.ensures.is (omega arith) (c.fits.ensures.0 c.if-not-fits.false) c.module_decl_size.ensures.in_format)
 
 pub invariant_of-self-inside-2 : goal.invariant_of-self-inside-2
 invariant_of-self-inside-2 c = (written_module (snoc c.before), tt)

@@ -5,3 +5,6 @@ use Rattle.wac_binary.proofs.declarations.module_type.ModuleType.size.Goals as g
 
 pub returns-clause-is : goal.returns-clause-is
 returns-clause-is c = rw (← c.self.view_is) (omega (arith, ap length (module_is c.self.inside.written), length-append (unsigned c.self.inside.count) c.self.inside.bytes.items))
+
+pub returns-clause-in_format : goal.returns-clause-in_format
+returns-clause-in_format c = rw (← c.self.view_is) c.self.invariant.in_format
