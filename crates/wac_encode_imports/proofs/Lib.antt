@@ -6,7 +6,6 @@ pub mod Next
 pub mod Steps
 pub mod Writing
 pub mod Looked
-pub mod ExportNames
 pub mod Given
 pub mod Distinct
 pub mod CalledTrees

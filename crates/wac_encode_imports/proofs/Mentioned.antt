@@ -15,12 +15,12 @@ use Rattle.wac_types_shapes.specs.declared.shapes.component.«Type».TheVariants
 use Rattle.wac_types_collection.specs.collection.Collection.{Collection, IsWellFormed, holds_type, item_at, interface_exports}
 use Rattle.wac_types_collection.specs.collection.Held.{resolved, item_tree, items_under, interface_tree}
 use Rattle.wac_types_collection.specs.collection.Bound.{Bindings, own_name, inside_interface, binds_here, is_here, by_place, held_tree, held_item}
+use Rattle.wac_types_collection.specs.collection.Names.{ExportsOnce}
 use Rattle.wac_types_collection.proofs.lemmas.wide.Members.{in_none, in_parts}
 use Rattle.wac_encode_faults.specs.Free.{parts, IsFree, in_part, in_export}
 use Rattle.wac_encode_faults.specs.Free as free
 use Rattle.wac_encode_interfaces.proofs.InnerTypes.{listed-held}
 use Rattle.wac_encode_stacks.proofs.Whole.{interface-step, items-found, not-here}
-use Rattle.wac_encode_imports.specs.private.Exports.{ExportNoNameTwice}
 use Rattle.wac_merge_classes.specs.terms.ClassOrder.{Mentions, as_resource, as_own, as_borrow, in_field, in_case, in_list, in_fixed_list, in_tuple, in_option, in_ok, in_err, in_stream, in_future, in_parameter, in_result, in_instance, in_type_item, in_function_item, in_instance_item, in_component_item, in_module_item, in_value_item}
 use Rattle.wac_merge_imports.proofs.lemmas.faults.FreeTrees.{Has, IsPlainType, end_of, free_has}
 use Rattle.wac_encode_imports.proofs.Bound.{true-false, no-some, one-some}
@@ -103,7 +103,7 @@ not-fresh c m n (kind.Value v) r l f bound = refl
 exports-there : (c : Collection) (i : InterfaceId) (it : Interface) → item_at c.interfaces i.0 ≡ Some it → interface_exports c i ≡ it.exports
 exports-there c i it at = ap (λ (o : Option Interface). option_case o [] (λ x. x.exports)) at
 
-module _ (c : Collection) (wf : IsWellFormed c) (once : ExportNoNameTwice c) (P : Leaf → Type 0) (out : (l : Leaf) → P l → P (further_out l)) where
+module _ (c : Collection) (wf : IsWellFormed c) (once : ExportsOnce c) (P : Leaf → Type 0) (out : (l : Leaf) → P l → P (further_out l)) where
   -- A free resource that is bound to a leaf for which P holds.
   pub mentions-free : (a : AnyType) (r : ResourceId) → holds_type c a ≡ true → IsFree c a r → (m : Bindings) (l : Leaf) → m r ≡ Some l → P l → Mentions P (held_tree c m a)
   unfolding held_tree

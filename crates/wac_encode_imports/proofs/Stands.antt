@@ -17,6 +17,7 @@ use Rattle.wac_types_collection.specs.collection.Aliases.{value_resolved}
 use Rattle.wac_types_collection.specs.collection.Collection.{Collection, IsWellFormed, holds_type, holds_value, item_at}
 use Rattle.wac_types_collection.specs.collection.Held.{resolved, source_of}
 use Rattle.wac_types_collection.specs.collection.Bound.{Bindings, held_item, held_tree, is_alias, is_here, own_name}
+use Rattle.wac_types_collection.specs.collection.Names.{ExportsOnce}
 use Rattle.wac_types_collection.proofs.lemmas.collection.Chains.{resource_ends}
 use Rattle.wac_types_collection.proofs.lemmas.wide.Members.{at_in}
 use Rattle.wac_merge.specs.MergedPlaces.{IsRootPlace}
@@ -48,7 +49,6 @@ use Rattle.wac_encode_interfaces.specs.private.Imports.{RefersToImport}
 use Rattle.wac_encode_scopes.proofs.FreeAgreeing.{held-free}
 use Rattle.wac_encode_imports.specs.private.Imports.{merged_bindings}
 use Rattle.wac_encode_imports.specs.private.ToldGraph.{entry_bindings}
-use Rattle.wac_encode_imports.specs.private.Exports.{ExportNoNameTwice}
 use Rattle.wac_encode_imports.proofs.Binders.{instance-binds, resource-binds}
 use Rattle.wac_encode_imports.proofs.Bound.{no-some}
 use Rattle.wac_encode_imports.proofs.Distinct.{import-at}
@@ -56,7 +56,7 @@ use Rattle.wac_encode_imports.proofs.Members.{IsInstance, each-instance, export-
 use Rattle.wac_encode_imports.proofs.Placed.{bound-place, same-number}
 use Rattle.wac_encode_imports.proofs.Stood.{at-path, fresh-export, fresh-stands, instance-stands, type-export, type-stands}
 
-module _ (c : Collection) (wf : IsWellFormed c) (once : ExportNoNameTwice c) (es : List Entry) (held : AreHeld c es) (agreed : AllMembersAgree by_names c es)
+module _ (c : Collection) (wf : IsWellFormed c) (once : ExportsOnce c) (es : List Entry) (held : AreHeld c es) (agreed : AllMembersAgree by_names c es)
     (m : Merged) (merge : IsMerge by_names c es m) (ordered : HasNoCircle by_names c es) (bound : BindsAsClasses by_names c es m) where
   abbrev at : ℕ → ℕ
   at = position_in merge.order

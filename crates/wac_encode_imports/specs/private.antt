@@ -1,5 +1,4 @@
 pub mod Classes
-pub mod Exports
 pub mod Modules
 pub mod Written
 pub mod Others

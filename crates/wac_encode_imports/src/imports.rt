@@ -10,7 +10,6 @@ ghost use Rattle.wac_encode_scopes.specs.private.Closed.{AreClosedTypes};
 ghost use Rattle.wac_encode_interfaces.specs.private.Imports.{import_sort};
 ghost use Rattle.wac_encode_interfaces.specs.private.Worlds.{AreWorldTypes, written_in};
 ghost use Rattle.wac_encode_imports.specs.private.Imports.{HasDistinctClasses, AreImported, HasNoImportFault};
-ghost use Rattle.wac_encode_imports.specs.private.Exports.{ExportNoNameTwice};
 ghost use Rattle.wac_encode_imports.specs.private.Written.{merge_of, AreCleanImports, HaveImportWorlds, IsImportWriter};
 ghost use Rattle.wac_encode_imports.specs.private.Small.{ImportsWithin};
 ghost use Rattle.wac_encode_interfaces.specs.private.Paid.{AreSmallWorlds, IsHeavy};
@@ -80,15 +79,6 @@ fn import_worlds(
     world_types(types, closed, roots.as_slice())
 }
 
-/// Proves that no interface of the collection exports a name twice (docs/PROOFS.md, 'Laws').
-pub(crate) fn exports_law(types: &Types)
-    ensures { ExportNoNameTwice types.now }
-{
-    for (_, interface) in types.interfaces() {
-        interface.exports.law(); // proof only
-    }
-}
-
 /// Writes all imports in order.
 fn write_all(
     writer: &ImportWriter<'_>,
@@ -134,7 +124,7 @@ pub fn write_imports(merge: &TypeAggregator) -> Result<WrittenImports, BinaryFau
     let types = merge.types();
     let imports = merge.imports();
     types.law(); // proof only
-    exports_law(types);
+    types.names_law(); // proof only
     let closed = ClosedTypes::new(types)?;
     let bindings = import_bindings(types, imports)?;
     let worlds = import_worlds(types, &closed, imports)?;

@@ -28,7 +28,6 @@ ghost use Rattle.wac_binary.specs.declared.fault.BinaryFault.TheVariants.{OutOfM
 ghost use Rattle.wac_encode_imports.specs.private.Others.{AddsOther};
 ghost use Rattle.wac_encode_imports.specs.private.Told.{BindsNames, IsBlank, TellsWithin, entries_items, AreHeldExports, AreOthers, BindsAll, BindsOne, HasImports, HaveExports, IsDefinitionAt, IsExport, IsImportOf, IsTeller, IsTypeImport, KeepsGood, Notes, NotesItem, NotesItems, told_in};
 
-use crate::imports::exports_law;
 use indexmap::IndexSet;
 use std::alloc::{AllocError, Global};
 use wac_binary::{BinaryFault, Sort};
@@ -422,7 +421,7 @@ pub fn tell_graph(
     ensures memory { IfErr result (λ e. e ≡ OutOfMemory) }
 {
     types.law(); // proof only
-    exports_law(types);
+    types.names_law(); // proof only
     let closed = ClosedTypes::new(types)?;
     let teller = Teller {
         types,

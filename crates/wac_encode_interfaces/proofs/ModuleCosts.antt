@@ -1,5 +1,5 @@
 -- What imports of the root cost.
-use Rattle.std.specs.Prelude.{ℕ, ◌≡◌, ◌≤◌, ◌<◌, ◌+◌, ◌*◌, ◌^◌, Bool, List, [], ◌∷◌, length, Option, Some, None, Result, Err}
+use Rattle.std.specs.Prelude.{ℕ, ◌≡◌, ◌≤◌, ◌+◌, ◌*◌, ◌^◌, Bool, List, [], ◌∷◌, length, Option, Some, None, Result, Err}
 use Rattle.std.proofs.Common.{ap, sym, subst, arith}
 use Rattle.wac_types_shapes.specs.primitives.Name.{Name, option_case}
 use Rattle.wac_types_shapes.specs.declared.shapes.component.ModuleTypeId.{ModuleTypeId}
@@ -10,12 +10,9 @@ use Rattle.wac_types_collection.specs.collection.Collection.{Collection, item_at
 use Rattle.wac_types_weight.specs.Weight.{module_parts, own}
 use Rattle.wac_binary.specs.Items.{ModuleDecl}
 use Rattle.wac_binary.specs.Bytes.{module_bytes}
-use Rattle.wac_binary.specs.Fits.{ModuleFits}
 use Rattle.wac_binary.specs.declared.fault.BinaryFault.{BinaryFault}
 use Rattle.wac_binary.specs.declared.fault.BinaryFault.TheVariants.{TooLarge}
 use Rattle.wac_binary.specs.declared.sorts.Description.{Description}
-use Rattle.wac_modules.specs.private.Declarations.{declarations_of}
-use Rattle.wac_modules.specs.private.Small.{HaveLimits, ModulesAreSmall, SmallModulesFit}
 use Rattle.wac_encode_scopes.specs.declared.encodable.Encodable.{Encodable}
 use Rattle.wac_encode_scopes.specs.declared.encodable.Encodable.TheVariants.{Builder, Instance, Component}
 use Rattle.wac_encode_scopes.specs.declared.scope.Scope.{Scope}
@@ -35,30 +32,20 @@ own-is : (c : Collection) (i : ModuleTypeId) (m : ModuleType) → item_at c.modu
 own-is c i m at = ap (λ (o : Option ModuleType). option_case o 0 (λ x. 1 + module_parts x)) at
 
 -- The type of a core module, with the head of a section, costs no more than its weight.
-pub module-bytes : ModulesAreSmall → (c : Collection) (i : ModuleTypeId) (m : ModuleType) (t : List ModuleDecl) → item_at c.modules i.0 ≡ Some m → HaveLimits m → t ≡ declarations_of m → ModuleFits (declarations_of m) → 11 + length (module_bytes t) ≤ 34 * own c (ty.Module i)
-module-bytes law c i m t at limits is fits =
-    let bytes = law m limits fits in
-    let owned = own-is c i m at in
-    let same : length (module_bytes t) ≡ length (module_bytes (declarations_of m)) = ap (λ (ds : List ModuleDecl). length (module_bytes ds)) is in
-    small (length (module_bytes t)) (length (module_bytes (declarations_of m))) (module_parts m) (own c (ty.Module i)) same bytes owned
+pub module-bytes : (c : Collection) (i : ModuleTypeId) (m : ModuleType) (t : List ModuleDecl) → item_at c.modules i.0 ≡ Some m → length (module_bytes t) ≤ 6 + 30 * module_parts m → 11 + length (module_bytes t) ≤ 34 * own c (ty.Module i)
+module-bytes c i m t at few = small (length (module_bytes t)) (module_parts m) (own c (ty.Module i)) few (own-is c i m at)
   where
-    small : (t b p o : ℕ) → t ≡ b → b ≤ 6 + 30 * p → o ≡ 1 + p → 11 + t ≤ 34 * o
-    small t b p o e f g = omega (arith, e, f, g)
+    small : (t p o : ℕ) → t ≤ 6 + 30 * p → o ≡ 1 + p → 11 + t ≤ 34 * o
+    small t p o f g = omega (arith, f, g)
 
 -- The answer of the writer of core module types, if it is refused.
 abbrev pub refused : BinaryFault → Result (List ModuleDecl) BinaryFault
 refused e = Err e
 
 -- The type of a core module that does not fit is heavy.
-pub module-room : SmallModulesFit → (c : Collection) (i : ModuleTypeId) (m : ModuleType) → item_at c.modules i.0 ≡ Some m → HaveLimits m → (e : BinaryFault) → e ≡ TooLarge → (refused e ≡ refused TooLarge → ModuleFits (declarations_of m) → ⊥) → 2 ^ 32 ≤ 34 * own c (ty.Module i)
-module-room law c i m at limits e is none =
-    let owned = own-is c i m at in
-    let heavy = not-small (30 * module_parts m) (λ less. none (ap refused is) (law m limits less)) in
-    all-heavy (2 ^ 32) (module_parts m) (own c (ty.Module i)) heavy owned
+pub module-room : (c : Collection) (i : ModuleTypeId) (m : ModuleType) → item_at c.modules i.0 ≡ Some m → (e : BinaryFault) → e ≡ TooLarge → (refused e ≡ refused TooLarge → 2 ^ 32 ≤ 30 * module_parts m) → 2 ^ 32 ≤ 34 * own c (ty.Module i)
+module-room c i m at e is heavy = all-heavy (2 ^ 32) (module_parts m) (own c (ty.Module i)) (heavy (ap refused is)) (own-is c i m at)
   where
-    not-small : (n : ℕ) → (n < 2 ^ 32 → ⊥) → 2 ^ 32 ≤ n
-    not-small n f = omega (arith, f)
-
     all-heavy : (l p o : ℕ) → l ≤ 30 * p → o ≡ 1 + p → l ≤ 34 * o
     all-heavy l p o f g = omega (arith, f, g)
 

@@ -20,7 +20,7 @@ use crate::writer::TypeWriter;
 use wac_binary::{BinaryFault, Description};
 use wac_encode_scopes::State;
 use wac_encode_stacks::{bringing_law, module_law, root_law, step_law, still_law};
-use wac_modules::{limits_law, module_type, small_law};
+use wac_modules::module_type;
 use wac_types_collection::{ItemKind, ModuleTypeId, WorldId};
 
 /// Returns the world of a component.
@@ -56,8 +56,6 @@ impl<'a> TypeWriter<'a> {
             return Ok(core_type);
         }
         let module = &self.types[id];
-        limits_law(module); // proof only
-        small_law();
         let written = module_type(self.types.allocator(), module)?;
         state.define_module(&written)
     }

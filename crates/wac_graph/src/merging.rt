@@ -19,7 +19,6 @@ ghost use Rattle.wac_graph_model.specs.declared.nodes.options.EncodeOptions.{Enc
 
 use crate::graph::CompositionGraph;
 use std::alloc::AllocError;
-use wac_graph_encode::places::exports_law;
 use wac_graph_fields::AskedEntry;
 use wac_graph_model::{EncodeError, NodeId};
 use wac_merge::laws::listed_law;
@@ -55,8 +54,8 @@ impl CompositionGraph {
         let aggregator = self.aggregated(entries.as_slice())?;
         match aggregator.finish(&self.types) {
             Ok(merge) => {
-                exports_law(&self.types); // proof only
-                exports_law(merge.types());
+                self.types.names_law(); // proof only
+                merge.types().names_law(); // proof only
                 merge.types().law(); // proof only
                 listed_law(); // proof only
                 Ok((merge, entries))
@@ -76,11 +75,11 @@ impl CompositionGraph {
         ensures refused { IfErr result (λ e. e ≡ EncodeError.OutOfMemory) }
     {
         self.types.law(); // proof only
-        exports_law(&self.types); // proof only
+        self.types.names_law(); // proof only
         let types = Types::new(self.alloc);
         match TypeAggregator::new(self.alloc).finish(&types) {
             Ok(merge) => {
-                exports_law(merge.types());
+                merge.types().names_law(); // proof only
                 merge.types().law(); // proof only
                 listed_law(); // proof only
                 Ok(merge)

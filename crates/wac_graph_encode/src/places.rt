@@ -4,4 +4,4 @@ mod indexes;
 mod places;
 
 pub use indexes::import_indexes;
-pub use places::{ImportPlaces, exports_law, import_names};
+pub use places::{ImportPlaces, import_names};

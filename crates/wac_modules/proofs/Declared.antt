@@ -37,6 +37,11 @@ module _ {A : Type 0} (f : ℕ → A → List ModuleDecl) where
   pub in_order-next : (i : ℕ) (xs : List A) (k : ℕ) (x : A) → slice_get xs k ≡ Some x → in_order f i (take (suc k) xs) ≡ in_order f i (take k xs) ++ f (i + function_types (in_order f i (take k xs))) x
   in_order-next i xs k x at = ap (in_order f i) (take_at xs k x at) ∙ in_order-push i (take k xs) x
 
+  -- nothing yet
+  pub none_yet : (i : ℕ) (xs : List A) → [] ≡ in_order f i (take 0 xs)
+  none_yet i [] = refl
+  none_yet i (x ∷ xs) = refl
+
   -- what is declared of the first few begins what is declared of all
   pub begins : (i : ℕ) (xs : List A) (k : ℕ) → (more : List ModuleDecl) × (in_order f i xs ≡ in_order f i (take k xs) ++ more)
   begins i xs zero = (in_order f i xs, refl)
@@ -76,6 +81,10 @@ module _ {A : Type 0} (f : ℕ → A → List ModuleDecl) (b : List ModuleDecl) 
   pub all_are : (k : ℕ) (now : List ModuleDecl) → length xs ≤ k → Behind k now → now ≡ b ++ in_order f (function_types b) xs
   all_are k now past is = is ∙ ap (λ ys. b ++ in_order f (function_types b) ys) (take_all k xs past)
 
+  -- one more does not fit
+  pub one_large : (k : ℕ) (x : A) → slice_get xs k ≡ Some x → (old : List ModuleDecl) → Behind k old → (ModuleFits (old ++ f (function_types old) x) → ⊥) → ModuleFits (b ++ in_order f (function_types b) (take (k + 1) xs)) → ⊥
+  one_large k x at old before large fits = large (subst ModuleFits (sym (one_more k x at old (old ++ f (function_types old) x) before refl)) fits)
+
   -- one does not fit, so all do not
   pub none_fit : (k : ℕ) (x : A) → slice_get xs k ≡ Some x → (old : List ModuleDecl) → Behind k old → (ModuleFits (old ++ f (function_types old) x) → ⊥) → (more : List ModuleDecl) → ModuleFits ((b ++ in_order f (function_types b) xs) ++ more) → ⊥
   none_fit k x at old before large more fits =
@@ -83,4 +92,4 @@ module _ {A : Type 0} (f : ℕ → A → List ModuleDecl) (b : List ModuleDecl) 
       let (rest, is) = begins f (function_types b) xs (k + 1) in
       let whole : (b ++ in_order f (function_types b) xs) ++ more ≡ (b ++ first) ++ (rest ++ more) =
       ap (λ ds. (b ++ ds) ++ more) is ∙ ap (λ ds. ds ++ more) (sym (append_assoc b first rest)) ∙ append_assoc (b ++ first) rest more in
-      large (subst ModuleFits (sym (one_more k x at old (old ++ f (function_types old) x) before refl)) (first_fits (b ++ first) (rest ++ more) (subst ModuleFits whole fits)))
+      one_large k x at old before large (first_fits (b ++ first) (rest ++ more) (subst ModuleFits whole fits))

@@ -1,5 +1,5 @@
 pub mod Declared
 pub mod Meant
 mod Rows
-pub mod Small
+mod Small
 mod Limited

@@ -3,10 +3,16 @@ use Rattle.std.specs.Prelude.{ℕ, zero, suc, ◌≡◌, ◌≤◌, ◌+◌, Lis
 use Rattle.std.specs.List.{AllByRecursion}
 use Rattle.std.proofs.Common.{sym, subst, arith, add-one}
 use Rattle.wac_types_shapes.specs.declared.shapes.core_types.CoreExtern.{CoreExtern}
-use Rattle.wac_modules.specs.private.Small.{HasLimits}
+use Rattle.wac_types_shapes.specs.declared.shapes.core_types.ModuleType.{ModuleType}
+use Rattle.wac_modules.specs.private.Limits.{HasLimits}
 
 abbrev pub Limited : {A : Type 0} → List (A × CoreExtern) → Type 0
 Limited es = AllByRecursion (λ e. HasLimits e.1) es
+
+-- The limits of all items of a core module.
+pub record HaveLimits (m : ModuleType) : Type 0 where
+  pub imports : Limited m.imports
+  pub exports : Limited m.exports
 
 pub limits-first : {A : Type 0} (es : List (A × CoreExtern)) → Limited (take 0 es)
 limits-first [] = tt

@@ -1,9 +1,10 @@
 -- How many bytes the declarations of a core module have at most.
-use Rattle.std.proofs.Common.{ℕ, suc, ◌+◌, ◌*◌, ◌/◌, ◌<◌, ◌≤◌, ◌^◌, true, false, ltb, Bool, List, [], ◌∷◌, ◌++◌, length, flat_map, Option, Some, None, IfSome, ◌≡◌, refl, ap, ◌∙◌, arith, length-append}
+use Rattle.std.proofs.Common.{ℕ, suc, ◌+◌, ◌*◌, ◌/◌, ◌<◌, ◌≤◌, ◌^◌, true, false, ltb, Bool, List, [], ◌∷◌, ◌++◌, length, flat_map, Option, Some, None, IfSome, ◌≡◌, refl, ap, ◌∙◌, arith, length-append, subst, take}
 use Rattle.std.specs.List.{AllByRecursion, sum_by}
 use Rattle.std.proofs.lemmas.Bool.{ltb-true, ltb-false}
 use Rattle.std.proofs.lemmas.Grind.{flat_map-append}
-use Rattle.std.proofs.lemmas.List.Sums.{sum_by-cons}
+use Rattle.std.proofs.lemmas.List.{append-nil}
+use Rattle.std.proofs.lemmas.List.Sums.{sum_by-cons, sum_by-take-le}
 use Rattle.wac_types_shapes.specs.primitives.Name.{Name}
 use Rattle.wac_types_shapes.specs.shapes.Imports.{Pair}
 use Rattle.wac_types_shapes.specs.declared.primitives.core_types.CoreType.{CoreType}
@@ -11,7 +12,7 @@ use Rattle.wac_types_shapes.specs.declared.shapes.core_types.CoreExtern.{CoreExt
 use Rattle.wac_types_shapes.specs.declared.shapes.core_types.CoreExtern.TheVariants as core
 use Rattle.wac_types_shapes.specs.declared.shapes.core_types.ModuleType.{ModuleType}
 use Rattle.wac_types_weight.specs.Weight.{named_part, core_values, module_parts}
-use Rattle.wac_binary.specs.Bytes.{text, vector, core_val, number, limits, entity as entity_bytes, module_decl_bytes}
+use Rattle.wac_binary.specs.Bytes.{module_bytes, text, vector, core_val, number, limits, entity as entity_bytes, module_decl_bytes}
 use Rattle.wac_binary.specs.Fits.{ModuleFits}
 use Rattle.wac_binary.specs.Indexes.{function_types}
 use Rattle.wac_binary.specs.Items.{ModuleDecl, module_import, module_func, module_export}
@@ -19,8 +20,9 @@ use Rattle.wac_binary.specs.Leb.{leb, unsigned}
 use Rattle.wac_binary.specs.private.LebLaws.{leb_last, leb_more, leb_length}
 use Rattle.wac_binary.proofs.lemmas.bytes.Short.{unsigned_length}
 use Rattle.wac_modules.specs.private.Declarations.{entity, type_before, import_of, export_of, in_order, declarations_of}
-use Rattle.wac_modules.specs.private.Small.{HasLimits, HaveLimits, ModulesAreSmall, SmallModulesFit}
+use Rattle.wac_modules.specs.private.Limits.{HasLimits}
 use Rattle.wac_modules.proofs.Declared.{function_types-append}
+use Rattle.wac_modules.proofs.Limited.{HaveLimits, Limited}
 
 -- ---- numbers
 Short : (bound bytes : ℕ) → Type 0
@@ -269,7 +271,8 @@ module _ (m : ModuleType) (h : HaveLimits m) where
       let second = few_parts export_part export_weighs m.exports in
       omega (arith, first, second)
 
-pub modules-are-small : ModulesAreSmall
+-- A module that fits has at most 6 bytes, and 30 for each unit of the weight of its parts.
+pub modules-are-small : (m : ModuleType) → HaveLimits m → ModuleFits (declarations_of m) → length (module_bytes (declarations_of m)) ≤ 6 + 30 * module_parts m
 unfolding size
 modules-are-small m h fits =
     let short = (both_short m h (items_fit m h fits)).short in
@@ -277,7 +280,8 @@ modules-are-small m h fits =
     let whole = length-append (unsigned (length (declarations_of m))) (flat_map module_decl_bytes (declarations_of m)) in
     omega (arith, short, head, whole)
 
-pub small-modules-fit : SmallModulesFit
+-- A module fits if its parts weigh little.
+small-modules-fit : (m : ModuleType) → HaveLimits m → 30 * module_parts m < 2 ^ 32 → ModuleFits (declarations_of m)
 unfolding size
 small-modules-fit m h light =
     let many = parts_many m h in
@@ -285,3 +289,38 @@ small-modules-fit m h light =
     let short = all.short in
     let count = all.count in
     record { count = omega (arith, many, light, count); size = omega (arith, short, light) }
+
+-- ---- the first items of a module, which do not fit
+heavy-from : (few all : ℕ) → few ≤ all → (30 * few < 2 ^ 32 → ⊥) → 2 ^ 32 ≤ 30 * all
+heavy-from few all less none = let many = not-less (30 * few) none in omega (arith, less, many)
+  where
+    not-less : (n : ℕ) → (n < 2 ^ 32 → ⊥) → 2 ^ 32 ≤ n
+    not-less n f = omega (arith, f)
+
+fewer-imports : (m : ModuleType) (k : ℕ) → module_parts (record { imports = take k m.imports; exports = [] }) ≤ module_parts m
+unfolding import_part export_part
+fewer-imports m k = plus (sum_by import_part (take k m.imports)) (sum_by import_part m.imports) (sum_by export_part m.exports) (sum_by-take-le import_part m.imports k)
+  where
+    plus : (a b c : ℕ) → a ≤ b → a + 0 ≤ b + c
+    plus a b c h = omega (arith, h)
+
+fewer-exports : (m : ModuleType) (k : ℕ) → module_parts (record { imports = m.imports; exports = take k m.exports }) ≤ module_parts m
+unfolding import_part export_part
+fewer-exports m k = plus (sum_by import_part m.imports) (sum_by export_part (take k m.exports)) (sum_by export_part m.exports) (sum_by-take-le export_part m.exports k)
+  where
+    plus : (a b c : ℕ) → b ≤ c → a + b ≤ a + c
+    plus a b c h = omega (arith, h)
+
+-- the first imports
+pub heavy-imports : (m : ModuleType) (k : ℕ) → Limited (take k m.imports) → (ModuleFits (in_order import_of 0 (take k m.imports)) → ⊥) → 2 ^ 32 ≤ 30 * module_parts m
+heavy-imports m k limits large =
+    let few : ModuleType = record { imports = take k m.imports; exports = [] } in
+    heavy-from (module_parts few) (module_parts m) (fewer-imports m k)
+    (λ light. large (subst ModuleFits (append-nil (in_order import_of 0 (take k m.imports))) (small-modules-fit few (record { imports = limits; exports = tt }) light)))
+
+-- all imports, and the first exports
+pub heavy-exports : (m : ModuleType) (k : ℕ) → Limited m.imports → Limited (take k m.exports)
+    → (ModuleFits (in_order import_of 0 m.imports ++ in_order export_of (function_types (in_order import_of 0 m.imports)) (take k m.exports)) → ⊥) → 2 ^ 32 ≤ 30 * module_parts m
+heavy-exports m k imports exports large =
+    let few : ModuleType = record { imports = m.imports; exports = take k m.exports } in
+    heavy-from (module_parts few) (module_parts m) (fewer-exports m k) (λ light. large (small-modules-fit few (record { imports = imports; exports = exports }) light))

@@ -1,2 +1,2 @@
 pub mod Declarations
-pub mod Small
+pub mod Limits

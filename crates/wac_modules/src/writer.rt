@@ -1,27 +1,34 @@
 //! The writer of core module types.
 
-ghost use Rattle.std.specs.Prelude.{◌≡◌, ◌++◌, ◌∷◌, [], Err as Refused, IfOk, OnOk};
+ghost use Rattle.std.specs.Prelude.{◌≡◌, ◌++◌, ◌∷◌, [], ◌+◌, ◌*◌, ◌≤◌, ◌^◌, length, Err as Refused, IfOk, OnOk};
 ghost use Rattle.wac_types_shapes.specs.declared.shapes.core_types.CoreExtern.TheVariants as core;
+ghost use Rattle.wac_types_weight.specs.Weight.{module_parts};
+ghost use Rattle.wac_binary.specs.Bytes.{module_bytes};
 ghost use Rattle.wac_binary.specs.Fits.{ModuleFits};
 ghost use Rattle.wac_binary.specs.Indexes.{function_types};
 ghost use Rattle.wac_binary.specs.Items.{module_func};
 ghost use Rattle.wac_binary.specs.declared.fault.BinaryFault.TheVariants.{TooLarge};
 ghost use Rattle.wac_modules.specs.private.Declarations.{entity, type_before, import_of, export_of, declarations_of, MeansModule};
+ghost use Rattle.wac_modules.specs.private.Limits.{HasLimits};
 
+use crate::limits::{long_law, short_law};
 use std::alloc::Global;
 use wac_binary::{BinaryFault, EntityType, GlobalType, MemoryType, TableType};
 use wac_types_collection::{CoreExtern, CoreFuncType, CoreRefType, CoreType, ModuleType};
 
-/// The type of a core module as it is written: its imports in order, then its exports in order, before each function and each tag a
-/// function type of its own.
+/// Returns the type of a core module as it is written: its imports, then its exports, in order. Before each function and
+/// each tag is a function type of its own.
 ///
-/// Answers `TooLarge` where the declarations do not fit 32 bits, memory aside, and only there; and `OutOfMemory` where memory was
-/// refused.
+/// # Errors
+/// - [`TooLarge`](BinaryFault::TooLarge) if the declarations do not fit 32-bit sizes.
+/// - [`OutOfMemory`](BinaryFault::OutOfMemory).
 pub fn module_type(alloc: Global, held: &ModuleType) -> Result<wac_binary::ModuleType, BinaryFault>
     ensures declared { IfOk result (λ t. t ≡ declarations_of held.now) }
     ensures means { IfOk result (MeansModule held.now) }
     ensures fits { OnOk result (ModuleFits (declarations_of held.now)) }
     ensures too_large { result ≡ Refused TooLarge → ModuleFits (declarations_of held.now) → ⊥ }
+    ensures small { IfOk result (λ t. length (module_bytes t) ≤ 6 + 30 * module_parts held.now) }
+    ensures heavy { result ≡ Refused TooLarge → 2 ^ 32 ≤ 30 * module_parts held.now }
 {
     held.imports.law();
     held.exports.law();
@@ -47,6 +54,7 @@ fn declare_import(
 ) -> Result<(), BinaryFault>
     ensures declared { OnOk result (written.new ≡ written.old ++ import_of (function_types written.old) ((source.now, name.now), item.now)) }
     ensures too_large { result ≡ Refused TooLarge → ModuleFits (written.old ++ import_of (function_types written.old) ((source.now, name.now), item.now)) → ⊥ }
+    ensures limits { HasLimits item.now }
 {
     let entity = entity_type(written, item)?;
     written.import(source, name, entity)
@@ -60,6 +68,7 @@ fn declare_export(
 ) -> Result<(), BinaryFault>
     ensures declared { OnOk result (written.new ≡ written.old ++ export_of (function_types written.old) (name.now, item.now)) }
     ensures too_large { result ≡ Refused TooLarge → ModuleFits (written.old ++ export_of (function_types written.old) (name.now, item.now)) → ⊥ }
+    ensures limits { HasLimits item.now }
 {
     let entity = entity_type(written, item)?;
     written.export(name, entity)
@@ -73,6 +82,7 @@ fn entity_type(
     ensures described { IfOk result (λ x. x ≡ entity (function_types written.old) item.now) }
     ensures declared { OnOk result (written.new ≡ written.old ++ type_before item.now) }
     ensures too_large { result ≡ Refused TooLarge → ModuleFits (written.old ++ type_before item.now) → ⊥ }
+    ensures limits { HasLimits item.now }
 {
     match item {
         CoreExtern::Func(func) => Ok(EntityType::Function(func_type(written, func)?)),
@@ -116,8 +126,10 @@ fn table(
     maximum: Option<u64>,
     shared: bool,
 ) -> EntityType
-    ensures { result ≡ entity 0 (core.Table element_type minimum maximum table64 shared) }
+    ensures described { result ≡ entity 0 (core.Table element_type minimum maximum table64 shared) }
+    ensures limits { HasLimits (core.Table element_type minimum maximum table64 shared) }
 {
+    long_law(maximum); // proof only
     EntityType::Table(TableType {
         element_type,
         table64,
@@ -135,8 +147,11 @@ fn memory(
     maximum: Option<u64>,
     page_size_log2: Option<u32>,
 ) -> EntityType
-    ensures { result ≡ entity 0 (core.Memory memory64 shared minimum maximum page_size_log2) }
+    ensures described { result ≡ entity 0 (core.Memory memory64 shared minimum maximum page_size_log2) }
+    ensures limits { HasLimits (core.Memory memory64 shared minimum maximum page_size_log2) }
 {
+    long_law(maximum); // proof only
+    short_law(page_size_log2); // proof only
     EntityType::Memory(MemoryType {
         minimum,
         maximum,

@@ -3,6 +3,7 @@ pub mod Held
 pub mod Bound
 pub mod Aliases
 pub mod Uses
+pub mod Names
 pub mod Interfaces
 pub mod Package
 pub mod HeldTrees

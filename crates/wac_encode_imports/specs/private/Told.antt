@@ -14,6 +14,7 @@ use Rattle.wac_types_shapes.specs.declared.shapes.component.ValueType.TheVariant
 use Rattle.wac_types_shapes.specs.declared.shapes.component.«Type».TheVariants as ty
 use Rattle.wac_types_collection.specs.collection.Collection.{Collection, IsWellFormed, holds_type, item_at}
 use Rattle.wac_types_collection.specs.collection.Bound.{Bindings, own_name}
+use Rattle.wac_types_collection.specs.collection.Names.{ExportsOnce}
 use Rattle.wac_merge_classes.specs.entries.Agreement.{AllMembersAgree}
 use Rattle.std.specs.List.{sum_by}
 use Rattle.wac_merge_classes.specs.entries.Binding.{binding_class}
@@ -40,14 +41,13 @@ use Rattle.wac_encode_imports.specs.declared.told.Others.{Others}
 use Rattle.wac_encode_imports.specs.declared.told.Teller.{Teller}
 use Rattle.wac_encode_imports.specs.private.Imports.{merged_bindings}
 use Rattle.wac_encode_imports.specs.private.ToldGraph.{entry_bindings, HasNoUnbound}
-use Rattle.wac_encode_imports.specs.private.Exports.{ExportNoNameTwice}
 use Rattle.wac_encode_imports.specs.private.Others.{HaveAll, IsLeftOut}
 
 -- The teller is one for a finished merge of the entries, and what it is given of them is true.
 pub record IsTeller (t : Teller) : Type 0 where
   pub finished : t.merge.now.is_finished ≡ true
   pub ordered : IsWellFormed t.types.now
-  pub once : ExportNoNameTwice t.types.now
+  pub once : ExportsOnce t.types.now
   pub held : AreHeld t.types.now t.merge.now.entries
   pub merged : IsMerge by_names t.types.now t.merge.now.entries t.merge.now.merge
   pub acyclic : HasNoCircle by_names t.types.now t.merge.now.entries

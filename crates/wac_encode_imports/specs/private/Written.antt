@@ -7,6 +7,7 @@ use Rattle.wac_types_shapes.specs.declared.shapes.component.ItemKind.{ItemKind}
 use Rattle.wac_types_shapes.specs.declared.shapes.component.«Type».{«Type» as AnyType}
 use Rattle.wac_types_collection.specs.collection.Collection.{Collection, IsWellFormed}
 use Rattle.wac_types_collection.specs.collection.Bound.{Bindings}
+use Rattle.wac_types_collection.specs.collection.Names.{ExportsOnce}
 use Rattle.wac_merge_classes.specs.entries.Bindings.{AreBindings, AreHeld}
 use Rattle.wac_merge_classes.specs.entries.Classes.{Entry, by_names}
 use Rattle.wac_merge_classes.specs.terms.Merge.{Merged, import_entries}
@@ -23,7 +24,6 @@ use Rattle.wac_encode_interfaces.specs.private.Ready.{IsClean}
 use Rattle.wac_encode_interfaces.specs.private.Worlds.{Worlds, HaveWorlds, written_in}
 use Rattle.wac_encode_interfaces.specs.private.Writers.{IsWriter}
 use Rattle.wac_encode_imports.specs.private.Imports.{merged_bindings, import_tree, HasDistinctClasses, HasNoImportFault, ImportsFirst}
-use Rattle.wac_encode_imports.specs.private.Exports.{ExportNoNameTwice}
 use Rattle.wac_encode_imports.specs.declared.import.ImportWriter.{ImportWriter}
 
 -- The path begins at this position; then: at a position below n.
@@ -67,7 +67,7 @@ HaveImportWorlds c ws es = (p : ℕ) (e : Entry) → slice_get es p ≡ Some e �
 -- The imports of the merge can be written, where these worlds are.
 pub record AreWritable (m : Merged) (ws : Worlds) : Type 0 where
   pub ordered : IsWellFormed m.types
-  pub once : ExportNoNameTwice m.types
+  pub once : ExportsOnce m.types
   pub held : AreHeld m.types m.imports
   pub distinct : HasDistinctClasses m
   pub before : MentionsBefore by_names m

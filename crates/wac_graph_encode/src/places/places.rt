@@ -1,13 +1,12 @@
 //! The place of each import.
 ghost use Rattle.std.specs.Prelude.{◌≡◌, IfOk, length, map, true};
-ghost use Rattle.wac_graph_model.specs.private.meaning.MergedImports.{ExportsOnce};
 ghost use Rattle.wac_names.specs.private.validation.Views.{texts};
 ghost use Rattle.wac_graph_encode.specs.private.places.Places.{IsImportedName, IsPlaceOf};
 
 use std::alloc::{AllocError, Global};
 use wac_binary::Sort;
 use wac_merge::TypeAggregator;
-use wac_types::{ItemKind, Named, Types};
+use wac_types::{ItemKind, Named};
 
 /// The imports of a finished merge, with the sort and index of each.
 #[derive(Drop)]
@@ -31,15 +30,6 @@ impl ImportPlaces {
             unreachable!()
         };
         self.places[position]
-    }
-}
-
-/// Proves that no interface of the collection exports a name twice (docs/PROOFS.md, 'Laws').
-pub fn exports_law(types: &Types)
-    ensures { ExportsOnce types.now }
-{
-    for (_, interface) in types.interfaces() {
-        interface.exports.law(); // proof only
     }
 }
 

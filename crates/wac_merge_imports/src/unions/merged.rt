@@ -46,7 +46,6 @@ use wac_merge_classes::entries::bound::Bound;
 use wac_merge_classes::entries::classes::Classes;
 use wac_merge_classes::entries::entry::Entry;
 use wac_merge_classes::terms::fresh::Fresh;
-use wac_merge_classes::terms::parts::Part;
 use wac_merge_resources::renaming::adding::add_fresh;
 use wac_merge_resources::renaming::became::{Became, part_bounds};
 use wac_merge_resources::renaming::outward::outward_in;
@@ -287,16 +286,6 @@ fn laws(types: &Types)
     trees_are_whole(types); // proof only
 }
 
-/// Brings the fact that no interface exports a name twice. For proofs only.
-fn listed_once(types: &Types, parts: &[Part])
-    requires { (p : ℕ) (x : APart) → slice_get parts.now p ≡ Some x → HasInterface types.now x.interface }
-    ensures { AreListedOnce types.now parts.now }
-{
-    for i in 0..parts.len() {
-        types[parts[i].interface].exports.law(); // proof only
-    }
-}
-
 /// Returns the unions of the interfaces of each class.
 fn class_unions(
     alloc: Global,
@@ -311,7 +300,7 @@ fn class_unions(
 {
     let roots = class_roots(alloc, entries, classes)?;
     let unions = Unions::new(alloc, types, roots.as_slice())?;
-    listed_once(types, unions.parts.as_slice()); // proof only
+    types.names_law(); // proof only
     Ok(unions)
 }
 

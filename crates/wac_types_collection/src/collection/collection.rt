@@ -7,6 +7,7 @@ ghost use Rattle.wac_types_collection.specs.collection.Aliases.{value_resolved};
 ghost use Rattle.wac_types_collection.specs.private.collection.Ends.{HasEnds, end_at};
 ghost use Rattle.wac_types_shapes.specs.declared.shapes.component.ValueType.TheVariants as val;
 ghost use Rattle.wac_types_collection.specs.declared.collection.collection.AddTypeError.TheVariants.{OutOfMemory};
+ghost use Rattle.wac_types_collection.specs.collection.Names.{HasDistinctNames};
 ghost use Rattle.wac_types_collection.specs.collection.Uses.{AnswersBy, mention_fault, interface_fault, world_fault, IsSound};
 
 use crate::collection::shared::{Items, hold};
@@ -192,6 +193,14 @@ impl Types {
         let _ = &self.interfaces;
     }
 
+    /// Proof only: no interface of the collection exports a name twice, and no world imports or exports one twice
+    /// (docs/PROOFS.md, 'Laws').
+    pub fn names_law(&self)
+        ensures { HasDistinctNames self.now }
+    {
+        let _ = &self.worlds;
+    }
+
     /// The allocator of the collection.
     pub fn allocator(&self) -> Global {
         self.alloc
@@ -333,6 +342,7 @@ impl Types {
         if let Some(fault) = self.interface_fault(&interface) {
             return Err(fault);
         }
+        interface.exports.law(); // proof only
         let id = self.interfaces.len();
         let before = self.count()?;
         hold(self.alloc, &mut self.interfaces, interface, before)?;
@@ -351,6 +361,8 @@ impl Types {
         if let Some(fault) = self.world_fault(&world) {
             return Err(fault);
         }
+        world.imports.law(); // proof only
+        world.exports.law(); // proof only
         let id = self.worlds.len();
         let before = self.count()?;
         hold(self.alloc, &mut self.worlds, world, before)?;

@@ -1,12 +1,12 @@
 use Rattle.std.proofs.Common.{◌≡◌, List, IfOk, sym, ◌∙◌, subst}
 use Rattle.wac_types_collection.specs.collection.Collection.{Collection, IsWellFormed}
+use Rattle.wac_types_collection.specs.collection.Names.{ExportsOnce}
 use Rattle.wac_merge_classes.specs.entries.Bindings.{AreBindings, AreHeld}
 use Rattle.wac_merge_classes.specs.entries.Classes.{Entry}
 use Rattle.wac_merge_classes.specs.terms.Merge.{Merged}
 use Rattle.wac_encode_scopes.specs.private.Closed.{AreClosedTypes}
 use Rattle.wac_encode_interfaces.specs.private.Worlds.{AreWorldTypes, written_in}
 use Rattle.wac_encode_imports.specs.private.Imports.{AreImported}
-use Rattle.wac_encode_imports.specs.private.Exports.{ExportNoNameTwice}
 use Rattle.wac_encode_imports.specs.private.Written.{AreCleanImports, AreWritable, HaveImportWorlds, IsImportWriter}
 use Rattle.wac_encode_imports.proofs.Given.{clean-imports}
 use Rattle.wac_merge_imports.specs.unions.Lighter.{types_of}
@@ -34,7 +34,7 @@ write_all-requires c =
     let m = c.args.merge.now.merge in
     let same = same-merge _ _ m c.types-types.ensures c.imports-imports.ensures in
     let ordered = subst IsWellFormed c.types-types.ensures c.law.ensures in
-    let once = subst ExportNoNameTwice c.types-types.ensures c.exports_law.ensures in
+    let once = subst ExportsOnce c.types-types.ensures c.names_law.ensures.interfaces in
     let closed = subst (λ (x : Collection). AreClosedTypes x c.in_ok-closed.closed) c.types-types.ensures c.in_ok-closed.ensures in
     let bindings = subst (λ (x : Merged). AreBindings x.types x.imports c.in_ok-bindings.bindings) same c.in_ok-bindings.ensures in
     let written = subst (λ (x : Collection). AreWorldTypes x (written_in c.in_ok-worlds.worlds)) c.types-types.ensures c.in_ok-worlds.ensures.written in

@@ -6,7 +6,7 @@ pub tell_all-requires-clause-teller : goal.tell_all-requires-clause-teller
 tell_all-requires-clause-teller c = record {
   finished = c.requires.finished;
   ordered = c.law.ensures;
-  once = c.exports_law.ensures;
+  once = c.names_law.ensures.interfaces;
   held = c.requires.held;
   merged = c.requires.merged;
   acyclic = c.requires.ordered;
@@ -27,7 +27,7 @@ pub returns-clause-told : goal.returns-clause-told
 returns-clause-told c = graph-told c.tell_all.result c.args.state.now c.tell_all.new.state c.tell_all.ensures.binds c.requires.imported (record {
   finished = c.requires.finished;
   ordered = c.law.ensures;
-  once = c.exports_law.ensures;
+  once = c.names_law.ensures.interfaces;
   held = c.requires.held;
   merged = c.requires.merged;
   acyclic = c.requires.ordered;

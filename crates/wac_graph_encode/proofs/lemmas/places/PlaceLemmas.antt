@@ -1,19 +1,14 @@
 -- Names that are found among the imports of a merge.
-use Rattle.std.proofs.Common.{◌≡◌, ℕ, zero, suc, ◌+◌, ◌<◌, ◌≤◌, Bool, true, false, if◌then◌else◌, List, [], ◌∷◌, ◌++◌, length, map, take, refl, ap, ◌∙◌, sym, subst, arith, Option, Some, None, ◌⊎◌, inl, inr}
+use Rattle.std.proofs.Common.{◌≡◌, ℕ, zero, suc, ◌+◌, ◌<◌, ◌≤◌, Bool, true, false, if◌then◌else◌, List, [], ◌∷◌, ◌++◌, length, map, take, refl, ap, ◌∙◌, sym, arith, Option, Some, None}
 use Rattle.std.specs.Prelude.{slice_get}
 use Rattle.std.proofs.lemmas.List.{map-append, take_all}
 use Rattle.std.specs.Borrow.{Bor}
 use Rattle.std.specs.Option.{option_map}
 use Rattle.std.proofs.lemmas.Option.{slice_get_within}
 use Rattle.wac_types_shapes.specs.primitives.Name.{Name, same_name}
-use Rattle.wac_types_shapes.specs.shapes.Named.{named_at, NoNameTwice}
+use Rattle.wac_types_shapes.specs.shapes.Named.{named_at}
 use Rattle.wac_types_shapes.proofs.lemmas.shapes.Names.{same_name-true, same_name-from}
 use Rattle.wac_types_shapes.specs.declared.shapes.component.ItemKind.{ItemKind}
-use Rattle.wac_types_shapes.specs.declared.shapes.component.Interface.{Interface}
-use Rattle.wac_types_shapes.specs.declared.shapes.component.InterfaceId.{InterfaceId}
-use Rattle.wac_types_collection.specs.collection.Collection.{Collection, item_at}
-use Rattle.wac_types_collection.specs.declared.collection.collection.Held.{Held}
-use Rattle.wac_types_collection.specs.collection.Interfaces.{numbered}
 use Rattle.wac_names.specs.private.validation.Views.{texts}
 use Rattle.wac_merge_classes.specs.entries.Classes.{Entry, by_names, imported_as}
 use Rattle.wac_merge_classes.specs.terms.Merge.{import_entries}
@@ -67,36 +62,6 @@ module _ (a : Aggregate) (name canonical : Name) (is : canonical ≡ imported_as
 
     pub is_place : (places : List (Sort × ℕ)) (place : Sort × ℕ) → slice_get places position ≡ Some place → IsPlaceOf a places name place
     is_place places place at = record { p = position; entry = record { name = canonical; kind = kind.now }; there = entry_there; named = is; placed = at }
-
--- ---- the law of interfaces
--- each interface exports no name twice, or is still to come
-abbrev pub AreLawful : Collection → List (InterfaceId × Interface) → Type 0
-AreLawful c left = (i : InterfaceId) (it : Interface) → item_at c.interfaces i.0 ≡ Some it → NoNameTwice it.exports ⊎ ((k : ℕ) × (slice_get left k ≡ Some (i, it)))
-
-all_left : (hs : List (Held Interface)) (k j : ℕ) (it : Interface) → item_at hs j ≡ Some it → slice_get (numbered k hs) j ≡ Some (record { 0 = k + j }, it)
-all_left [] k j it at = cc
-all_left (h ∷ hs) k zero it at = let same : h.item ≡ it = cc in let here : k ≡ k + 0 = omega arith in λ d. Some (record { 0 = here d }, same d)
-all_left (h ∷ hs) k (suc j) it at = let next : suc k + j ≡ k + suc j = omega arith in all_left hs (suc k) j it at ∙ ap (λ n. Some (record { 0 = n }, it)) next
-
-pub lawful_start : (c : Collection) (left : List (InterfaceId × Interface)) → left ≡ numbered 0 c.interfaces → AreLawful c left
-lawful_start c left is i it at = let here : 0 + i.0 ≡ i.0 = omega arith in inr (i.0, ap (λ es. slice_get es i.0) is ∙ all_left c.interfaces 0 i.0 it at ∙ ap (λ n. let e : InterfaceId × Interface = (record { 0 = n }, it) in Some e) here)
-
-pub lawful_next : (c : Collection) (x : InterfaceId × Interface) (left rest : List (InterfaceId × Interface)) → left ≡ x ∷ rest → NoNameTwice x.1.exports → AreLawful c left → AreLawful c rest
-lawful_next c x left rest is once before i it at = later (before i it at) where
-  later : NoNameTwice it.exports ⊎ ((k : ℕ) × (slice_get left k ≡ Some (i, it))) → NoNameTwice it.exports ⊎ ((k : ℕ) × (slice_get rest k ≡ Some (i, it)))
-  later (inl h) = inl h
-  later (inr (k, there)) = by_place k (ap (λ es. slice_get es k) (sym is) ∙ there) where
-    by_place : (k : ℕ) → slice_get (x ∷ rest) k ≡ Some (i, it) → NoNameTwice it.exports ⊎ ((k : ℕ) × (slice_get rest k ≡ Some (i, it)))
-    by_place zero there = let same : ◌≡◌ {A = InterfaceId × Interface} x (i, it) = cc in inl (subst (λ (y : InterfaceId × Interface). NoNameTwice y.1.exports) same once)
-    by_place (suc k) there = inr (k, there)
-
-pub lawful_end : (c : Collection) (left : List (InterfaceId × Interface)) → left ≡ [] → AreLawful c left → (i : InterfaceId) (it : Interface) → item_at c.interfaces i.0 ≡ Some it → NoNameTwice it.exports
-lawful_end c left is all i it at = last (all i it at) where
-  last : NoNameTwice it.exports ⊎ ((k : ℕ) × (slice_get left k ≡ Some (i, it))) → NoNameTwice it.exports
-  last (inl h) = h
-  last (inr (k, there)) = nothing (ap (λ es. slice_get es k) (sym is) ∙ there) where
-    nothing : ◌≡◌ {A = Option (InterfaceId × Interface)} None (Some (i, it)) → NoNameTwice it.exports
-    nothing h = cc
 
 -- ---- names in a row
 pub name_more : (imports : List (Name × ItemKind)) (i : ℕ) (text : Bor (List ℕ)) (old new : List (Bor (List ℕ))) → option_map (λ e. e.0) (slice_get imports i) ≡ Some text.now → new ≡ old ++ text ∷ [] → texts old ≡ map (λ e. e.0) (take i imports)

@@ -17,6 +17,7 @@ use Rattle.wac_types_collection.specs.collection.Collection.{Collection, item_of
 use Rattle.wac_types_collection.specs.declared.collection.collection.Held.{Held}
 use Rattle.wac_types_collection.specs.collection.Held.{unfolded, of_held, interface_tree, item_tree, items_under}
 use Rattle.wac_types_collection.specs.collection.Bound.{Bindings, by_place, binds_here, held_tree, held_item as placed_item}
+use Rattle.wac_types_collection.specs.collection.Names.{ExportsOnce}
 use Rattle.wac_types_collection.specs.subtyping.Subtype.{Sub, by_name, resource_names, type_tree, kind_tree, IsSubtype}
 use Rattle.wac_types_collection.proofs.lemmas.collection.Growth.{type_within}
 use Rattle.wac_types_collection.proofs.lemmas.subtyping.Unfolding.{unfolded_step, type_step}
@@ -25,7 +26,6 @@ use Rattle.wac_binary.specs.declared.sorts.Sort.TheVariants as sort
 use Rattle.wac_binary.specs.HasMeaning.{IsOfSort}
 use Rattle.wac_graph_model.specs.meaning.Means.{sort_of_kind}
 use Rattle.wac_graph_model.specs.private.meaning.Beginning.{HasInside, itself, inside, item_inside, Covers}
-use Rattle.wac_graph_model.specs.private.meaning.MergedImports.{ExportsOnce}
 
 module _ {L : Type 0} (f : Name × ItemKind → TypeTree L) where
   -- the item under the name of an entry

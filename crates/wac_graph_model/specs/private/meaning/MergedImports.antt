@@ -1,12 +1,10 @@
 -- The merged imports of a graph, and the place of each name's import.
 use Rattle.std.specs.Prelude.{ℕ, suc, ◌≡◌, List, [], ◌∷◌, Some, slice_get}
 use Rattle.wac_types_shapes.specs.primitives.Name.{Name}
-use Rattle.wac_types_shapes.specs.shapes.Named.{NoNameTwice}
-use Rattle.wac_types_shapes.specs.declared.shapes.component.Interface.{Interface}
-use Rattle.wac_types_shapes.specs.declared.shapes.component.InterfaceId.{InterfaceId}
 use Rattle.wac_types_shapes.specs.primitives.Tree.{imported, position, Tree}
-use Rattle.wac_types_collection.specs.collection.Collection.{Collection, item_at, IsWellFormed}
+use Rattle.wac_types_collection.specs.collection.Collection.{IsWellFormed}
 use Rattle.wac_types_collection.specs.collection.Bound.{held_item}
+use Rattle.wac_types_collection.specs.collection.Names.{ExportsOnce}
 use Rattle.wac_merge_classes.specs.entries.Binding.{root_bindings}
 use Rattle.wac_merge_classes.specs.entries.Bindings.{AreHeld}
 use Rattle.wac_merge_classes.specs.entries.Classes.{Entry, by_names, canonical}
@@ -33,10 +31,6 @@ merged_imports m = imports_from m 0 m.imports
 -- The place of each import has the import's sort.
 abbrev pub AreOfSorts : Merged → Places → Type 0
 AreOfSorts m places = (p : ℕ) (e : Entry) (place : Sort × ℕ) → slice_get m.imports p ≡ Some e → slice_get places p ≡ Some place → place.0 ≡ sort_of_kind e.kind
-
--- No interface of the collection exports a name twice.
-abbrev pub ExportsOnce : Collection → Type 0
-ExportsOnce c = (i : InterfaceId) (it : Interface) → item_at c.interfaces i.0 ≡ Some it → NoNameTwice it.exports
 
 -- The merge is one of all imports of the graph, over well-formed collections.
 pub record IsMergeOf (g : Graph) (m : Merged) : Type 0 where

@@ -6,6 +6,7 @@ use Rattle.std.proofs.lemmas.Bool.Decides.{Decides-eqb, not_from_Decides}
 use Rattle.std.proofs.lemmas.Option.{slice_get_past, slice_get_within}
 use Rattle.std.proofs.lemmas.List.{get_or_past, get_or_default, get_or_append_left, get_or-append_right, get_or-set_same, get_or-set_other}
 use Rattle.wac_types_shapes.specs.primitives.Name.{option_case}
+use Rattle.wac_types_shapes.specs.shapes.Named.{NoNameTwice}
 use Rattle.wac_types_collection.specs.declared.collection.collection.Held.{Held}
 use Rattle.wac_types_shapes.specs.declared.shapes.component.Resource.{Resource}
 use Rattle.wac_types_shapes.specs.declared.shapes.component.ResourceId.{ResourceId}
@@ -250,17 +251,17 @@ func_kept c s x n xs rs vs has same at held is =
     let ends = ends_stay c (with_func c x) has.lawful.ordered (keeps_func c x) rs vs has.ends refl refl in
     subst (λ (ys : List (Held FuncType)). HasEnds (record c { funcs = ys }) rs vs) (counted c s x n c.funcs xs same at is) (record { lawful = func_lawful c has.lawful x (ap (λ y. holds_all y (func_mentions x)) same ∙ held); ends = ends })
 
-pub interface_kept : (c s : Collection) (x : Interface) (n : ℕ) (xs : List (Held Interface)) (rs : List ResourceId) (vs : List ValueType) → HasEnds c rs vs → c ≡ s → n ≡ size s → interface_fault s x ≡ None
+pub interface_kept : (c s : Collection) (x : Interface) (n : ℕ) (xs : List (Held Interface)) (rs : List ResourceId) (vs : List ValueType) → HasEnds c rs vs → c ≡ s → n ≡ size s → interface_fault s x ≡ None → NoNameTwice x.exports
     → xs ≡ c.interfaces ++ record { item = x; before = n } ∷ [] → HasEnds (record c { interfaces = xs }) rs vs
-interface_kept c s x n xs rs vs has same at held is =
+interface_kept c s x n xs rs vs has same at held once is =
     let ends = ends_stay c (with_interface c x) has.lawful.ordered (keeps_interface c x) rs vs has.ends refl refl in
-    subst (λ (ys : List (Held Interface)). HasEnds (record c { interfaces = ys }) rs vs) (counted c s x n c.interfaces xs same at is) (record { lawful = interface_lawful c has.lawful x (ap (λ y. interface_fault y x) same ∙ held); ends = ends })
+    subst (λ (ys : List (Held Interface)). HasEnds (record c { interfaces = ys }) rs vs) (counted c s x n c.interfaces xs same at is) (record { lawful = interface_lawful c has.lawful x (ap (λ y. interface_fault y x) same ∙ held) once; ends = ends })
 
-pub world_kept : (c s : Collection) (x : World) (n : ℕ) (xs : List (Held World)) (rs : List ResourceId) (vs : List ValueType) → HasEnds c rs vs → c ≡ s → n ≡ size s → world_fault s x ≡ None
+pub world_kept : (c s : Collection) (x : World) (n : ℕ) (xs : List (Held World)) (rs : List ResourceId) (vs : List ValueType) → HasEnds c rs vs → c ≡ s → n ≡ size s → world_fault s x ≡ None → NoNameTwice x.imports × NoNameTwice x.exports
     → xs ≡ c.worlds ++ record { item = x; before = n } ∷ [] → HasEnds (record c { worlds = xs }) rs vs
-world_kept c s x n xs rs vs has same at held is =
+world_kept c s x n xs rs vs has same at held once is =
     let ends = ends_stay c (with_world c x) has.lawful.ordered (keeps_world c x) rs vs has.ends refl refl in
-    subst (λ (ys : List (Held World)). HasEnds (record c { worlds = ys }) rs vs) (counted c s x n c.worlds xs same at is) (record { lawful = world_lawful c has.lawful x (ap (λ y. world_fault y x) same ∙ held); ends = ends })
+    subst (λ (ys : List (Held World)). HasEnds (record c { worlds = ys }) rs vs) (counted c s x n c.worlds xs same at is) (record { lawful = world_lawful c has.lawful x (ap (λ y. world_fault y x) same ∙ held) once; ends = ends })
 
 pub module_kept : (c s : Collection) (x : ModuleType) (n : ℕ) (xs : List (Held ModuleType)) (rs : List ResourceId) (vs : List ValueType) → HasEnds c rs vs → c ≡ s → n ≡ size s
     → xs ≡ c.modules ++ record { item = x; before = n } ∷ [] → HasEnds (record c { modules = xs }) rs vs

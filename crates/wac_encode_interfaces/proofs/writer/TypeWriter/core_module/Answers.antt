@@ -52,12 +52,12 @@ pub returns-in_err-written-clause-paid : goal.returns-in_err-written-clause-paid
 returns-in_err-written-clause-paid c priced =
     exit-room c.args.self.now.types.now c.args.self.now.merged [] (module_cost c.args.self.now.types.now c.args.id c.args.known) c.args.state.now c.args.state.now _ c.from_residual.result c.from_residual.ensures.1
     (λ is. no-room-alone c.args.self.now.types.now c.args.self.now.merged [] (module_cost c.args.self.now.types.now c.args.id c.args.known) c.args.state.now
-    (subst (λ (n : ℕ). 2 ^ 32 ≤ n) (sym (unknown-cost c.args.self.now.types.now c.args.id c.args.known c.in_default.is)) (module-room c.small_law.ensures.small_modules_fit c.args.self.now.types.now c.args.id c.index-module.result.now c.index-module.ensures c.limits_law.ensures _ is c.in_err-written.ensures.too_large)))
+    (subst (λ (n : ℕ). 2 ^ 32 ≤ n) (sym (unknown-cost c.args.self.now.types.now c.args.id c.args.known c.in_default.is)) (module-room c.args.self.now.types.now c.args.id c.index-module.result.now c.index-module.ensures _ is c.in_err-written.ensures.heavy)))
 
 pub returns-clause-paid : goal.returns-clause-paid
 returns-clause-paid c priced =
     let n = 11 + length (module_bytes c.in_ok-written.written) in
     same-answer c.args.self.now.types.now c.args.self.now.merged [] (34 * own c.args.self.now.types.now (ty.Module c.args.id)) (module_cost c.args.self.now.types.now c.args.id c.args.known) c.args.state.now c.define_module.new.self c.define_module.result (sym (unknown-cost c.args.self.now.types.now c.args.id c.args.known c.in_default.is))
     (up-to-answer c.args.self.now.types.now c.args.self.now.merged [] n (34 * own c.args.self.now.types.now (ty.Module c.args.id)) c.args.state.now c.define_module.new.self c.define_module.result
-    (module-bytes c.small_law.ensures.modules_are_small c.args.self.now.types.now c.args.id c.index-module.result.now c.in_ok-written.written c.index-module.ensures c.limits_law.ensures c.in_ok-written.ensures.declared c.in_ok-written.ensures.fits)
+    (module-bytes c.args.self.now.types.now c.args.id c.index-module.result.now c.in_ok-written.written c.index-module.ensures c.in_ok-written.ensures.small)
     (c.define_module.ensures.paid c.args.self.now.types.now c.args.self.now.merged priced))

@@ -5,7 +5,7 @@ use Rattle.wac_merge.specs.Aggregate.{IsFault}
 use Rattle.wac_merge.specs.Listed.{AreListedInOrder}
 use Rattle.wac_merge_classes.specs.entries.Bindings.{AreHeld}
 use Rattle.wac_merge_classes.specs.terms.Merge.{IsMerge}
-use Rattle.wac_graph_model.specs.private.meaning.MergedImports.{ExportsOnce}
+use Rattle.wac_types_collection.specs.collection.Names.{ExportsOnce}
 use Rattle.wac_merge_classes.specs.terms.Faults.{HasNoCircle}
 use Rattle.wac_merge_classes.specs.terms.NoDisagreement.{HasNoDisagreement}
 use Rattle.wac_merge_classes.specs.declared.terms.fault.MergeFault.{MergeFault}
@@ -71,8 +71,8 @@ returns-in-Ok-clause-merged c =
         merge = subst (λ (t : Collection). IsMerge merge.by_names t (to_merge (asked_entries g)) c.in-Ok.merge.merge) types (subst (λ (es : List merge.Entry). IsMerge merge.by_names c.self.inside.types es c.in-Ok.merge.merge) entries c.in-Ok.ensures.merged);
         ordered = subst (λ (t : Collection). IsWellFormed t) types c.law-2.ensures;
         merged_ordered = subst (λ (t : Collection). IsWellFormed t) c.types-in-Ok.ensures c.law-in-Ok.ensures;
-        once = subst (λ (t : Collection). ExportsOnce t) types c.exports_law.ensures;
-        merged_once = subst (λ (t : Collection). ExportsOnce t) c.types.ensures c.exports_law-in-Ok.ensures;
+        once = subst (λ (t : Collection). ExportsOnce t) types c.names_law.ensures.interfaces;
+        merged_once = subst (λ (t : Collection). ExportsOnce t) c.types.ensures c.names_law-in-Ok.ensures.interfaces;
         held = c.in-Ok.ensures.held;
       };
       listed = subst (λ (t : Collection). AreListedInOrder merge.by_names t (to_merge (asked_entries g)) c.in-Ok.merge.merge) types

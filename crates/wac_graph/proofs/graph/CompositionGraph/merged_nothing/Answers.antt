@@ -1,7 +1,7 @@
 use Rattle.std.proofs.Common.{◌≡◌, [], ap, sym, ◌∙◌, subst}
 use Rattle.wac_types_collection.specs.collection.Collection.{Collection, IsWellFormed}
 use Rattle.wac_merge.specs.Aggregate.{Aggregate}
-use Rattle.wac_graph_model.specs.private.meaning.MergedImports.{ExportsOnce}
+use Rattle.wac_types_collection.specs.collection.Names.{ExportsOnce}
 use Rattle.wac_graph_model.specs.nodes.Entries.{to_merge}
 use Rattle.wac_graph_model.specs.nodes.Graph.{Graph}
 use Rattle.wac_graph.proofs.NothingLemmas.{has_merge, keeps_nothing, lists_nothing, merges_nothing, nothing_agrees, nothing_lighter}
@@ -18,8 +18,8 @@ returns-in-Ok-clause-merged c =
         merge = merges_nothing g c.new-types.result c.new.result.entries c.in-Ok.merge.merge c.requires entries c.in-Ok.ensures.merged;
         ordered = subst (λ (t : Collection). IsWellFormed t) types c.law.ensures;
         merged_ordered = subst (λ (t : Collection). IsWellFormed t) c.types-in-Ok.ensures c.law-in-Ok.ensures;
-        once = subst (λ (t : Collection). ExportsOnce t) types c.exports_law.ensures;
-        merged_once = subst (λ (t : Collection). ExportsOnce t) c.types.ensures c.exports_law-in-Ok.ensures;
+        once = subst (λ (t : Collection). ExportsOnce t) types c.names_law.ensures.interfaces;
+        merged_once = subst (λ (t : Collection). ExportsOnce t) c.types.ensures c.names_law-in-Ok.ensures.interfaces;
         held = c.in-Ok.ensures.held;
       };
       listed = lists_nothing g c.new-types.result c.new.result.entries c.in-Ok.merge.merge c.requires entries (c.listed_law.ensures c.new-types.result c.new.result.entries c.in-Ok.merge.merge c.in-Ok.ensures.merged c.in-Ok.ensures.once);

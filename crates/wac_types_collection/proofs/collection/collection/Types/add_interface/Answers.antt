@@ -4,4 +4,4 @@ use Rattle.wac_types_collection.proofs.collection.collection.Types.add_interface
 
 pub invariant_of-self-2 : goal.invariant_of-self-2
 invariant_of-self-2 c =
-    interface_kept _ _ c.args.interface _ _ _ _ c.self.invariant c.self.view_is c.in_ok-before.ensures.count (no_fault c.interface_fault.result _ c.in_default.not-Some c.interface_fault.ensures) c.in_ok-hold.ensures.held
+    interface_kept _ _ c.args.interface _ _ _ _ c.self.invariant c.self.view_is c.in_ok-before.ensures.count (no_fault c.interface_fault.result _ c.in_default.not-Some c.interface_fault.ensures) c.law.ensures c.in_ok-hold.ensures.held
