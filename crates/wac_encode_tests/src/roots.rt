@@ -122,6 +122,11 @@ fn instances_of_a_merge_are_imported(rt: HostRuntime) {
 }
 
 #[test]
+fn records_are_taken_from_instances_of_a_merge(rt: HostRuntime) {
+    assert_merged(&rt, merges::RECORDS);
+}
+
+#[test]
 fn resources_of_a_merge_are_imported(rt: HostRuntime) {
     assert_merged(&rt, merges::MERGED_RESOURCES);
 }

@@ -8,8 +8,8 @@ use crate::rows::Row::{
 use crate::tables::RootRow;
 use wac_types_shapes::PrimitiveType;
 
-/// Instances of one interface, and what depends on them.
-pub const OWN: &[RootRow] = &[
+/// Records over a resource, in instances that have another resource of their own.
+pub const RECORDS: &[RootRow] = &[
     RootRow {
         name: "an import takes a record over a resource from an instance that has another resource of its own",
         rows: &[
@@ -73,6 +73,39 @@ pub const OWN: &[RootRow] = &[
             0x0a, 0x0a, 0x01, 0x00, 0x05, 0x6e, 0x3a, 0x70, 0x2f, 0x6f, 0x05, 0x02, // the second instance
         ],
     },
+    RootRow {
+        name: "definitions take a record over a resource from an instance that has another resource of its own",
+        rows: &[
+            NamedResource("q"),
+            Instance(Some("n:p/q"), &[("q", 0)]),
+            Resource,
+            Own(0),
+            Record(&[("x", 3)]),
+            Instance(None, &[("r", 2), ("v", 4)]),
+            Func(&[("x", 4)], None),
+        ],
+        imports: &[("n:p/q", 1), ("primary", 5)],
+        definitions: &[4, 6],
+        want: &[
+            0x07, 0x09, 0x01, 0x42, 0x01, // an instance type of one declaration
+            0x04, 0x00, 0x01, 0x71, 0x03, 0x01, // the resource
+            0x0a, 0x0a, 0x01, 0x00, 0x05, 0x6e, 0x3a, 0x70, 0x2f, 0x71, 0x05, 0x00, // the first instance
+            0x06, 0x06, 0x01, 0x03, 0x00, 0x00, 0x01, 0x71, // an alias of its resource
+            0x07, 0x1e, 0x01, 0x42, 0x05, // an instance type of five declarations
+            0x04, 0x00, 0x01, 0x72, 0x03, 0x01, // the resource of its own
+            0x02, 0x03, 0x02, 0x01, 0x01, // an outer alias of the alias
+            0x01, 0x69, 0x01, // an `own` of it
+            0x01, 0x72, 0x01, 0x01, 0x78, 0x02, // a record with that
+            0x04, 0x00, 0x01, 0x76, 0x03, 0x00, 0x03, // a type item that equals the record
+            0x0a, 0x0c, 0x01, 0x00, 0x07, 0x70, 0x72, 0x69, 0x6d, 0x61, 0x72, 0x79, 0x05, 0x02, // the second instance
+            0x06, 0x06, 0x01, 0x03, 0x00, 0x01, 0x01, 0x76, // an alias of its record
+            0x07, 0x08, 0x01, 0x40, 0x01, 0x01, 0x78, 0x03, 0x01, 0x00, // a function type over the alias
+        ],
+    },
+];
+
+/// Instances of one interface, and what depends on them.
+pub const OWN: &[RootRow] = &[
     RootRow {
         name: "instances of one interface have resources of their own",
         rows: &[
