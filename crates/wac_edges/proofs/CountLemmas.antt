@@ -14,7 +14,7 @@ use Rattle.wac_edges.specs.declared.node.NodeId.{NodeId}
 use Rattle.wac_edges.specs.declared.records.Record.{Record}
 use Rattle.wac_edges.specs.declared.records.Firsts.{Firsts}
 use Rattle.wac_edges.specs.Edge.{is_left, node_number}
-use Rattle.wac_edges.specs.private.Ends.{AreAt}
+use Rattle.wac_edges.specs.Ends.{AreAt}
 use Rattle.wac_edges.specs.Order.{Edges}
 use Rattle.wac_edges.specs.private.Records.{AreListed, all_edges, edge_at}
 use Rattle.wac_edges.specs.private.Ready.{AreAll, AreCounted, leads_to, leads_from, leading, incoming, is_set, one}

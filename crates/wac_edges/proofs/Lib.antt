@@ -13,6 +13,7 @@ pub mod SetLemmas
 pub mod AliasLemmas
 pub mod RisingLemmas
 pub mod FallLemmas
+pub mod AddingLemmas
 pub mod CountLemmas
 pub mod KeySets
 pub mod ArrangedLaws

@@ -13,7 +13,7 @@ use Rattle.wac_edges.specs.declared.records.Record.{Record}
 use Rattle.wac_edges.specs.declared.records.Firsts.{Firsts}
 use Rattle.wac_edges.specs.Edge.{edge_cmp}
 use Rattle.wac_edges.specs.Order.{Edges}
-use Rattle.wac_edges.specs.private.Ends.{at_end, AreAt}
+use Rattle.wac_edges.specs.Ends.{at_end, AreAt}
 use Rattle.wac_edges.specs.private.Records.{AreListed, HasEdge, all_edges, edge_at, list_at, first_at}
 use Rattle.wac_edges.proofs.EdgeLemmas.{edge_cmp_total, edge_cmp-IsAntisymmetric, same_node, in_set, from_set, exact_edges}
 use Rattle.wac_edges.proofs.ListLemmas.{in_list, edge_of_list, each_once}

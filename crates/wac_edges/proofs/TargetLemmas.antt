@@ -11,7 +11,8 @@ use Rattle.wac_edges.specs.declared.edges.End.TheVariants.{Outgoing}
 use Rattle.wac_edges.specs.Edge.{node_number}
 use Rattle.wac_edges.specs.cycles.Cycles.{IsStep, AreWithin, LeadsBack, HasNoCycle, HasLowestOnCycle, Path, step, further}
 use Rattle.wac_edges.specs.Order.{Edges, IsEdge, Leads, IsOnCycle, IsAcyclic, IsLowestOnCycle}
-use Rattle.wac_edges.specs.private.Ends.{AreAt, LeadsTo}
+use Rattle.wac_edges.specs.Ends.{AreAt}
+use Rattle.wac_edges.specs.private.Targets.{LeadsTo}
 use Rattle.wac_edges.proofs.ReachLemmas.{cycle_target}
 
 -- no step leads from no edge

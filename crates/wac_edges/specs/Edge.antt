@@ -1,5 +1,5 @@
 -- Edges as keys of a set, and nodes that are left.
-use Rattle.std.specs.Prelude.{◌≡◌, ℕ, Bool, true, false, List, [], ◌∷◌, refl, zero, suc, slice_index_or}
+use Rattle.std.specs.Prelude.{◌≡◌, ℕ, Bool, true, false, List, [], ◌∷◌, Some, refl, zero, suc, slice_get, slice_index_or}
 use Rattle.std.proofs.Common.{ap}
 use Rattle.std.specs.FinSet as set
 use Rattle.std.specs.Ordering.{nat_cmp}
@@ -61,6 +61,14 @@ alias_edge source target position = record { source = source; target = target; l
 -- The edge from an argument to the instantiation whose import at this index it satisfies.
 abbrev pub argument_edge : NodeId → NodeId → ℕ → Edge
 argument_edge source target position = record { source = source; target = target; label = Argument position }
+
+-- The edge leads to an alias.
+abbrev pub IsAlias : Edge → Type 0
+IsAlias e = (position : ℕ) × (e.label ≡ Alias position)
+
+-- No edge is in the list twice.
+abbrev pub AreOnce : List Edge → Type 0
+AreOnce es = (i j : ℕ) (e : Edge) → slice_get es i ≡ Some e → slice_get es j ≡ Some e → i ≡ j
 
 -- The node is left, by its flag.
 abbrev pub is_left : List Bool → NodeId → Bool

@@ -1,5 +1,5 @@
 pub mod cycles
-pub mod Ends
+pub mod Targets
 pub mod Records
 pub mod Aliases
 pub mod Ready

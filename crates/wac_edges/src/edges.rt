@@ -1,11 +1,12 @@
 //! Sets of labelled edges between nodes.
-ghost use Rattle.std.specs.Prelude.{◌≡◌, ◌<◌, ◌+◌, ◌↔◌, ◌⊎◌, ℕ, true, false, OnOk, OnErr, IfOk, IfSome, IfNone, MatchOption, length, slice_index};
+ghost use Rattle.std.specs.Prelude.{◌≡◌, ◌<◌, ◌+◌, ◌↔◌, ◌⊎◌, ℕ, true, false, OnOk, OnErr, IfOk, IfSome, IfNone, MatchOption, Contains, length, slice_index};
 ghost use Rattle.std.specs.Bool.{OnTrue, OnFalse};
 ghost use Rattle.std.specs.FinSet as set;
 ghost use Rattle.wac_edges.specs.declared.edges.Edge.{Edge as AnEdge};
 ghost use Rattle.wac_edges.specs.declared.node.NodeId.{NodeId as AnId};
-ghost use Rattle.wac_edges.specs.Edge.{node_number, edge_cmp, alias_edge, argument_edge};
-ghost use Rattle.wac_edges.specs.private.Ends.{at_end, AreAt, HasLabel, LeadsTo};
+ghost use Rattle.wac_edges.specs.Edge.{node_number, edge_cmp, alias_edge, argument_edge, AreOnce, IsAlias};
+ghost use Rattle.wac_edges.specs.Ends.{at_end, AreAt, HasLabel};
+ghost use Rattle.wac_edges.specs.private.Targets.{LeadsTo};
 ghost use Rattle.wac_edges.specs.Order.{IsAcyclic, IsEdge, IsLowestOnCycle};
 ghost use Rattle.wac_edges.specs.cycles.Cycles.{IsStep};
 ghost use Rattle.wac_edges.specs.private.Ready.{AllRise, AreCounted, leads_from, one};
@@ -13,7 +14,10 @@ ghost use Rattle.wac_edges.specs.private.Ready.{AllRise, AreCounted, leads_from,
 use crate::aliases::{Aliases, first_alias, forget_alias, is_crowded, mark, note, note_all};
 use crate::cycles::cycles::{add_step, empty_sets, lowest_on_cycle};
 use crate::node::NodeId;
-use crate::records::{Firsts, MOST, Record, all_rise, find, make_firsts, put, take};
+use crate::records::{
+    Firsts, MOST, Record, all_rise, any_falls, find, make_all_firsts, make_firsts, put, put_all,
+    take,
+};
 use crate::walk::{Walk, records_at};
 use slab::Slab;
 use std::alloc::{AllocError, Global};
@@ -179,6 +183,42 @@ impl Edges {
         note(&self.crowded, &mut self.aliases, edge)?;
         put(&mut self.records, &mut self.firsts, edge);
         self.falls |= edge.target.0 <= edge.source.0;
+        Ok(())
+    }
+
+    /// Adds edges that are not in the set, each once, without searching for them. None of them may be an alias.
+    ///
+    /// Takes all memory before it adds the first edge. An alias may need memory when it is added.
+    ///
+    /// # Errors
+    /// - `AllocError` if out of memory, or if the table would have room for more than 2^32 edges.
+    ///
+    /// On an error the set is unchanged.
+    pub fn add_all(&mut self, edges: &[Edge]) -> Result<(), AllocError>
+        requires absent { (e : AnEdge) → Contains edges.now e → set.contains self.old e ≡ true → ⊥ }
+        requires once { AreOnce edges.now }
+        requires no_alias { (e : AnEdge) → Contains edges.now e → IsAlias e → ⊥ }
+        ensures ok { OnOk result ((e : AnEdge) → (set.contains self.new e ≡ true) ↔ (Contains edges.now e ⊎ (set.contains self.old e ≡ true))) }
+        ensures err { OnErr result (self.new ≡ self.old) }
+    {
+        self.crowd_all(edges)?;
+        make_all_firsts(&mut self.firsts, edges)?;
+        self.records.reserve(edges.len())?;
+        if self.records.capacity() > MOST {
+            return Err(AllocError);
+        }
+        put_all(&mut self.records, &mut self.firsts, edges);
+        self.falls |= any_falls(edges);
+        Ok(())
+    }
+
+    /// Marks each source with more than `FEW` outgoing edges, and adds its aliases to the map.
+    fn crowd_all(&mut self, edges: &[Edge]) -> Result<(), AllocError>
+        ensures { self.new ≡ self.old }
+    {
+        for edge in edges {
+            self.crowd(edge.source)?;
+        }
         Ok(())
     }
 

@@ -1,11 +1,12 @@
 //! Edges as records of one table. Each is in a list of the edges of its source and in one of its target.
-ghost use Rattle.std.specs.Prelude.{◌≡◌, ◌↔◌, ◌⊎◌, ℕ, ◌<◌, ◌≤◌, ◌^◌, Some, None, IfSome, IfNone, OnOk, length, vec_len};
+ghost use Rattle.std.specs.Prelude.{◌≡◌, ◌↔◌, ◌⊎◌, ℕ, ◌+◌, ◌<◌, ◌≤◌, ◌^◌, Some, None, IfSome, IfNone, OnOk, Contains, length, vec_len};
 ghost use Rattle.std.specs.Bool.{OnTrue, OnFalse};
 ghost use Rattle.std.specs.Option.{option_map, ForNone, ForSome};
-ghost use Rattle.slab.specs.Slab.{get, ContainsKey, HasRoomFor};
+ghost use Rattle.slab.specs.Slab.{get, slab_len, ContainsKey, HasRoomFor};
 ghost use Rattle.wac_edges.specs.declared.edges.Edge.{Edge as AnEdge};
 ghost use Rattle.wac_edges.specs.declared.edges.End.{End as AnEnd};
-ghost use Rattle.wac_edges.specs.private.Records.{AreLinked, AreListed, HasEdge, links_at, number_at, with_links, with_next, with_previous, places, first_at, edge_at, opposite, updated, changed, begun_by};
+ghost use Rattle.wac_edges.specs.Edge.{AreOnce};
+ghost use Rattle.wac_edges.specs.private.Records.{AreLinked, AreListed, HasEdge, HasShortKey, HaveFirsts, KeepsRoom, links_at, number_at, with_links, with_next, with_previous, places, first_at, edge_at, opposite, updated, changed, begun_by};
 
 use crate::edges::{Edge, End};
 use crate::walk::records_at;
@@ -103,7 +104,8 @@ fn set_first(firsts: &mut [Firsts], node: usize, end: End, key: Option<u32>)
 #[inline(always)]
 fn set_links(records: &mut Slab<Record>, key: usize, end: End, links: Links)
     requires { ContainsKey records.old key }
-    ensures { (q : ℕ) → get records.new q ≡ updated (get records.old) key (option_map (with_links end links) (get records.old key)) q }
+    ensures records { (q : ℕ) → get records.new q ≡ updated (get records.old) key (option_map (with_links end links) (get records.old key)) q }
+    ensures room { KeepsRoom records.old records.new }
 {
     let record = &mut records[key];
     match end {
@@ -142,7 +144,8 @@ fn set_next(
 #[inline(always)]
 fn set_previous(records: &mut Slab<Record>, end: End, key: Option<u32>, previous: Option<u32>)
     requires { ForSome key (λ k. ContainsKey records.old k) }
-    ensures { (q : ℕ) → get records.new q ≡ changed (with_previous end previous) key (get records.old) q }
+    ensures records { (q : ℕ) → get records.new q ≡ changed (with_previous end previous) key (get records.old) q }
+    ensures room { KeepsRoom records.old records.new }
 {
     if let Some(key) = key {
         let key = key as usize;
@@ -162,6 +165,7 @@ fn link(records: &mut Slab<Record>, firsts: &mut [Firsts], key: usize, end: End)
     ensures opposite { (q : ℕ) → places (opposite end) (get records.new) q ≡ places (opposite end) (get records.old) q }
     ensures firsts { (n : ℕ) → first_at (opposite end) firsts.new n ≡ first_at (opposite end) firsts.old n }
     ensures edges { (q : ℕ) → edge_at (get records.new) q ≡ edge_at (get records.old) q }
+    ensures room { KeepsRoom records.old records.new }
 {
     let node = records[key].number(end);
     let next = first(firsts, node, end);
@@ -211,6 +215,18 @@ pub(crate) fn make_firsts(firsts: &mut Vec<Firsts>, node: usize) -> Result<(), A
     Ok(())
 }
 
+/// Makes room for the lists of the nodes at both ends of each edge.
+pub(crate) fn make_all_firsts(firsts: &mut Vec<Firsts>, edges: &[Edge]) -> Result<(), AllocError>
+    ensures same { (end : AnEnd) (n : ℕ) → first_at end firsts.new.items n ≡ first_at end firsts.old.items n }
+    ensures there { OnOk result (HaveFirsts (vec_len firsts.new) edges.now) }
+{
+    for edge in edges {
+        make_firsts(firsts, edge.source.0)?;
+        make_firsts(firsts, edge.target.0)?;
+    }
+    Ok(())
+}
+
 /// Returns the key of the record of an edge.
 ///
 /// Reads at most two records for each edge at the end that has fewer, and one more.
@@ -235,17 +251,35 @@ pub(crate) fn find(records: &Slab<Record>, firsts: &[Firsts], edge: Edge) -> Opt
 /// Adds an edge that has no record yet to the table, which must have room, and to the lists at both ends.
 pub(crate) fn put(records: &mut Slab<Record>, firsts: &mut [Firsts], edge: Edge)
     requires room { HasRoomFor records.old 1 }
-    requires short { records.old.vacant_key < 2 ^ 32 }
+    requires short { HasShortKey records.old }
     requires source { edge.source.0 < length firsts.old }
     requires target { edge.target.0 < length firsts.old }
     requires listed { AreListed (get records.old) firsts.old }
     requires absent { (k : ℕ) → edge_at (get records.old) k ≡ Some edge → ⊥ }
     ensures listed { AreListed (get records.new) firsts.new }
     ensures edges { (e : AnEdge) → HasEdge (get records.new) e ↔ (HasEdge (get records.old) e ⊎ (e ≡ edge)) }
+    ensures count { slab_len records.new ≡ slab_len records.old + 1 }
+    ensures capacity { records.new.capacity ≡ records.old.capacity }
 {
     let key = records.insert_reserved(Record::new(edge));
     link(records, firsts, key, End::Outgoing);
     link(records, firsts, key, End::Incoming);
+}
+
+/// Adds edges that have no record yet, each once, to the table, which must have room, and to the lists at both ends.
+pub(crate) fn put_all(records: &mut Slab<Record>, firsts: &mut [Firsts], edges: &[Edge])
+    requires room { HasRoomFor records.old (length edges.now) }
+    requires short { records.old.capacity ≤ 2 ^ 32 }
+    requires there { HaveFirsts (length firsts.old) edges.now }
+    requires listed { AreListed (get records.old) firsts.old }
+    requires absent { (e : AnEdge) → Contains edges.now e → HasEdge (get records.old) e → ⊥ }
+    requires once { AreOnce edges.now }
+    ensures listed { AreListed (get records.new) firsts.new }
+    ensures edges { (e : AnEdge) → HasEdge (get records.new) e ↔ (HasEdge (get records.old) e ⊎ Contains edges.now e) }
+{
+    for edge in edges {
+        put(records, firsts, *edge);
+    }
 }
 
 /// Removes a record from the lists at both ends and from the table.
@@ -280,4 +314,16 @@ fn falls(records: &Slab<Record>, key: usize) -> bool
         Some(record) => record.edge.target.0 <= record.edge.source.0,
         None => false,
     }
+}
+
+/// Whether one of the edges leads to a node with no higher number.
+pub(crate) fn any_falls(edges: &[Edge]) -> bool
+    ensures { OnFalse result ((e : AnEdge) → Contains edges.now e → e.source.0 < e.target.0) }
+{
+    for edge in edges {
+        if edge.target.0 <= edge.source.0 {
+            return true;
+        }
+    }
+    false
 }

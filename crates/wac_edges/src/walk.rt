@@ -78,7 +78,7 @@ pub struct Walk<'a> {
 }
 
 impl<'a> Model for Walk<'a> {
-    ghost use Rattle.wac_edges.specs.private.Ends.{Walked};
+    ghost use Rattle.wac_edges.specs.Ends.{Walked};
 
     ghost Value = { Walked };
 
@@ -112,7 +112,7 @@ impl<'a> Iterator for Walk<'a> {
     type Item = Edge;
 
     ghost use Rattle.std.specs.Iterator.{item_count};
-    ghost use Rattle.wac_edges.specs.private.Ends.{Gives};
+    ghost use Rattle.wac_edges.specs.Ends.{Gives};
 
     ghost next_gives = { Gives };
 

@@ -13,7 +13,7 @@ use Rattle.wac_edges.specs.declared.edges.End.TheVariants.{Incoming}
 use Rattle.wac_edges.specs.declared.node.NodeId.{NodeId}
 use Rattle.wac_edges.specs.Edge.{node_number}
 use Rattle.wac_edges.specs.Order.{Edges}
-use Rattle.wac_edges.specs.private.Ends.{AreAt}
+use Rattle.wac_edges.specs.Ends.{AreAt}
 use Rattle.wac_edges.specs.private.cycles.Numbers.{Has}
 use Rattle.wac_edges.proofs.lemmas.cycles.Numbers.{has_head, has_insert, has_new, has_old, has_split, has_tail}
 use Rattle.wac_graph_model.specs.nodes.Definitions.{dependency_edge}

@@ -4,7 +4,7 @@ ghost use Rattle.std.specs.Option.{option_map};
 ghost use Rattle.std.specs.FinSet as set;
 ghost use Rattle.slab.specs.Slab.{get};
 ghost use Rattle.wac_edges.specs.declared.edges.Edge.{Edge as AnEdge};
-ghost use Rattle.wac_edges.specs.private.Ends.{at_end};
+ghost use Rattle.wac_edges.specs.Ends.{at_end};
 ghost use Rattle.wac_graph_model.specs.nodes.Nodes.{node_of};
 ghost use Rattle.wac_graph_fields.specs.private.Lost.{AreNoted};
 ghost use Rattle.wac_graph_fields.specs.Removal.{GoesWith};

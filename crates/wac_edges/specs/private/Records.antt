@@ -1,14 +1,14 @@
 -- Edges as records of a table, in lists by their ends. No public contract cites this.
-use Rattle.std.specs.Prelude.{ℕ, zero, suc, ◌≡◌, ◌<◌, ◌==◌, if◌then◌else◌, Bool, false, List, [], ◌∷◌, length, Option, Some, None, slice_get}
+use Rattle.std.specs.Prelude.{ℕ, zero, suc, ◌≡◌, ◌<◌, ◌≤◌, ◌^◌, ◌⊎◌, ◌==◌, if◌then◌else◌, Bool, false, List, [], ◌∷◌, Contains, length, Option, Some, None, slice_get}
 use Rattle.std.specs.Option.{option_map}
-use Rattle.slab.specs.Slab.{Slab, get}
+use Rattle.slab.specs.Slab.{Slab, get, slab_len}
 use Rattle.wac_edges.specs.declared.edges.End.{End}
 use Rattle.wac_edges.specs.declared.edges.End.TheVariants.{Outgoing, Incoming}
 use Rattle.wac_edges.specs.declared.edges.Edge.{Edge}
 use Rattle.wac_edges.specs.declared.records.Links.{Links}
 use Rattle.wac_edges.specs.declared.records.Record.{Record}
 use Rattle.wac_edges.specs.declared.records.Firsts.{Firsts}
-use Rattle.wac_edges.specs.private.Ends.{at_end}
+use Rattle.wac_edges.specs.Ends.{at_end}
 
 -- The records by key.
 abbrev pub Table : Type 0
@@ -105,6 +105,18 @@ pub record AreListed (t : Table) (firsts : List Firsts) : Type 0 where
 -- Unless an edge may fall, each edge leads to a node with a higher number.
 pub record RiseUnless (falls : Bool) (t : Table) : Type 0 where
   pub up : falls ≡ false → (e : Edge) → HasEdge t e → e.source.0 < e.target.0
+
+-- Each edge leads from one of the first n nodes to one of them.
+abbrev pub HaveFirsts : ℕ → List Edge → Type 0
+HaveFirsts n es = (e : Edge) → Contains es e → (e.source.0 < n) × (e.target.0 < n)
+
+-- The next key fits in a u32: by itself, or since the table has room for no more records.
+abbrev pub HasShortKey : Slab Record → Type 0
+HasShortKey s = (s.vacant_key < 2 ^ 32) ⊎ (s.capacity ≤ 2 ^ 32)
+
+-- The table has as many records as before, and as much room.
+abbrev pub KeepsRoom : Slab Record → Slab Record → Type 0
+KeepsRoom old new = (slab_len new ≡ slab_len old) × (new.capacity ≡ old.capacity)
 
 -- The edges of all records.
 abbrev pub all_edges : List (Option Record) → List Edge

@@ -1,5 +1,5 @@
 use Rattle.std.proofs.Common.{ap, sym, ◌∙◌}
-use Rattle.wac_edges.specs.private.Ends.{Walked}
+use Rattle.wac_edges.specs.Ends.{Walked}
 use Rattle.wac_edges.proofs.AliasLemmas.{noting_start, noting_next, noting_done}
 use Rattle.wac_edges.proofs.aliases.note_all.Goals as goal
 

@@ -3,7 +3,7 @@ use Rattle.std.specs.Prelude.{◌↔◌}
 use Rattle.wac_edges.specs.declared.edges.Edge.{Edge}
 use Rattle.wac_edges.specs.Edge.{node_number}
 use Rattle.wac_edges.specs.cycles.Cycles.{IsStep}
-use Rattle.wac_edges.specs.private.Ends.{LeadsTo}
+use Rattle.wac_edges.specs.private.Targets.{LeadsTo}
 use Rattle.wac_edges.proofs.TargetLemmas.{leads_push, step_more}
 use Rattle.wac_edges.proofs.edges.add_targets.Goals as goal
 

@@ -9,4 +9,4 @@ returns-clause-linked c =
     linked_all (get c.args.records.now) (first_at c.args.end c.args.firsts.now) c.args.end c.args.key c.index.result.now c.index.ensures c.requires.others
     (record { previous = None; next = c.first-next.result }) c.number-node.result c.first-next.result refl c.number-node.ensures c.first-next.ensures
     (get c.set_links.new.records) (get c.set_previous.new.records) (first_at c.args.end c.set_first.new.firsts)
-    c.set_links.ensures c.set_previous.ensures c.set_first.ensures.here
+    c.set_links.ensures.records c.set_previous.ensures.records c.set_first.ensures.here

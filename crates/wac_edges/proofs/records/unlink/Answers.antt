@@ -23,4 +23,4 @@ pub returns-clause-others : goal.returns-clause-others
 returns-clause-others c =
     unlinked_all (get c.args.records.now) (first_at c.args.end c.args.firsts.now) c.args.end c.requires.linked c.args.key c.index.result.now c.index.ensures c.links-links.result c.number-node.result
     c.links-links.ensures c.number-node.ensures (get c.set_next.new.records) (get c.set_previous.new.records) (first_at c.args.end c.set_next.new.firsts)
-    c.set_next.ensures.records c.set_previous.ensures c.set_next.ensures.firsts
+    c.set_next.ensures.records c.set_previous.ensures.records c.set_next.ensures.firsts

@@ -1,5 +1,5 @@
 use Rattle.std.proofs.Common.{ap}
-use Rattle.wac_edges.specs.private.Ends.{Walked}
+use Rattle.wac_edges.specs.Ends.{Walked}
 use Rattle.wac_graph.proofs.DependencyLemmas.{gather_next, gather_start, gathered}
 use Rattle.wac_graph.proofs.dependencies.dependency_numbers.Goals as goal
 

@@ -1,7 +1,7 @@
 use Rattle.std.proofs.Common.{◌≡◌, Some, ap}
 use Rattle.wac_edges.specs.declared.edges.Edge.{Edge}
 use Rattle.wac_edges.specs.declared.edges.End.TheVariants.{Incoming}
-use Rattle.wac_edges.specs.private.Ends.{Walked}
+use Rattle.wac_edges.specs.Ends.{Walked}
 use Rattle.wac_edges.proofs.SetLemmas.{seeks_start, seeks_next, seeks_found, seeks_none}
 use Rattle.wac_graph_fields.proofs.taking.other_into.Goals as goal
 

@@ -9,7 +9,7 @@ use Rattle.wac_edges.specs.declared.edges.Label.TheVariants.{Alias, Argument, De
 use Rattle.wac_edges.specs.declared.edges.End.TheVariants.{Incoming}
 use Rattle.wac_edges.specs.declared.node.NodeId.{NodeId}
 use Rattle.wac_edges.specs.Edge.{node_number, argument_edge}
-use Rattle.wac_edges.specs.private.Ends.{AreAt}
+use Rattle.wac_edges.specs.Ends.{AreAt}
 use Rattle.wac_edges.specs.Order.{Edges}
 use Rattle.wac_graph_model.specs.nodes.Graph.{Graph, IsArgumentOf}
 use Rattle.wac_graph_fields.specs.private.Fields.{Fields, graph_of}

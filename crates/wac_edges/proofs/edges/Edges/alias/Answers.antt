@@ -8,7 +8,7 @@ use Rattle.wac_edges.specs.declared.edges.Edge.{Edge}
 use Rattle.wac_edges.specs.declared.node.NodeId.{NodeId}
 use Rattle.wac_edges.specs.Edge.{alias_edge}
 use Rattle.wac_edges.specs.private.Aliases.{is_crowded}
-use Rattle.wac_edges.specs.private.Ends.{Walked}
+use Rattle.wac_edges.specs.Ends.{Walked}
 use Rattle.wac_edges.proofs.AliasLemmas.{alias_found, alias_absent, if_none}
 use Rattle.wac_edges.proofs.EdgeLemmas.{label_exact, label_tied}
 use Rattle.wac_edges.proofs.SetLemmas.{seeks_start, seeks_next, seeks_found, seeks_none}

@@ -5,7 +5,7 @@ use Rattle.wac_edges.specs.declared.edges.Label.{Label}
 use Rattle.wac_edges.specs.declared.edges.Label.TheVariants.{Alias}
 use Rattle.wac_edges.specs.declared.edges.Edge.{Edge}
 use Rattle.wac_edges.specs.declared.node.NodeId.{NodeId}
-use Rattle.wac_edges.specs.private.Ends.{Walked}
+use Rattle.wac_edges.specs.Ends.{Walked}
 use Rattle.wac_edges.proofs.SetLemmas.{seeks_start, seeks_next, seeks_found}
 use Rattle.wac_edges.proofs.edges.Edges.alias_source.Goals as goal
 

@@ -4,7 +4,7 @@ use Rattle.std.proofs.lemmas.List.{with_items_is}
 use Rattle.wac_edges.specs.Edge.{node_number}
 use Rattle.wac_edges.specs.cycles.Cycles.{IsStep}
 use Rattle.wac_edges.specs.Order.{IsEdge}
-use Rattle.wac_edges.specs.private.Ends.{LeadsTo}
+use Rattle.wac_edges.specs.private.Targets.{LeadsTo}
 use Rattle.wac_edges.proofs.TargetLemmas.{next_row, step_as, leads_at}
 use Rattle.wac_edges.proofs.edges.Edges.targets.Goals as goal
 

@@ -2,7 +2,7 @@ use Rattle.std.proofs.Common.{◌≡◌, length, ap, ◌∙◌, subst, arith}
 use Rattle.std.proofs.lemmas.List.{with_items_is}
 use Rattle.wac_edges.specs.declared.edges.End.TheVariants.{Incoming}
 use Rattle.wac_edges.specs.Edge.{node_number}
-use Rattle.wac_edges.specs.private.Ends.{Walked, AreAt}
+use Rattle.wac_edges.specs.Ends.{Walked, AreAt}
 use Rattle.wac_graph_model.specs.nodes.Graph.{Graph}
 use Rattle.wac_graph_reader.proofs.lemmas.writing.SourceLemmas.{only_none, noting_start, noting_next}
 use Rattle.wac_graph_reader.proofs.reading.reader.GraphReader.sources.Goals as goal

@@ -36,7 +36,3 @@ Gives old item new = YieldsFirst (λ (w : Walked). w.left) old item new × (new.
 -- An edge of the set at this end of the node has this label.
 abbrev pub HasLabel : Edges → NodeId → End → Label → Type 0
 HasLabel edges node end label = (e : Edge) × (set.contains edges e ≡ true) × (at_end end e ≡ node) × (e.label ≡ label)
-
--- An edge of the list leads to b.
-abbrev pub LeadsTo : List Edge → NodeId → Type 0
-LeadsTo es b = (e : Edge) × Contains es e × (e.target ≡ b)
