@@ -1,5 +1,5 @@
 -- The edges that a new definition brings, node by node.
-use Rattle.std.proofs.Common.{◌≡◌, ℕ, ◌+◌, ◌<◌, ◌≤◌, true, List, [], ◌∷◌, ◌++◌, length, refl, ap, sym, subst, arith, Some, ◌⊎◌, inl, inr}
+use Rattle.std.proofs.Common.{◌≡◌, ℕ, ◌+◌, ◌<◌, ◌≤◌, true, List, [], ◌∷◌, ◌++◌, length, refl, ap, ◌∙◌, sym, subst, arith, Some, ◌⊎◌, inl, inr}
 use Rattle.std.specs.Prelude.{◌↔◌, Contains}
 use Rattle.std.proofs.lemmas.List.Elements.{Contains-append_left, Contains-push, Contains-push_cases}
 use Rattle.std.specs.FinSet as set
@@ -8,14 +8,15 @@ use Rattle.wac_types_shapes.specs.declared.shapes.component.«Type».{«Type» a
 use Rattle.wac_types_collection.specs.collection.Collection.{Collection, IsWellFormed}
 use Rattle.wac_types_collection.specs.reach.Reach.{Reaches}
 use Rattle.wac_edges.specs.declared.edges.Edge.{Edge}
+use Rattle.wac_edges.specs.declared.edges.Label.TheVariants.{Alias, Dependency}
 use Rattle.wac_edges.specs.declared.node.NodeId.{NodeId}
-use Rattle.wac_edges.specs.Edge.{node_number}
+use Rattle.wac_edges.specs.Edge.{node_number, AreOnce, IsAlias}
 use Rattle.wac_edges.specs.Order.{Edges}
 use Rattle.wac_graph_model.specs.declared.nodes.node.Node.{Node}
 use Rattle.wac_graph_model.specs.nodes.Definitions.{IsDefinedValue, dependency_edge}
 use Rattle.wac_graph_model.proofs.lemmas.nodes.Added.{by_eq}
-use Rattle.wac_graph_fields.specs.private.Stored.{AreOnce, DefinesAt, IsBetween, Brings}
-use Rattle.wac_graph_fields.proofs.AddingLemmas.{once_push}
+use Rattle.wac_graph_fields.specs.private.Stored.{DefinesAt, IsBetween, Brings}
+use Rattle.wac_edges.proofs.AddingLemmas.{once_push}
 use Rattle.wac_graph_fields.proofs.ReachedLemmas.{one_way}
 use Rattle.wac_graph_fields.proofs.StoredLemmas.{defines_within}
 
@@ -138,6 +139,11 @@ module _ (c : Collection) (nodes : Slab Node) (t : AnyType) (n : NodeId) where
   pub brings_ends : (e : Edge) → Brings c nodes t n e → (e.source ≡ n) ⊎ (e.target ≡ n)
   brings_ends e (q, u, defined, inl (_, is)) = inr (ap (λ (x : Edge). x.target) is)
   brings_ends e (q, u, defined, inr (_, is)) = inl (ap (λ (x : Edge). x.source) is)
+
+  -- none of them is an alias
+  pub brings_no_alias : (e : Edge) → Brings c nodes t n e → IsAlias e → ⊥
+  brings_no_alias e (q, u, defined, inl (_, is)) (i, alias) = let wrong : Dependency ≡ Alias i = sym (ap (λ (x : Edge). x.label) is) ∙ alias in cc
+  brings_no_alias e (q, u, defined, inr (_, is)) (i, alias) = let wrong : Dependency ≡ Alias i = sym (ap (λ (x : Edge). x.label) is) ∙ alias in cc
 
   -- and they were added
   pub brought_added : (old new : Edges) (xs ys : List Edge) → ys ≡ xs → ((e : Edge) → Contains xs e ↔ Brings c nodes t n e) → (e : Edge) → (set.contains new e ≡ true) ↔ (Contains ys e ⊎ (set.contains old e ≡ true))

@@ -14,7 +14,6 @@ pub mod UsedEntries
 pub mod AskingTasks
 pub mod AskingKnown
 pub mod AskingLoops
-pub mod AddingLemmas
 pub mod StoredLemmas
 pub mod ReachedLemmas
 pub mod DependencyLemmas

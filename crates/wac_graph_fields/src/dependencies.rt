@@ -4,10 +4,10 @@ ghost use Rattle.std.specs.FinSet as set;
 ghost use Rattle.wac_types_collection.specs.collection.Collection.{holds_type};
 ghost use Rattle.wac_types_collection.specs.reach.Reach.{AreClosed, IsIn, Reaches};
 ghost use Rattle.wac_edges.specs.declared.edges.Edge.{Edge as AnEdge};
+ghost use Rattle.wac_edges.specs.Edge.{AreOnce};
 ghost use Rattle.wac_graph_model.specs.nodes.Definitions.{IsDefinedValue, dependency_edge};
-ghost use Rattle.wac_graph_fields.specs.private.Stored.{AreHeld, AreOnce, Brings};
+ghost use Rattle.wac_graph_fields.specs.private.Stored.{AreHeld, Brings};
 
-use crate::adding::add_all;
 use crate::defined::defined_at;
 use slab::Slab;
 use std::alloc::AllocError;
@@ -35,7 +35,7 @@ pub fn add_dependencies(
     ensures err { OnErr result (edges.new ≡ edges.old) }
 {
     let brought = dependencies(nodes, types, ty, id)?;
-    add_all(edges, brought.as_slice())
+    edges.add_all(brought.as_slice())
 }
 
 /// Returns the dependency edges of a new definition.

@@ -3,7 +3,6 @@
 //! It also lists the graph's imports, finds the dependencies of a definition, and removes nodes and packages.
 #![tactic(auto)]
 
-mod adding;
 mod asked;
 mod defined;
 mod dependencies;

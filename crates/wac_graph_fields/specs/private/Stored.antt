@@ -1,5 +1,5 @@
 -- The definitions among stored nodes, and the dependency edges of a new one.
-use Rattle.std.specs.Prelude.{◌≡◌, ◌⊎◌, ℕ, true, List, Some, IsSomeAnd, slice_get}
+use Rattle.std.specs.Prelude.{◌≡◌, ◌⊎◌, ℕ, true, IsSomeAnd}
 use Rattle.std.specs.Option.{option_map}
 use Rattle.slab.specs.Slab.{Slab, get}
 use Rattle.wac_types_shapes.specs.declared.shapes.component.«Type».{«Type» as AnyType}
@@ -32,7 +32,3 @@ IsBetween c t n u m e =
 -- The edge is a dependency edge of a new definition n of type t.
 abbrev pub Brings : Collection → Slab Node → AnyType → NodeId → Edge → Type 0
 Brings c nodes t n e = (q : ℕ) × (u : AnyType) × DefinesAt nodes u q × IsBetween c t n u (node_number q) e
-
--- No edge is in the list twice.
-abbrev pub AreOnce : List Edge → Type 0
-AreOnce es = (i j : ℕ) (e : Edge) → slice_get es i ≡ Some e → slice_get es j ≡ Some e → i ≡ j

@@ -1,7 +1,7 @@
 use Rattle.std.specs.Prelude.{◌↔◌, Contains}
 use Rattle.wac_types_collection.specs.reach.Reach.{AreClosed, IsIn}
 use Rattle.wac_edges.specs.declared.edges.Edge.{Edge}
-use Rattle.wac_graph_fields.specs.private.Stored.{AreOnce}
+use Rattle.wac_edges.specs.Edge.{AreOnce}
 use Rattle.wac_graph_fields.proofs.DependencyLemmas.{BringsBelow}
 use Rattle.wac_graph_fields.proofs.dependencies.dependencies.Given as goal
 
