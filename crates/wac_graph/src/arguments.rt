@@ -13,7 +13,7 @@ ghost use Rattle.wac_edges.specs.declared.node.NodeId.{NodeId as AnId};
 use crate::graph::CompositionGraph;
 use std::alloc::AllocError;
 use wac_edges::edges::{Edge, Label};
-use wac_graph_model::inner::{satisfy, unsatisfy};
+use wac_graph_model::inner::{reserve_mark, satisfy, unsatisfy};
 use wac_graph_model::{InstantiationArgumentError, NodeId, NodeKind};
 use wac_types::laws::subtyping_is_reflexive;
 use wac_types::{ItemKind, SubtypeChecker, TypeFault};
@@ -154,16 +154,11 @@ impl CompositionGraph {
         ensures given { OnOk result (self.new ≡ record self.old { edges = set.insert self.old.edges (labelled argument instantiation position) }) }
         ensures kept { OnErr result (self.new ≡ self.old) }
     {
+        reserve_mark(&mut self.nodes, instantiation.0)?;
         let edge = argument_edge(instantiation, position, argument);
-        self.edges.add(edge)?;
-        // The set of satisfied imports cannot make room before it grows. If it cannot grow, the edge is removed again.
-        match satisfy(&mut self.nodes, instantiation.0, position) {
-            Ok(()) => Ok(()),
-            Err(e) => {
-                self.edges.remove(edge);
-                Err(e)
-            }
-        }
+        self.edges.add_new(edge)?;
+        satisfy(&mut self.nodes, instantiation.0, position);
+        Ok(())
     }
 
     /// Removes the argument at this position, if the node is it.

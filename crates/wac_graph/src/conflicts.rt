@@ -1,13 +1,11 @@
 //! Unsatisfied imports that have the name of an import node.
 ghost use Rattle.std.specs.Prelude.{◌≡◌, ◌<◌, ℕ, OnOk, IfOk, IfErr, IfSome, IfNone, Some, length};
-ghost use Rattle.std.specs.BTreeSet as positions;
-ghost use Rattle.std.specs.Ordering.{nat_cmp};
 ghost use Rattle.wac_types_shapes.specs.primitives.Name.{Name as AName};
 ghost use Rattle.wac_types_shapes.specs.keys.Key.{Key};
 ghost use Rattle.wac_graph_model.specs.causes.Cause.{IsConflict, IsFirstConflict, HasNoConflict, cause_of, conflict as conflict_cause};
 ghost use Rattle.wac_graph_model.specs.private.causes.Search.{Clashes, IsFirstOf, IsLowest, IsRefused};
 ghost use Rattle.wac_edges.specs.Edge.{node_number};
-ghost use Rattle.wac_graph_model.specs.nodes.Nodes.{names_of};
+ghost use Rattle.wac_graph_model.specs.nodes.Nodes.{names_of, has_position};
 ghost use Rattle.wac_edges.specs.Order.{IsAcyclic};
 ghost use Rattle.wac_graph_model.specs.declared.nodes.options.EncodeOptions.{EncodeOptions as Asked};
 ghost use Rattle.wac_edges.specs.declared.node.NodeId.{NodeId as AnId};
@@ -15,7 +13,7 @@ ghost use Rattle.wac_edges.specs.declared.node.NodeId.{NodeId as AnId};
 use crate::graph::CompositionGraph;
 use indexmap::IndexMap;
 use std::alloc::AllocError;
-use std::collections::BTreeSet;
+use std::collections::HashSet;
 use wac_graph_model::{EncodeError, NodeId, NodeKind};
 use wac_types::{ItemKind, Named};
 
@@ -69,13 +67,13 @@ impl CompositionGraph {
 
 /// The first import that is not in the set and has the name of an import node: its position and the node.
 fn first_clash(
-    satisfied: &BTreeSet<usize>,
+    satisfied: &HashSet<usize>,
     imports: &Named<ItemKind>,
     nodes: &IndexMap<String, NodeId>,
 ) -> Option<(usize, NodeId)>
-    ensures some { IfSome result (λ c. Clashes (positions.contains nat_cmp satisfied.now) imports.now (names_of nodes.now.entries) c.0 c.1) }
-    ensures first { IfSome result (λ c. (i : ℕ) (node : AnId) → i < c.0 → Clashes (positions.contains nat_cmp satisfied.now) imports.now (names_of nodes.now.entries) i node → ⊥) }
-    ensures none { IfNone result ((i : ℕ) (node : AnId) → Clashes (positions.contains nat_cmp satisfied.now) imports.now (names_of nodes.now.entries) i node → ⊥) }
+    ensures some { IfSome result (λ c. Clashes (has_position satisfied.now) imports.now (names_of nodes.now.entries) c.0 c.1) }
+    ensures first { IfSome result (λ c. (i : ℕ) (node : AnId) → i < c.0 → Clashes (has_position satisfied.now) imports.now (names_of nodes.now.entries) i node → ⊥) }
+    ensures none { IfNone result ((i : ℕ) (node : AnId) → Clashes (has_position satisfied.now) imports.now (names_of nodes.now.entries) i node → ⊥) }
 {
     if nodes.is_empty() {
         return None;
@@ -90,14 +88,14 @@ fn first_clash(
 
 /// The import node with the name of the import at this position, if the position is not in the set.
 fn clash_at(
-    satisfied: &BTreeSet<usize>,
+    satisfied: &HashSet<usize>,
     imports: &Named<ItemKind>,
     nodes: &IndexMap<String, NodeId>,
     i: usize,
 ) -> Option<NodeId>
     requires { i < length imports.now }
-    ensures some { IfSome result (λ node. Clashes (positions.contains nat_cmp satisfied.now) imports.now (names_of nodes.now.entries) i node) }
-    ensures none { IfNone result ((node : AnId) → Clashes (positions.contains nat_cmp satisfied.now) imports.now (names_of nodes.now.entries) i node → ⊥) }
+    ensures some { IfSome result (λ node. Clashes (has_position satisfied.now) imports.now (names_of nodes.now.entries) i node) }
+    ensures none { IfNone result ((node : AnId) → Clashes (has_position satisfied.now) imports.now (names_of nodes.now.entries) i node → ⊥) }
 {
     if satisfied.contains(&i) {
         return None;

@@ -25,7 +25,7 @@ use indexmap::IndexMap;
 use semver::Version;
 use slab::Slab;
 use std::alloc::{AllocError, Global};
-use std::collections::BTreeSet;
+use std::collections::HashSet;
 use std::marker::Model;
 use std::ops::Index;
 use wac_edges::edges::{Edge, Edges, Label};
@@ -357,7 +357,7 @@ impl CompositionGraph {
         let item_kind = ItemKind::Instance(package.instance_type());
         self.nodes.reserve(1)?;
         let number = self.nodes.vacant_key();
-        let kind = NodeKind::Instantiation(BTreeSet::new(self.alloc));
+        let kind = NodeKind::Instantiation(HashSet::new(self.alloc));
         self.nodes
             .insert_reserved(new_node(kind, Some(id), item_kind));
         Ok(NodeId(number))

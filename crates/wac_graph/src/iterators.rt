@@ -24,6 +24,11 @@ impl<'a> Model for Nodes<'a> {
 
     ghost Value = { List (NodeId × Node) };
 
+    ghost use Rattle.std.specs.Coded.{codes};
+    ghost use Rattle.wac_graph_model.specs.contracts.nodes.node.Node as node_row;
+
+    ghost coded = { Prim.hlevel (codes, node_row.the_row.coded) };
+
     ghost view = { λ s. map with_id s.entries };
 }
 

@@ -4,9 +4,6 @@ use Rattle.std.specs.Prelude.{slice_get, nat_lt}
 use Rattle.std.specs.Result.{IsErrAnd}
 use Rattle.std.specs.Option.{option_map}
 use Rattle.std.specs.FinSet as set
-use Rattle.std.specs.Ordering.{nat_cmp}
-use Rattle.std.specs.BTreeSet as positions
-use Rattle.std.specs.BTreeSet.{BTreeSet}
 use Rattle.std.proofs.lemmas.Bool.Decides.{nat_tests}
 use Rattle.slab.specs.Slab.{Slab, get}
 use Rattle.wac_types_shapes.specs.primitives.Name.{Name, option_case}
@@ -29,7 +26,7 @@ use Rattle.wac_edges.specs.Edge.{edge_cmp, argument_edge}
 use Rattle.wac_graph_model.specs.nodes.Graph as graph
 use Rattle.wac_graph_fields.specs.private.Arguments.{IsInstantiation, HasImport, Fits, CanBeGiven}
 use Rattle.wac_graph_model.specs.nodes.Graph.{Graph, GraphNode, node_at, package_at, package_in, package_of, imports_of, IsUnsatisfied, IsArgumentOf}
-use Rattle.wac_graph_model.specs.nodes.Nodes.{node_of, kind_of, satisfied, satisfied_at, IsInstantiationAt}
+use Rattle.wac_graph_model.specs.nodes.Nodes.{node_of, kind_of, satisfied, satisfied_at, IsInstantiationAt, has_position, Positions}
 use Rattle.wac_graph_fields.specs.private.Fields.{Fields, graph_of, Invariant}
 use Rattle.wac_graph_model.specs.nodes.Steps.{SetsArgument, SetsOn, UnsetsArgument, UnsetsOn, import_named}
 use Rattle.wac_graph_model.proofs.lemmas.nodes.NodeLemmas.{get-nodes_of, nodes_of-same}
@@ -58,16 +55,16 @@ unsets_at a id argument n name result new had h =
     let at : node_at (graph_of a) id ≡ Some (node_of n) = get-nodes_of a.nodes.slots id.0 ∙ ap (option_map node_of) had in
     subst (λ o. IfSome o (λ m. UnsetsOn (graph_of a) id m name argument result new)) (sym at) h
 
-pub no_instantiation : (k : NodeKind) → ((s : BTreeSet ℕ) → k ≡ code.Instantiation s → ⊥) → kind_of k ≡ graph.instantiation → ⊥
+pub no_instantiation : (k : NodeKind) → ((s : Positions) → k ≡ code.Instantiation s → ⊥) → kind_of k ≡ graph.instantiation → ⊥
 no_instantiation code.Definition h e = cc
 no_instantiation (code.Import name) h e = cc
 no_instantiation (code.Instantiation s) h e = h s refl
 no_instantiation code.Alias h e = cc
 
-pub not_instantiation : (a : Fields) (id argument : NodeId) (n : Node) (name : Name) → get a.nodes id.0 ≡ Some n → ((s : BTreeSet ℕ) → n.kind ≡ code.Instantiation s → ⊥) → SetsArgument (graph_of a) id name argument (Err (NodeIsNotAnInstantiation id)) (graph_of a)
+pub not_instantiation : (a : Fields) (id argument : NodeId) (n : Node) (name : Name) → get a.nodes id.0 ≡ Some n → ((s : Positions) → n.kind ≡ code.Instantiation s → ⊥) → SetsArgument (graph_of a) id name argument (Err (NodeIsNotAnInstantiation id)) (graph_of a)
 not_instantiation a id argument n name had not_one = sets_at a id argument n name (Err (NodeIsNotAnInstantiation id)) (graph_of a) had (λ g _. (refl, refl, no_instantiation n.kind not_one))
 
-pub not_instantiation_unset : (a : Fields) (id argument : NodeId) (n : Node) (name : Name) → get a.nodes id.0 ≡ Some n → ((s : BTreeSet ℕ) → n.kind ≡ code.Instantiation s → ⊥) → UnsetsArgument (graph_of a) id name argument (Err (NodeIsNotAnInstantiation id)) (graph_of a)
+pub not_instantiation_unset : (a : Fields) (id argument : NodeId) (n : Node) (name : Name) → get a.nodes id.0 ≡ Some n → ((s : Positions) → n.kind ≡ code.Instantiation s → ⊥) → UnsetsArgument (graph_of a) id name argument (Err (NodeIsNotAnInstantiation id)) (graph_of a)
 not_instantiation_unset a id argument n name had not_one = unsets_at a id argument n name (Err (NodeIsNotAnInstantiation id)) (graph_of a) had (refl, refl, no_instantiation n.kind not_one)
 
 item_at_node : (a : Fields) (argument : NodeId) (m : Node) → get a.nodes argument.0 ≡ Some m → (g : GraphNode) → node_at (graph_of a) argument ≡ Some g → m.item_kind ≡ g.item_kind
@@ -77,7 +74,7 @@ pub held_node : (a : Fields) → Invariant a → (id : NodeId) (n : Node) → ge
 held_node a v id n had = (v.sound).held id (node_of n) (get-nodes_of a.nodes.slots id.0 ∙ ap (option_map node_of) had)
 
 -- an instantiation node, of which the package is found
-module _ (a : Fields) (v : Invariant a) (id : NodeId) (n : Node) (s : BTreeSet ℕ) (name : Name) (had : get a.nodes id.0 ≡ Some n) (is : n.kind ≡ code.Instantiation s) where
+module _ (a : Fields) (v : Invariant a) (id : NodeId) (n : Node) (s : Positions) (name : Name) (had : get a.nodes id.0 ≡ Some n) (is : n.kind ≡ code.Instantiation s) where
   owner_there : (o : PackageId) × (p : PackageParts) × (n.«package» ≡ Some o) × (package_at (graph_of a) o ≡ Some p)
   owner_there =
       let i = (v.sound).instances id (node_of n) (get-nodes_of a.nodes.slots id.0 ∙ ap (option_map node_of) had) (ap kind_of is) in
@@ -142,7 +139,7 @@ module _ (a : Fields) (v : Invariant a) (id : NodeId) (n : Node) (s : BTreeSet �
           (ap kind_of is, import_is (Some (position, kind)) found)
 
 -- a node that is no instantiation has no imports
-pub has_no_import : (a : Fields) (id : NodeId) (n : Node) (name : Name) (position : ℕ) (kind : ItemKind) → get a.nodes id.0 ≡ Some n → HasImport (graph_of a) id name position kind → ((s : BTreeSet ℕ) → n.kind ≡ code.Instantiation s → ⊥) → ⊥
+pub has_no_import : (a : Fields) (id : NodeId) (n : Node) (name : Name) (position : ℕ) (kind : ItemKind) → get a.nodes id.0 ≡ Some n → HasImport (graph_of a) id name position kind → ((s : Positions) → n.kind ≡ code.Instantiation s → ⊥) → ⊥
 has_no_import a id n name position kind had import not_one =
     no_instantiation n.kind not_one (subst (λ x. IsSomeAnd x (λ m. (m.kind ≡ graph.instantiation) × (import_named (graph_of a) m name ≡ Some (position, kind)))) (get-nodes_of a.nodes.slots id.0 ∙ ap (option_map node_of) had) import).0
 
@@ -179,14 +176,14 @@ has_instantiation g id name position kind import = split (node_at g id) import w
   split (Some m) h = h.0
 
 -- an instantiation, with the import of a name
-module _ (a : Fields) (v : Invariant a) (id : NodeId) (n : Node) (s : BTreeSet ℕ) (name : Name) (position : ℕ) (kind : ItemKind) (had : get a.nodes id.0 ≡ Some n) (is : n.kind ≡ code.Instantiation s) (import : HasImport (graph_of a) id name position kind) where
+module _ (a : Fields) (v : Invariant a) (id : NodeId) (n : Node) (s : Positions) (name : Name) (position : ℕ) (kind : ItemKind) (had : get a.nodes id.0 ≡ Some n) (is : n.kind ≡ code.Instantiation s) (import : HasImport (graph_of a) id name position kind) where
   named : import_named (graph_of a) (node_of n) name ≡ Some (position, kind)
   named = (subst (λ x. IsSomeAnd x (λ m. (m.kind ≡ graph.instantiation) × (import_named (graph_of a) m name ≡ Some (position, kind)))) (get-nodes_of a.nodes.slots id.0 ∙ ap (option_map node_of) had) import).1
 
-  marked_at : (b : Bool) → positions.contains nat_cmp s position ≡ b → satisfied_at (get a.nodes id.0) position ≡ b
+  marked_at : (b : Bool) → has_position s position ≡ b → satisfied_at (get a.nodes id.0) position ≡ b
   marked_at b h = ap (λ x. satisfied_at x position) had ∙ ap (λ k. satisfied k position) is ∙ h
 
-  pub passed_already : (argument : NodeId) (text : String Global) → string_bytes text ≡ name → (IsArgumentOf (graph_of a) id position argument → ⊥) → positions.contains nat_cmp s position ≡ true → SetsArgument (graph_of a) id name argument (Err (ArgumentAlreadyPassed id text)) (graph_of a)
+  pub passed_already : (argument : NodeId) (text : String Global) → string_bytes text ≡ name → (IsArgumentOf (graph_of a) id position argument → ⊥) → has_position s position ≡ true → SetsArgument (graph_of a) id name argument (Err (ArgumentAlreadyPassed id text)) (graph_of a)
   passed_already argument text written other marked =
       sets_at a id argument n name (Err (ArgumentAlreadyPassed id text)) (graph_of a) had
       (λ g _. (
@@ -197,7 +194,7 @@ module _ (a : Fields) (v : Invariant a) (id : NodeId) (n : Node) (s : BTreeSet �
         rw named (other, v.edged id position (marked_at true marked)),
       ))
 
-  pub unsatisfied : positions.contains nat_cmp s position ≡ false → IsUnsatisfied (graph_of a) id position
+  pub unsatisfied : has_position s position ≡ false → IsUnsatisfied (graph_of a) id position
   unsatisfied unmarked source stands = clash (satisfied_at (get a.nodes id.0) position) (v.marked source id position stands) (marked_at false unmarked)
 
 -- a node with an import, for which nothing is given

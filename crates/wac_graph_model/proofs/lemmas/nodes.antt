@@ -11,6 +11,4 @@ pub mod ValidLemmas
 pub mod AgainLemmas
 pub mod HeldLemmas
 pub mod ExternNameLemmas
-pub mod PositionLemmas
 pub mod SatisfyLemmas
-pub mod SingleLemmas

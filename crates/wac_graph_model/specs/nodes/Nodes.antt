@@ -1,10 +1,12 @@
 -- The value of stored nodes.
-use Rattle.std.specs.Prelude.{◌≡◌, ℕ, Bool, false, List, Option, Some, None, String, Box, map, string_bytes}
+use Rattle.std.specs.Prelude.{◌≡◌, ℕ, ◌<◌, nat_eq, Bool, false, List, Option, Some, None, String, Box, map, string_bytes}
 use Rattle.std.specs.Global.{Global}
 use Rattle.std.specs.Option.{option_map}
 use Rattle.std.specs.Ordering.{nat_cmp}
 use Rattle.std.specs.FinMap as finite
-use Rattle.std.specs.BTreeSet as positions
+use Rattle.std.specs.HashSet as positions
+use Rattle.std.specs.declared.hash.BuildHasherDefault.{BuildHasherDefault}
+use Rattle.std.specs.declared.hash.FoldHasher.{FoldHasher}
 use Rattle.slab.specs.Slab.{entries_from}
 use Rattle.wac_types_shapes.specs.primitives.Name.{Name}
 use Rattle.wac_types_shapes.specs.declared.shapes.component.ItemKind.{ItemKind}
@@ -62,9 +64,17 @@ nodes_of slots = finite.from_entries (map (λ e. (e.0, node_of e.1)) (entries_fr
 abbrev pub names_of : List (String Global × NodeId) → List (Name × NodeId)
 names_of entries = map (λ e. (string_bytes e.0, e.1)) entries
 
+-- A set of positions.
+abbrev pub Positions : Type 0
+Positions = positions.HashSet ℕ (BuildHasherDefault FoldHasher)
+
+-- The position is in the set.
+abbrev pub has_position : Positions → ℕ → Bool
+has_position s i = positions.contains nat_eq s i
+
 -- The position is among the satisfied ones of an instantiation.
 abbrev pub satisfied : NodeKind → ℕ → Bool
-satisfied (code.Instantiation s) i = positions.contains nat_cmp s i
+satisfied (code.Instantiation s) i = has_position s i
 satisfied code.Definition i = false
 satisfied (code.Import _) i = false
 satisfied code.Alias i = false
@@ -78,3 +88,15 @@ satisfied_at (Some n) i = satisfied n.kind i
 abbrev pub IsInstantiationAt : Option Node → Type 0
 IsInstantiationAt None = ⊥
 IsInstantiationAt (Some n) = kind_of n.kind ≡ graph.instantiation
+
+-- The node is an instantiation, and one more position fits into its set without memory.
+abbrev pub KindHasRoom : NodeKind → Type 0
+KindHasRoom (code.Instantiation s) = 0 < positions.spare s
+KindHasRoom code.Definition = ⊥
+KindHasRoom (code.Import _) = ⊥
+KindHasRoom code.Alias = ⊥
+
+-- The slot has such an instantiation.
+abbrev pub HasRoomForMark : Option Node → Type 0
+HasRoomForMark None = ⊥
+HasRoomForMark (Some n) = KindHasRoom n.kind

@@ -9,7 +9,7 @@ ghost use Rattle.wac_graph_model.specs.nodes.Nodes.{kind_of, node_of, unnamed};
 
 use crate::nodes::packages::PackageId;
 use std::alloc::{AllocError, Global};
-use std::collections::BTreeSet;
+use std::collections::HashSet;
 use wac_types::{ItemKind, Type};
 
 /// The kind of a node.
@@ -20,7 +20,7 @@ pub enum NodeKind {
     /// An import with this name.
     Import(String),
     /// An instantiation of a package, with the positions of its imports that have an argument.
-    Instantiation(BTreeSet<usize>),
+    Instantiation(HashSet<usize>),
     /// An alias of an instance's export.
     Alias,
 }

@@ -5,17 +5,15 @@ ghost use Rattle.wac_edges.specs.Edge.{node_number};
 ghost use Rattle.wac_graph_fields.specs.private.ImportsLeft.{unset_from, node_left};
 ghost use Rattle.wac_graph_model.specs.nodes.Graph.{node_at, package_at, imports_of, instantiation, package_in, definition, IsImportOf};
 ghost use Rattle.wac_graph_model.specs.nodes.Imports.{node_rows};
-ghost use Rattle.wac_graph_model.specs.nodes.Nodes.{kind_of};
-ghost use Rattle.std.specs.BTreeSet as positions;
+ghost use Rattle.wac_graph_model.specs.nodes.Nodes.{kind_of, has_position};
 ghost use Rattle.std.specs.Option.{option_copied};
-ghost use Rattle.std.specs.Ordering.{nat_cmp};
 ghost use Rattle.wac_edges.specs.declared.node.NodeId.{NodeId as AnId};
 ghost use Rattle.wac_types_shapes.specs.primitives.Name.{Name as AName};
 ghost use Rattle.wac_types_shapes.specs.declared.shapes.component.ItemKind.TheVariants.{TypeItem};
 
 use crate::reading::reader::GraphReader;
 use std::alloc::Global;
-use std::collections::BTreeSet;
+use std::collections::HashSet;
 use wac_graph_model::inner::{first_name, generation_of, slot_of};
 use wac_graph_model::{NodeId, NodeKind, PackageId, Slot, first_gap};
 use wac_types::{ItemKind, Named, Package, Type, Types};
@@ -126,11 +124,11 @@ impl<'a> GraphReader<'a> {
 
 /// The first import from a position on that is not in the set: the next position, its name and its type.
 fn first_unset<'a>(
-    satisfied: &BTreeSet<usize>,
+    satisfied: &HashSet<usize>,
     imports: &'a Named<ItemKind>,
     from: usize,
 ) -> Option<(usize, &'a str, ItemKind)>
-    ensures { MatchOption result (unset_from (positions.contains nat_cmp satisfied.now) imports.now from ≡ []) (λ r. unset_from (positions.contains nat_cmp satisfied.now) imports.now from ≡ (r.1.now, r.2) ∷ unset_from (positions.contains nat_cmp satisfied.now) imports.now r.0) }
+    ensures { MatchOption result (unset_from (has_position satisfied.now) imports.now from ≡ []) (λ r. unset_from (has_position satisfied.now) imports.now from ≡ (r.1.now, r.2) ∷ unset_from (has_position satisfied.now) imports.now r.0) }
 {
     let i = first_gap(satisfied, from, imports.len())?;
     Some((i + 1, imports.name_at(i), *imports.value_at(i)))

@@ -1,6 +1,5 @@
 -- The types inside which worlds are written before the nodes.
 use Rattle.std.proofs.Common.{◌≡◌, ℕ, zero, suc, ◌+◌, ◌*◌, ◌<◌, ◌≤◌, ◌⊎◌, inl, inr, Bool, true, false, List, [], ◌∷◌, ◌++◌, length, refl, ap, sym, ◌∙◌, subst, arith, Contains, Option, Some, None, IfSome, IsSomeAnd, slice_get, Result, Ok, Err, OnOk, is_ok, if◌then◌else◌}
-use Rattle.std.specs.BTreeSet.{BTreeSet}
 use Rattle.std.proofs.lemmas.List.{append-nil}
 use Rattle.std.specs.Option.{option_and_then}
 use Rattle.wac_types_shapes.specs.primitives.Name.{Name, option_case}
@@ -27,7 +26,7 @@ use Rattle.wac_graph_model.specs.private.weight.Written.{NodeIsPart}
 use Rattle.wac_graph_model.specs.declared.nodes.node.NodeKind.{NodeKind}
 use Rattle.wac_graph_model.specs.declared.nodes.node.NodeKind.TheVariants as code
 use Rattle.wac_graph_model.specs.meaning.Means.{is_import}
-use Rattle.wac_graph_model.specs.nodes.Nodes.{kind_of}
+use Rattle.wac_graph_model.specs.nodes.Nodes.{kind_of, Positions}
 use Rattle.wac_graph_model.specs.nodes.Sound.{IsSound}
 use Rattle.wac_graph_encode.specs.private.encoding.Root.{AddsRoots, HasNodeWorlds, IsFaultlessNode}
 use Rattle.wac_graph_encode.proofs.lemmas.encoding.NodeLemmas.{of_kind}
@@ -66,7 +65,7 @@ no-definition (code.Import name) other h = cc
 no-definition (code.Instantiation s) other h = cc
 no-definition code.Alias other h = cc
 
-no-instantiation : (k : NodeKind) → ((s : BTreeSet ℕ) → k ≡ code.Instantiation s → ⊥) → kind_of k ≡ graph.instantiation → ⊥
+no-instantiation : (k : NodeKind) → ((s : Positions) → k ≡ code.Instantiation s → ⊥) → kind_of k ≡ graph.instantiation → ⊥
 no-instantiation code.Definition other h = cc
 no-instantiation (code.Import name) other h = cc
 no-instantiation (code.Instantiation s) other h = other s refl
@@ -74,7 +73,7 @@ no-instantiation code.Alias other h = cc
 
 -- an alias or an import
 pub other-roots : (g : Graph) (n : NodeId) (k : NodeKind) (define : Bool) (xs : List AnyType) → IsSomeAnd (node_at g n) (λ node. is_import node.kind ≡ false) → IfSome (node_at g n) (λ node. node.kind ≡ kind_of k)
-    → (k ≡ code.Definition → ⊥) → ((s : BTreeSet ℕ) → k ≡ code.Instantiation s → ⊥) → AddsRoots g define n xs xs
+    → (k ≡ code.Definition → ⊥) → ((s : Positions) → k ≡ code.Instantiation s → ⊥) → AddsRoots g define n xs xs
 other-roots g n k define xs there is not_definition not_instantiation = no-roots g n (kind_of k) (of_kind g n k there is (kind_of k) refl) define xs (no-definition k not_definition) (λ instance not_defined. no-instantiation k not_instantiation instance)
 
 same-type : (a b : AnyType) → TypeItem a ≡ TypeItem b → a ≡ b

@@ -4,9 +4,6 @@ use Rattle.std.specs.Prelude.{slice_get}
 use Rattle.std.specs.Option.{option_map}
 use Rattle.std.specs.Map.{lookup}
 use Rattle.std.specs.Str.{bytes_eq}
-use Rattle.std.specs.BTreeSet as positions
-use Rattle.std.specs.BTreeSet.{BTreeSet}
-use Rattle.std.specs.Ordering.{nat_cmp}
 use Rattle.slab.specs.Slab.{get}
 use Rattle.wac_types_shapes.specs.primitives.Name.{Name, find_name}
 use Rattle.wac_types_collection.specs.collection.Package.{PackageParts}
@@ -20,7 +17,7 @@ use Rattle.wac_graph_model.specs.declared.nodes.node.NodeKind.TheVariants as cod
 use Rattle.wac_graph_model.specs.nodes.Graph as graph
 use Rattle.wac_edges.specs.Edge.{node_number}
 use Rattle.wac_graph_model.specs.nodes.Graph.{Graph, GraphNode, node_at, package_of, imports_of}
-use Rattle.wac_graph_model.specs.nodes.Nodes.{node_of, kind_of, names_of, satisfied, satisfied_at}
+use Rattle.wac_graph_model.specs.nodes.Nodes.{node_of, kind_of, names_of, satisfied, satisfied_at, has_position, Positions}
 use Rattle.wac_graph_fields.specs.private.Fields.{Fields, graph_of, Invariant}
 use Rattle.wac_edges.specs.Order.{IsAcyclic}
 use Rattle.wac_graph_model.specs.causes.Cause.{IsConflict, IsFirstConflict, HasNoConflict, cause_of, conflict}
@@ -64,11 +61,11 @@ no_clash satisfied_in imports nodes i is node c = clash (satisfied_in i) is c.un
   clash false h _ = cc
 
 module _ (a : Fields) (v : Invariant a) (n : ℕ) (node : Node) (had : get a.nodes n ≡ Some node) where
-  module _ (s : BTreeSet ℕ) (is : node.kind ≡ code.Instantiation s) where
+  module _ (s : Positions) (is : node.kind ≡ code.Instantiation s) where
     abbrev pub ClashesAt : ℕ → NodeId → Type 0
-    ClashesAt i import = Clashes (positions.contains nat_cmp s) (imports_of (graph_of a) (node_of node)) (names_of a.imports.entries) i import
+    ClashesAt i import = Clashes (has_position s) (imports_of (graph_of a) (node_of node)) (names_of a.imports.entries) i import
 
-    marked : (i : ℕ) (b : Bool) → positions.contains nat_cmp s i ≡ b → satisfied_at (get a.nodes n) i ≡ b
+    marked : (i : ℕ) (b : Bool) → has_position s i ≡ b → satisfied_at (get a.nodes n) i ≡ b
     marked i b h = ap (λ x. satisfied_at x i) had ∙ ap (λ k. satisfied k i) is ∙ h
 
     pub conflict_of : (i : ℕ) (import : NodeId) → (c : ClashesAt i import) → IsConflict (graph_of a) import (node_number n) i c.name
@@ -90,13 +87,13 @@ module _ (a : Fields) (v : Invariant a) (n : ℕ) (node : Node) (had : get a.nod
       name = name;
       kind = c.kind;
       asked = subst (λ x. slice_get (imports_of (graph_of a) x) i ≡ Some (name, c.kind)) same c.asked;
-      unset = gap (positions.contains nat_cmp s i) refl;
+      unset = gap (has_position s i) refl;
       imported = v.named name import c.imported;
     } where
       same : c.node ≡ node_of node
       same = let e : Some c.node ≡ Some (node_of node) = sym c.there ∙ node_is a n (Some node) had in cc
 
-      gap : (b : Bool) → positions.contains nat_cmp s i ≡ b → b ≡ false
+      gap : (b : Bool) → has_position s i ≡ b → b ≡ false
       gap false _ = refl
       gap true h = let (source, stands) = v.edged (node_number n) i (marked i true h) in absurd (c.unset source stands)
 
@@ -110,13 +107,13 @@ module _ (a : Fields) (v : Invariant a) (n : ℕ) (node : Node) (had : get a.nod
     -- what a look at the imports of the node finds
     module _ (imports : List (Name × ItemKind)) (same : imports ≡ imports_of (graph_of a) (node_of node)) where
       abbrev ClashesIn : ℕ → NodeId → Type 0
-      ClashesIn i import = Clashes (positions.contains nat_cmp s) imports (names_of a.imports.entries) i import
+      ClashesIn i import = Clashes (has_position s) imports (names_of a.imports.entries) i import
 
       to_node : (i : ℕ) (import : NodeId) → ClashesIn i import → ClashesAt i import
-      to_node i import c = subst (λ xs. Clashes (positions.contains nat_cmp s) xs (names_of a.imports.entries) i import) same c
+      to_node i import c = subst (λ xs. Clashes (has_position s) xs (names_of a.imports.entries) i import) same c
 
       from_node : (i : ℕ) (import : NodeId) → ClashesAt i import → ClashesIn i import
-      from_node i import c = subst (λ xs. Clashes (positions.contains nat_cmp s) xs (names_of a.imports.entries) i import) (sym same) c
+      from_node i import c = subst (λ xs. Clashes (has_position s) xs (names_of a.imports.entries) i import) (sym same) c
 
       pub first_at : (o : Option (ℕ × NodeId)) → IfSome o (λ c. ClashesIn c.0 c.1) → IfSome o (λ c. (i : ℕ) (import : NodeId) → i < c.0 → ClashesIn i import → ⊥) → IfSome o (λ c. IsFirstOf (graph_of a) (node_number n) c.0 c.1)
       first_at None here first = tt

@@ -5,7 +5,6 @@ use Rattle.std.specs.Prelude.{slice_get, nat_lt}
 use Rattle.std.proofs.lemmas.List.{get_or_append_left}
 use Rattle.std.proofs.Math.Seq.{get_or-append_seam}
 use Rattle.std.specs.Option.{option_map, option_and_then}
-use Rattle.std.specs.BTreeSet.{BTreeSet}
 use Rattle.slab.specs.Slab.{get, ContainsKey}
 use Rattle.wac_types_shapes.specs.primitives.Name.{option_case}
 use Rattle.wac_types_collection.specs.collection.Collection.{item_at}
@@ -20,7 +19,7 @@ use Rattle.wac_edges.specs.Edge.{is_left}
 use Rattle.wac_graph_model.specs.nodes.Graph as graph
 use Rattle.wac_edges.specs.Edge.{node_number}
 use Rattle.wac_graph_model.specs.nodes.Graph.{Graph, GraphNode, node_at, package_at, package_in, package_of, imports_of}
-use Rattle.wac_graph_model.specs.nodes.Nodes.{node_of, kind_of, satisfied_at}
+use Rattle.wac_graph_model.specs.nodes.Nodes.{node_of, kind_of, satisfied_at, Positions}
 use Rattle.wac_graph_fields.specs.private.Fields.{Fields, graph_of, Invariant}
 use Rattle.wac_graph_model.specs.meaning.Means.{is_import, is_written}
 use Rattle.wac_graph_model.specs.nodes.Gives.{GivesNode}
@@ -50,7 +49,7 @@ pub if_node : (a : Fields) (n : ℕ) (node : Node) (P : GraphNode → Type 0) �
 if_node a n node P had p = subst (λ o. IfSome o P) (sym (node_is a n (Some node) had)) p
 
 -- the kind of an instantiation is one
-pub the_set : (k : NodeKind) → kind_of k ≡ graph.instantiation → (s : BTreeSet ℕ) × (k ≡ code.Instantiation s)
+pub the_set : (k : NodeKind) → kind_of k ≡ graph.instantiation → (s : Positions) × (k ≡ code.Instantiation s)
 the_set code.Definition h = cc
 the_set (code.Import name) h = cc
 the_set (code.Instantiation s) h = (s, refl)
@@ -58,7 +57,7 @@ the_set code.Alias h = cc
 
 -- an instantiation's package and imports
 module _ (a : Fields) (v : Invariant a) (n : ℕ) (node : Node) (had : get a.nodes n ≡ Some node) (h : IsSomeAnd (node_at (graph_of a) (node_number n)) (λ x. x.kind ≡ graph.instantiation)) where
-  set_of : (s : BTreeSet ℕ) × (node.kind ≡ code.Instantiation s)
+  set_of : (s : Positions) × (node.kind ≡ code.Instantiation s)
   set_of = the_set node.kind (of_node a n node (λ x. x.kind ≡ graph.instantiation) h had)
 
   pub owned_at : node.«package» ≡ None → ⊥

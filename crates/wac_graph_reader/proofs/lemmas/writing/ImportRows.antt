@@ -8,8 +8,6 @@ use Rattle.std.specs.List.{flat_map, range_with_len, list_any, Contains}
 use Rattle.std.specs.Ordering.{nat_cmp, eq_by_cmp, is_eq}
 use Rattle.std.specs.Cmp.{nat_cmp_total, nat_cmp_is, tied_itself}
 use Rattle.std.specs.declared.cmp.Ordering.TheVariants.{Less}
-use Rattle.std.specs.BTreeSet as positions
-use Rattle.std.specs.BTreeSet.{BTreeSet}
 use Rattle.std.specs.FinMap as finite
 use Rattle.std.specs.FinMap.{put}
 use Rattle.std.specs.FinSet as set
@@ -29,7 +27,7 @@ use Rattle.wac_edges.specs.Edge.{edge_cmp, argument_edge}
 use Rattle.wac_graph_model.specs.nodes.Graph as graph
 use Rattle.wac_edges.specs.Edge.{node_number}
 use Rattle.wac_graph_model.specs.nodes.Graph.{Graph, GraphNode, Kind, node_at, imports_of, import_name, IsUnsatisfied}
-use Rattle.wac_graph_model.specs.nodes.Nodes.{node_of, nodes_of, kind_of, satisfied, satisfied_at}
+use Rattle.wac_graph_model.specs.nodes.Nodes.{node_of, nodes_of, kind_of, satisfied, satisfied_at, has_position, Positions}
 use Rattle.wac_graph_fields.specs.private.Fields.{Fields, graph_of, Invariant}
 use Rattle.wac_graph_model.specs.nodes.Asked.{is_argument, is_argument_label, is_satisfied, unsatisfied, asked_by, imported_by}
 use Rattle.wac_graph_model.specs.nodes.Imports.{unset_row, node_row, unset_rows, node_rows, asked_rows}
@@ -169,31 +167,31 @@ row_node g n name k rows = by_node (node_at g (node_number n)) refl rows where
   by_node (Some node) there rows = by_kind node there node.kind refl rows
 
 module _ (a : Fields) (v : Invariant a) (n : ℕ) (node : Node) (had : get a.nodes n ≡ Some node) where
-  module _ (s : BTreeSet ℕ) (is : node.kind ≡ code.Instantiation s) where
-    same_set : positions.contains nat_cmp s ≡ is_satisfied (graph_of a) n
-    same_set = fun_ext (λ i. same i (positions.contains nat_cmp s i) refl (is_satisfied (graph_of a) n i) refl) where
-      marked : (i : ℕ) (b : Bool) → positions.contains nat_cmp s i ≡ b → satisfied_at (get a.nodes n) i ≡ b
+  module _ (s : Positions) (is : node.kind ≡ code.Instantiation s) where
+    same_set : has_position s ≡ is_satisfied (graph_of a) n
+    same_set = fun_ext (λ i. same i (has_position s i) refl (is_satisfied (graph_of a) n i) refl) where
+      marked : (i : ℕ) (b : Bool) → has_position s i ≡ b → satisfied_at (get a.nodes n) i ≡ b
       marked i b h = ap (λ x. satisfied_at x i) had ∙ ap (λ k. satisfied k i) is ∙ h
 
-      same : (i : ℕ) (b : Bool) → positions.contains nat_cmp s i ≡ b → (c : Bool) → is_satisfied (graph_of a) n i ≡ c → positions.contains nat_cmp s i ≡ is_satisfied (graph_of a) n i
+      same : (i : ℕ) (b : Bool) → has_position s i ≡ b → (c : Bool) → is_satisfied (graph_of a) n i ≡ c → has_position s i ≡ is_satisfied (graph_of a) n i
       same i true h c k = h ∙ sym (set_by_edge (graph_of a) (node_number n) i (v.edged (node_number n) i (marked i true h)))
       same i false h false k = h ∙ sym k
       same i false h true k = let (source, stands) = edge_there a.edges n i k in clash (satisfied_at (get a.nodes n) i) (v.marked source (node_number n) i stands) (marked i false h) where
-        clash : (b : Bool) → b ≡ true → b ≡ false → positions.contains nat_cmp s i ≡ is_satisfied (graph_of a) n i
+        clash : (b : Bool) → b ≡ true → b ≡ false → has_position s i ≡ is_satisfied (graph_of a) n i
         clash true _ q = cc
         clash false q _ = cc
 
     -- the rows of the node by the set of positions that it keeps
     module _ (imports : List (Name × ItemKind)) (are : imports ≡ imports_of (graph_of a) (node_of node)) where
-      by_positions : (i : ℕ) → node_left (graph_of a) n i (node_at (graph_of a) (node_number n)) ≡ map row_of (unset_from (positions.contains nat_cmp s) imports i)
+      by_positions : (i : ℕ) → node_left (graph_of a) n i (node_at (graph_of a) (node_number n)) ≡ map row_of (unset_from (has_position s) imports i)
       by_positions i =
           ap (node_left (graph_of a) n i) (node_is a n (Some node) had)
           ∙ left_by_kind (graph_of a) n i (node_of node) (ap kind_of is)
           ∙ ap (λ t. map row_of (unset_from t (imports_of (graph_of a) (node_of node)) i)) (sym same_set)
-          ∙ ap (λ xs. map row_of (unset_from (positions.contains nat_cmp s) xs i)) (sym are)
+          ∙ ap (λ xs. map row_of (unset_from (has_position s) xs i)) (sym are)
 
       abbrev From : ℕ → Option (ℕ × Bor (List ℕ) × ItemKind) → Type 0
-      From i o = MatchOption o (unset_from (positions.contains nat_cmp s) imports i ≡ []) (λ r. unset_from (positions.contains nat_cmp s) imports i ≡ (r.1.now, r.2) ∷ unset_from (positions.contains nat_cmp s) imports r.0)
+      From i o = MatchOption o (unset_from (has_position s) imports i ≡ []) (λ r. unset_from (has_position s) imports i ≡ (r.1.now, r.2) ∷ unset_from (has_position s) imports r.0)
 
       abbrev Left : ℕ → Option (ℕ × Bor (List ℕ) × ItemKind) → Type 0
       Left i o = MatchOption o (node_left (graph_of a) n i (node_at (graph_of a) (node_number n)) ≡ []) (λ r. node_left (graph_of a) n i (node_at (graph_of a) (node_number n)) ≡ (r.1.now, r.2, None) ∷ node_left (graph_of a) n r.0 (node_at (graph_of a) (node_number n)))

@@ -1,7 +1,5 @@
-use Rattle.std.proofs.Common.{sym, ap, ◌∙◌, Ok}
+use Rattle.std.proofs.Common.{sym, ap, ◌∙◌, Ok, nat_eq}
 use Rattle.std.specs.List.{list_any}
-use Rattle.std.specs.BTreeMap.{is_at}
-use Rattle.std.specs.Ordering.{nat_cmp}
 use Rattle.wac_graph_model.specs.nodes.Nodes.{satisfied}
 use Rattle.wac_graph_fields.proofs.AliasLemmas.{before_reserve, vacant_before}
 use Rattle.wac_graph_fields.proofs.InvariantLemmas.{invariant_instance}
@@ -16,7 +14,7 @@ invariant_of-self-2 c =
     invariant_instance (fields_of c.self.inside) c.self.invariant c.insert_reserved.new.self c.vacant_key-number.result _
     (vacant_before (fields_of c.self.inside) c.reserve.new.self c.vacant_key-number.result c.in_ok-reserve.ensures.rest_kept c.vacant_key-number.ensures.vacant)
     (before_reserve (fields_of c.self.inside) c.reserve.new.self c.insert_reserved.new.self c.vacant_key-number.result c.insert_reserved.result _ c.in_ok-reserve.ensures.rest_kept c.vacant_key-number.ensures.value c.insert_reserved.ensures.key c.insert_reserved.ensures.updates)
-    (λ i. ap (λ k. satisfied k i) c.new_node.ensures.kind ∙ ap (λ ks. list_any (is_at (nat_cmp i)) ks) c.new.ensures.empty)
+    (λ i. ap (λ k. satisfied k i) c.new_node.ensures.kind ∙ ap (λ ks. list_any (nat_eq i) ks) c.new.ensures.empty)
     c.args.id c.in-Some.«package».now (c.new_node.ensures.node ∙ instance_shape c.args.id c.instance_type.result c.in-Some.«package».now c.instance_type.ensures) (sym (rw c.deref.ensures.value at c.in-Some.ensures))
 
 pub returns-clause-step : goal.returns-clause-step
