@@ -15,7 +15,7 @@ abbrev pub part_layer : Part-F Part → Part
 part_layer (p.Custom name bytes) = custom_part name.now bytes.now
 part_layer (p.CoreModule bytes) = module_part bytes.now
 part_layer (p.CoreInstance x) = core_instance_part (core_instance_of x)
-part_layer (p.CoreType x) = core_type_part (core_type_of x)
+part_layer (p.CoreType x) = core_type_part (core_type_of x.value)
 part_layer (p.Component entries) = component_part (parts (map (λ e. e.part) entries.items))
 part_layer (p.Instantiate c arguments) = instantiate_part c (map argument_of arguments.items)
 part_layer (p.Exports exports) = exports_part (map inline_export_of exports.items)

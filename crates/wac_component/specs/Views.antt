@@ -55,7 +55,7 @@ decl_of f (d.Export name e) = export_decl name.now e
 -- One layer of a type, with what the types in it are in their place.
 abbrev pub type_layer : TypeDef-F TypeDef → TypeDef
 type_layer (t.Value x) = value_def (value_def_of x)
-type_layer (t.Func is_async params outcome) = func_def is_async (named params.items) outcome
+type_layer (t.Func is_async outcome params) = func_def is_async (named params.items) outcome
 type_layer (t.Component ds) = component_def (decls (map (decl_of (λ x. x)) ds.items))
 type_layer (t.Instance ds) = instance_def (decls (map (decl_of (λ x. x)) ds.items))
 

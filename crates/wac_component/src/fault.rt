@@ -4,7 +4,7 @@ ghost use Rattle.std.specs.Prelude.{◌≡◌};
 
 use thiserror::Error;
 
-/// What a component may have by the standard, and is not read.
+/// A feature of the standard that is not read.
 #[derive(Clone, Copy, Debug, PartialEq, Eq, Error)]
 pub enum Feature {
     /// A canonical function whose opcode is not in the table.
@@ -49,7 +49,7 @@ pub enum TextFault {
     /// A byte that begins nothing here.
     #[error("an unexpected byte")]
     UnknownByte,
-    /// A sort or a type that cannot stand here.
+    /// A sort or a type that is not allowed here.
     #[error("a sort or a type that is not allowed here")]
     Misplaced,
     /// A section is longer than its contents.
@@ -58,7 +58,7 @@ pub enum TextFault {
     /// The bytes do not begin with a component's preamble.
     #[error("no preamble of a component")]
     NoPreamble,
-    /// A feature of the standard that is not read.
+    /// A feature that is not supported.
     #[error("not supported: {0}")]
     Unsupported(Feature),
 }

@@ -39,7 +39,8 @@ pub enum Part<'a> {
     /// A core instance.
     CoreInstance(CoreInstance<'a>),
     /// A core type.
-    CoreType(CoreTypeDef<'a>),
+    // In a box: it is rare, and would make each part larger.
+    CoreType(Box<CoreTypeDef<'a>>),
     /// A nested component, with its parts.
     Component(Vec<Entry<Part<'a>>>),
     /// An instance of a component.

@@ -41,7 +41,7 @@ pub enum ValueDef<'a> {
     Future(Option<ComponentValType>),
 }
 
-/// An alias of a sort of [`Sort`] (`alias`).
+/// An alias whose sort is a [`Sort`] (`alias`).
 #[derive(Clone, Copy, Debug)]
 pub enum Alias<'a> {
     /// An alias of an instance's export.
@@ -55,7 +55,7 @@ pub enum Alias<'a> {
     },
     /// An outer alias.
     Outer {
-        /// The sort of what it stands for.
+        /// The sort of what is aliased.
         sort: Sort,
         /// The number of scopes to leave.
         count: u32,
@@ -84,10 +84,11 @@ pub enum TypeDef<'a> {
     Func {
         /// Whether the function is async.
         is_async: bool,
-        /// The names and types of the parameters.
-        params: Vec<(&'a str, ComponentValType)>,
+        // Before the parameters: fields lie in this order, and so the type takes 8 bytes less.
         /// The type of the result, if there is one.
         result: Option<ComponentValType>,
+        /// The names and types of the parameters.
+        params: Vec<(&'a str, ComponentValType)>,
     },
     /// A component type, with its declarations.
     Component(Vec<Decl<'a, TypeDef<'a>>>),

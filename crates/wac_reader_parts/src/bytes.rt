@@ -1,13 +1,13 @@
 //! Numbers, names, vectors and optional parts.
 
-ghost use Rattle.std.specs.Prelude.{◌≡◌, ℕ, ◌≤◌, ◌<◌, ◌^◌, IfOk, Ok, map, option_map};
+ghost use Rattle.std.specs.Prelude.{◌≡◌, ℕ, ◌≤◌, ◌<◌, ◌^◌, [], IfOk, Ok, map, option_map};
 ghost use Rattle.wac_types_shapes.specs.primitives.Name.{Name};
 ghost use Rattle.wac_component.specs.Reader.{Reader, byte as byte_at, all_at};
 ghost use Rattle.wac_component.specs.Numbers.{leb_at, number_at, number64_at, signed_at, sized_at, name_at, extern_name_at, vector_at, optional_at, flag_at};
 ghost use Rattle.wac_reader_parts.specs.private.Gives.{Gives, bound};
 
 use crate::fault::ReadFault;
-use std::alloc::Global;
+use std::alloc::{AllocError, Global};
 use wac_component::{Feature, TextFault};
 
 /// Returns the fault of an item or field that has this many bytes from its first byte to the end.
@@ -56,13 +56,26 @@ fn leb_of(limit: u8, last: u8, k: u32, left: usize, bytes: &[u8]) -> Result<(u64
     }
 }
 
-/// Reads a number of 32 bits.
+/// Reads a number of 32 bits that may have several bytes.
 #[tactic(auto, unfolding(wac_component::specs::Numbers::number_at))]
-pub fn number(bytes: &[u8]) -> Result<(u32, &[u8]), ReadFault>
+fn long_number(bytes: &[u8]) -> Result<(u32, &[u8]), ReadFault>
     ensures { Gives (λ x. (x.0, x.1.now)) result (number_at bytes.now) }
 {
     let (n, rest) = leb_of(128, 16, 4, bytes.len(), bytes)?;
     Ok((n as u32, rest))
+}
+
+/// Reads a number of 32 bits.
+// Most numbers have one byte, which is read without a call.
+#[inline(always)]
+pub fn number(bytes: &[u8]) -> Result<(u32, &[u8]), ReadFault>
+    ensures { Gives (λ x. (x.0, x.1.now)) result (number_at bytes.now) }
+{
+    let (b, rest) = byte(bytes)?;
+    if b < 128 {
+        return Ok((u32::from(b), rest));
+    }
+    long_number(bytes)
 }
 
 /// Reads a number of 64 bits.
@@ -73,13 +86,25 @@ pub fn number64(bytes: &[u8]) -> Result<(u64, &[u8]), ReadFault>
     leb_of(128, 2, 9, bytes.len(), bytes)
 }
 
-/// Reads a type index, which is a signed number.
+/// Reads a signed number that may have several bytes.
 #[tactic(auto, unfolding(wac_component::specs::Numbers::signed_at))]
-pub fn signed(bytes: &[u8]) -> Result<(u32, &[u8]), ReadFault>
+fn long_signed(bytes: &[u8]) -> Result<(u32, &[u8]), ReadFault>
     ensures { Gives (λ x. (x.0, x.1.now)) result (signed_at bytes.now) }
 {
     let (n, rest) = leb_of(64, 16, 4, bytes.len(), bytes)?;
     Ok((n as u32, rest))
+}
+
+/// Reads a type index, which is a signed number.
+#[inline(always)]
+pub fn signed(bytes: &[u8]) -> Result<(u32, &[u8]), ReadFault>
+    ensures { Gives (λ x. (x.0, x.1.now)) result (signed_at bytes.now) }
+{
+    let (b, rest) = byte(bytes)?;
+    if b < 64 {
+        return Ok((u32::from(b), rest));
+    }
+    long_signed(bytes)
 }
 
 /// Reads a size, and the bytes of that size.
@@ -170,7 +195,18 @@ impl<'a> Read<'a> for &'a str {
     }
 }
 
+/// The most elements for which a list has room before they are read. A count may be wrong.
+const ROOM: usize = 64;
+
+/// Makes a list for this many elements, which are to be read from the bytes. Each has a byte at least.
+pub fn list_for<T: Drop>(alloc: Global, count: u32, bytes: &[u8]) -> Result<Vec<T>, AllocError>
+    ensures { IfOk result (λ list. list.items ≡ []) }
+{
+    Vec::with_capacity(alloc, (count as usize).min(bytes.len()).min(ROOM))
+}
+
 /// Reads this many elements.
+#[inline(always)]
 fn elements<'a, T: Read<'a>>(
     alloc: Global,
     count: u32,
@@ -178,7 +214,7 @@ fn elements<'a, T: Read<'a>>(
 ) -> Result<(Vec<T>, &'a [u8]), ReadFault>
     ensures { Gives (λ x. (map T.value x.0.items, x.1.now)) result (all_at T.reader count bytes.now) }
 {
-    let mut elements = Vec::new(alloc);
+    let mut elements = list_for(alloc, count, bytes)?;
     let mut rest = bytes;
     for _ in 0..count {
         let (element, next) = T::read(alloc, rest)?;
@@ -189,6 +225,7 @@ fn elements<'a, T: Read<'a>>(
 }
 
 /// Reads a vector.
+#[inline(always)]
 #[tactic(auto, unfolding(wac_component::specs::Numbers::vector_at))]
 pub fn vector<'a, T: Read<'a>>(
     alloc: Global,

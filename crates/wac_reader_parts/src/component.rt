@@ -179,7 +179,7 @@ fn component(
     Ok(entries)
 }
 
-/// Reads the parts of the component that these bytes are the text of.
+/// Reads the parts of a component from its bytes.
 ///
 /// Nothing is copied: names, core modules and custom sections are borrowed from the bytes. Components, and types in
 /// types, are nested at most 100 deep.
@@ -187,7 +187,7 @@ fn component(
 /// # Errors
 /// - [`Text`](ReadReason::Text) if the bytes are not the text of a component, or have what is not supported. Of several
 ///   faults it is the leftmost.
-/// - [`OutOfMemory`](ReadReason::OutOfMemory).
+/// - [`OutOfMemory`](ReadReason::OutOfMemory), which says nothing of the bytes.
 #[tactic(auto, unfolding(wac_component::specs::Reading::parts_of))]
 pub fn parts(alloc: Global, bytes: &[u8]) -> Result<Parts<'_>, ReadError>
     ensures read { GivesParts result (parts_of bytes.now) }

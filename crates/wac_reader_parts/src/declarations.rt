@@ -9,7 +9,7 @@ ghost use Rattle.wac_component.specs.Views.{type_of, decl_of};
 ghost use Rattle.wac_reader_parts.specs.private.Gives.{Gives};
 ghost use Rattle.wac_reader_parts.specs.private.Tables.{decl_at, core_type_decl_at, is_resource as is_resource_byte};
 
-use crate::bytes::{byte, extern_name, number, text_fault, vector};
+use crate::bytes::{byte, extern_name, list_for, number, text_fault, vector};
 use crate::fault::ReadFault;
 use crate::sorts::{alias_in_type, description};
 use crate::types::{func, value_type};
@@ -77,7 +77,7 @@ fn decls(
     ensures { Gives (λ x. (map (decl_of type_of) x.0.items, x.1.now)) result (vector_at (decl_at in_component (type_at depth)) bytes.now) }
 {
     let (count, start) = number(bytes)?;
-    let mut decls = Vec::new(alloc);
+    let mut decls = list_for(alloc, count, start)?;
     let mut rest = start;
     for _ in 0..count {
         let (item, after) = decl(alloc, depth, in_component, rest)?;

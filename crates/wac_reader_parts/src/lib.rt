@@ -1,6 +1,7 @@
 //! Reads the parts of a component from its bytes.
 //!
-//! [`parts`] is all that is public. Its contract cites `wac_component`, which says which parts bytes are the text of.
+//! The contract of [`parts`] cites `wac_component`, which says which parts bytes are the text of. The law
+//! [`written_is_read`] ties it to what `wac_binary` writes.
 #![tactic(auto)]
 
 mod bytes;
@@ -11,9 +12,11 @@ mod cores;
 mod declarations;
 mod entities;
 mod fault;
+mod laws;
 mod resources;
 mod sections;
 mod sorts;
 mod types;
 
 pub use component::parts;
+pub use laws::written_is_read;

@@ -179,7 +179,7 @@ fn element(
         }
         ElementKind::CoreTypes => {
             let (definition, rest) = core_type(alloc, bytes)?;
-            Ok((Part::CoreType(definition), rest))
+            Ok((Part::CoreType(Box::new(alloc, definition)?), rest))
         }
         ElementKind::Instances => instance(alloc, bytes),
         ElementKind::Aliases => {

@@ -141,6 +141,7 @@ fn outer_alias(sort: AnySort, left: usize, bytes: &[u8]) -> Result<(AnyAlias<'_>
 }
 
 /// Reads an alias in a component.
+#[inline(always)]
 #[tactic(auto, unfolding(wac_component::specs::Types::alias_at))]
 pub fn alias(bytes: &[u8]) -> Result<(AnyAlias<'_>, &[u8]), ReadFault>
     ensures { Gives (λ x. (any_alias_of x.0, x.1.now)) result (alias_at bytes.now) }
@@ -156,6 +157,7 @@ pub fn alias(bytes: &[u8]) -> Result<(AnyAlias<'_>, &[u8]), ReadFault>
 }
 
 /// Reads an alias in a type.
+#[inline(always)]
 #[tactic(auto, unfolding(wac_component::specs::Types::alias_in_type_at))]
 pub fn alias_in_type(bytes: &[u8]) -> Result<(Alias<'_>, &[u8]), ReadFault>
     ensures { Gives (λ x. (alias_of x.0, x.1.now)) result (alias_in_type_at bytes.now) }
@@ -171,6 +173,7 @@ pub fn alias_in_type(bytes: &[u8]) -> Result<(Alias<'_>, &[u8]), ReadFault>
 }
 
 /// Reads the description of an import or export.
+#[inline(always)]
 #[tactic(auto, unfolding(wac_component::specs::Types::description_at))]
 pub fn description(bytes: &[u8]) -> Result<(Description, &[u8]), ReadFault>
     ensures { Gives (λ x. (x.0, x.1.now)) result (description_at bytes.now) }

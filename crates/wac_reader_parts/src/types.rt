@@ -44,6 +44,7 @@ fn primitive(b: u8) -> Option<PrimitiveType>
 }
 
 /// Reads a value type in use.
+#[inline(always)]
 #[tactic(auto, using(crate::proofs::Rows::value_primitive, crate::proofs::Rows::value_index))]
 pub fn value(bytes: &[u8]) -> Result<(ComponentValType, &[u8]), ReadFault>
     ensures { Gives (λ x. (x.0, x.1.now)) result (value_at bytes.now) }
@@ -125,6 +126,7 @@ impl<'a> Read<'a> for (&'a str, Option<ComponentValType>) {
 }
 
 /// Reads the type of a function's result, if it has one.
+#[inline(always)]
 #[tactic(auto, unfolding(wac_component::specs::Types::result_at))]
 pub fn outcome(bytes: &[u8]) -> Result<(Option<ComponentValType>, &[u8]), ReadFault>
     ensures { Gives (λ x. (x.0, x.1.now)) result (result_at bytes.now) }
@@ -233,6 +235,7 @@ pub fn value_type(alloc: Global, b: u8, bytes: &[u8]) -> Result<(TypeDef<'_>, &[
 }
 
 /// Reads a function type after its first byte.
+#[inline(always)]
 pub fn func(alloc: Global, is_async: bool, bytes: &[u8]) -> Result<(TypeDef<'_>, &[u8]), ReadFault>
     ensures { Gives (λ x. (type_of x.0, x.1.now)) result (made2 (func_def is_async) (vector_at field_at) result_at bytes.now) }
 {

@@ -7,7 +7,7 @@ use Rattle.wac_reader_parts.proofs.bytes.elements.Goals as goal
 
 pub returns-in_err-element : goal.returns-in_err-element
 returns-in_err-element g c =
-    let p = err_from_is_err_and c.from_residual.result c.from_residual.ensures.1 in
+    let p = err_from_is_err_and c.from_residual-in_err-element.result c.from_residual-in_err-element.ensures.1 in
     rw (p.1, p.2) (ends g.T.Read.reader c.in_err-element.field-0.0 (map g.T.Read.value c.loop.elements.items) c.args.count c.loop.counter c.loop.rest.now (all_at g.T.Read.reader c.args.count c.args.bytes.now) c.loop-test.true c.in_err-element.ensures c.loop.invariant)
 
 pub loop-preserved : goal.loop-preserved

@@ -13,7 +13,7 @@ use Rattle.wac_reader_parts.proofs.Rows.{decl_core, inner_resource, inner_other,
 use Rattle.wac_reader_parts.proofs.declarations.+types.Goals as goal
 
 pub decls-loop-init : goal.decls-loop-init
-decls-loop-init t c = starts (decl_at c.args.in_component (type_at c.args.depth)) (map (decl_of type_of) c.new-decls.result.items) c.in_ok-count.count c.args.bytes.now c.in_ok-count.start.now (ap (map (decl_of type_of)) c.new-decls.ensures.items) c.in_ok-count.ensures
+decls-loop-init t c = starts (decl_at c.args.in_component (type_at c.args.depth)) (map (decl_of type_of) c.in_ok-decls.decls.items) c.in_ok-count.count c.args.bytes.now c.in_ok-count.start.now (ap (map (decl_of type_of)) c.in_ok-decls.ensures) c.in_ok-count.ensures
 
 pub decls-returns-in_err-item : goal.decls-returns-in_err-item
 decls-returns-in_err-item t c =
