@@ -18,26 +18,21 @@ pub fn read<'a>(alloc: Global, bytes: &'a [u8]) -> Result<Parts<'a>, ReadError> 
 }
 
 /// The bytes of hexadecimal digits in lines.
-pub fn bytes_of(rt: &(impl Abort + AllocGlobal), lines: &[&str]) -> Vec<u8> {
+pub fn bytes_of(rt: &(impl Abort + AllocGlobal), text: &str) -> Vec<u8> {
     let alloc = rt.alloc();
     let mut bytes = Vec::new(alloc);
-    for line in lines {
+    for line in text.lines() {
         let more = hex::decode(alloc, line).expect(rt, "hexadecimal digits");
         bytes.extend_from_slice(&more).expect(rt, "bytes");
     }
     bytes
 }
 
-/// The bytes have parts, which are listed so.
-pub fn assert_listed(rt: &(impl Abort + AllocGlobal), bytes: &[u8], lines: &[&str]) {
+/// The bytes have parts, which are listed so after the end of a line.
+pub fn assert_listed(rt: &(impl Abort + AllocGlobal), bytes: &[u8], lines: &str) {
     let parts = read(rt.alloc(), bytes).expect(rt, "parts");
-    let text = format!(in rt.alloc(); "{parts}").expect(rt, "a text");
-    let mut count = 0usize;
-    for line in text.lines() {
-        assert!(rt; lines.get(count).copied() == Some(line), "{line}");
-        count = count.saturating_add(1);
-    }
-    assert!(rt; count == lines.len(), "{count}");
+    let text = format!(in rt.alloc(); "\n{parts}").expect(rt, "a text");
+    assert!(rt; text.as_str() == lines, "{text}");
 }
 
 /// The bytes are refused so.

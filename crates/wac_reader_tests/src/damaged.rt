@@ -2,6 +2,8 @@
 ghost use Rattle.std.specs.Prelude.{◌≤◌};
 
 use crate::asserts::{assert_answered, bytes_of};
+use crate::samples::asynchronous::ASYNC;
+use crate::samples::command::COMMAND;
 use crate::samples::{
     EMPTY, FUNC, HIDDEN_RESOURCE, LABELS, LABELS_RESOURCES, OUTER_DEP, PADDED, REEXPORT, RUN_ONLY,
     Sample,
@@ -49,4 +51,14 @@ fn damaged_components_are_answered(rt: HostRuntime) {
     assert_damaged(&rt, &PADDED, 1);
     assert_damaged(&rt, &REEXPORT, 1);
     assert_damaged(&rt, &RUN_ONLY, 1);
+}
+
+#[test]
+fn a_damaged_asynchronous_component_is_answered(rt: HostRuntime) {
+    assert_damaged(&rt, &ASYNC, 17);
+}
+
+#[test]
+fn a_damaged_command_is_answered(rt: HostRuntime) {
+    assert_damaged(&rt, &COMMAND, 53);
 }

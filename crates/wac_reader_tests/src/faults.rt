@@ -56,6 +56,11 @@ const FAULTS: &[(&str, usize, TextFault)] = &[
         Unsupported(NameForm),
     ),
     (
+        "0061736d0d000100070e01420201400001000400016601000a140102077072696d617279010005613a622f630500",
+        27,
+        Unsupported(NameForm),
+    ),
+    (
         "0061736d0d00010008020150",
         11,
         Unsupported(CanonicalFunction),
@@ -66,7 +71,7 @@ const FAULTS: &[(&str, usize, TextFault)] = &[
 #[test]
 fn faults_are_told_with_their_place(rt: HostRuntime) {
     for (text, at, fault) in FAULTS {
-        let bytes = bytes_of(&rt, &[*text]);
+        let bytes = bytes_of(&rt, *text);
         let reason = ReadReason::Text(*fault);
         assert_refused(&rt, &bytes, ReadError { at: *at, reason });
     }

@@ -81,20 +81,20 @@ fn components_are_read_a_hundred_deep(rt: HostRuntime) {
 
 // Vectors whose count is the largest, each before a byte or none.
 const COUNTS: &[&str] = &[
-    "0705ffffffff0f",
-    "0706ffffffff0f7f",
-    "0a05ffffffff0f",
-    "0806ffffffff0f05",
-    "050700ffffffff0f00",
-    "02080100ffffffff0f",
-    "03060150ffffffff0f",
-    "0707016dffffffff0f",
+    "0061736d0d0001000705ffffffff0f",
+    "0061736d0d0001000706ffffffff0f7f",
+    "0061736d0d0001000a05ffffffff0f",
+    "0061736d0d0001000806ffffffff0f05",
+    "0061736d0d000100050700ffffffff0f00",
+    "0061736d0d00010002080100ffffffff0f",
+    "0061736d0d00010003060150ffffffff0f",
+    "0061736d0d0001000707016dffffffff0f",
 ];
 
 #[test]
 fn counts_that_lie_are_refused(rt: HostRuntime) {
     for text in COUNTS {
-        let bytes = bytes_of(&rt, &["0061736d0d000100", *text]);
+        let bytes = bytes_of(&rt, *text);
         assert!(rt; !assert_answered(&rt, &bytes), "{text}");
     }
 }
