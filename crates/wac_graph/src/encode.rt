@@ -40,8 +40,9 @@ impl CompositionGraph {
     ///
     /// An unsatisfied import of an instantiation gets the import of its class as its argument.
     ///
-    /// The clause `means` promises the order inside each part, and that parts 3 and 4 come last (`in_order`, `in_place`
-    /// and `last` of `Means`). Where types, imports and packages are among the items before them is only tested.
+    /// The clause `means` promises the order inside each part, and that the other exports, the names and the processor
+    /// come last (`in_order`, `in_place` and `last` of `Means`). Where types, imports and packages are among the items
+    /// before them is only tested.
     ///
     /// # Errors
     /// [`EncodeError`] says which error is returned if several apply.
