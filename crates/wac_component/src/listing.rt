@@ -95,31 +95,34 @@ fn put_simple<W: fmt::Write>(
             put_index(f, spaces, Space::CoreInstance)?;
             put_core_instance(f, instance)
         }
-        Part::Instantiate {
-            component,
-            arguments,
-        } => {
-            put_index(f, spaces, Space::Instance)?;
-            write!(f, ": instantiate component {component}")?;
-            for Argument { name, sort, index } in arguments {
-                put_named(f, name, *sort, *index)?;
-            }
-            Ok(())
-        }
-        Part::Exports(exports) => {
-            put_index(f, spaces, Space::Instance)?;
-            f.write_str(": exports")?;
-            for InlineExport { name, sort, index } in exports {
-                put_named(f, name, *sort, *index)?;
-            }
-            Ok(())
-        }
         Part::Alias(alias) => put_alias(f, *alias, spaces),
         Part::Resource(resource) => {
             put_index(f, spaces, Space::Type)?;
             put_resource(f, *resource)
         }
         Part::Canon(canon) => put_canon(f, canon, spaces),
+        _ => put_item(f, part, spaces),
+    }
+}
+
+/// Writes an instance, an import or an export.
+fn put_item<W: fmt::Write>(
+    f: &mut fmt::Formatter<W>,
+    part: &Part<'_>,
+    spaces: &mut Spaces,
+) -> fmt::Result {
+    match part {
+        Part::Instantiate {
+            component,
+            arguments,
+        } => {
+            put_index(f, spaces, Space::Instance)?;
+            put_instantiation(f, *component, arguments)
+        }
+        Part::Exports(exports) => {
+            put_index(f, spaces, Space::Instance)?;
+            put_exports(f, exports)
+        }
         Part::Import(name, description) => {
             put_index(f, spaces, described_space(*description))?;
             write!(f, ": import {name:?}")?;
@@ -132,13 +135,49 @@ fn put_simple<W: fmt::Write>(
             ascription,
         } => {
             put_index(f, spaces, space_of(*sort))?;
-            write!(f, ": export {name:?} {} {index}", space_of(*sort).name())?;
-            match ascription {
-                Some(description) => put_description(f, *description),
-                None => Ok(()),
-            }
+            put_export(f, name, *sort, *index, *ascription)
         }
-        Part::Component(_) | Part::Type(_) | Part::CoreType(_) => Ok(()),
+        _ => Ok(()),
+    }
+}
+
+/// Writes an instance of a component, with its arguments.
+fn put_instantiation<W: fmt::Write>(
+    f: &mut fmt::Formatter<W>,
+    component: u32,
+    arguments: &[Argument<'_>],
+) -> fmt::Result {
+    write!(f, ": instantiate component {component}")?;
+    for Argument { name, sort, index } in arguments {
+        put_named(f, name, *sort, *index)?;
+    }
+    Ok(())
+}
+
+/// Writes an instance that is made of exports.
+fn put_exports<W: fmt::Write>(
+    f: &mut fmt::Formatter<W>,
+    exports: &[InlineExport<'_>],
+) -> fmt::Result {
+    f.write_str(": exports")?;
+    for InlineExport { name, sort, index } in exports {
+        put_named(f, name, *sort, *index)?;
+    }
+    Ok(())
+}
+
+/// Writes an export, with the description that it is given.
+fn put_export<W: fmt::Write>(
+    f: &mut fmt::Formatter<W>,
+    name: &str,
+    sort: Sort,
+    index: u32,
+    ascription: Option<Description>,
+) -> fmt::Result {
+    write!(f, ": export {name:?} {} {index}", space_of(sort).name())?;
+    match ascription {
+        Some(description) => put_description(f, description),
+        None => Ok(()),
     }
 }
 
