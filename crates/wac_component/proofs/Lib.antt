@@ -5,3 +5,4 @@ pub mod Rows
 pub mod Written
 pub mod texts
 pub mod samples
+pub mod component_types

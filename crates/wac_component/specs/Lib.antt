@@ -10,3 +10,10 @@ pub mod CoreViews
 pub mod PartViews
 pub mod Gives
 pub mod Written
+pub mod Open
+pub mod ItemSubtype
+pub mod Context
+pub mod ResourceNames
+pub mod Owners
+pub mod Valid
+pub mod ComponentType

@@ -1,0 +1,14 @@
+pub mod Cases
+pub mod Terms
+pub mod Resources
+pub mod Arguments
+pub mod Wrong
+pub mod Names
+pub mod Equal
+pub mod Exporter
+pub mod Reexporter
+pub mod samples
+pub mod Owners
+pub mod Invalid
+pub mod Further
+pub mod Modules

@@ -1,0 +1,12 @@
+pub mod Empty
+pub mod Func
+pub mod LabelsResources
+pub mod Reexport
+pub mod RunOnly
+pub mod OuterDep
+pub mod Labels
+pub mod WorldUse
+pub mod Padded
+pub mod LabelResourceOutside
+pub mod Async
+pub mod ImportUses
