@@ -7,7 +7,7 @@ use crate::status::Status;
 use std::io::{Eprint, Input, Print};
 use std::rt::Files;
 use std::{fs, io};
-use wac_graph::{EncodeOptions, Processor};
+use wac_graph::{EncodeError, EncodeOptions, Processor};
 use wac_script::{Script, package_file};
 
 /// Returns the bytes of the package that a line needs, if it needs some. Tells when they cannot be read.
@@ -48,13 +48,13 @@ fn make_calls<R: Files + Eprint + AllocGlobal>(
         };
         if let Err(refusal) = script.line(number, line, bytes) {
             eprintln!(rt; "{name}:{number}: error: {refusal}")?;
-            return Ok(Status::Refused);
+            return Ok(Status::refused(refusal.is_out_of_memory()));
         }
     }
     if let Some((socket, plugs)) = asked.plug {
         if let Err(refusal) = script.plug(socket, plugs) {
             eprintln!(rt; "{name}: error: {refusal}")?;
-            return Ok(Status::Refused);
+            return Ok(Status::refused(refusal.is_out_of_memory()));
         }
     }
     Ok(Status::Done)
@@ -76,6 +76,14 @@ fn options<'a>(asked: &Asked<'_, 'a>) -> Option<EncodeOptions<'a>> {
     })
 }
 
+/// Whether memory ran out for a component.
+fn is_memory(error: &EncodeError) -> bool {
+    match error {
+        EncodeError::OutOfMemory => true,
+        _ => false,
+    }
+}
+
 /// Encodes the graph and writes the component. Tells why it cannot be encoded or written.
 fn encode<R: Files + Print + Eprint + AllocGlobal>(
     rt: &R,
@@ -92,7 +100,7 @@ fn encode<R: Files + Print + Eprint + AllocGlobal>(
                 Some(line) => eprintln!(rt; "{name}:{line}: error: {text}")?,
                 None => eprintln!(rt; "{name}: error: {text}")?,
             }
-            Ok(Status::Refused)
+            Ok(Status::refused(is_memory(&error)))
         }
     }
 }

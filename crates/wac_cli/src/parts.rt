@@ -5,7 +5,16 @@ use crate::status::Status;
 use std::io;
 use std::io::{Eprint, Input, Print, Write};
 use std::rt::Files;
+use wac_component::{ReadError, ReadReason};
 use wac_reader_parts::parts;
+
+/// Whether memory ran out for the parts.
+fn is_memory(error: &ReadError) -> bool {
+    match error.reason {
+        ReadReason::OutOfMemory => true,
+        ReadReason::Text(_) => false,
+    }
+}
 
 /// Writes the parts of the component in a file to standard output. Tells why it cannot be read.
 fn attempt<R: Files + Input + Print + Eprint + AllocGlobal>(
@@ -30,7 +39,7 @@ fn attempt<R: Files + Input + Print + Eprint + AllocGlobal>(
         }
         Err(error) => {
             eprintln!(rt; "{name}: error: {error}")?;
-            Ok(Status::Refused)
+            Ok(Status::refused(is_memory(&error)))
         }
     }
 }

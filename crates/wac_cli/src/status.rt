@@ -9,11 +9,20 @@ pub enum Status {
     Refused,
     /// The words of the command line do not go together.
     Usage,
-    /// A read or a write failed.
+    /// A read or a write failed, or memory ran out.
     Failed,
 }
 
 impl Status {
+    /// The status of what was refused: for want of memory the run failed.
+    pub fn refused(is_out_of_memory: bool) -> Status {
+        if is_out_of_memory {
+            Status::Failed
+        } else {
+            Status::Refused
+        }
+    }
+
     /// The number that the system gets.
     pub fn code(self) -> u8 {
         match self {

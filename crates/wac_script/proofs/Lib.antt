@@ -1,8 +1,11 @@
+mod CoreLemmas
 mod Examples
 mod ItemLemmas
 mod LabelLemmas
 mod ListLemmas
-mod ReasonLemmas
+mod NameLemmas
+mod ReadLemmas
+mod RefuseLemmas
 mod RunLemmas
 mod SaidLemmas
 mod StepLemmas

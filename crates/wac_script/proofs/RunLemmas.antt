@@ -1,7 +1,9 @@
 -- What lines do.
-use Rattle.std.proofs.Common.{◌≡◌, ◌⊎◌, ◌+◌, ◌≤◌, ◌∷◌, ◌∙◌, refl, ap, sym, subst, inl, inr, ℕ, zero, suc, add-one, length, drop, slice_get, List, [], Bool, false, Option, Some, None, Result, Ok, Err, IsErr}
-use Rattle.std.specs.Prelude.{IfSome, IfErr, IsTrue, IsSome, ◌↔◌}
-use Rattle.std.proofs.lemmas.List.{drop_all}
+use Rattle.std.proofs.Common.{◌≡◌, ◌⊎◌, ◌+◌, ◌<◌, ◌≤◌, arith, codes, get_or, ◌++◌, ◌∷◌, ◌∙◌, refl, ap, sym, subst, inl, inr, ℕ, zero, suc, add-one, length, take, drop, slice_get, take-append-drop, List, [], Bool, false, Option, Some, None, Result, Ok, Err}
+use Rattle.std.specs.Prelude.{IsTrue, IsSome, IsErr, ◌↔◌}
+use Rattle.std.specs.declared.alloc.AllocError.{AllocError}
+use Rattle.std.specs.Option.{option_copied}
+use Rattle.std.proofs.lemmas.List.{take_all}
 use Rattle.std.proofs.lemmas.Bool.{false≢true}
 use Rattle.wac_types_shapes.specs.primitives.Name.{Name, find_name}
 use Rattle.wac_script.specs.declared.labels.things.Labelled.{Labelled}
@@ -12,145 +14,149 @@ use Rattle.std.specs.Result.{IsErrAnd}
 use Rattle.std.specs.Borrow.{Bor}
 use Rattle.wac_graph_model.specs.nodes.Graph.{Graph}
 use Rattle.wac_types_shapes.specs.declared.shapes.core_types.CoreExtern.{CoreExtern}
-use Rattle.wac_script.specs.lines.Words.{Word, AreWords}
-use Rattle.wac_script.specs.lines.Says.{SaysLine, SaysNoLine}
+use Rattle.wac_script.specs.lines.Words.{Word, spelled, HasNoPrefix, AreWords}
+use Rattle.wac_script.specs.lines.Says.{SaysNoLine}
 use Rattle.wac_script.specs.declared.labels.faults.WordError.{WordError}
+use Rattle.wac_script.specs.declared.labels.faults.WordError.TheVariants as word_error
 use Rattle.wac_script.specs.declared.lines.calls.Call.{Call}
 use Rattle.wac_script.specs.declared.lines.calls.Call.TheVariants as said
 use Rattle.wac_script.specs.declared.lines.calls.Change.{Change}
 use Rattle.wac_script.specs.declared.lines.calls.Line.{Line}
 use Rattle.wac_script.specs.declared.lines.calls.Line.TheVariants as line
 use Rattle.wac_script.specs.declared.lines.shapes.CoreItem.{CoreItem}
-use Rattle.wac_script.specs.labels.Things.{Labelling, IsWordMemory}
+use Rattle.wac_script.specs.labels.Things.{Labelling, SayNone}
+use Rattle.wac_script.specs.labels.Cores.{IsCoreItem}
+use Rattle.wac_script.specs.private.Unread.{IsUnread}
+use Rattle.wac_script.specs.private.Misread.{IsMisread}
 use Rattle.wac_script.specs.declared.refusal.LineError.{LineError}
 use Rattle.wac_script.specs.declared.refusal.LineError.TheVariants as error
 use Rattle.wac_script.specs.declared.refusal.Refusal.{Refusal}
 use Rattle.wac_script.specs.declared.refusal.Refusal.TheVariants as refusal
-use Rattle.wac_script.specs.Steps.{Adds, Makes, Changes, Leaves, IsFileOf, SayFile, NamesFile, NamesThing, AreNamed, IsMemory, IsWiringCall, HasCallReason, refused_by}
-use Rattle.wac_script.specs.Runs.{State, Does, HasReason, Runs, RunsWords, RunsLine, RanOut, IsMisread}
-use Rattle.wac_script.proofs.StepLemmas.{unchanged}
-use Rattle.wac_script.proofs.ReasonLemmas.{memory-of}
+use Rattle.wac_script.specs.Refusals.{refused_by, RefusesCall, Changes}
+use Rattle.wac_script.specs.Naming.{NamesThing, AreNamed, AreSomeNamed}
+use Rattle.wac_script.specs.Files.{SayFile, NamesFile}
+use Rattle.wac_script.specs.Runs.{State, Refuses, RefusesCore, Runs, RunsWords, RunsLine, RanOut, KeepsLabels, NamesNodes}
 
--- A line that is refused before it touches anything.
-pub run-refused-first : (number : ℕ) (said : Line) (of_file : List ℕ) (s : State) (r : Result (Unit {0}) Refusal)
-    → IsErr r → IfErr r (λ e. HasReason number said of_file s e) → Runs number said of_file s r s
-run-refused-first number said of_file s (Ok t) h reason = absurd (false≢true h)
-run-refused-first number said of_file s (Err e) h reason = (inl (unchanged s.graph e, refl), reason)
+-- Memory may run out for any call.
+pub call-memory : (labels : Labelling) (cores : List CoreExtern) (of_file : List ℕ) (old new : Graph) (call : Call) → new ≡ old → RefusesCall labels cores of_file old call refusal.OutOfMemory new
+call-memory labels cores of_file old new (said.Shape _) same = same
+call-memory labels cores of_file old new (said.Resource _) same = same
+call-memory labels cores of_file old new (said.ResourceAlias _ _) same = same
+call-memory labels cores of_file old new (said.OwnedAlias _ _ _) same = same
+call-memory labels cores of_file old new (said.Func _ _) same = same
+call-memory labels cores of_file old new (said.AsyncFunc _ _) same = same
+call-memory labels cores of_file old new (said.Interface _ _) same = same
+call-memory labels cores of_file old new (said.World _ _) same = same
+call-memory labels cores of_file old new (said.Module _ _) same = same
+call-memory labels cores of_file old new (said.Package _) same = same
+call-memory labels cores of_file old new (said.New _) same = same
+call-memory labels cores of_file old new (said.Alias _ _) same = same
+call-memory labels cores of_file old new (said.Import _ _) same = same
+call-memory labels cores of_file old new (said.Define _ _) same = same
 
-pub run-refused-same : (number : ℕ) (said : Line) (of_file : List ℕ) (old new : State) (r : Result (Unit {0}) Refusal)
-    → IsErr r → new.graph ≡ old.graph → new.labels ≡ old.labels → IfErr r (λ e. HasReason number said of_file old e) → Runs number said of_file old r new
-run-refused-same number said of_file old new (Ok t) h same labels reason = absurd (false≢true h)
-run-refused-same number said of_file old new (Err e) h same labels reason = (inl (subst (λ g. Leaves old.graph e g) (sym same) (unchanged old.graph e), labels), reason)
+-- A label that is taken refuses the line.
+pub label-refused : (number : ℕ) (label : Bor (List ℕ)) (call : Call) (of_file : List ℕ) (s : State) (r : Result (Unit {0}) Refusal) (e : WordError)
+    → IsErrAnd r (λ x. x ≡ refused_by e) → IsUnread (IsSome (find_name s.labels label.now)) e → Runs number (line.Make label call) of_file s r s
+label-refused number label call of_file s (Ok t) e h reason = absurd h
+label-refused number label call of_file s (Err x) word_error.OutOfMemory h reason =
+    subst (λ y. Refuses (line.Make label call) of_file s y s) (sym h) (inr (inl (call-memory s.labels s.cores of_file s.graph s.graph call refl), (refl, refl)))
+label-refused number label call of_file s (Err x) (word_error.Word fault word) h reason =
+    subst (λ y. Refuses (line.Make label call) of_file s y s) (sym h) (elim reason [ inl m ↦ absurd m | inr taken ↦ inl (taken, refl) ])
+label-refused number label call of_file s (Err x) (word_error.Shape source) h reason =
+    subst (λ y. Refuses (line.Make label call) of_file s y s) (sym h) (elim reason [ inl m ↦ absurd m | inr taken ↦ inl (taken, refl) ])
 
--- A core item has no reason to give.
-pub core-reason : (number : ℕ) (label : Bor (List ℕ)) (item : CoreItem) (of_file : List ℕ) (s : State) (r : Result (Unit {0}) Refusal)
-    → IfErr r (λ e. HasReason number (line.Core label item) of_file s e)
-core-reason number label item of_file s (Ok t) = tt
-core-reason number label item of_file s (Err e) = λ wiring. absurd wiring
+-- A call that is refused refuses the line.
+pub call-refused : (number : ℕ) (label : Bor (List ℕ)) (call : Call) (of_file : List ℕ) (old new : State) (e : Refusal) (r : Result (Unit {0}) Refusal)
+    → IsErrAnd r (λ x. x ≡ e) → RefusesCall old.labels old.cores of_file old.graph call e new.graph → new.labels ≡ old.labels → new.cores ≡ old.cores
+    → Runs number (line.Make label call) of_file old r new
+call-refused number label call of_file old new e (Ok t) h refuses labels cores = absurd h
+call-refused number label call of_file old new e (Err x) h refuses labels cores =
+    subst (λ y. Refuses (line.Make label call) of_file old y new) (sym h) (inr (inl refuses, (labels, cores)))
 
--- A label that is taken is a reason.
-pub label-reason : (number : ℕ) (label : Bor (List ℕ)) (call : Call) (of_file : List ℕ) (s : State) (r : Result (Unit {0}) Refusal) (e : WordError)
-    → IsErrAnd r (λ x. x ≡ refused_by e) → IsWordMemory e ⊎ IsSome (find_name s.labels label.now) → IfErr r (λ x. HasReason number (line.Make label call) of_file s x)
-label-reason number label call of_file s (Ok t) e h reason = tt
-label-reason number label call of_file s (Err x) e h reason = λ wiring.
-    subst (λ y. IsMemory y ⊎ ((new : State) → Does number (line.Make label call) of_file s new → ⊥)) (sym h) (elim reason [
-      | inl m ↦ inl (memory-of e m)
-      | inr taken ↦ inr (λ new does. false≢true (subst (λ o. IsSome o) does.1 taken))
-    ])
+-- Words refuse a core item.
+pub core-refused : (number : ℕ) (label : Bor (List ℕ)) (item : CoreItem) (s : State) {N : Type 0} (r : Result (Unit {0}) Refusal) (e : WordError)
+    → IsErrAnd r (λ x. x ≡ refused_by e) → IsUnread N e → (N → IsSome (find_name s.labels label.now) ⊎ SayNone (IsCoreItem item)) → Runs number (line.Core label item) [] s r s
+core-refused number label item s (Ok t) e h reason f = absurd h
+core-refused number label item s (Err x) word_error.OutOfMemory h reason f = subst (λ y. RefusesCore label.now item s y s) (sym h) refl
+core-refused number label item s (Err x) (word_error.Word fault word) h reason f =
+    subst (λ y. RefusesCore label.now item s y s) (sym h) (elim reason [ inl m ↦ absurd m | inr n ↦ (f n, refl) ])
+core-refused number label item s (Err x) (word_error.Shape source) h reason f =
+    subst (λ y. RefusesCore label.now item s y s) (sym h) (elim reason [ inl m ↦ absurd m | inr n ↦ (f n, refl) ])
 
--- What such a call makes, it adds.
-made-added : (labels : Labelling) (cores : List CoreExtern) (of_file : List ℕ) (old new : Graph) (call : Call) (t : Thing) → IsWiringCall call
-    → Makes labels cores of_file old call t new → Adds labels cores old call t new
-made-added labels cores of_file old new (said.New label) t wiring h = h
-made-added labels cores of_file old new (said.Alias label exported) t wiring h = h
-made-added labels cores of_file old new (said.Shape _) t wiring h = absurd wiring
-made-added labels cores of_file old new (said.Resource _) t wiring h = absurd wiring
-made-added labels cores of_file old new (said.ResourceAlias _ _) t wiring h = absurd wiring
-made-added labels cores of_file old new (said.OwnedAlias _ _ _) t wiring h = absurd wiring
-made-added labels cores of_file old new (said.Func _ _) t wiring h = absurd wiring
-made-added labels cores of_file old new (said.AsyncFunc _ _) t wiring h = absurd wiring
-made-added labels cores of_file old new (said.Interface _ _) t wiring h = absurd wiring
-made-added labels cores of_file old new (said.World _ _) t wiring h = absurd wiring
-made-added labels cores of_file old new (said.Module _ _) t wiring h = absurd wiring
-made-added labels cores of_file old new (said.Package _) t wiring h = absurd wiring
-made-added labels cores of_file old new (said.Import _ _) t wiring h = absurd wiring
-made-added labels cores of_file old new (said.Define _ _) t wiring h = absurd wiring
+pub core-memory : (number : ℕ) (label : Bor (List ℕ)) (item : CoreItem) (old new : State) (r : Result (Unit {0}) Refusal)
+    → IsErrAnd r (λ x. x ≡ refusal.OutOfMemory) → new ≡ old → Runs number (line.Core label item) [] old r new
+core-memory number label item old new (Ok t) h same = absurd h
+core-memory number label item old new (Err x) h same = subst (λ y. RefusesCore label.now item old y new) (sym h) same
 
--- The reason of a call is that of its line.
-pub make-reason : (number : ℕ) (label : Bor (List ℕ)) (call : Call) (of_file : List ℕ) (s : State) (e : Refusal)
-    → HasCallReason s.labels s.cores s.graph call e → HasReason number (line.Make label call) of_file s e
-make-reason number label call of_file s e reason = λ wiring. elim (reason wiring) [
-  | inl m ↦ inl m
-  | inr never ↦ inr (λ new does. never does.0 new.graph (made-added s.labels s.cores of_file s.graph new.graph call does.0 wiring does.2))
-]
+-- The state of these parts.
+abbrev state : Graph → Labelling → List CoreExtern → State
+state g l c = record { graph = g; labels = l; cores = c }
 
--- A refusal that is handed on.
-pub run-handed-on : (number : ℕ) (said : Line) (of_file : List ℕ) (old new : State) (e : Refusal) (r : Result (Unit {0}) Refusal)
-    → IsErrAnd r (λ x. x ≡ e) → Leaves old.graph e new.graph → new.labels ≡ old.labels → HasReason number said of_file old e → Runs number said of_file old r new
-run-handed-on number said of_file old new e (Ok t) h left same reason = absurd h
-run-handed-on number said of_file old new e (Err x) h left same reason =
-    (inl (subst (λ y. Leaves old.graph y new.graph) (sym h) left, same), subst (λ y. HasReason number said of_file old y) (sym h) reason)
+-- States with the same labels and core items.
+pub same-state : (g : Graph) (l m : Labelling) (c d : List CoreExtern) → l ≡ m → c ≡ d → state g l c ≡ state g m d
+same-state g l m c d labels cores = ap (λ x. state g x c) labels ∙ ap (λ x. state g m x) cores
 
 -- Words are misread, or there is no memory to say so.
 pub words-misread : (number : ℕ) (words : List Word) (of_file : List ℕ) (s : State) (e : LineError)
-    → SaysNoLine words → IsMisread e ⊎ (e ≡ error.Call refusal.OutOfMemory) → RanOut s (Err e) s ⊎ RunsWords number words of_file s (Err e) s
-words-misread number words of_file s (error.UnknownCall name) none h = inr (none, refl)
-words-misread number words of_file s (error.OtherWords call) none h = inr (none, refl)
-words-misread number words of_file s (error.Call e) none h = elim h [ inl misread ↦ absurd misread | inr is ↦ inl (ap Err is, refl) ]
+    → SaysNoLine words → IsMisread words e → RanOut s (Err e) s ⊎ RunsWords number words of_file s (Err e) s
+words-misread number words of_file s (error.UnknownCall name) none h = inr (none, h.0, h.1, refl)
+words-misread number words of_file s (error.OtherWords call) none h = inr (none, h.0, h.1, refl)
+words-misread number words of_file s (error.Call refusal.OutOfMemory) none h = inl (refl, refl)
+words-misread number words of_file s (error.Call (refusal.Words _)) none h = absurd h
+words-misread number words of_file s (error.Call (refusal.Type _)) none h = absurd h
+words-misread number words of_file s (error.Call (refusal.Register _)) none h = absurd h
+words-misread number words of_file s (error.Call (refusal.Import _)) none h = absurd h
+words-misread number words of_file s (error.Call (refusal.Define _)) none h = absurd h
+words-misread number words of_file s (error.Call (refusal.Alias _)) none h = absurd h
+words-misread number words of_file s (error.Call (refusal.Argument _)) none h = absurd h
+words-misread number words of_file s (error.Call (refusal.Export _)) none h = absurd h
+words-misread number words of_file s (error.Call (refusal.Plug _)) none h = absurd h
+
+-- Words that say nothing are some words.
+pub some-words : (words : List Word) → SaysNoLine words → words ≡ [] → ⊥
+some-words words none is = none line.Nothing is
 
 -- The file of a line is read by packages alone.
 pub core-alone : (number : ℕ) (label : Bor (List ℕ)) (item : CoreItem) (of_file : List ℕ) (old new : State) (r : Result (Unit {0}) Refusal)
     → Runs number (line.Core label item) [] old r new → Runs number (line.Core label item) of_file old r new
 core-alone number label item of_file old new (Ok t) h = h
-core-alone number label item of_file old new (Err e) h = (elim h.0 [ inl left ↦ inl left | inr lacks ↦ absurd lacks ], λ wiring. absurd wiring)
+core-alone number label item of_file old new (Err e) h = h
 
 -- A call without a label leaves the labels.
 pub change-runs : (number : ℕ) (c : Change) (of_file : List ℕ) (labels : Labelling) (cores : List CoreExtern) (g g' : Graph) (r : Result (Unit {0}) Refusal)
     → Changes labels g c r g' → Runs number (line.Change c) of_file (record { graph = g; labels = labels; cores = cores }) r (record { graph = g'; labels = labels; cores = cores })
 change-runs number c of_file labels cores g g' (Ok t) h = (h, refl, refl)
-change-runs number c of_file labels cores g g' (Err e) h = (
-  inl (h.0, refl),
-  λ wiring. elim (h.1 wiring) [
-    | inl m ↦ inl m
-    | inr never ↦ inr (λ new does. never new.graph does.0)
-  ],
-)
+change-runs number c of_file labels cores g g' (Err e) h = (h, (refl, refl))
 
 -- The words of a text are what the line runs.
 pub text-runs : (number : ℕ) (text : List ℕ) (words : List Word) (of_file : List ℕ) (old new : State) (r : Result (Unit {0}) LineError)
     → AreWords text words → RanOut old r new ⊎ RunsWords number words of_file old r new → RunsLine number text of_file old r new
 text-runs number text words of_file old new r are h = elim h [ inl out ↦ inl out | inr runs ↦ inr (words, are, runs) ]
 
--- The file of what words say.
-pub file-said : (words : List Word) (l : Line) (o : Option (Bor (List ℕ))) → SaysLine words l → IfSome o (λ f. IsFileOf l f.now) → IfSome o (λ f. SayFile words f.now)
-file-said words l None says h = tt
-file-said words l (Some f) says h = (l, says, h)
+-- One item more.
+take-at : {A : Type 0} (xs : List A) (i : ℕ) (x : A) → slice_get xs i ≡ Some x → take (suc i) xs ≡ take i xs ++ x ∷ []
+take-at [] i x at = cc
+take-at (y ∷ xs) zero x at = cc
+take-at (y ∷ xs) (suc i) x at = ap (λ l. y ∷ l) (take-at xs i x at)
 
--- The file of a text.
-pub file-named : (text : List ℕ) (words : List Word) (o : Option (Bor (List ℕ))) → AreWords text words → IfSome o (λ f. SayFile words f.now) → IfSome o (λ f. NamesFile text f.now)
-file-named text words None are h = tt
-file-named text words (Some f) are h = (words, are, h)
-
--- The nodes of the labels so far are named.
-abbrev pub NamedSoFar : Labelling → ℕ → Graph → Graph → Type 0
-NamedSoFar labels i start now = (end : Graph) → AreNamed (drop i labels) now end → AreNamed labels start end
-
-pub named-begin : (labels : Labelling) (g : Graph) → NamedSoFar labels 0 g g
-named-begin labels g end h = h
-
--- What is left begins with the item there.
-drop-at : {A : Type 0} (xs : List A) (i : ℕ) (x : A) → slice_get xs i ≡ Some x → drop i xs ≡ x ∷ drop (suc i) xs
-drop-at [] i x at = cc
-drop-at (y ∷ xs) zero x at = cc
-drop-at (y ∷ xs) (suc i) x at = drop-at xs i x at
+-- One node more is named.
+named-push : (labels : Labelling) (l : Name × Labelled) (start now next : Graph) → AreNamed labels start now → NamesThing l.0 l.1.thing now next → AreNamed (labels ++ l ∷ []) start next
+named-push [] l start now next h here = (next, subst (λ g. NamesThing l.0 l.1.thing g next) h here, refl)
+named-push (m ∷ labels) l start now next h here = (h.0, h.1, named-push labels l h.0 now next h.2 here)
 
 pub named-step : (labels : Labelling) (i : ℕ) (l : Name × Labelled) (start now next : Graph)
-    → slice_get labels i ≡ Some l → NamesThing l.0 l.1.thing now next → NamedSoFar labels i start now → NamedSoFar labels (i + 1) start next
-named-step labels i l start now next at here so_far end h =
-    so_far end (subst (λ ls. AreNamed ls now end) (sym (drop-at labels i l at)) (next, here, subst (λ n. AreNamed (drop n labels) next end) (add-one i) h))
+    → slice_get labels i ≡ Some l → NamesThing l.0 l.1.thing now next → AreNamed (take i labels) start now → AreNamed (take (i + 1) labels) start next
+named-step labels i l start now next at here so_far =
+    subst (λ n. AreNamed (take n labels) start next) (sym (add-one i))
+    (subst (λ ls. AreNamed ls start next) (sym (take-at labels i l at)) (named-push (take i labels) l start now next so_far here))
 
-pub named-end : (labels : Labelling) (i : ℕ) (start now : Graph) → length labels ≤ i → NamedSoFar labels i start now → AreNamed labels start now
-named-end labels i start now past so_far = so_far now (subst (λ ls. AreNamed ls now now) (sym (drop_all i labels past)) refl)
+pub named-end : (labels : Labelling) (i : ℕ) (start now : Graph) → length labels ≤ i → AreNamed (take i labels) start now → AreNamed labels start now
+named-end labels i start now past so_far = subst (λ ls. AreNamed ls start now) (take_all i labels past) so_far
+
+-- Memory runs out while nodes are named.
+pub names-failed : (old new : State) (r : Result (Unit {0}) AllocError) → IsErr r → AreSomeNamed old.labels old.graph new.graph → KeepsLabels old new → NamesNodes old r new
+names-failed old new (Ok t) h some keeps = absurd (false≢true h)
+names-failed old new (Err e) h some keeps = (some, keeps)
 
 -- What a label stands for, with its line.
 abbrev pub labelled_at : Thing → ℕ → Labelled
@@ -172,3 +178,27 @@ not-a-node label (thing.World _) g other = refl
 not-a-node label (thing.Core _) g other = refl
 not-a-node label (thing.Module _) g other = refl
 not-a-node label (thing.Package _) g other = refl
+
+differ : (m n : ℕ) → m ≡ n → m < n → ⊥
+differ m n same less = omega arith
+
+-- The words of a package say its file.
+pub package-said : (words : List (Bor (List ℕ))) (d : Bor (List ℕ)) → length words ≡ 7 → (get_or words 1 d).now ≡ codes "=" → (get_or words 2 d).now ≡ codes "package"
+    → HasNoPrefix (codes "hex:") ((get_or words 5 d).now) → SayFile (spelled words) (Some ((get_or words 5 d).now))
+package-said [] d long is call lacks = absurd (differ 0 7 long (omega arith))
+package-said (a ∷ []) d long is call lacks = absurd (differ 1 7 long (omega arith))
+package-said (a ∷ b ∷ []) d long is call lacks = absurd (differ 2 7 long (omega arith))
+package-said (a ∷ b ∷ c ∷ []) d long is call lacks = absurd (differ 3 7 long (omega arith))
+package-said (a ∷ b ∷ c ∷ e ∷ []) d long is call lacks = absurd (differ 4 7 long (omega arith))
+package-said (a ∷ b ∷ c ∷ e ∷ f ∷ []) d long is call lacks = absurd (differ 5 7 long (omega arith))
+package-said (a ∷ b ∷ c ∷ e ∷ f ∷ g ∷ []) d long is call lacks = absurd (differ 6 7 long (omega arith))
+package-said (a ∷ b ∷ c ∷ e ∷ f ∷ g ∷ h ∷ []) d long is call lacks = (
+  line.Make a (said.Package (record { name = e; version = f; file = g; world = h })),
+  (
+    c.now ∷ e.now ∷ f.now ∷ g.now ∷ h.now ∷ [],
+    ap (λ x. a.now ∷ x ∷ c.now ∷ e.now ∷ f.now ∷ g.now ∷ h.now ∷ []) is,
+    ap (λ x. x ∷ e.now ∷ f.now ∷ g.now ∷ h.now ∷ []) call,
+  ),
+  (refl, lacks),
+)
+package-said (a ∷ b ∷ c ∷ e ∷ f ∷ g ∷ h ∷ i ∷ rest) d long is call lacks = absurd (differ 7 (length (a ∷ b ∷ c ∷ e ∷ f ∷ g ∷ h ∷ i ∷ rest)) (sym long) (omega arith))

@@ -1,5 +1,9 @@
 pub mod lines
 pub mod labels
 pub mod Steps
+pub mod Refusals
+pub mod Memory
+pub mod Naming
+pub mod Files
 pub mod Runs
 pub mod private

@@ -1,3 +1,5 @@
 pub mod Listed
 pub mod Unsaid
-pub mod Missing
+pub mod Unread
+pub mod Resources
+pub mod Misread

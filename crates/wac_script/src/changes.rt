@@ -1,7 +1,7 @@
 //! Calls that change what is there.
 ghost use Rattle.wac_script.specs.declared.lines.calls.Change.TheVariants as said;
 ghost use Rattle.wac_script.specs.labels.Things.{things_of};
-ghost use Rattle.wac_script.specs.Steps.{Changes};
+ghost use Rattle.wac_script.specs.Refusals.{Changes};
 
 use crate::labels::Things;
 use crate::lines::Change;
@@ -10,7 +10,6 @@ use crate::packages::plug_in;
 use crate::refusal::Refusal;
 use std::alloc::Global;
 use wac_graph::CompositionGraph;
-use wac_graph_model::one_export_answer;
 
 /// Makes a call that makes nothing which could have a label.
 pub(crate) fn change(
@@ -62,7 +61,6 @@ fn export(
 ) -> Result<(), Refusal>
     ensures { Changes (things_of labels.now) graph.old (said.Export node.entry name.entry) result graph.new }
 {
-    one_export_answer(); // proof only
     let id = node_of(alloc, labels, graph, node)?;
     match graph.export(id, name) {
         Ok(()) => Ok(()),

@@ -1,14 +1,11 @@
 //! Calls that add a node.
-ghost use Rattle.std.specs.Prelude.{◌≡◌, ◌⊎◌, true, IfOk, IfErr, IsSome};
-ghost use Rattle.wac_types_collection.specs.collection.Collection.{holds_type};
-ghost use Rattle.wac_types_shapes.specs.shapes.Kinds.{kind_type};
-ghost use Rattle.wac_graph_model.specs.nodes.Graph.{node_at};
 ghost use Rattle.wac_script.specs.declared.lines.calls.Call.TheVariants as said;
-ghost use Rattle.wac_script.specs.labels.Things.{things_of, cores_of, IsThing, IsWordMemory};
-ghost use Rattle.wac_script.specs.private.Missing.{IsNoNode};
+ghost use Rattle.wac_script.specs.labels.Things.{things_of, cores_of};
+ghost use Rattle.std.specs.Prelude.{IfOk};
 ghost use Rattle.wac_script.specs.labels.Items.{IsItem};
-ghost use Rattle.wac_script.specs.declared.labels.things.Thing.TheVariants.{Node as node_thing};
-ghost use Rattle.wac_script.specs.Steps.{AnswersPlain};
+ghost use Rattle.wac_script.specs.labels.There.{IsNode, IsHeld};
+ghost use Rattle.wac_script.specs.private.Unread.{Reads, ReadsSuch};
+ghost use Rattle.wac_script.specs.Refusals.{AnswersPlain};
 
 use crate::labels::{Thing, Things, WordError, WordFault, refused};
 use crate::packages::package_of;
@@ -24,9 +21,7 @@ pub(crate) fn node_of(
     graph: &CompositionGraph,
     label: &str,
 ) -> Result<NodeId, WordError>
-    ensures named { IfOk result (λ id. IsThing (things_of labels.now) label.now (node_thing id)) }
-    ensures there { IfOk result (λ id. IsSome (node_at graph.now id)) }
-    ensures refused { IfErr result (λ e. IsWordMemory e ⊎ IsNoNode (things_of labels.now) label.now graph.now) }
+    ensures { Reads (IsNode (things_of labels.now) graph.now label.now) result }
 {
     let id = labels.node_of(label)?;
     if !graph.has_node(id) {
@@ -42,8 +37,8 @@ fn item_of(
     graph: &CompositionGraph,
     word: &str,
 ) -> Result<ItemKind, WordError>
-    ensures said { IfOk result (λ item. IsItem (things_of labels.now) word.now item) }
-    ensures there { IfOk result (λ item. holds_type graph.now.types (kind_type item) ≡ true) }
+    ensures said { ReadsSuch (IsItem (things_of labels.now) word.now) (IsHeld graph.now) result }
+    ensures there { IfOk result (IsHeld graph.now) }
 {
     let item = labels.item(word)?;
     if !graph.types().contains(item.ty()) {

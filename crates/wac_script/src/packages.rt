@@ -1,21 +1,20 @@
 //! Packages, and plugging them.
-ghost use Rattle.std.specs.Prelude.{◌≡◌, ◌⊎◌, ℕ, true, Some, IfOk, IfErr, IfSome, IsSome, slice_get};
-ghost use Rattle.std.specs.List.{AllZip};
-ghost use Rattle.std.specs.Option.{option_map};
+ghost use Rattle.std.specs.Prelude.{◌≢◌, ◌⊎◌, IfOk, MatchResult};
+ghost use Rattle.std.specs.Option.{option_copied, option_map};
 ghost use Rattle.semver.specs.Identifiers.{parts_of};
-ghost use Rattle.wac_types_collection.specs.collection.Collection.{holds_type};
-ghost use Rattle.wac_types_shapes.specs.declared.shapes.component.«Type».TheVariants.{World as world_type};
-ghost use Rattle.wac_graph_model.specs.nodes.Graph.{package_at};
-ghost use Rattle.wac_graph_model.specs.declared.nodes.packages.PackageId.{PackageId as AnId};
+ghost use Rattle.semver.specs.Parse.{memory_error};
 ghost use Rattle.wac_script.specs.lines.Words.{spelled};
 ghost use Rattle.wac_script.specs.declared.lines.calls.Call.TheVariants as said;
-ghost use Rattle.wac_script.specs.labels.Things.{things_of, cores_of, IsThing, IsWordMemory};
-ghost use Rattle.wac_script.specs.private.Missing.{IsNoPackage};
-ghost use Rattle.wac_script.specs.declared.labels.things.Thing.TheVariants.{Package as package_thing, World as world_thing};
-ghost use Rattle.wac_script.specs.Steps.{Answers, AreBytes, ArePackages, IsVersion, IsFileOf, NamesFile, Plugged, SayFile};
+ghost use Rattle.wac_script.specs.declared.lines.calls.Change.TheVariants as change;
+ghost use Rattle.wac_script.specs.labels.Things.{things_of, cores_of, SayNone, IsWordMemory};
+ghost use Rattle.wac_script.specs.labels.There.{IsPackage, ArePackages, IsWorldThere};
+ghost use Rattle.wac_script.specs.private.Unread.{IsUnread, Reads};
+ghost use Rattle.wac_script.specs.Steps.{AreBytes, IsVersion};
+ghost use Rattle.wac_script.specs.Refusals.{Answers, Changes};
+ghost use Rattle.wac_script.specs.Files.{NamesFile, SayFile};
 
 use crate::labels::{Thing, Things, WordError, WordFault, refused};
-use crate::lines::{Call, Line, PackageWords, after_prefix, optional, words_of};
+use crate::lines::{PackageWords, after_prefix, optional, words_of};
 use crate::refusal::Refusal;
 use hex::FromHexError;
 use semver::Version;
@@ -28,7 +27,7 @@ use wac_graph::{CompositionGraph, PackageId, plug};
 /// # Errors
 /// - `AllocError` if out of memory.
 pub fn package_file(alloc: Global, line: &str) -> Result<Option<&str>, AllocError>
-    ensures { IfOk result (λ file. IfSome file (λ f. NamesFile line.now f.now)) }
+    ensures { IfOk result (λ file. NamesFile line.now (option_copied file)) }
 {
     let words = words_of(alloc, line)?;
     Ok(file_of_words(&words))
@@ -41,9 +40,7 @@ pub(crate) fn package_of(
     graph: &CompositionGraph,
     label: &str,
 ) -> Result<PackageId, WordError>
-    ensures named { IfOk result (λ id. IsThing (things_of labels.now) label.now (package_thing id)) }
-    ensures there { IfOk result (λ id. IsSome (package_at graph.now id)) }
-    ensures refused { IfErr result (λ e. IsWordMemory e ⊎ IsNoPackage (things_of labels.now) label.now graph.now) }
+    ensures { Reads (IsPackage (things_of labels.now) graph.now label.now) result }
 {
     let id = labels.package_of(label)?;
     if !graph.has_package(id) {
@@ -59,8 +56,7 @@ fn world_of(
     graph: &CompositionGraph,
     label: &str,
 ) -> Result<WorldId, WordError>
-    ensures named { IfOk result (λ id. IsThing (things_of labels.now) label.now (world_thing id)) }
-    ensures there { IfOk result (λ id. holds_type graph.now.types (world_type id) ≡ true) }
+    ensures { Reads (IsWorldThere (things_of labels.now) graph.now label.now) result }
 {
     let id = labels.world_of(label)?;
     if !graph.types().contains(Type::World(id)) {
@@ -71,20 +67,30 @@ fn world_of(
 
 /// Returns the version of a word, or none for `_`.
 fn version_of(alloc: Global, word: &str) -> Result<Option<Version>, WordError>
-    ensures { IfOk result (λ v. IsVersion word.now (option_map parts_of v)) }
+    ensures { MatchResult result (λ v. IsVersion word.now (option_map parts_of v)) (IsUnread (SayNone (IsVersion word.now))) }
 {
     let Some(text) = optional(word) else {
         return Ok(None);
     };
     match Version::parse(alloc, text) {
         Ok(version) => Ok(Some(version)),
-        Err(_) => Err(refused(alloc, WordFault::NotVersion, word)),
+        Err(e) => Err(version_error(alloc, word, e)),
     }
+}
+
+/// Returns the error of a word that was not read as a version.
+fn version_error(alloc: Global, word: &str, error: semver::Error) -> WordError
+    ensures { IsWordMemory result ⊎ (error ≢ memory_error) }
+{
+    if error == semver::Error::from(AllocError) {
+        return WordError::OutOfMemory;
+    }
+    refused(alloc, WordFault::NotVersion, word)
 }
 
 /// Returns the bytes of a package: those in the word, or else those of its file.
 fn package_bytes(alloc: Global, file: &str, bytes: Vec<u8>) -> Result<Vec<u8>, WordError>
-    ensures { IfOk result (λ b. AreBytes file.now bytes.items b.items) }
+    ensures { MatchResult result (λ b. AreBytes file.now bytes.items b.items) (IsUnread (SayNone (AreBytes file.now bytes.items))) }
 {
     let Some(digits) = after_prefix(file, "hex:") else {
         return Ok(bytes);
@@ -123,8 +129,7 @@ fn packages_of(
     graph: &CompositionGraph,
     words: &[&str],
 ) -> Result<Vec<PackageId>, WordError>
-    ensures named { IfOk result (λ ids. ArePackages (things_of labels.now) (spelled words.now) ids.items) }
-    ensures there { IfOk result (λ ids. (i : ℕ) (id : AnId) → slice_get ids.items i ≡ Some id → IsSome (package_at graph.now id)) }
+    ensures { MatchResult result (λ ids. ArePackages (things_of labels.now) graph.now (spelled words.now) ids.items) (IsUnread (SayNone (ArePackages (things_of labels.now) graph.now (spelled words.now)))) }
 {
     let mut packages = Vec::new(alloc);
     for word in words {
@@ -142,7 +147,7 @@ pub(crate) fn plug_in(
     socket: &str,
     plugs: &[&str],
 ) -> Result<(), Refusal>
-    ensures { Plugged (things_of labels.now) socket.now (spelled plugs.now) graph.old result graph.new }
+    ensures { Changes (things_of labels.now) graph.old (change.Plug socket.entry plugs.entry) result graph.new }
 {
     let socket = package_of(alloc, labels, graph, socket)?;
     let plugs = packages_of(alloc, labels, graph, plugs)?;
@@ -152,27 +157,15 @@ pub(crate) fn plug_in(
     }
 }
 
-/// Returns the file that a line names, if its bytes are needed.
-fn file_of<'a>(line: Line<'a, '_>) -> Option<&'a str>
-    ensures { IfSome result (λ f. IsFileOf line.entry f.now) }
-{
-    let Line::Make {
-        label: _,
-        call: Call::Package(words),
-    } = line
-    else {
-        return None;
-    };
-    match after_prefix(words.file, "hex:") {
-        Some(_) => None,
-        None => Some(words.file),
-    }
-}
-
 /// Returns the file that the words of a line name, if its bytes are needed.
 fn file_of_words<'a>(words: &[&'a str]) -> Option<&'a str>
-    ensures { IfSome result (λ f. SayFile (spelled words.now) f.now) }
+    ensures { SayFile (spelled words.now) (option_copied result) }
 {
-    let line = Line::read(words)?;
-    file_of(line)
+    let [_, "=", "package", _, _, file, _] = words else {
+        return None;
+    };
+    match after_prefix(file, "hex:") {
+        Some(_) => None,
+        None => Some(*file),
+    }
 }

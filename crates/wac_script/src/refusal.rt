@@ -1,7 +1,9 @@
 //! Why a line or a call is refused.
-ghost use Rattle.std.specs.Prelude.{◌≡◌};
+ghost use Rattle.std.specs.Prelude.{◌≡◌, ◌↔◌, IsTrue};
 ghost use Rattle.wac_script.specs.declared.refusal.Refusal.TheVariants as refusal;
-ghost use Rattle.wac_script.specs.Steps.{refused_by};
+ghost use Rattle.wac_script.specs.labels.Things.{IsWordMemory};
+ghost use Rattle.wac_script.specs.Refusals.{refused_by};
+ghost use Rattle.wac_script.specs.Memory.{IsTypeMemory, IsRegisterMemory, IsImportMemory, IsDefineMemory, IsAliasMemory, IsArgumentMemory, IsExportMemory, IsPlugMemory, IsMemory, IsLineMemory};
 
 use crate::labels::WordError;
 use std::alloc::AllocError;
@@ -48,6 +50,128 @@ pub enum Refusal {
     OutOfMemory,
 }
 
+impl LineError {
+    /// Whether memory ran out.
+    pub fn is_out_of_memory(&self) -> bool
+        ensures { IsTrue result ↔ IsLineMemory self.now }
+    {
+        match self {
+            LineError::Call(refusal) => refusal.is_out_of_memory(),
+            _ => false,
+        }
+    }
+}
+
+impl Refusal {
+    /// Whether memory ran out.
+    pub fn is_out_of_memory(&self) -> bool
+        ensures { IsTrue result ↔ IsMemory self.now }
+    {
+        match self {
+            Refusal::Words(error) => is_word_memory(error),
+            Refusal::Type(error) => is_type_memory(error),
+            Refusal::Register(error) => is_register_memory(error),
+            Refusal::Import(error) => is_import_memory(error),
+            Refusal::Define(error) => is_define_memory(error),
+            Refusal::Alias(error) => is_alias_memory(error),
+            Refusal::Argument(error) => is_argument_memory(error),
+            Refusal::Export(error) => is_export_memory(error),
+            Refusal::Plug(error) => is_plug_memory(error),
+            Refusal::OutOfMemory => true,
+        }
+    }
+}
+
+/// Whether memory ran out for words.
+fn is_word_memory(error: &WordError) -> bool
+    ensures { IsTrue result ↔ IsWordMemory error.now }
+{
+    match error {
+        WordError::OutOfMemory => true,
+        _ => false,
+    }
+}
+
+/// Whether memory ran out for a type.
+fn is_type_memory(error: &AddTypeError) -> bool
+    ensures { IsTrue result ↔ IsTypeMemory error.now }
+{
+    match error {
+        AddTypeError::OutOfMemory => true,
+        _ => false,
+    }
+}
+
+/// Whether memory ran out for a package.
+fn is_register_memory(error: &RegisterPackageError) -> bool
+    ensures { IsTrue result ↔ IsRegisterMemory error.now }
+{
+    match error {
+        RegisterPackageError::OutOfMemory => true,
+        _ => false,
+    }
+}
+
+/// Whether memory ran out for an import.
+fn is_import_memory(error: &ImportError) -> bool
+    ensures { IsTrue result ↔ IsImportMemory error.now }
+{
+    match error {
+        ImportError::OutOfMemory => true,
+        _ => false,
+    }
+}
+
+/// Whether memory ran out for a definition.
+fn is_define_memory(error: &DefineTypeError) -> bool
+    ensures { IsTrue result ↔ IsDefineMemory error.now }
+{
+    match error {
+        DefineTypeError::OutOfMemory => true,
+        _ => false,
+    }
+}
+
+/// Whether memory ran out for an alias.
+fn is_alias_memory(error: &AliasError) -> bool
+    ensures { IsTrue result ↔ IsAliasMemory error.now }
+{
+    match error {
+        AliasError::OutOfMemory => true,
+        _ => false,
+    }
+}
+
+/// Whether memory ran out for an argument.
+fn is_argument_memory(error: &InstantiationArgumentError) -> bool
+    ensures { IsTrue result ↔ IsArgumentMemory error.now }
+{
+    match error {
+        InstantiationArgumentError::OutOfMemory => true,
+        _ => false,
+    }
+}
+
+/// Whether memory ran out for an export.
+fn is_export_memory(error: &ExportError) -> bool
+    ensures { IsTrue result ↔ IsExportMemory error.now }
+{
+    match error {
+        ExportError::OutOfMemory => true,
+        _ => false,
+    }
+}
+
+/// Whether memory ran out for `plug`.
+fn is_plug_memory(error: &PlugError) -> bool
+    ensures { IsTrue result ↔ IsPlugMemory error.now }
+{
+    match error {
+        PlugError::OutOfMemory => true,
+        _ => false,
+    }
+}
+
 impl From<AllocError> for Refusal {
     ghost from_gives = { λ _ e. e ≡ refusal.OutOfMemory };
 
@@ -69,6 +193,8 @@ impl From<WordError> for Refusal {
 }
 
 impl From<AddTypeError> for Refusal {
+    ghost from_gives = { λ source e. e ≡ refusal.Type source };
+
     fn from(source: AddTypeError) -> Refusal {
         Refusal::Type(source)
     }

@@ -1,5 +1,5 @@
 //! A graph that is made line by line.
-ghost use Rattle.std.specs.Prelude.{◌≡◌, ◌≤◌, ◌^◌, ◌⊎◌, [], length, IsTrue, IsSome, MatchResult, List, None, OnOk, IfOk, IfErr, IfSome};
+ghost use Rattle.std.specs.Prelude.{◌≡◌, ◌≤◌, ◌^◌, ◌⊎◌, [], length, IsTrue, IsSome, MatchResult, List, None, OnOk, OnErr, IfOk, IfErr, IfSome};
 ghost use Rattle.wac_types_shapes.specs.primitives.Name.{find_name};
 ghost use Rattle.std.specs.Result.{IsErrAnd};
 ghost use Rattle.wac_binary.specs.Bytes.{bytes_of};
@@ -15,10 +15,12 @@ ghost use Rattle.wac_names.specs.validation.Valid.{AreValid};
 ghost use Rattle.wac_script.specs.lines.Words.{spelled};
 ghost use Rattle.wac_script.specs.labels.Things.{things_of, cores_of, IsWordMemory};
 ghost use Rattle.wac_script.specs.declared.lines.calls.Line.TheVariants as said;
-ghost use Rattle.wac_script.specs.Steps.{Answers, NamesThing, AreNamed, Plugged};
-ghost use Rattle.wac_script.specs.declared.refusal.LineError.TheVariants as line_error;
-ghost use Rattle.wac_script.specs.declared.refusal.Refusal.TheVariants as refusal;
-ghost use Rattle.wac_script.specs.Runs.{state_of, Runs, RunsLine, RunsWords, RanOut, IsMisread, IsBlank};
+ghost use Rattle.wac_script.specs.declared.lines.calls.Change.TheVariants as change;
+ghost use Rattle.wac_script.specs.lines.Says.{SaysNoLine};
+ghost use Rattle.wac_script.specs.Refusals.{Answers, Changes};
+ghost use Rattle.wac_script.specs.Naming.{NamesThing};
+ghost use Rattle.wac_script.specs.Runs.{state_of, Runs, RunsLine, RunsWords, RanOut, KeepsLabels, NamesNodes, IsBlank};
+ghost use Rattle.wac_script.specs.private.Misread.{IsMisread};
 
 use crate::changes::change;
 use crate::labels::{Thing, Things, WordError, WordFault, refused};
@@ -76,14 +78,18 @@ impl Script {
     /// it names one.
     ///
     /// # Errors
-    /// - [`UnknownCall`](LineError::UnknownCall) or [`OtherWords`](LineError::OtherWords) only if no call takes the
-    ///   words. Then nothing changes.
-    /// - [`Call`](LineError::Call) if the call is refused. A line that instantiates, aliases, sets, exports or names is
-    ///   refused only if it cannot be done, or memory runs out.
+    /// - [`UnknownCall`](LineError::UnknownCall) only if no call has the name, which is the word after `LABEL =`, or
+    ///   else the first.
+    /// - [`OtherWords`](LineError::OtherWords) only if a call has the name, and no call takes the words.
+    /// - [`Call`](LineError::Call) if the call is refused, for the reason that its [`Refusal`] gives:
+    ///   - [`Words`](Refusal::Words) only if something has the label, or the words stand for nothing that the call
+    ///     takes, or a name occurs twice among them.
+    ///   - [`OutOfMemory`](Refusal::OutOfMemory) may come at any call.
+    ///   - Any other is the error of the call on the graph, for what the words stand for.
     ///
     /// No label is added then, and the graph is unchanged, but for these refusals:
     ///
-    /// - [`Register`](Refusal::Register): the package's instance type may have been added.
+    /// - [`Register`](Refusal::Register): the instance type of the package's world has been added.
     /// - [`Plug`](Refusal::Plug): what the steps of `plug` before the error added remains.
     /// - [`OutOfMemory`](Refusal::OutOfMemory): what the line makes may have been added, without its label.
     pub fn line(&mut self, number: usize, line: &str, bytes: Vec<u8>) -> Result<(), LineError>
@@ -159,10 +165,7 @@ impl Script {
     {
         self.check_label(label)?;
         let item = self.labels.core_item(item)?;
-        let thing = self.labels.add_core(item)?;
-        if let Err(_) = self.labels.insert(label, thing, number) {
-            return Err(Refusal::OutOfMemory);
-        }
+        self.labels.insert_core(label, item, number)?;
         Ok(())
     }
 
@@ -171,8 +174,8 @@ impl Script {
     /// # Errors
     /// A [`Refusal`]. What the steps of `plug` before the error added remains.
     pub fn plug(&mut self, socket: &str, plugs: &[&str]) -> Result<(), Refusal>
-        ensures plugged { Plugged (state_of self.old).labels socket.now (spelled plugs.now) (state_of self.old).graph result (state_of self.new).graph }
-        ensures labels { (state_of self.new).labels ≡ (state_of self.old).labels }
+        ensures plugged { Changes (state_of self.old).labels (state_of self.old).graph (change.Plug socket.entry plugs.entry) result (state_of self.new).graph }
+        ensures labels { KeepsLabels (state_of self.old) (state_of self.new) }
     {
         plug_in(self.alloc, &self.labels, &mut self.graph, socket, plugs)
     }
@@ -180,9 +183,9 @@ impl Script {
     /// Names each node by its label.
     ///
     /// # Errors
-    /// - `AllocError` if out of memory. Some nodes may then have their names.
+    /// - `AllocError` if out of memory. The nodes of the labels up to one of them then have their names.
     pub fn name_nodes(&mut self) -> Result<(), AllocError>
-        ensures { OnOk result (AreNamed (state_of self.old).labels (state_of self.old).graph (state_of self.new).graph) }
+        ensures { NamesNodes (state_of self.old) result (state_of self.new) }
     {
         for i in 0..self.labels.len() {
             let (label, labelled) = self.labels.entry_at(i);
@@ -210,7 +213,7 @@ impl Script {
 
 /// Returns why no call takes words.
 fn misread(alloc: Global, words: &[&str]) -> LineError
-    ensures { IsMisread result ⊎ (result ≡ line_error.Call refusal.OutOfMemory) }
+    ensures { SaysNoLine (spelled words.now) → IsMisread (spelled words.now) result }
 {
     let call = called(words);
     let Ok(name) = String::from_str(alloc, call) else {
@@ -225,7 +228,8 @@ fn misread(alloc: Global, words: &[&str]) -> LineError
 
 /// Names a node by its label. Does nothing if the label is not that of a node.
 fn name_thing(graph: &mut CompositionGraph, label: &str, thing: Thing) -> Result<(), AllocError>
-    ensures { OnOk result (NamesThing label.now thing graph.old graph.new) }
+    ensures named { OnOk result (NamesThing label.now thing graph.old graph.new) }
+    ensures kept { OnErr result (graph.new ≡ graph.old) }
 {
     let Thing::Node(id) = thing else {
         return Ok(());

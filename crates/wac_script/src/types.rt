@@ -1,7 +1,8 @@
 //! Calls that add a type to the collection.
 ghost use Rattle.wac_script.specs.declared.lines.calls.Call.TheVariants as said;
 ghost use Rattle.wac_script.specs.labels.Things.{things_of, cores_of};
-ghost use Rattle.wac_script.specs.Steps.{AnswersPlain, PutsResource};
+ghost use Rattle.wac_script.specs.Refusals.{AnswersPlain};
+ghost use Rattle.wac_script.specs.private.Resources.{PutsResource};
 
 use crate::labels::{Thing, Things};
 use crate::lines::Shape;

@@ -1,5 +1,7 @@
 -- The core modules that words say.
 use Rattle.std.specs.Prelude.{◌≡◌, ◌≢◌, ◌++◌, ℕ, Bool, true, false, List, [], ◌∷◌, Option, Some, None, codes, map, slice_get}
+use Rattle.wac_types_shapes.specs.primitives.Name.{find_name}
+use Rattle.wac_types_shapes.specs.shapes.Imports.{find_import}
 use Rattle.wac_types_shapes.specs.declared.primitives.CoreRefType.{CoreRefType}
 use Rattle.wac_types_shapes.specs.declared.primitives.CoreRefType.TheVariants as reference
 use Rattle.wac_types_shapes.specs.declared.primitives.CoreType.{CoreType}
@@ -40,7 +42,7 @@ IsCoreFunc params results f = AreCoreTypes params f.params × AreCoreTypes resul
 
 -- The word is `page=` and a number.
 abbrev pub IsPage : Word → Marks → Marks → Type 0
-IsPage word old new = (digits : Word) × (log2 : ℕ) × (word ≡ codes "page=" ++ digits) × IsNumber digits log2 × (new ≡ record old { page = Some log2 })
+IsPage word old new = (digits : Word) × (log2 : ℕ) × (word ≡ codes "page=" ++ digits) × IsNumber 32 digits log2 × (new ≡ record old { page = Some log2 })
 
 -- The word adds a mark.
 pub data IsMark (word : Word) (old new : Marks) : Type 0 where
@@ -60,31 +62,30 @@ AreMarks words marks = WordByWord IsMark words no_marks marks
 -- The word is a greatest size, or `_` for none.
 abbrev pub IsMaximum : Word → Option ℕ → Type 0
 IsMaximum word None = word ≡ codes "_"
-IsMaximum word (Some n) = IsNumber word n
+IsMaximum word (Some n) = IsNumber 64 word n
 
 -- The words say this import or export of a core module.
 abbrev pub IsCoreItem : CoreItem → CoreExtern → Type 0
-IsCoreItem (said.Func params results) (core_extern.Func f) = IsCoreFunc (spelled params.now) (spelled results.now) f
-IsCoreItem (said.Tag params results) (core_extern.Tag f) = IsCoreFunc (spelled params.now) (spelled results.now) f
-IsCoreItem (said.Table element initial maximum words) (core_extern.Table t min max is_64 is_shared) =
-    (marks : Marks) × (element.now ≡ reference_word t) × IsNumber initial.now min × IsMaximum maximum.now max × AreMarks (spelled words.now) marks
-    × (is_64 ≡ marks.is_64) × (is_shared ≡ marks.is_shared)
-IsCoreItem (said.Memory initial maximum words) (core_extern.Memory is_64 is_shared min max log2) =
-    (marks : Marks) × IsNumber initial.now min × IsMaximum maximum.now max × AreMarks (spelled words.now) marks
-    × (is_64 ≡ marks.is_64) × (is_shared ≡ marks.is_shared) × (log2 ≡ marks.page)
-IsCoreItem (said.Global t words) (core_extern.Global v is_mutable is_shared) =
-    (marks : Marks) × (t.now ≡ core_word v) × AreMarks (spelled words.now) marks × (is_mutable ≡ marks.is_mutable) × (is_shared ≡ marks.is_shared)
-IsCoreItem _ _ = ⊥
+IsCoreItem (said.Func params results) e = (f : CoreFuncType) × IsCoreFunc (spelled params.now) (spelled results.now) f × (e ≡ core_extern.Func f)
+IsCoreItem (said.Tag params results) e = (f : CoreFuncType) × IsCoreFunc (spelled params.now) (spelled results.now) f × (e ≡ core_extern.Tag f)
+IsCoreItem (said.Table element initial maximum words) e =
+    (t : CoreRefType) × (min : ℕ) × (max : Option ℕ) × (marks : Marks) × (element.now ≡ reference_word t) × IsNumber 64 initial.now min × IsMaximum maximum.now max
+    × AreMarks (spelled words.now) marks × (e ≡ core_extern.Table t min max marks.is_64 marks.is_shared)
+IsCoreItem (said.Memory initial maximum words) e =
+    (min : ℕ) × (max : Option ℕ) × (marks : Marks) × IsNumber 64 initial.now min × IsMaximum maximum.now max × AreMarks (spelled words.now) marks
+    × (e ≡ core_extern.Memory marks.is_64 marks.is_shared min max marks.page)
+IsCoreItem (said.Global t words) e =
+    (v : CoreType) × (marks : Marks) × (t.now ≡ core_word v) × AreMarks (spelled words.now) marks × (e ≡ core_extern.Global v marks.is_mutable marks.is_shared)
 
 -- The label stands for this import or export of a core module.
 abbrev pub IsCore : Labelling → List CoreExtern → Word → CoreExtern → Type 0
 IsCore labels cores label item = (n : ℕ) × IsThing labels label (thing.Core n) × (slice_get cores n ≡ Some item)
 
--- The word is `NAME=LABEL`, and adds such an import from the module.
+-- The word is `NAME=LABEL`, and adds such an import from the module, which is not there yet.
 abbrev pub AddsImport : Labelling → List CoreExtern → Word → Word → ModuleType → ModuleType → Type 0
 AddsImport labels cores source word old new =
     (name : Word) × (label : Word) × (item : CoreExtern) × IsPair word name label × IsCore labels cores label item
-    × (new ≡ record old { imports = old.imports ++ ((source, name), item) ∷ [] })
+    × (find_import old.imports source name ≡ None) × (new ≡ record old { imports = old.imports ++ ((source, name), item) ∷ [] })
 
 -- A module with some imports, the name of the module from which the next ones are, and whether the next word is this name.
 pub record Importing : Type 0 where
@@ -104,11 +105,11 @@ AddImports labels cores words old new =
     (end : Importing) × WordByWord (TakesImport labels cores) words (record { name = []; is_next = false; ty = old }) end
     × (end.is_next ≡ false) × (new ≡ end.ty)
 
--- The word is `NAME=LABEL`, and adds such an export.
+-- The word is `NAME=LABEL`, and adds such an export, which is not there yet.
 abbrev pub AddsExport : Labelling → List CoreExtern → Word → ModuleType → ModuleType → Type 0
 AddsExport labels cores word old new =
     (name : Word) × (label : Word) × (item : CoreExtern) × IsPair word name label × IsCore labels cores label item
-    × (new ≡ record old { exports = old.exports ++ (name, item) ∷ [] })
+    × (find_name old.exports name ≡ None) × (new ≡ record old { exports = old.exports ++ (name, item) ∷ [] })
 
 -- The words are the imports and exports of this core module.
 abbrev pub IsModule : Labelling → List CoreExtern → List Word → List Word → ModuleType → Type 0

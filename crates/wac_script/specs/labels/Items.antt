@@ -2,6 +2,7 @@
 use Rattle.std.specs.Prelude.{◌≡◌, ◌≢◌, ◌++◌, List, [], ◌∷◌, Option, Some, None, codes}
 use Rattle.wac_types_shapes.specs.primitives.Name.{Name}
 use Rattle.wac_types_shapes.specs.shapes.Kinds.{kind_type}
+use Rattle.wac_types_shapes.specs.shapes.Named.{NoNameTwice}
 use Rattle.wac_types_shapes.specs.declared.primitives.PrimitiveType.{PrimitiveType}
 use Rattle.wac_types_shapes.specs.declared.shapes.component.ValueType.{ValueType}
 use Rattle.wac_types_shapes.specs.declared.shapes.component.ValueType.TheVariants as val
@@ -74,6 +75,10 @@ pub record IsInterface (labels : Labelling) (word : Word) (words : List Word) (i
   pub named : IsId word i.id
   pub listed : AreListed labels words i.uses i.exports
 
+-- No name occurs twice among the used types, and none among the exports.
+abbrev pub HasExportsOnce : Interface → Type 0
+HasExportsOnce i = NoNameTwice i.uses × NoNameTwice i.exports
+
 -- The first word, if there is one, does not begin with `id:`.
 abbrev pub HasNoWorldId : List Word → Type 0
 HasNoWorldId [] = Unit {0}
@@ -88,3 +93,7 @@ IsWorldId words None rest = HasNoWorldId words × (words ≡ rest)
 abbrev pub IsWorld : Labelling → List Word → List Word → World → Type 0
 IsWorld labels imports exports w =
     (rest : List Word) × IsWorldId imports w.id rest × AreListed labels rest w.uses w.imports × AreListed labels exports [] w.exports
+
+-- No name occurs twice among the used types, none among the imports, and none among the exports.
+abbrev pub HasItemsOnce : World → Type 0
+HasItemsOnce w = NoNameTwice w.uses × NoNameTwice w.imports × NoNameTwice w.exports

@@ -1,6 +1,7 @@
 -- The value types, resources and functions that words say.
-use Rattle.std.specs.Prelude.{◌≡◌, List, [], ◌∷◌, Option, Some, None, Bool}
+use Rattle.std.specs.Prelude.{◌≡◌, ℕ, List, [], ◌∷◌, Option, Some, None, Bool}
 use Rattle.wac_types_shapes.specs.primitives.Name.{Name}
+use Rattle.wac_types_shapes.specs.shapes.Named.{NoNameTwice, labelled}
 use Rattle.wac_types_shapes.specs.declared.shapes.component.ValueType.{ValueType}
 use Rattle.wac_types_shapes.specs.declared.shapes.component.DefinedType.{DefinedType}
 use Rattle.wac_types_shapes.specs.declared.shapes.component.DefinedType.TheVariants as defined
@@ -18,19 +19,26 @@ use Rattle.wac_script.specs.labels.Values.{IsValue, IsPayload, AreValues, AreFie
 
 -- The words say this value type.
 abbrev pub IsShape : Labelling → Shape → DefinedType → Type 0
-IsShape labels (said.Record words) (defined.Record r) = AreFields labels (spelled words.now) r.fields
-IsShape labels (said.Variant words) (defined.Variant v) = AreCases labels (spelled words.now) v.cases
-IsShape labels (said.Enum names) (defined.Enum e) = e.0 ≡ spelled names.now
-IsShape labels (said.Flags names) (defined.Flags f) = f.0 ≡ spelled names.now
-IsShape labels (said.Tuple words) (defined.Tuple values) = AreValues labels (spelled words.now) values
-IsShape labels (said.List word) (defined.List v) = IsValue labels word.now v
-IsShape labels (said.FixedSizeList word len) (defined.FixedSizeList v n) = IsValue labels word.now v × IsNumber len.now n
-IsShape labels (said.Option word) (defined.Option v) = IsValue labels word.now v
-IsShape labels (said.Result ok err) (defined.Result a b) = IsPayload labels ok.now a × IsPayload labels err.now b
-IsShape labels (said.Alias word) (defined.Alias v) = IsValue labels word.now v
-IsShape labels (said.Stream word) (defined.Stream v) = IsPayload labels word.now v
-IsShape labels (said.Future word) (defined.Future v) = IsPayload labels word.now v
-IsShape labels _ _ = ⊥
+IsShape labels (said.Record words) d = (fields : List (Name × ValueType)) × AreFields labels (spelled words.now) fields × (d ≡ defined.Record (record { fields = fields }))
+IsShape labels (said.Variant words) d = (cases : List (Name × Option ValueType)) × AreCases labels (spelled words.now) cases × (d ≡ defined.Variant (record { cases = cases }))
+IsShape labels (said.Enum names) d = d ≡ defined.Enum (record { 0 = spelled names.now })
+IsShape labels (said.Flags names) d = d ≡ defined.Flags (record { 0 = spelled names.now })
+IsShape labels (said.Tuple words) d = (values : List ValueType) × AreValues labels (spelled words.now) values × (d ≡ defined.Tuple values)
+IsShape labels (said.List word) d = (v : ValueType) × IsValue labels word.now v × (d ≡ defined.List v)
+IsShape labels (said.FixedSizeList word len) d = (v : ValueType) × (n : ℕ) × IsValue labels word.now v × IsNumber 32 len.now n × (d ≡ defined.FixedSizeList v n)
+IsShape labels (said.Option word) d = (v : ValueType) × IsValue labels word.now v × (d ≡ defined.Option v)
+IsShape labels (said.Result ok err) d = (a : Option ValueType) × (b : Option ValueType) × IsPayload labels ok.now a × IsPayload labels err.now b × (d ≡ defined.Result a b)
+IsShape labels (said.Alias word) d = (v : ValueType) × IsValue labels word.now v × (d ≡ defined.Alias v)
+IsShape labels (said.Stream word) d = (v : Option ValueType) × IsPayload labels word.now v × (d ≡ defined.Stream v)
+IsShape labels (said.Future word) d = (v : Option ValueType) × IsPayload labels word.now v × (d ≡ defined.Future v)
+
+-- No name occurs twice in the value type.
+abbrev pub HasFieldsOnce : DefinedType → Type 0
+HasFieldsOnce (defined.Record r) = NoNameTwice r.fields
+HasFieldsOnce (defined.Variant v) = NoNameTwice v.cases
+HasFieldsOnce (defined.Enum e) = NoNameTwice (labelled e.0)
+HasFieldsOnce (defined.Flags f) = NoNameTwice (labelled f.0)
+HasFieldsOnce _ = Unit {0}
 
 -- The resource is an alias, under this name, of the resource of a label, which no interface owns.
 abbrev pub IsAliasOf : Labelling → Name → Word → Resource → Type 0
@@ -55,3 +63,7 @@ pub record IsFunc (labels : Labelling) (before after : List Word) (async_word : 
   pub params : AreFields labels before f.params
   pub returned : IsReturned labels after f.result
   pub is_async : f.is_async ≡ async_word
+
+-- No parameter's name occurs twice.
+abbrev pub HasParamsOnce : FuncType → Type 0
+HasParamsOnce f = NoNameTwice f.params

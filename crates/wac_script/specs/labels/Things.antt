@@ -1,5 +1,5 @@
 -- Labels, and what they stand for.
-use Rattle.std.specs.Prelude.{◌≡◌, List, Some}
+use Rattle.std.specs.Prelude.{◌≡◌, ◌⊎◌, List, Some}
 use Rattle.std.specs.Option.{option_map}
 use Rattle.wac_types_shapes.specs.primitives.Name.{Name, find_name}
 use Rattle.wac_types_shapes.specs.declared.shapes.core_types.CoreExtern.{CoreExtern}
@@ -20,6 +20,14 @@ things_of t = t.things
 -- The imports and exports of core modules that have labels.
 abbrev pub cores_of : Things → List CoreExtern
 cores_of t = t.cores.items
+
+-- Words say nothing of a kind.
+abbrev pub SayNone : {X : Type 0} → (X → Type 0) → Type 0
+SayNone {X = X} Say = (x : X) → Say x → ⊥
+
+-- Words say nothing of a kind, or something that is not such, as a record in which a name occurs twice.
+abbrev pub SayNoSuch : {X : Type 0} → (X → Type 0) → (X → Type 0) → Type 0
+SayNoSuch {X = X} Say IsSuch = SayNone Say ⊎ ((x : X) × Say x × (IsSuch x → ⊥))
 
 -- Memory ran out for an error of words.
 abbrev pub IsWordMemory : WordError → Type 0

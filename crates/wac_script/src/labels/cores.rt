@@ -1,9 +1,11 @@
 //! Core modules.
-ghost use Rattle.std.specs.Prelude.{◌≡◌, [], IfOk, IfSome, OnOk};
+ghost use Rattle.std.specs.Prelude.{◌≡◌, [], IfOk, MatchOption, MatchResult};
 ghost use Rattle.wac_script.specs.lines.Words.{spelled};
 ghost use Rattle.wac_script.specs.lines.Numbers.{IsNumber};
 ghost use Rattle.wac_script.specs.declared.lines.shapes.CoreItem.TheVariants as said;
-ghost use Rattle.wac_script.specs.labels.Things.{things_of, cores_of};
+ghost use Rattle.wac_script.specs.labels.Things.{things_of, cores_of, SayNone};
+ghost use Rattle.wac_script.specs.private.Unread.{IsUnread, Reads};
+ghost use Rattle.wac_script.specs.declared.labels.cores.Marks.{Marks as AllMarks};
 ghost use Rattle.wac_script.specs.labels.Cores.{reference_word, core_word, AreCoreTypes, IsCoreFunc, IsMark, IsPage, AreMarks, IsMaximum, IsCoreItem, IsCore, AddsImport, TakesImport, AddImports, AddsExport, IsModule};
 ghost use Rattle.wac_script.specs.private.Listed.{importing};
 
@@ -16,7 +18,7 @@ use wac_graph::types::{CoreExtern, CoreFuncType, CoreRefType, CoreType, ModuleTy
 
 /// Returns the reference type of a word.
 fn reference(word: &str) -> Option<CoreRefType>
-    ensures { IfSome result (λ r. word.now ≡ reference_word r) }
+    ensures { MatchOption result (SayNone (λ r. word.now ≡ reference_word r)) (λ r. word.now ≡ reference_word r) }
 {
     match word {
         "funcref" => Some(CoreRefType::FuncRef),
@@ -27,7 +29,7 @@ fn reference(word: &str) -> Option<CoreRefType>
 
 /// Returns the core type of a word.
 fn core_type(word: &str) -> Option<CoreType>
-    ensures { IfSome result (λ t. word.now ≡ core_word t) }
+    ensures { MatchOption result (SayNone (λ t. word.now ≡ core_word t)) (λ t. word.now ≡ core_word t) }
 {
     match word {
         "i32" => Some(CoreType::I32),
@@ -118,7 +120,7 @@ fn copy_item(alloc: Global, item: &CoreExtern) -> Result<CoreExtern, AllocError>
 impl Things {
     /// Returns the core types of words.
     fn core_types(&self, words: &[&str]) -> Result<Vec<CoreType>, WordError>
-        ensures { IfOk result (λ types. AreCoreTypes (spelled words.now) types.items) }
+        ensures { MatchResult result (λ types. AreCoreTypes (spelled words.now) types.items) (IsUnread (SayNone (AreCoreTypes (spelled words.now)))) }
     {
         let mut types = Vec::new(self.alloc);
         for word in words {
@@ -132,7 +134,7 @@ impl Things {
 
     /// Returns a function type of words.
     fn core_func(&self, params: &[&str], results: &[&str]) -> Result<CoreFuncType, WordError>
-        ensures { IfOk result (λ f. IsCoreFunc (spelled params.now) (spelled results.now) f) }
+        ensures { Reads (IsCoreFunc (spelled params.now) (spelled results.now)) result }
     {
         let params = self.core_types(params)?;
         let results = self.core_types(results)?;
@@ -142,7 +144,7 @@ impl Things {
 
     /// Adds what a word says to marks.
     fn mark(&self, marks: Marks, word: &str) -> Result<Marks, WordError>
-        ensures { IfOk result (λ m. IsMark word.now marks m) }
+        ensures { MatchResult result (λ m. IsMark word.now marks m) (IsUnread ((old : AllMarks) → SayNone (IsMark word.now old))) }
     {
         match word {
             "64" => Ok(Marks {
@@ -163,7 +165,7 @@ impl Things {
 
     /// Adds the size of pages to marks.
     fn page(&self, marks: Marks, word: &str) -> Result<Marks, WordError>
-        ensures { IfOk result (λ m. IsPage word.now marks m) }
+        ensures { MatchResult result (λ m. IsPage word.now marks m) (IsUnread ((old : AllMarks) → SayNone (IsPage word.now old))) }
     {
         let Some(digits) = after_prefix(word, "page=") else {
             return Err(refused(self.alloc, WordFault::OtherWords, word));
@@ -179,7 +181,7 @@ impl Things {
 
     /// Returns what words say of a table, memory or global.
     fn marks(&self, words: &[&str]) -> Result<Marks, WordError>
-        ensures { IfOk result (λ m. AreMarks (spelled words.now) m) }
+        ensures { Reads (AreMarks (spelled words.now)) result }
     {
         let mut marks = Marks {
             is_64: false,
@@ -195,7 +197,7 @@ impl Things {
 
     /// Returns a size.
     fn size(&self, word: &str) -> Result<u64, WordError>
-        ensures { IfOk result (λ n. IsNumber word.now n) }
+        ensures { Reads (IsNumber 64 word.now) result }
     {
         match number(word) {
             Some(size) => Ok(size),
@@ -205,7 +207,7 @@ impl Things {
 
     /// Returns a greatest size, or none for `_`.
     fn maximum(&self, word: &str) -> Result<Option<u64>, WordError>
-        ensures { IfOk result (λ n. IsMaximum word.now n) }
+        ensures { Reads (IsMaximum word.now) result }
     {
         match optional(word) {
             Some(word) => {
@@ -224,7 +226,7 @@ impl Things {
         maximum: &str,
         marks: &[&str],
     ) -> Result<CoreExtern, WordError>
-        ensures { IfOk result (λ item. IsCoreItem (said.Table element.entry initial.entry maximum.entry marks.entry) item) }
+        ensures { Reads (IsCoreItem (said.Table element.entry initial.entry maximum.entry marks.entry)) result }
     {
         let Some(element_type) = reference(element) else {
             return Err(refused(self.alloc, WordFault::NotCoreType, element));
@@ -243,7 +245,7 @@ impl Things {
 
     /// Returns a memory.
     fn memory(&self, initial: &str, maximum: &str, marks: &[&str]) -> Result<CoreExtern, WordError>
-        ensures { IfOk result (λ item. IsCoreItem (said.Memory initial.entry maximum.entry marks.entry) item) }
+        ensures { Reads (IsCoreItem (said.Memory initial.entry maximum.entry marks.entry)) result }
     {
         let initial = self.size(initial)?;
         let maximum = self.maximum(maximum)?;
@@ -259,7 +261,7 @@ impl Things {
 
     /// Returns a global.
     fn global(&self, ty: &str, marks: &[&str]) -> Result<CoreExtern, WordError>
-        ensures { IfOk result (λ item. IsCoreItem (said.Global ty.entry marks.entry) item) }
+        ensures { Reads (IsCoreItem (said.Global ty.entry marks.entry)) result }
     {
         let Some(val_type) = core_type(ty) else {
             return Err(refused(self.alloc, WordFault::NotCoreType, ty));
@@ -277,7 +279,7 @@ impl Things {
     /// # Errors
     /// A [`WordError`].
     pub(crate) fn core_item(&self, item: CoreItem<'_, '_>) -> Result<CoreExtern, WordError>
-        ensures { IfOk result (λ e. IsCoreItem item.entry e) }
+        ensures { Reads (IsCoreItem item.entry) result }
     {
         match item {
             CoreItem::Func { params, results } => {
@@ -303,7 +305,7 @@ impl Things {
 
     /// Returns a copy of the import or export of core modules that a label stands for.
     fn core_of(&self, label: &str) -> Result<CoreExtern, WordError>
-        ensures { IfOk result (λ item. IsCore (things_of self.now) (cores_of self.now) label.now item) }
+        ensures { Reads (IsCore (things_of self.now) (cores_of self.now) label.now) result }
     {
         let Thing::Core(number) = self.thing(label)? else {
             return Err(refused(self.alloc, WordFault::NotCore, label));
@@ -319,7 +321,7 @@ impl Things {
 
     /// Adds the import `NAME=LABEL` from a module.
     fn add_import(&self, ty: &mut ModuleType, source: &str, word: &str) -> Result<(), WordError>
-        ensures { OnOk result (AddsImport (things_of self.now) (cores_of self.now) source.now word.now ty.old ty.new) }
+        ensures { MatchResult result (λ _. AddsImport (things_of self.now) (cores_of self.now) source.now word.now ty.old ty.new) (IsUnread (SayNone (AddsImport (things_of self.now) (cores_of self.now) source.now word.now ty.old))) }
     {
         let (name, label) = split_pair(self.alloc, word)?;
         let item = self.core_of(label)?;
@@ -334,7 +336,7 @@ impl Things {
         source: Source<'a>,
         word: &'a str,
     ) -> Result<Source<'a>, WordError>
-        ensures { IfOk result (λ s. TakesImport (things_of self.now) (cores_of self.now) word.now (importing source.entry ty.old) (importing s ty.new)) }
+        ensures { MatchResult result (λ s. TakesImport (things_of self.now) (cores_of self.now) word.now (importing source.entry ty.old) (importing s ty.new)) (IsUnread (SayNone (TakesImport (things_of self.now) (cores_of self.now) word.now (importing source.entry ty.old)))) }
     {
         if source.is_next {
             return Ok(Source {
@@ -356,7 +358,7 @@ impl Things {
 
     /// Adds the export `NAME=LABEL`.
     fn add_export(&self, ty: &mut ModuleType, word: &str) -> Result<(), WordError>
-        ensures { OnOk result (AddsExport (things_of self.now) (cores_of self.now) word.now ty.old ty.new) }
+        ensures { MatchResult result (λ _. AddsExport (things_of self.now) (cores_of self.now) word.now ty.old ty.new) (IsUnread (SayNone (AddsExport (things_of self.now) (cores_of self.now) word.now ty.old))) }
     {
         let (name, label) = split_pair(self.alloc, word)?;
         let item = self.core_of(label)?;
@@ -366,7 +368,7 @@ impl Things {
 
     /// Adds the imports: `from` and a module before the `NAME=LABEL` that are imported from it.
     fn add_imports(&self, ty: &mut ModuleType, words: &[&str]) -> Result<(), WordError>
-        ensures { OnOk result (AddImports (things_of self.now) (cores_of self.now) (spelled words.now) ty.old ty.new) }
+        ensures { MatchResult result (λ _. AddImports (things_of self.now) (cores_of self.now) (spelled words.now) ty.old ty.new) (IsUnread (SayNone (AddImports (things_of self.now) (cores_of self.now) (spelled words.now) ty.old))) }
     {
         let mut source = Source {
             name: "",
@@ -386,7 +388,7 @@ impl Things {
     /// # Errors
     /// A [`WordError`].
     pub(crate) fn module(&self, imports: &[&str], exports: &[&str]) -> Result<ModuleType, WordError>
-        ensures { IfOk result (λ m. IsModule (things_of self.now) (cores_of self.now) (spelled imports.now) (spelled exports.now) m) }
+        ensures { Reads (IsModule (things_of self.now) (cores_of self.now) (spelled imports.now) (spelled exports.now)) result }
     {
         let mut ty = ModuleType::new(self.alloc);
         self.add_imports(&mut ty, imports)?;

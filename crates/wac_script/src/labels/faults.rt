@@ -1,4 +1,7 @@
 //! Why words are refused.
+ghost use Rattle.std.specs.Prelude.{◌≡◌};
+ghost use Rattle.wac_script.specs.declared.labels.faults.WordError.TheVariants as word_error;
+ghost use Rattle.wac_script.specs.private.Unread.{word_error_of};
 
 use std::alloc::{AllocError, AllocFailed, Global};
 use std::fmt;
@@ -75,22 +78,28 @@ pub enum WordError {
 }
 
 impl From<AllocError> for WordError {
+    ghost from_gives = { λ _ e. e ≡ word_error.OutOfMemory };
+
     fn from(_e: AllocError) -> WordError {
         WordError::OutOfMemory
     }
 }
 
 impl<T: Drop> From<AllocFailed<T>> for WordError {
+    ghost from_gives = { λ _ e. e ≡ word_error.OutOfMemory };
+
     fn from(_e: AllocFailed<T>) -> WordError {
         WordError::OutOfMemory
     }
 }
 
 impl From<ShapeError> for WordError {
+    ghost from_gives = { λ source e. e ≡ word_error_of source };
+
     fn from(source: ShapeError) -> WordError {
         match source {
             ShapeError::OutOfMemory => WordError::OutOfMemory,
-            ShapeError::NameTwice => WordError::Shape(source),
+            ShapeError::NameTwice => WordError::Shape(ShapeError::NameTwice),
         }
     }
 }

@@ -1,8 +1,9 @@
 //! Resources and function types.
-ghost use Rattle.std.specs.Prelude.{◌≡◌, IfOk, None};
+ghost use Rattle.std.specs.Prelude.{◌≡◌, MatchResult, None};
 ghost use Rattle.wac_script.specs.lines.Words.{spelled};
-ghost use Rattle.wac_script.specs.labels.Things.{things_of};
-ghost use Rattle.wac_script.specs.labels.Shapes.{IsFunc, IsReturned, IsAliasOf, IsOwnedAliasOf};
+ghost use Rattle.wac_script.specs.labels.Things.{things_of, IsWordMemory};
+ghost use Rattle.wac_script.specs.private.Unread.{Reads, ReadsSuch};
+ghost use Rattle.wac_script.specs.labels.Shapes.{IsFunc, HasParamsOnce, IsReturned, IsAliasOf, IsOwnedAliasOf};
 
 use crate::labels::faults::{WordError, WordFault, refused};
 use crate::labels::things::Things;
@@ -14,7 +15,7 @@ impl Things {
     /// # Errors
     /// A [`WordError`].
     pub(crate) fn resource(&self, name: &str) -> Result<Resource, WordError>
-        ensures { IfOk result (λ r. r ≡ record { name = name.now; alias = None }) }
+        ensures { MatchResult result (λ r. r ≡ record { name = name.now; alias = None }) IsWordMemory }
     {
         let resource = Resource::new(self.alloc, name)?;
         Ok(resource)
@@ -25,7 +26,7 @@ impl Things {
     /// # Errors
     /// A [`WordError`].
     pub(crate) fn resource_alias(&self, name: &str, source: &str) -> Result<Resource, WordError>
-        ensures { IfOk result (λ r. IsAliasOf (things_of self.now) name.now source.now r) }
+        ensures { Reads (IsAliasOf (things_of self.now) name.now source.now) result }
     {
         let source = self.resource_of(source)?;
         let resource = Resource::alias(self.alloc, name, None, source)?;
@@ -42,7 +43,7 @@ impl Things {
         source: &str,
         owner: &str,
     ) -> Result<Resource, WordError>
-        ensures { IfOk result (λ r. IsOwnedAliasOf (things_of self.now) name.now source.now owner.now r) }
+        ensures { Reads (IsOwnedAliasOf (things_of self.now) name.now source.now owner.now) result }
     {
         let source = self.resource_of(source)?;
         let owner = self.interface_of(owner)?;
@@ -52,7 +53,7 @@ impl Things {
 
     /// Returns the type of the result that the words after `->` say.
     fn returned(&self, words: &[&str]) -> Result<Option<ValueType>, WordError>
-        ensures { IfOk result (λ v. IsReturned (things_of self.now) (spelled words.now) v) }
+        ensures { Reads (IsReturned (things_of self.now) (spelled words.now)) result }
     {
         match words {
             [] => Ok(None),
@@ -74,7 +75,7 @@ impl Things {
         results: &[&str],
         is_async: bool,
     ) -> Result<FuncType, WordError>
-        ensures { IfOk result (λ f. IsFunc (things_of self.now) (spelled params.now) (spelled results.now) is_async f) }
+        ensures { ReadsSuch (IsFunc (things_of self.now) (spelled params.now) (spelled results.now) is_async) HasParamsOnce result }
     {
         let returned = self.returned(results)?;
         let params = self.fields(params)?;

@@ -1,11 +1,13 @@
 //! Items, interfaces and worlds.
-ghost use Rattle.std.specs.Prelude.{◌≡◌, [], IfOk, OnOk};
+ghost use Rattle.std.specs.Prelude.{◌≡◌, ◌<◌, [], length, MatchResult};
 ghost use Rattle.std.specs.Option.{option_copied};
+ghost use Rattle.wac_types_shapes.specs.primitives.Name.{Name};
 ghost use Rattle.wac_types_shapes.specs.shapes.Named.{named_pairs, used_pairs};
 ghost use Rattle.wac_script.specs.lines.Words.{spelled};
-ghost use Rattle.wac_script.specs.labels.Things.{things_of};
-ghost use Rattle.wac_script.specs.labels.Items.{item_of as item_for, IsLabelledItem, IsItem, IsUse, AddsListed, AreListed, IsWorldId, IsInterface, IsWorld};
-ghost use Rattle.wac_script.specs.private.Listed.{found_by};
+ghost use Rattle.wac_script.specs.labels.Things.{things_of, SayNone};
+ghost use Rattle.wac_script.specs.private.Unread.{IsUnread, Reads, ReadsSuch};
+ghost use Rattle.wac_script.specs.labels.Items.{item_of as item_for, IsLabelledItem, IsItem, IsUse, AddsListed, AreListed, IsWorldId, IsInterface, HasExportsOnce, IsWorld, HasItemsOnce, Found};
+ghost use Rattle.wac_script.specs.private.Listed.{found_by, ListNothing};
 
 use crate::labels::faults::{WordError, WordFault, refused};
 use crate::labels::things::{Thing, Things};
@@ -60,7 +62,7 @@ fn item_of(thing: Thing) -> Option<ItemKind>
 impl Things {
     /// Returns the item that a label stands for.
     fn labelled_item(&self, label: &str) -> Result<ItemKind, WordError>
-        ensures { IfOk result (λ item. IsLabelledItem (things_of self.now) label.now item) }
+        ensures { Reads (IsLabelledItem (things_of self.now) label.now) result }
     {
         let thing = self.thing(label)?;
         match item_of(thing) {
@@ -75,7 +77,7 @@ impl Things {
     /// # Errors
     /// A [`WordError`].
     pub(crate) fn item(&self, word: &str) -> Result<ItemKind, WordError>
-        ensures { IfOk result (λ item. IsItem (things_of self.now) word.now item) }
+        ensures { Reads (IsItem (things_of self.now) word.now) result }
     {
         if let Some(primitive) = primitive(word) {
             return Ok(ItemKind::TypeItem(Type::Value(ValueType::Primitive(primitive))));
@@ -93,7 +95,7 @@ impl Things {
 
     /// Returns the used type of `LOCAL=INTERFACE` or `LOCAL=INTERFACE.NAME`.
     fn used<'a>(&self, word: &'a str) -> Result<(&'a str, InterfaceId, Option<&'a str>), WordError>
-        ensures { IfOk result (λ used. IsUse (things_of self.now) word.now used.0.now (record { interface = used.1; name = option_copied used.2 })) }
+        ensures { MatchResult result (λ used. IsUse (things_of self.now) word.now used.0.now (record { interface = used.1; name = option_copied used.2 })) (IsUnread ((local : Name) → SayNone (IsUse (things_of self.now) word.now local))) }
     {
         let (local, source) = split_pair(self.alloc, word)?;
         match dotted(source) {
@@ -110,7 +112,7 @@ impl Things {
 
     /// Adds the used type or the item of a word.
     fn push_listed<'a>(&self, listed: &mut Listed<'a>, word: &'a str) -> Result<(), WordError>
-        ensures { OnOk result (AddsListed (things_of self.now) word.now (found_by listed.old) (found_by listed.new)) }
+        ensures { MatchResult result (λ _. AddsListed (things_of self.now) word.now (found_by listed.old) (found_by listed.new)) (IsUnread ((old : Found) → SayNone (AddsListed (things_of self.now) word.now old))) }
     {
         match after_prefix(word, "use:") {
             Some(word) => {
@@ -129,7 +131,7 @@ impl Things {
 
     /// Returns what words `use:LOCAL=INTERFACE`, `use:LOCAL=INTERFACE.NAME` and `NAME=ITEM` say.
     fn listed<'a>(&self, words: &[&'a str]) -> Result<Listed<'a>, WordError>
-        ensures { IfOk result (λ l. AreListed (things_of self.now) (spelled words.now) (used_pairs l.uses.items) (named_pairs l.items.items)) }
+        ensures { MatchResult result (λ l. AreListed (things_of self.now) (spelled words.now) (used_pairs l.uses.items) (named_pairs l.items.items)) (IsUnread (ListNothing (things_of self.now) (spelled words.now))) }
     {
         let mut listed = Listed::new(self.alloc);
         for word in words {
@@ -143,7 +145,7 @@ impl Things {
     /// # Errors
     /// A [`WordError`].
     pub(crate) fn interface(&self, id: &str, words: &[&str]) -> Result<Interface, WordError>
-        ensures { IfOk result (λ i. IsInterface (things_of self.now) id.now (spelled words.now) i) }
+        ensures { ReadsSuch (IsInterface (things_of self.now) id.now (spelled words.now)) HasExportsOnce result }
     {
         let listed = self.listed(words)?;
         let id = optional(id);
@@ -156,19 +158,27 @@ impl Things {
         Ok(interface)
     }
 
+    /// Fails if types are used.
+    fn check_unused(&self, listed: &Listed<'_>) -> Result<(), WordError>
+        ensures { MatchResult result (λ _. listed.now.uses.items ≡ []) (IsUnread (0 < length listed.now.uses.items)) }
+    {
+        if !listed.uses.is_empty() {
+            return Err(refused(self.alloc, WordFault::OtherWords, "use:"));
+        }
+        Ok(())
+    }
+
     /// Returns the world of the words of its imports, which may begin with `id:` and its id, and those of its exports.
     ///
     /// # Errors
     /// A [`WordError`].
     pub(crate) fn world(&self, imports: &[&str], exports: &[&str]) -> Result<World, WordError>
-        ensures { IfOk result (λ w. IsWorld (things_of self.now) (spelled imports.now) (spelled exports.now) w) }
+        ensures { ReadsSuch (IsWorld (things_of self.now) (spelled imports.now) (spelled exports.now)) HasItemsOnce result }
     {
         let (id, imports) = world_id(imports);
         let imports = self.listed(imports)?;
         let exports = self.listed(exports)?;
-        if !exports.uses.is_empty() {
-            return Err(refused(self.alloc, WordFault::OtherWords, "use:"));
-        }
+        self.check_unused(&exports)?;
         let world = World::with_uses(
             self.alloc,
             id,

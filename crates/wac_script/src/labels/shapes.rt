@@ -1,8 +1,8 @@
 //! Value types by their shapes.
-ghost use Rattle.std.specs.Prelude.{IfOk};
 ghost use Rattle.wac_script.specs.declared.lines.shapes.Shape.TheVariants as said;
 ghost use Rattle.wac_script.specs.labels.Things.{things_of};
-ghost use Rattle.wac_script.specs.labels.Shapes.{IsShape};
+ghost use Rattle.wac_script.specs.labels.Shapes.{IsShape, HasFieldsOnce};
+ghost use Rattle.wac_script.specs.private.Unread.{ReadsSuch};
 
 use crate::labels::faults::{WordError, WordFault, refused};
 use crate::labels::things::Things;
@@ -15,7 +15,7 @@ impl Things {
     /// # Errors
     /// A [`WordError`].
     pub(crate) fn shape(&self, shape: Shape<'_, '_>) -> Result<DefinedType, WordError>
-        ensures { IfOk result (λ d. IsShape (things_of self.now) shape.entry d) }
+        ensures { ReadsSuch (IsShape (things_of self.now) shape.entry) HasFieldsOnce result }
     {
         match shape {
             Shape::Record(words) => self.record(words),
@@ -35,7 +35,7 @@ impl Things {
 
     /// Returns a record.
     fn record(&self, words: &[&str]) -> Result<DefinedType, WordError>
-        ensures { IfOk result (λ d. IsShape (things_of self.now) (said.Record words.entry) d) }
+        ensures { ReadsSuch (IsShape (things_of self.now) (said.Record words.entry)) HasFieldsOnce result }
     {
         let fields = self.fields(words)?;
         let record = Record::new(self.alloc, &fields)?;
@@ -44,7 +44,7 @@ impl Things {
 
     /// Returns a variant.
     fn variant(&self, words: &[&str]) -> Result<DefinedType, WordError>
-        ensures { IfOk result (λ d. IsShape (things_of self.now) (said.Variant words.entry) d) }
+        ensures { ReadsSuch (IsShape (things_of self.now) (said.Variant words.entry)) HasFieldsOnce result }
     {
         let cases = self.cases(words)?;
         let variant = Variant::new(self.alloc, &cases)?;
@@ -53,7 +53,7 @@ impl Things {
 
     /// Returns an enum.
     fn enumeration(&self, names: &[&str]) -> Result<DefinedType, WordError>
-        ensures { IfOk result (λ d. IsShape (things_of self.now) (said.Enum names.entry) d) }
+        ensures { ReadsSuch (IsShape (things_of self.now) (said.Enum names.entry)) HasFieldsOnce result }
     {
         let cases = Enum::new(self.alloc, names)?;
         Ok(DefinedType::Enum(cases))
@@ -61,7 +61,7 @@ impl Things {
 
     /// Returns flags.
     fn flags(&self, names: &[&str]) -> Result<DefinedType, WordError>
-        ensures { IfOk result (λ d. IsShape (things_of self.now) (said.Flags names.entry) d) }
+        ensures { ReadsSuch (IsShape (things_of self.now) (said.Flags names.entry)) HasFieldsOnce result }
     {
         let flags = Flags::new(self.alloc, names)?;
         Ok(DefinedType::Flags(flags))
@@ -69,7 +69,7 @@ impl Things {
 
     /// Returns a tuple.
     fn tuple(&self, words: &[&str]) -> Result<DefinedType, WordError>
-        ensures { IfOk result (λ d. IsShape (things_of self.now) (said.Tuple words.entry) d) }
+        ensures { ReadsSuch (IsShape (things_of self.now) (said.Tuple words.entry)) HasFieldsOnce result }
     {
         let values = self.values(words)?;
         let tuple = DefinedType::tuple(self.alloc, &values)?;
@@ -78,7 +78,7 @@ impl Things {
 
     /// Returns a list of fixed length.
     fn fixed_size_list(&self, element: &str, length: &str) -> Result<DefinedType, WordError>
-        ensures { IfOk result (λ d. IsShape (things_of self.now) (said.FixedSizeList element.entry length.entry) d) }
+        ensures { ReadsSuch (IsShape (things_of self.now) (said.FixedSizeList element.entry length.entry)) HasFieldsOnce result }
     {
         let element = self.value(element)?;
         match small_number(length) {
@@ -89,7 +89,7 @@ impl Things {
 
     /// Returns a result.
     fn result(&self, ok: &str, err: &str) -> Result<DefinedType, WordError>
-        ensures { IfOk result (λ d. IsShape (things_of self.now) (said.Result ok.entry err.entry) d) }
+        ensures { ReadsSuch (IsShape (things_of self.now) (said.Result ok.entry err.entry)) HasFieldsOnce result }
     {
         let ok = self.payload(ok)?;
         let err = self.payload(err)?;

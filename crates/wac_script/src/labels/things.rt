@@ -1,11 +1,9 @@
 //! Labels, and what they stand for.
-ghost use Rattle.std.specs.Prelude.{◌≡◌, ◌<◌, ◌++◌, ◌∷◌, ◌⊎◌, [], ◌↔◌, Some, IfOk, MatchResult, OnOk, OnErr, IsTrue, IsSome, length, slice_get};
+ghost use Rattle.std.specs.Prelude.{◌≡◌, ◌<◌, ◌++◌, ◌∷◌, [], ◌↔◌, Some, OnOk, OnErr, IsTrue, IsSome, length, slice_get};
 ghost use Rattle.std.specs.Option.{option_copied};
 ghost use Rattle.wac_types_shapes.specs.primitives.Name.{find_name};
-ghost use Rattle.wac_edges.specs.declared.node.NodeId.{NodeId as ANode};
-ghost use Rattle.wac_graph_model.specs.declared.nodes.packages.PackageId.{PackageId as APackage};
-ghost use Rattle.wac_script.specs.declared.labels.things.Thing.{Thing as AThing};
-ghost use Rattle.wac_script.specs.labels.Things.{things_of, cores_of, IsThing, IsWordMemory};
+ghost use Rattle.wac_script.specs.labels.Things.{things_of, cores_of, IsThing};
+ghost use Rattle.wac_script.specs.private.Unread.{Reads};
 ghost use Rattle.wac_script.specs.declared.labels.things.Thing.TheVariants.{Core as core_thing, Resource as resource_thing, Interface as interface_thing, World as world_thing, Package as package_thing, Node as node_thing};
 
 use crate::labels::faults::{WordError, WordFault, refused};
@@ -117,7 +115,7 @@ impl Things {
     /// # Errors
     /// - [`UnknownLabel`](WordFault::UnknownLabel) if nothing has the label.
     pub(crate) fn thing(&self, label: &str) -> Result<Thing, WordError>
-        ensures { MatchResult result (λ t. IsThing (things_of self.now) label.now t) (λ e. IsWordMemory e ⊎ ((t : AThing) → IsThing (things_of self.now) label.now t → ⊥)) }
+        ensures { Reads (λ t. IsThing (things_of self.now) label.now t) result }
     {
         match self.things.get(label) {
             Some(labelled) => Ok(labelled.thing),
@@ -148,20 +146,30 @@ impl Things {
         }
     }
 
-    /// Keeps an import or export of core modules, and returns it as what a label may stand for.
+    /// Gives an import or export of core modules a label.
     ///
     /// # Errors
     /// - `AllocError` if out of memory. Then nothing changes.
-    pub(crate) fn add_core(&mut self, item: CoreExtern) -> Result<Thing, AllocError>
-        ensures thing { IfOk result (λ t. t ≡ core_thing (length (cores_of self.old))) }
-        ensures added { OnOk result (cores_of self.new ≡ cores_of self.old ++ item ∷ []) }
-        ensures kept { OnErr result (cores_of self.new ≡ cores_of self.old) }
-        ensures things { things_of self.new ≡ things_of self.old }
+    pub(crate) fn insert_core(
+        &mut self,
+        label: &str,
+        item: CoreExtern,
+        line: usize,
+    ) -> Result<(), AllocError>
+        ensures labels { OnOk result (things_of self.new ≡ things_of self.old ++ (label.now, record { thing = core_thing (length (cores_of self.old)); line = line }) ∷ []) }
+        ensures cores { OnOk result (cores_of self.new ≡ cores_of self.old ++ item ∷ []) }
+        ensures kept { OnErr result ((things_of self.new ≡ things_of self.old) × (cores_of self.new ≡ cores_of self.old)) }
     {
         let number = self.cores.len();
-        match self.cores.push(item) {
-            Ok(()) => Ok(Thing::Core(number)),
-            Err(_) => Err(AllocError),
+        let Ok(()) = self.cores.push(item) else {
+            return Err(AllocError);
+        };
+        match self.insert(label, Thing::Core(number), line) {
+            Ok(()) => Ok(()),
+            Err(_) => {
+                self.cores.truncate(number);
+                Err(AllocError)
+            }
         }
     }
 
@@ -177,7 +185,7 @@ impl Things {
     /// # Errors
     /// - [`UnknownLabel`](WordFault::UnknownLabel) or [`NotResource`](WordFault::NotResource).
     pub(crate) fn resource_of(&self, label: &str) -> Result<ResourceId, WordError>
-        ensures { IfOk result (λ r. IsThing (things_of self.now) label.now (resource_thing r)) }
+        ensures { Reads (λ r. IsThing (things_of self.now) label.now (resource_thing r)) result }
     {
         let thing = self.thing(label)?;
         match thing {
@@ -191,7 +199,7 @@ impl Things {
     /// # Errors
     /// - [`UnknownLabel`](WordFault::UnknownLabel) or [`NotInterface`](WordFault::NotInterface).
     pub(crate) fn interface_of(&self, label: &str) -> Result<InterfaceId, WordError>
-        ensures { IfOk result (λ i. IsThing (things_of self.now) label.now (interface_thing i)) }
+        ensures { Reads (λ i. IsThing (things_of self.now) label.now (interface_thing i)) result }
     {
         let thing = self.thing(label)?;
         match thing {
@@ -205,7 +213,7 @@ impl Things {
     /// # Errors
     /// - [`UnknownLabel`](WordFault::UnknownLabel) or [`NotWorld`](WordFault::NotWorld).
     pub(crate) fn world_of(&self, label: &str) -> Result<WorldId, WordError>
-        ensures { IfOk result (λ w. IsThing (things_of self.now) label.now (world_thing w)) }
+        ensures { Reads (λ w. IsThing (things_of self.now) label.now (world_thing w)) result }
     {
         let thing = self.thing(label)?;
         match thing {
@@ -219,7 +227,7 @@ impl Things {
     /// # Errors
     /// - [`UnknownLabel`](WordFault::UnknownLabel) or [`NotPackage`](WordFault::NotPackage).
     pub(crate) fn package_of(&self, label: &str) -> Result<PackageId, WordError>
-        ensures { MatchResult result (λ p. IsThing (things_of self.now) label.now (package_thing p)) (λ e. IsWordMemory e ⊎ ((p : APackage) → IsThing (things_of self.now) label.now (package_thing p) → ⊥)) }
+        ensures { Reads (λ p. IsThing (things_of self.now) label.now (package_thing p)) result }
     {
         let thing = self.thing(label)?;
         match thing {
@@ -233,7 +241,7 @@ impl Things {
     /// # Errors
     /// - [`UnknownLabel`](WordFault::UnknownLabel) or [`NotNode`](WordFault::NotNode).
     pub(crate) fn node_of(&self, label: &str) -> Result<NodeId, WordError>
-        ensures { MatchResult result (λ n. IsThing (things_of self.now) label.now (node_thing n)) (λ e. IsWordMemory e ⊎ ((n : ANode) → IsThing (things_of self.now) label.now (node_thing n) → ⊥)) }
+        ensures { Reads (λ n. IsThing (things_of self.now) label.now (node_thing n)) result }
     {
         let thing = self.thing(label)?;
         match thing {

@@ -1,9 +1,11 @@
 //! Value types.
-ghost use Rattle.std.specs.Prelude.{◌≡◌, ◌≢◌, IfOk, MatchOption};
+ghost use Rattle.std.specs.Prelude.{◌≡◌, ◌≢◌, MatchOption, MatchResult};
 ghost use Rattle.wac_types_shapes.specs.declared.primitives.PrimitiveType.{PrimitiveType as APrimitive};
+ghost use Rattle.wac_types_shapes.specs.primitives.Name.{Name};
 ghost use Rattle.wac_types_shapes.specs.shapes.Named.{named_pairs};
-ghost use Rattle.wac_script.specs.lines.Words.{spelled, IsPair};
-ghost use Rattle.wac_script.specs.labels.Things.{things_of};
+ghost use Rattle.wac_script.specs.lines.Words.{spelled, IsPair, HasNoPair};
+ghost use Rattle.wac_script.specs.labels.Things.{things_of, SayNone};
+ghost use Rattle.wac_script.specs.private.Unread.{IsUnread, Reads};
 ghost use Rattle.wac_script.specs.labels.Values.{primitive_word, IsValue, IsPayload, IsCase, AreValues, AreFields, AreCases};
 
 use crate::labels::faults::{WordError, WordFault, refused};
@@ -40,7 +42,7 @@ pub(crate) fn primitive(word: &str) -> Option<PrimitiveType>
 /// # Errors
 /// - [`NotPair`](WordFault::NotPair) if the word has no `=`.
 pub(crate) fn split_pair<'a>(alloc: Global, word: &'a str) -> Result<(&'a str, &'a str), WordError>
-    ensures { IfOk result (λ p. IsPair word.now p.0.now p.1.now) }
+    ensures { MatchResult result (λ p. IsPair word.now p.0.now p.1.now) (IsUnread (HasNoPair word.now)) }
 {
     match pair(word) {
         Some(pair) => Ok(pair),
@@ -56,7 +58,7 @@ impl Things {
     /// - [`UnknownLabel`](WordFault::UnknownLabel), [`NotResource`](WordFault::NotResource) or
     ///   [`NotValue`](WordFault::NotValue).
     pub(crate) fn value(&self, word: &str) -> Result<ValueType, WordError>
-        ensures { IfOk result (λ v. IsValue (things_of self.now) word.now v) }
+        ensures { Reads (IsValue (things_of self.now) word.now) result }
     {
         if let Some(primitive) = primitive(word) {
             return Ok(ValueType::Primitive(primitive));
@@ -78,7 +80,7 @@ impl Things {
 
     /// Returns the value type of a word, or none for `_`.
     pub(crate) fn payload(&self, word: &str) -> Result<Option<ValueType>, WordError>
-        ensures { IfOk result (λ v. IsPayload (things_of self.now) word.now v) }
+        ensures { Reads (IsPayload (things_of self.now) word.now) result }
     {
         match optional(word) {
             Some(word) => {
@@ -91,7 +93,7 @@ impl Things {
 
     /// Returns the value types of words.
     pub(crate) fn values(&self, words: &[&str]) -> Result<Vec<ValueType>, WordError>
-        ensures { IfOk result (λ values. AreValues (things_of self.now) (spelled words.now) values.items) }
+        ensures { MatchResult result (λ values. AreValues (things_of self.now) (spelled words.now) values.items) (IsUnread (SayNone (AreValues (things_of self.now) (spelled words.now)))) }
     {
         let mut values = Vec::new(self.alloc);
         for word in words {
@@ -106,7 +108,7 @@ impl Things {
         &self,
         words: &[&'a str],
     ) -> Result<Vec<(&'a str, ValueType)>, WordError>
-        ensures { IfOk result (λ fields. AreFields (things_of self.now) (spelled words.now) (named_pairs fields.items)) }
+        ensures { MatchResult result (λ fields. AreFields (things_of self.now) (spelled words.now) (named_pairs fields.items)) (IsUnread (SayNone (AreFields (things_of self.now) (spelled words.now)))) }
     {
         let mut fields = Vec::new(self.alloc);
         for word in words {
@@ -119,7 +121,7 @@ impl Things {
 
     /// Returns the name and the payload of a word `NAME` or `NAME=TYPE`.
     fn case<'a>(&self, word: &'a str) -> Result<(&'a str, Option<ValueType>), WordError>
-        ensures { IfOk result (λ case. IsCase (things_of self.now) word.now case.0.now case.1) }
+        ensures { MatchResult result (λ case. IsCase (things_of self.now) word.now case.0.now case.1) (IsUnread ((name : Name) → SayNone (IsCase (things_of self.now) word.now name))) }
     {
         match pair(word) {
             Some((name, ty)) => {
@@ -135,7 +137,7 @@ impl Things {
         &self,
         words: &[&'a str],
     ) -> Result<Vec<(&'a str, Option<ValueType>)>, WordError>
-        ensures { IfOk result (λ cases. AreCases (things_of self.now) (spelled words.now) (named_pairs cases.items)) }
+        ensures { MatchResult result (λ cases. AreCases (things_of self.now) (spelled words.now) (named_pairs cases.items)) (IsUnread (SayNone (AreCases (things_of self.now) (spelled words.now)))) }
     {
         let mut cases = Vec::new(self.alloc);
         for word in words {

@@ -1,7 +1,8 @@
 //! What the words of a line say.
-ghost use Rattle.std.specs.Prelude.{◌≡◌, ◌≢◌, ◌∷◌, [], List, MatchOption, codes};
+ghost use Rattle.std.specs.Prelude.{◌≡◌, ◌≢◌, ◌↔◌, ◌∷◌, [], List, MatchOption, IsTrue, codes};
 ghost use Rattle.wac_script.specs.lines.Words.{Word, spelled};
 ghost use Rattle.wac_script.specs.lines.Says.{SaysShape, SaysCoreItem, SaysCall, SaysChange, SaysMade, SaysLine, SaysNoLine};
+ghost use Rattle.wac_script.specs.lines.Called.{shape_calls, type_calls, graph_calls, IsOneOf, IsCall, IsCalled};
 ghost use Rattle.wac_script.specs.private.Unsaid.{SaysNoShape, SaysNoCoreItem, SaysNoTypeCall, SaysNoNodeCall, SaysNoCall, SaysNoChange, SaysNothingMade};
 
 use crate::lines::calls::{Call, Change, Line, PackageWords};
@@ -44,7 +45,9 @@ fn read_some<'a, 'b>(first: &'a str, rest: &'b [&'a str]) -> Option<Line<'a, 'b>
 }
 
 /// Returns the word of a line that names its call. It is empty if the line has no words.
-pub(crate) fn called<'a>(words: &[&'a str]) -> &'a str {
+pub(crate) fn called<'a>(words: &[&'a str]) -> &'a str
+    ensures { spelled words.now ≢ [] → IsCalled (spelled words.now) result.now }
+{
     match words {
         [_, "=", call, ..] => *call,
         [call, ..] => *call,
@@ -52,15 +55,46 @@ pub(crate) fn called<'a>(words: &[&'a str]) -> &'a str {
     }
 }
 
-/// Whether a call has the name.
-pub(crate) fn is_call(word: &str) -> bool {
+/// Whether a call that makes a value type has the name.
+fn is_shape_call(word: &str) -> bool
+    ensures { IsTrue result ↔ IsOneOf shape_calls word.now }
+{
     match word {
-        "record" | "variant" | "enum" | "flags" | "tuple" | "list" | "option" | "result" => true,
-        "type" | "stream" | "future" | "resource" | "func" | "async" | "interface" => true,
-        "world" | "core" | "module" | "package" | "new" | "alias" | "import" | "define" => true,
+        "record" | "variant" | "enum" | "flags" | "tuple" | "list" => true,
+        "option" | "result" | "type" | "stream" | "future" => true,
+        _ => false,
+    }
+}
+
+/// Whether a call that makes another type, or an import or export of core modules, has the name.
+fn is_type_call(word: &str) -> bool
+    ensures { IsTrue result ↔ IsOneOf type_calls word.now }
+{
+    match word {
+        "resource" | "func" | "async" | "interface" | "world" | "core" | "module" => true,
+        _ => false,
+    }
+}
+
+/// Whether a call on the graph has the name.
+fn is_graph_call(word: &str) -> bool
+    ensures { IsTrue result ↔ IsOneOf graph_calls word.now }
+{
+    match word {
+        "package" | "new" | "alias" | "import" | "define" => true,
         "set" | "export" | "name" | "plug" => true,
         _ => false,
     }
+}
+
+/// Whether a call has the name.
+pub(crate) fn is_call(word: &str) -> bool
+    ensures { IsTrue result ↔ IsCall word.now }
+{
+    if is_shape_call(word) || is_type_call(word) {
+        return true;
+    }
+    is_graph_call(word)
 }
 
 /// Returns the word, if there is one alone.

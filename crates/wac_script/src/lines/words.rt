@@ -1,7 +1,8 @@
 //! The words of a line.
-ghost use Rattle.std.specs.Prelude.{◌≡◌, ◌≢◌, ◌++◌, ◌∷◌, IfOk, IfSome, MatchOption, codes};
+ghost use Rattle.std.specs.Prelude.{◌≡◌, ◌≢◌, ◌++◌, ◌∷◌, IfOk, MatchOption, codes};
 ghost use Rattle.wac_script.specs.lines.Words.{spelled, AreHalves, AreWords, BeginsComment, IsPair, HasNoPair, IsDotted, HasNoDot, HasNoPrefix};
 ghost use Rattle.wac_script.specs.lines.Numbers.{IsNumber};
+ghost use Rattle.wac_script.specs.labels.Things.{SayNone};
 
 use std::alloc::{AllocError, Global};
 
@@ -55,7 +56,7 @@ pub(crate) fn optional(word: &str) -> Option<&str>
 
 /// Returns the number that a word is. `None` if it is not a number, or one of more than 64 bits.
 pub(crate) fn number(word: &str) -> Option<u64>
-    ensures { IfSome result (IsNumber word.now) }
+    ensures { MatchOption result (SayNone (IsNumber 64 word.now)) (IsNumber 64 word.now) }
 {
     match word.parse::<u64>() {
         Ok(number) => Some(number),
@@ -65,7 +66,7 @@ pub(crate) fn number(word: &str) -> Option<u64>
 
 /// Returns the number that a word is. `None` if it is not a number, or one of more than 32 bits.
 pub(crate) fn small_number(word: &str) -> Option<u32>
-    ensures { IfSome result (IsNumber word.now) }
+    ensures { MatchOption result (SayNone (IsNumber 32 word.now)) (IsNumber 32 word.now) }
 {
     match word.parse::<u32>() {
         Ok(number) => Some(number),

@@ -1,6 +1,6 @@
-use Rattle.wac_script.specs.lines.Words.{spelled}
-use Rattle.wac_script.proofs.RunLemmas.{file-said}
+use Rattle.std.proofs.Common.{arith}
+use Rattle.wac_script.proofs.RunLemmas.{package-said}
 use Rattle.wac_script.proofs.packages.file_of_words.Goals as goal
 
-pub returns : goal.returns
-returns c = file-said (spelled c.args.words.now) c.in_ok-line.line c.file_of.result c.in_ok-line.ensures c.file_of.ensures
+pub returns-in-None : goal.returns-in-None
+returns-in-None c = package-said c.args.words.now _ (omega (arith, c.in-text.len_at_least, c.in-text.len_below)) c.in-text.is-text c.in-text.is-package c.in-None.ensures

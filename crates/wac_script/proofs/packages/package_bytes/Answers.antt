@@ -1,4 +1,5 @@
 use Rattle.std.proofs.Common.{inl, inr, refl}
+use Rattle.wac_script.proofs.StepLemmas.{no-bytes}
 use Rattle.wac_script.proofs.packages.package_bytes.Goals as goal
 
 pub returns-in_default : goal.returns-in_default

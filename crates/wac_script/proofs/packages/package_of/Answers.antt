@@ -1,15 +1,15 @@
-use Rattle.std.proofs.Common.{◌⊎◌, inl, inr}
-use Rattle.wac_script.specs.labels.Things.{things_of, IsWordMemory}
-use Rattle.wac_script.specs.private.Missing.{IsNoPackage}
+use Rattle.std.proofs.Common.{Ok, Err, refl, subst, sym, inl, inr}
+use Rattle.wac_script.specs.labels.Things.{things_of}
 use Rattle.wac_script.proofs.RunLemmas.{not-there}
-use Rattle.wac_script.proofs.ReasonLemmas.{exit-err, package-missing}
+use Rattle.wac_script.proofs.ReadLemmas.{exit}
+use Rattle.wac_script.proofs.RefuseLemmas.{package-missing}
 use Rattle.wac_script.proofs.packages.package_of.Goals as goal
 
-pub returns-in_err-id-clause-refused : goal.returns-in_err-id-clause-refused
-returns-in_err-id-clause-refused c =
-    exit-err (λ e. IsWordMemory e ⊎ IsNoPackage (things_of c.args.labels.now) c.args.label.now c.args.graph.now) c.from_residual.result (c.in_err-id.field-0).0 c.from_residual.ensures.1
-    (elim c.in_err-id.ensures [ inl m ↦ inl m | inr lacks ↦ inr (λ i h there. lacks i h) ])
+pub returns-in_err-id : goal.returns-in_err-id
+returns-in_err-id c = exit _ _ c.from_residual.result (c.in_err-id.field-0).0 c.from_residual.ensures.1 c.in_err-id.ensures (λ none n h. none n h.0)
 
-pub returns-then-not-has_package-clause-refused : goal.returns-then-not-has_package-clause-refused
-returns-then-not-has_package-clause-refused c = inr (package-missing (things_of c.args.labels.now) c.args.label.now c.args.graph.now c.in_ok-id.id c.in_ok-id.ensures
-    (not-there _ c.has_package.result c.has_package.ensures c.if-not-has_package.true))
+pub returns-then-not-has_package : goal.returns-then-not-has_package
+returns-then-not-has_package c = inr (package-missing (things_of c.args.labels.now) c.args.label.now c.args.graph.now c.in_ok-id.id c.in_ok-id.ensures (not-there _ c.has_package.result c.has_package.ensures c.if-not-has_package.true))
+
+pub returns : goal.returns
+returns c = (c.in_ok-id.ensures, c.has_package.ensures.0 c.if-not-has_package.false)

@@ -1,10 +1,10 @@
 use Rattle.wac_script.specs.declared.lines.calls.Call.TheVariants as said
 use Rattle.wac_script.specs.labels.Things.{things_of, cores_of}
-use Rattle.wac_script.proofs.StepLemmas.{plain-refused-first, alias-made}
+use Rattle.wac_script.proofs.RefuseLemmas.{plain-words, alias-made}
 use Rattle.wac_script.proofs.types.add_alias.Goals as goal
 
 pub returns-in_err-resource : goal.returns-in_err-resource
-returns-in_err-resource c = plain-refused-first (things_of c.args.labels.now) (cores_of c.args.labels.now) c.args.graph.now (said.ResourceAlias c.args.name c.args.source) c.from_residual.result (λ wiring. wiring) c.from_residual.ensures.0
+returns-in_err-resource c = plain-words (things_of c.args.labels.now) (cores_of c.args.labels.now) c.args.graph.now (said.ResourceAlias c.args.name c.args.source) c.from_residual.result (c.in_err-resource.field-0).0 c.from_residual.ensures.1 c.in_err-resource.ensures (λ none. none)
 
 pub returns : goal.returns
 returns c = alias-made (things_of c.args.labels.now) (cores_of c.args.labels.now) c.args.graph.now c.put_resource.new.graph c.args.name c.args.source c.in_ok-resource.resource c.put_resource.result c.in_ok-resource.ensures c.put_resource.ensures

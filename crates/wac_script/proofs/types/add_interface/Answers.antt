@@ -1,14 +1,16 @@
+use Rattle.wac_types_shapes.specs.declared.shapes.component.InterfaceId.{InterfaceId}
 use Rattle.wac_types_collection.specs.collection.Collection.{with_interface}
 use Rattle.wac_script.specs.declared.lines.calls.Call.TheVariants as said
 use Rattle.wac_script.specs.labels.Things.{things_of, cores_of}
-use Rattle.wac_script.proofs.StepLemmas.{plain-refused-first, grown}
+use Rattle.wac_script.proofs.StepLemmas.{grown}
+use Rattle.wac_script.proofs.RefuseLemmas.{plain-words, error-for}
 use Rattle.wac_script.proofs.types.add_interface.Goals as goal
 
 pub returns-in_err-interface : goal.returns-in_err-interface
-returns-in_err-interface c = plain-refused-first (things_of c.args.labels.now) (cores_of c.args.labels.now) c.args.graph.now (said.Interface c.args.id c.args.items) c.from_residual.result (λ wiring. wiring) c.from_residual.ensures.0
+returns-in_err-interface c = plain-words (things_of c.args.labels.now) (cores_of c.args.labels.now) c.args.graph.now (said.Interface c.args.id c.args.items) c.from_residual.result (c.in_err-interface.field-0).0 c.from_residual.ensures.1 c.in_err-interface.ensures (λ none. none)
 
 pub returns-in-Ok : goal.returns-in-Ok
 returns-in-Ok c = (c.in_ok-interface.interface, c.in_ok-interface.ensures, c.in-Ok.ensures.added.0.0, grown c.args.graph.now c.add_interface.new.self (with_interface c.args.graph.now.types c.in_ok-interface.interface) c.in-Ok.ensures.added.0.1 c.in-Ok.ensures.added.1)
 
 pub returns-in-Err : goal.returns-in-Err
-returns-in-Err c = (c.in-Err.ensures.added, λ wiring. absurd wiring)
+returns-in-Err c = ((c.in_ok-interface.interface, c.in_ok-interface.ensures, error-for InterfaceId _ _ c.in-Err.ensures.fault), c.in-Err.ensures.added)

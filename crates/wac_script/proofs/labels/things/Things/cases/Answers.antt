@@ -3,6 +3,7 @@ use Rattle.wac_script.specs.labels.Things.{things_of}
 use Rattle.wac_script.specs.labels.Values.{IsCase}
 use Rattle.wac_types_shapes.specs.shapes.Named.{named_pairs}
 use Rattle.wac_script.proofs.ListLemmas.{zip-begin, zip-step, zip-end, pairs-push}
+use Rattle.wac_script.proofs.ReadLemmas.{exit, exit-memory, zip-none}
 use Rattle.wac_script.proofs.labels.things.Things.cases.Goals as goal
 
 pub loop-word-init : goal.loop-word-init
@@ -13,3 +14,9 @@ loop-word-preserved c = zip-step (λ word f. IsCase (things_of c.args.self.now) 
 
 pub returns : goal.returns
 returns c = zip-end (λ word f. IsCase (things_of c.args.self.now) word f.0 f.1) c.args.words.now c.loop-word.word-index (named_pairs c.loop-word.cases.items) c.loop-word-test.false c.loop-word.invariant
+
+pub returns-in_err-case : goal.returns-in_err-case
+returns-in_err-case c = exit _ _ c.from_residual.result (c.in_err-case.field-0).0 c.from_residual.ensures.1 c.in_err-case.ensures (λ none. zip-none (λ word f. IsCase (things_of c.args.self.now) word f.0 f.1) c.args.words.now c.loop-word.word-index _ c.loop-word-test.true (λ f. none f.0 f.1))
+
+pub returns-in_err-push : goal.returns-in_err-push
+returns-in_err-push c = exit-memory _ _ c.from_residual-in_err-push.result c.from_residual-in_err-push.ensures.1
