@@ -1,5 +1,5 @@
 //! Labels, and what they stand for.
-ghost use Rattle.std.specs.Prelude.{◌≡◌, ◌<◌, ◌++◌, ◌∷◌, [], ◌↔◌, Some, OnOk, OnErr, IsTrue, IsSome, length, slice_get};
+ghost use Rattle.std.specs.Prelude.{◌≡◌, ◌<◌, ◌++◌, ◌∷◌, [], ◌↔◌, Some, OnOk, OnErr, IsTrue, IsSome, length, slice_get, vec_capacity};
 ghost use Rattle.std.specs.Option.{option_copied};
 ghost use Rattle.wac_types_shapes.specs.primitives.Name.{find_name};
 ghost use Rattle.wac_script.specs.labels.Things.{things_of, cores_of, IsThing};
@@ -133,6 +133,7 @@ impl Things {
         ensures inserted { OnOk result (things_of self.new ≡ things_of self.old ++ (label.now, record { thing = thing; line = line }) ∷ []) }
         ensures kept { OnErr result (things_of self.new ≡ things_of self.old) }
         ensures cores { cores_of self.new ≡ cores_of self.old }
+        ensures room { vec_capacity self.new.cores ≡ vec_capacity self.old.cores }
     {
         if self.contains(label) {
             return Err(refused(self.alloc, WordFault::LabelTwice, label));
@@ -161,15 +162,13 @@ impl Things {
         ensures kept { OnErr result ((things_of self.new ≡ things_of self.old) × (cores_of self.new ≡ cores_of self.old)) }
     {
         let number = self.cores.len();
-        let Ok(()) = self.cores.push(item) else {
+        self.cores.reserve(1)?;
+        let Ok(()) = self.insert(label, Thing::Core(number), line) else {
             return Err(AllocError);
         };
-        match self.insert(label, Thing::Core(number), line) {
+        match self.cores.push(item) {
             Ok(()) => Ok(()),
-            Err(_) => {
-                self.cores.truncate(number);
-                Err(AllocError)
-            }
+            Err(_) => unreachable!(),
         }
     }
 
